@@ -1,0 +1,1 @@
+// That the board accounts for every job that entered stands in specs/.

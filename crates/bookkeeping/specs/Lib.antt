@@ -1,0 +1,10 @@
+pub mod Base
+pub mod Change
+pub mod Changes
+pub mod Paced
+pub mod Entries
+pub mod Feeding
+pub mod Ends
+pub mod Booked
+pub mod Settled
+pub mod Steps

@@ -1,0 +1,38 @@
+-- The laws of the bucket: it is below the bucket count, for any number of bits; what no bits and all bits give; document 01's five buckets.
+-- Follows document 01, "Tables and their measures", and "Checked by hand", case 7.
+-- Assumes nothing.
+use mathlib.Core.List.{[], _∷_, map}
+use mathlib.Core.Path.{_≡_, refl}
+use native.Mathlib.Nat.{lt-of-lt-of-le, mod-lt, div-one}
+use native.Mathlib.Omega.{arith}
+use Prim.Native.Nat.{ℕ, _+_, _*_, _-_, _^_, _≤_, _<_}
+use lib.Pow.{pow-mono, pow-pos, shr-lt}
+use Rattle.bucket.specs.Bucket.{wordBits, multiplier, productOf, bucketOf}
+
+-- a product kept to 32 bits is a word
+pub product-below : (x y : ℕ) → productOf x y < 2 ^ wordBits
+unfolding productOf
+product-below x y = mod-lt (x * y) (pow-pos wordBits)
+
+-- the bucket count is 2 ^ bits, and each bucket lies below it
+pub below : (name bits : ℕ) → bucketOf name bits < 2 ^ bits
+unfolding bucketOf
+below name bits =
+    shr-lt bits (wordBits - bits)
+    (lt-of-lt-of-le (product-below name multiplier) (pow-mono {i = wordBits} {j = bits + (wordBits - bits)} (omega arith)))
+
+-- no bits: the one bucket, 0
+pub no-bits : (name : ℕ) → bucketOf name 0 ≡ 0
+no-bits name = omega (arith, below name 0)
+
+-- as many bits as a word has, or more: the whole product
+pub all-bits : (name bits : ℕ) → wordBits ≤ bits → bucketOf name bits ≡ productOf name multiplier
+unfolding bucketOf
+all-bits name bits h =
+    let none : wordBits - bits ≡ 0 = omega arith in
+    rw (none, div-one)
+
+-- "With b = 2 the names 1, 2, 3, 4, 5 fall in buckets 2, 0, 3, 1, 0."
+pub five-buckets : map (λ (name : ℕ). bucketOf name 2) (1 ∷ 2 ∷ 3 ∷ 4 ∷ 5 ∷ []) ≡ 2 ∷ 0 ∷ 3 ∷ 1 ∷ 0 ∷ []
+unfolding bucketOf productOf
+five-buckets = refl

@@ -1,0 +1,1 @@
+// What demand 3 claims of a history stands in specs/.

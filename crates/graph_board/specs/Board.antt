@@ -1,0 +1,39 @@
+-- The board over the graph's own row: the label and class of each job that was made (document 01, "The board and the day list"). Assumes nothing.
+use mathlib.Core.Bool.{Bool, _&&_}
+use mathlib.Core.List.{List, [], _∷_}
+use Prim.Native.Nat.{ℕ, zero, suc, _+_}
+use lib.Dec.{leb}
+use lib.ListN.{length}
+use Rattle.minutes.specs.Minutes.{minutesIn}
+use Rattle.terms.specs.Base.{pick}
+use Rattle.terms.specs.Terms.{Arguments, withinLimits}
+use Rattle.terms.specs.declared.Sizes.{Sizes}
+use Rattle.words.specs.Columns.{columns, header}
+use Rattle.words.specs.Layout.{jobShape, need, sizesKept, MADE, LABEL, CLASS}
+use Rattle.totals.specs.Board.{totalsOf, refused, offLimits, damaged}
+use Rattle.totals.specs.declared.JobRecord.{JobRecord}
+use Rattle.totals.specs.declared.Totals.{Totals}
+
+-- n jobs from job j on, as records of the board
+unfoldable pub rowsFrom : (ℕ → ℕ → ℕ) → ℕ → ℕ → List JobRecord
+rowsFrom f j zero = []
+rowsFrom f j (suc n) = record { label = f LABEL j; class = f CLASS j } ∷ rowsFrom f (suc j) n
+
+abbrev pub graphRows : List ℕ → List JobRecord
+graphRows jobs = rowsFrom (columns jobShape jobs) 0 (header jobs MADE)
+
+-- number 1 for the sizes and the table, as in every call of the graph
+unfoldable pub jobsFit : Sizes → List ℕ → Bool
+jobsFit s jobs = withinLimits s && leb (need jobShape (s .jobs)) (length jobs) && sizesKept s jobs
+
+-- number 9 for a counter over R, or a wrong label or class
+unfoldable pub graphTotals : List ℕ → Sizes → List ℕ → Totals
+graphTotals table s jobs =
+    pick (jobsFit s jobs)
+    (pick (leb (header jobs MADE) (s .jobs)) (totalsOf table (graphRows jobs)) (refused damaged))
+    (refused offLimits)
+
+-- the minutes of the jobs that ever entered, by their adds
+unfoldable pub minutesEntered : List ℕ → List Arguments → ℕ
+minutesEntered table [] = 0
+minutesEntered table (a ∷ l) = minutesIn table (a .class) + minutesEntered table l

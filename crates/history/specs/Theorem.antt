@@ -1,0 +1,126 @@
+-- The theorems, put together: what holds of every list of items from tables that were laid out, by any sizes. Assumes nothing.
+use mathlib.Core.Path.{_≡_, refl, sym, ap, _∙_}
+use mathlib.Core.Bool.{Bool, true, false}
+use mathlib.Core.List.{List, _++_}
+use Prim.Native.Nat.{ℕ, suc, _+_, _*_, _<_}
+use native.Mathlib.Omega.{arith}
+use lib.ListN.{length, getD}
+use Rattle.terms.specs.Base.{pick}
+use Rattle.terms.specs.Terms.{Arguments, damaged, wrongSizes}
+use Rattle.terms.specs.Runs.{Item, step, Outcome, outcome, after, events}
+use Rattle.terms.specs.declared.Sizes.{Sizes}
+use Rattle.terms.specs.declared.Answer.{Answer}
+use Rattle.terms.specs.declared.Answer.the-variants.{Laid, Ended, Refused}
+use Rattle.words.specs.Layout.{Tables, roomFor, freshTables}
+use Rattle.words.specs.Words.{perform, layOut}
+use Rattle.words.specs.Observed.{waiting}
+use Rattle.rules.specs.Rules.{Graph, empty, job, find, at}
+use Rattle.rules.specs.Rules as rules
+use Rattle.rules.specs.Sound.{Sound}
+use Rattle.reading.specs.Reading.{Reading, unread, reading, Quiet, adding, finishing}
+use Rattle.story.specs.Story.{Story, start, Counted, Booked, Balanced, AllIdle}
+use Rattle.demand.specs.Demand.{Demand, gives, handedOut}
+use Rattle.refinement.specs.Rep.{Ghost, Stands}
+use Rattle.tables_rep.specs.Fresh.{noGhost, fresh-stands}
+use Rattle.refines.specs.Runs.{runs}
+use Rattle.refines.specs.Never.{words-never-damaged}
+use Rattle.bookkeeping.specs.Paced.{paced, all-idle}
+use Rattle.bookkeeping.specs.Booked.{booked}
+use Rattle.bookkeeping.specs.Steps.{add-steps, finish-steps}
+use Rattle.invariant.specs.Sound.{sound}
+use Rattle.invariant.specs.Counted.{counted}
+use Rattle.invariant.specs.Balanced.{balanced}
+use Rattle.history.specs.Onward.{onward, waiting-queue}
+use Rattle.history.specs.Holds.{Along, along, holds}
+use Rattle.history.specs.InOrder.{Moved, in-order, kth}
+
+laid-stands : (s : Sizes) (t : Tables) → roomFor s t ≡ true → Stands s (layOut s t .state) empty noGhost
+unfolding layOut
+laid-stands s t e = rw e (fresh-stands s t e)
+
+module _ (s : Sizes) where
+  soundly : (g : Graph) (r : Reading) (e : ℕ → ℕ) → Story s g r e → Sound s g
+  soundly g r e story = sound story
+
+  countedly : (g : Graph) (r : Reading) (e : ℕ → ℕ) → Story s g r e → Counted g r e
+  countedly g r e story = counted story
+
+  bookedly : (g : Graph) (r : Reading) (e : ℕ → ℕ) → Story s g r e → Booked s g r
+  bookedly g r e story = booked soundly story
+
+  quietly : (g : Graph) (r : Reading) (e : ℕ → ℕ) → Story s g r e → Quiet r → AllIdle g × Balanced g
+  quietly g r e story q = let idle = all-idle g r (paced soundly story) q in (idle, balanced story idle)
+
+  reached : (more : List Item) → Sound s (after (rules.perform s) empty more)
+  reached more = sound (onward s start more)
+
+  -- laying out that answers so had room
+  module _ (t : Tables) (laid : layOut s t .answer ≡ Laid) where
+    room : roomFor s t ≡ true
+    unfolding layOut
+    room = go (roomFor s t) laid
+      where
+        go : (b : Bool) → pick {A = Outcome Tables} b (outcome Laid (freshTables s t)) (outcome (Refused wrongSizes 0) t) .answer ≡ Laid → b ≡ true
+        go true e = refl
+        go false e = let z : _≡_ {A = ℕ} 0 1 = cc in absurd (omega arith)
+
+    abbrev T : Tables
+    T = layOut s t .state
+
+    fresh : Stands s T empty noGhost
+    fresh = laid-stands s t room
+
+    pub same-events : (items : List Item) → events perform T items ≡ events (rules.perform s) empty items
+    same-events items = runs s t room reached items .same-events
+
+    pub never-damaged : (items : List Item) → gives damaged (events perform T items) ≡ false
+    never-damaged items = words-never-damaged s t room reached items
+
+    pub demand : (items : List Item) → Demand s T items
+    demand items = holds s soundly countedly bookedly quietly T noGhost fresh items
+
+    walked : (items : List Item) → Along s soundly countedly bookedly quietly T empty items
+    walked items = along s soundly countedly bookedly quietly T empty noGhost unread (λ j. 0) fresh start items
+
+    -- what is known of the tables after the items
+    pub record Reached (items : List Item) : Type 0 where
+      pub ghost : Ghost
+      pub stands : Stands s (after perform T items) (after (rules.perform s) empty items) ghost
+      pub sound : Sound s (after (rules.perform s) empty items)
+      pub booked : Booked s (after (rules.perform s) empty items) (reading (events perform T items))
+
+    pub after-items : (items : List Item) → Reached items
+    after-items items = record {
+      ghost = walked items .ghost;
+      stands = walked items .stands;
+      sound = reached items;
+      booked = rw (same-events items) (bookedly _ _ _ (onward s start items));
+    }
+
+    -- first in, first out
+    pub in-turn : (items later : List Item) (k : ℕ) → k < length (handedOut (events perform (after perform T items) later))
+        → k < length (waiting (after perform T items))
+        → getD (handedOut (events perform (after perform T items) later)) k 0 ≡ getD (waiting (after perform T items)) k 0
+    in-turn items later k =
+        let a = walked items in
+        let story = onward s start items in
+        let b = along s soundly countedly bookedly quietly (after perform T items) (after (rules.perform s) empty items) (a .ghost) _ _ (a .stands) story later in
+        rw (b .told, waiting-queue (a .stands)) (λ h l. kth _ _ _ (in-order soundly story later) k h l)
+
+  -- ---- the steps of whole calls, by the rules
+  module _ (items : List Item) where
+    abbrev reachedGraph : Graph
+    reachedGraph = after (rules.perform s) empty items
+
+    abbrev reachedReading : Reading
+    reachedReading = reading (events (rules.perform s) empty items)
+
+    pub add-length : (q : Sizes) (w : ℕ) (a : Arguments) (k : ℕ) → reachedReading .pending w ≡ adding a k
+        → rules.perform s reachedGraph (step q w) .answer ≡ Ended
+        → suc k ≡ 2 * a .count + 2
+    add-length = add-steps soundly (onward s start items)
+
+    pub finish-length : (q : Sizes) (w name k p : ℕ) → reachedReading .pending w ≡ finishing name k → find reachedGraph name ≡ at p
+        → rules.perform s reachedGraph (step q w) .answer ≡ Ended
+        → suc k ≡ 1 + length (job reachedGraph p .dependents)
+    finish-length = finish-steps soundly (onward s start items)

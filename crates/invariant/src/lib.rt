@@ -1,0 +1,1 @@
+// What holds of every history by the rules is shown in specs/.

@@ -1,0 +1,90 @@
+-- The rising rule of a minutes table: one test over the whole table, which carries the rule to each entry of any table that passes it.
+-- Follows document 01, "What shape each place takes": "rising rule computed once over the table and carried to each entry".
+-- Assumes nothing.
+use mathlib.Core.Bool.{Bool, true, _&&_, and-eq-true-iff}
+use mathlib.Core.List.{List, [], _∷_}
+use mathlib.Core.Path.{_≡_, refl}
+use native.Mathlib.Omega.{arith}
+use native.Mathlib.Nat.{le-of-suc-le-suc, not-suc-le-zero}
+use Prim.Native.Nat.{ℕ, zero, suc, _≤_, _<_}
+use borrow.Author.Tests.{ltb-true, leb-true, eqb-true}
+use lib.Dec.{eqb, leb, ltb}
+use lib.ListN.{length, getD, List·getD-eq-default}
+use Rattle.minutes.specs.Minutes.{classes, minutesIn, fixedMinutes}
+
+-- a day's minutes: no class has more
+abbrev pub mostMinutes : ℕ
+mostMinutes = 1440
+
+-- the rule: minutes rise strictly from class to class, from 1 to a day's minutes, and there are none past the last class
+pub record Rising (table : List ℕ) : Type 0 where
+  pub rises : (i j : ℕ) → i < j → j < classes → minutesIn table i < minutesIn table j
+  pub least : (class : ℕ) → class < classes → 1 ≤ minutesIn table class
+  pub most : (class : ℕ) → class < classes → minutesIn table class ≤ mostMinutes
+  pub past : (class : ℕ) → classes ≤ class → minutesIn table class ≡ 0
+
+-- each entry is within the limit and above the one before it; the first is above `before`
+unfoldable pub risesAbove : ℕ → List ℕ → Bool
+risesAbove before [] = true
+risesAbove before (entry ∷ rest) = ltb before entry && leb entry mostMinutes && risesAbove entry rest
+
+-- the test: an entry for each class, and they rise from above 0
+unfoldable pub isRising : List ℕ → Bool
+isRising table = eqb (length table) classes && risesAbove 0 table
+
+-- what the test says at the first entry, and of the rest
+record First (before entry : ℕ) (rest : List ℕ) : Type 0 where
+  above : before < entry
+  limit : entry ≤ mostMinutes
+  onward : risesAbove entry rest ≡ true
+
+first : (before entry : ℕ) (rest : List ℕ) → risesAbove before (entry ∷ rest) ≡ true → First before entry rest
+unfolding risesAbove
+first before entry rest passes =
+    let both : (ltb before entry && leb entry mostMinutes ≡ true) × (risesAbove entry rest ≡ true) = and-eq-true-iff _ _ .0 passes in
+    let entry-passes : (ltb before entry ≡ true) × (leb entry mostMinutes ≡ true) = and-eq-true-iff _ _ .0 (both .0) in
+    record {
+      above = ltb-true before entry (entry-passes .0);
+      limit = leb-true entry mostMinutes (entry-passes .1);
+      onward = both .1;
+    }
+
+-- the rule at each entry, by the test at the entries up to it
+above : (before : ℕ) (table : List ℕ) → risesAbove before table ≡ true → (i : ℕ) → i < length table → before < getD table i 0
+above before [] passes i h = absurd (not-suc-le-zero h)
+above before (entry ∷ rest) passes zero h = first before entry rest passes .above
+above before (entry ∷ rest) passes (suc i) h =
+    let here : First before entry rest = first before entry rest passes in
+    omega (arith, above entry rest (here .onward) i (le-of-suc-le-suc h))
+
+limit : (before : ℕ) (table : List ℕ) → risesAbove before table ≡ true → (i : ℕ) → i < length table → getD table i 0 ≤ mostMinutes
+limit before [] passes i h = absurd (not-suc-le-zero h)
+limit before (entry ∷ rest) passes zero h = first before entry rest passes .limit
+limit before (entry ∷ rest) passes (suc i) h =
+    limit entry rest (first before entry rest passes .onward) i (le-of-suc-le-suc h)
+
+rises : (before : ℕ) (table : List ℕ) → risesAbove before table ≡ true → (i j : ℕ) → i < j → j < length table → getD table i 0 < getD table j 0
+rises before [] passes i j less h = absurd (not-suc-le-zero h)
+rises before (entry ∷ rest) passes i zero less h = absurd (not-suc-le-zero less)
+rises before (entry ∷ rest) passes zero (suc j) less h =
+    above entry rest (first before entry rest passes .onward) j (le-of-suc-le-suc h)
+rises before (entry ∷ rest) passes (suc i) (suc j) less h =
+    rises entry rest (first before entry rest passes .onward) i j (le-of-suc-le-suc less) (le-of-suc-le-suc h)
+
+-- every table that passes the test is rising
+pub rising : (table : List ℕ) → isRising table ≡ true → Rising table
+unfolding isRising minutesIn
+rising table passes =
+    let both : (eqb (length table) classes ≡ true) × (risesAbove 0 table ≡ true) = and-eq-true-iff _ _ .0 passes in
+    let size : length table ≡ classes = eqb-true (length table) classes (both .0) in
+    record {
+      rises = λ i j less h. rises 0 table (both .1) i j less (omega arith);
+      least = λ class h. above 0 table (both .1) class (omega arith);
+      most = λ class h. limit 0 table (both .1) class (omega arith);
+      past = λ class h. List·getD-eq-default table 0 (omega arith);
+    }
+
+-- the fixed minutes pass the test, so they are rising
+pub fixed-rising : Rising fixedMinutes
+unfolding isRising risesAbove fixedMinutes
+fixed-rising = rising fixedMinutes refl

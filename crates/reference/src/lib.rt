@@ -1,0 +1,1 @@
+// The reference model stands in specs/.

@@ -1,0 +1,1 @@
+// How the words of the tables stand for the graph of the rules stands in specs/.

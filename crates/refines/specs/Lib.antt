@@ -1,0 +1,12 @@
+pub mod Workers
+pub mod Frames
+pub mod Own
+pub mod Agree
+pub mod Step
+pub mod Look
+pub mod Link
+pub mod Finish
+pub mod Post
+pub mod Items
+pub mod Runs
+pub mod Never

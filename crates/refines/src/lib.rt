@@ -1,0 +1,1 @@
+// That the words do what the rules do, item by item, is shown in specs/.

@@ -1,0 +1,215 @@
+-- The rules of Johnson's dynamic task graph, as corrected in document 01 ("Steps", "Turned-away calls"): jobs with their dependents, a queue,
+-- and workers with the call that each is in. No words, no damage. Assumes nothing.
+use mathlib.Core.Bool.{Bool, true, false, _&&_, _||_}
+use mathlib.Core.List.{List, [], _∷_, _++_}
+use mathlib.Core.Option.{Option, none, some}
+use Prim.Native.Nat.{ℕ, zero, suc, _+_, _-_}
+use lib.Dec.{ltb, leb, eqb}
+use lib.ListN.{length, getD, set}
+use Rattle.terms.specs.Base.{pick, update}
+use Rattle.terms.specs.Terms.{Label, unexecuted, executing, finished, Arguments, listed, argumentsWrong, sameSizes, wrongSizes, noSuchWorker, halfDone, nothingToStep, wrongArguments, unknownName, namePresent, noRoom, damaged, alreadyHolding, notHeld}
+use Rattle.terms.specs.Runs.{Item, postAdd, postFinish, step, get, Outcome, outcome}
+use Rattle.terms.specs.declared.Sizes.{Sizes}
+use Rattle.terms.specs.declared.Answer.{Answer}
+use Rattle.terms.specs.declared.Answer.the-variants.{Posted, Going, Ended, NoneReady, Handed, Refused}
+
+-- ---- the graph
+-- a job; its dependents, by number, are the jobs that its finish notifies, oldest first
+pub record Job : Type 0 where
+  pub name : ℕ
+  pub label : Label
+  pub count : ℕ
+  pub class : ℕ
+  pub grower : ℕ
+  pub list : List ℕ
+  pub dependents : List ℕ
+
+-- the call half done: an add looking up its i-th listed name, or (all looked up) about to enter; an add whose job j entered, linking its i-th name,
+-- with t finished prerequisites tallied, or (all linked) about to settle; a finish about to mark; a finish of job p that has notified k dependents
+pub data Call : Type 0 where
+  idle : Call
+  looking : Arguments → ℕ → Call
+  linking : Arguments → ℕ → ℕ → ℕ → Call
+  marking : Call
+  notifying : ℕ → ℕ → Call
+
+pub record Worker : Type 0 where
+  pub held : Option ℕ
+  pub call : Call
+
+-- jobs in the order they entered, arcs reserved so far, the queue of ready jobs, the workers
+pub record Graph : Type 0 where
+  pub jobs : List Job
+  pub reserved : ℕ
+  pub queue : List ℕ
+  pub workers : ℕ → Worker
+
+abbrev pub noJob : Job
+noJob = record { name = 0; label = unexecuted; count = 0; class = 0; grower = 0; list = []; dependents = [] }
+
+abbrev pub job : Graph → ℕ → Job
+job g j = getD (g .jobs) j noJob
+
+-- "a fresh graph: no jobs, all workers idle and holding nothing"
+unfoldable pub empty : Graph
+empty = record { jobs = []; reserved = 0; queue = []; workers = λ w. record { held = none; call = idle } }
+
+-- ---- the job of a name
+pub data Found : Type 0 where
+  at : ℕ → Found
+  missing : Found
+
+unfoldable pub seek : ℕ → List Job → ℕ → Found
+seek name [] i = missing
+seek name (x ∷ l) i = pick (eqb (x .name) name) (at i) (seek name l (suc i))
+
+abbrev pub find : Graph → ℕ → Found
+find g name = seek name (g .jobs) 0
+
+-- ---- changes
+abbrev pub withLabel : Job → Label → Job
+withLabel x l =
+    record { name = x .name; label = l; count = x .count; class = x .class; grower = x .grower; list = x .list; dependents = x .dependents }
+
+abbrev pub withCount : Job → ℕ → Job
+withCount x c =
+    record { name = x .name; label = x .label; count = c; class = x .class; grower = x .grower; list = x .list; dependents = x .dependents }
+
+abbrev pub withDependent : Job → ℕ → Job
+withDependent x j =
+    record { name = x .name; label = x .label; count = x .count; class = x .class; grower = x .grower; list = x .list; dependents = x .dependents ++ (j ∷ []) }
+
+abbrev pub newJob : Arguments → Job
+newJob a =
+    record { name = a .name; label = unexecuted; count = a .count; class = a .class; grower = a .grower; list = listed a; dependents = [] }
+
+-- a worker's call becomes c, and its hold stays
+abbrev pub turn : Graph → ℕ → Call → ℕ → Worker
+turn g w c = update (g .workers) w (record { held = g .workers w .held; call = c })
+
+abbrev pub withCall : Graph → ℕ → Call → Graph
+withCall g w c = record { jobs = g .jobs; reserved = g .reserved; queue = g .queue; workers = turn g w c }
+
+-- a job enters the queue, at its end, if the test holds
+abbrev pub enqueue : Bool → List ℕ → ℕ → List ℕ
+enqueue true q j = q ++ (j ∷ [])
+enqueue false q j = q
+
+-- ---- the steps of an add
+-- one look-up: the name must be there
+unfoldable pub lookUp : Graph → ℕ → Arguments → ℕ → Found → Outcome Graph
+lookUp g w a i (at j) = outcome Going (withCall g w (looking a (suc i)))
+lookUp g w a i missing = outcome (Refused unknownName i) (withCall g w idle)
+
+-- entering: "makes the job with remaining count d, and reserves the next d arcs"
+abbrev pub entered : Graph → ℕ → Arguments → Graph
+entered g w a =
+    record { jobs = g .jobs ++ (newJob a ∷ []); reserved = g .reserved + a .count; queue = g .queue; workers = turn g w (linking a (length (g .jobs)) 0 0) }
+
+unfoldable pub enter : Sizes → Graph → ℕ → Arguments → Found → Outcome Graph
+enter s g w a (at j) = outcome (Refused namePresent 0) (withCall g w idle)
+enter s g w a missing =
+    pick (leb (s .jobs) (length (g .jobs)) || ltb (s .arcs) (g .reserved + a .count))
+    (outcome (Refused noRoom 0) (withCall g w idle))
+    (outcome Going (entered g w a))
+
+-- one link: "a finished prerequisite adds 1 to the worker's tally, any other gets the arc appended to its list"
+abbrev pub linked : Graph → ℕ → Arguments → ℕ → ℕ → ℕ → ℕ → Graph
+linked g w a j i t p =
+    record { jobs = set (g .jobs) p (withDependent (job g p) j); reserved = g .reserved; queue = g .queue; workers = turn g w (linking a j (suc i) t) }
+
+unfoldable pub linkTo : Graph → ℕ → Arguments → ℕ → ℕ → ℕ → ℕ → Label → Outcome Graph
+linkTo g w a j i t p finished = outcome Going (withCall g w (linking a j (suc i) (suc t)))
+linkTo g w a j i t p unexecuted = outcome Going (linked g w a j i t p)
+linkTo g w a j i t p executing = outcome Going (linked g w a j i t p)
+
+unfoldable pub link : Graph → ℕ → Arguments → ℕ → ℕ → ℕ → Found → Outcome Graph
+link g w a j i t (at p) = linkTo g w a j i t p (job g p .label)
+link g w a j i t missing = outcome (Refused damaged 0) g
+
+-- settling: "the remaining count falls by the tally, and the job enters the queue if the count is then 0 and either the tally is above 0 or d is 0"
+abbrev pub settles : ℕ → ℕ → ℕ → Bool
+settles count t d = eqb count 0 && (ltb 0 t || eqb d 0)
+
+abbrev pub settled : Graph → ℕ → ℕ → ℕ → ℕ → Graph
+settled g w j t d =
+    record { jobs = set (g .jobs) j (withCount (job g j) (job g j .count - t)); reserved = g .reserved; queue = enqueue (settles (job g j .count - t) t d) (g .queue) j; workers = turn g w idle }
+
+-- ---- the steps of a finish
+-- the mark: "labels the job finished and frees the worker's hold"; with no dependents the call ends
+abbrev pub marked : Graph → ℕ → ℕ → Call → Graph
+marked g w p c =
+    record { jobs = set (g .jobs) p (withLabel (job g p) finished); reserved = g .reserved; queue = g .queue; workers = update (g .workers) w (record { held = none; call = c }) }
+
+unfoldable pub markDependents : Graph → ℕ → ℕ → List ℕ → Outcome Graph
+markDependents g w p [] = outcome Ended (marked g w p idle)
+markDependents g w p (j ∷ l) = outcome Going (marked g w p (notifying p 0))
+
+unfoldable pub mark : Graph → ℕ → Option ℕ → Outcome Graph
+mark g w (some p) = markDependents g w p (job g p .dependents)
+mark g w none = outcome (Refused damaged 0) g
+
+-- one arc: "lowers that dependent's count by 1; a count that reaches 0 puts that job in the queue"
+abbrev pub notified : Graph → ℕ → ℕ → Call → Graph
+notified g w j c =
+    record { jobs = set (g .jobs) j (withCount (job g j) (job g j .count - 1)); reserved = g .reserved; queue = enqueue (eqb (job g j .count - 1) 0) (g .queue) j; workers = turn g w c }
+
+unfoldable pub notify : Graph → ℕ → ℕ → ℕ → Outcome Graph
+notify g w p k =
+    pick (ltb (suc k) (length (job g p .dependents)))
+    (outcome Going (notified g w (getD (job g p .dependents) k 0) (notifying p (suc k))))
+    (outcome Ended (notified g w (getD (job g p .dependents) k 0) idle))
+
+-- ---- one step of the call that a worker is in
+unfoldable pub stepCall : Sizes → Graph → ℕ → Call → Outcome Graph
+stepCall s g w idle = outcome (Refused nothingToStep 0) g
+stepCall s g w (looking a i) =
+    pick (ltb i (a .count)) (lookUp g w a i (find g (getD (listed a) i 0))) (enter s g w a (find g (a .name)))
+stepCall s g w (linking a j i t) =
+    pick (ltb i (a .count)) (link g w a j i t (find g (getD (listed a) i 0))) (outcome Ended (settled g w j t (a .count)))
+stepCall s g w marking = mark g w (g .workers w .held)
+stepCall s g w (notifying p k) = notify g w p k
+
+-- ---- posts and gets, which only an idle worker may make
+unfoldable pub whenIdle : Graph → Call → Outcome Graph → Outcome Graph
+whenIdle g idle r = r
+whenIdle g (looking a i) r = outcome (Refused halfDone 0) g
+whenIdle g (linking a j i t) r = outcome (Refused halfDone 0) g
+whenIdle g marking r = outcome (Refused halfDone 0) g
+whenIdle g (notifying p k) r = outcome (Refused halfDone 0) g
+
+unfoldable pub addPosted : Graph → ℕ → Arguments → Outcome Graph
+addPosted g w a =
+    pick (argumentsWrong a) (outcome (Refused wrongArguments 0) g) (outcome Posted (withCall g w (looking a 0)))
+
+unfoldable pub finishPosted : Graph → ℕ → ℕ → Option ℕ → Outcome Graph
+finishPosted g w name none = outcome (Refused notHeld 0) g
+finishPosted g w name (some p) =
+    pick (eqb (job g p .name) name) (outcome Posted (withCall g w marking)) (outcome (Refused notHeld 0) g)
+
+-- a get "takes the job longest in the queue, labels it executing and records it as held"
+abbrev pub handedOut : Graph → ℕ → ℕ → List ℕ → Graph
+handedOut g w j q =
+    record { jobs = set (g .jobs) j (withLabel (job g j) executing); reserved = g .reserved; queue = q; workers = update (g .workers) w (record { held = some j; call = idle }) }
+
+unfoldable pub takeNext : Graph → ℕ → List ℕ → Outcome Graph
+takeNext g w [] = outcome NoneReady g
+takeNext g w (j ∷ q) = outcome (Handed j (job g j .name)) (handedOut g w j q)
+
+unfoldable pub getJob : Graph → ℕ → Option ℕ → Outcome Graph
+getJob g w none = takeNext g w (g .queue)
+getJob g w (some j) = outcome (Refused alreadyHolding 0) g
+
+-- ---- an item: number 1 for other sizes than those laid out, then 2, then the call's own rules
+unfoldable pub admitted : Sizes → Sizes → Graph → ℕ → Outcome Graph → Outcome Graph
+admitted laid s g w r =
+    pick (sameSizes s laid)
+    (pick (ltb w (laid .workers)) r (outcome (Refused noSuchWorker 0) g))
+    (outcome (Refused wrongSizes 0) g)
+
+unfoldable pub perform : Sizes → Graph → Item → Outcome Graph
+perform laid g (postAdd s w a) = admitted laid s g w (whenIdle g (g .workers w .call) (addPosted g w a))
+perform laid g (postFinish s w name) =
+    admitted laid s g w (whenIdle g (g .workers w .call) (finishPosted g w name (g .workers w .held)))
+perform laid g (step s w) = admitted laid s g w (stepCall laid g w (g .workers w .call))
+perform laid g (get s w) = admitted laid s g w (whenIdle g (g .workers w .call) (getJob g w (g .workers w .held)))

@@ -1,0 +1,15 @@
+pub mod Number
+pub mod Job
+pub mod Decode
+pub mod Write
+pub mod Cases
+pub mod Choice
+pub mod NumberLaws
+pub mod FieldTrip
+pub mod EntryTrip
+pub mod SheetTrip
+pub mod WriteTrip
+pub mod RewriteTrip
+pub mod Refusals
+pub mod CodeLaws
+pub mod Promises

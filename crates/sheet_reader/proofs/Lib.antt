@@ -1,0 +1,5 @@
+pub mod Fields
+pub mod Entries
+pub mod Sheets
+pub mod Stores
+pub mod Rows

@@ -1,0 +1,78 @@
+-- `store_names` stores so many names. The loop's invariant: the names passed are stored, and nothing else. Assumes nothing.
+use Prim.Native.Nat.{_≤_, _-_}
+use mathlib.Core.Path.{_≡_}
+use native.Mathlib.Omega.{arith}
+use lib.Seq.{sets}
+use lib.ListN.{length, length-set}
+use borrow.Author.Needs.{needs}
+use Rattle.sheet_format.specs.Decode.{namesAt}
+use Rattle.sheet_format.specs.Job.{nameBytes}
+use Rattle.sheet_reader.proofs.Stores.{name-more}
+use Rattle.sheet_reader.proofs.store_names.Statement.{statement}
+use Rattle.sheet_reader.proofs.store_names.Tie as tie
+
+abbrev Inv-loop : tie.InvT-loop
+Inv-loop s at count words₀ from i₀ words i =
+    (i ≤ count) × (length words ≡ length words₀) × (words ≡ sets words₀ from (namesAt nameBytes s at i))
+
+abbrev μ-loop : tie.MeasureT-loop
+μ-loop s at count words₀ from i₀ words i = count - i
+
+loop-holds : tie.Need-loop-holds Inv-loop μ-loop
+unfolding namesAt
+loop-holds c = search needs
+
+mul-number4 : tie.Need-mul-number4 Inv-loop μ-loop
+mul-number4 c = search needs
+
+add-number4 : tie.Need-add-number4 Inv-loop μ-loop
+add-number4 c = search needs
+
+number4-requires : tie.Need-number4-requires Inv-loop μ-loop
+number4-requires c κs = search needs
+
+add-words : tie.Need-add-words Inv-loop μ-loop
+add-words c = search needs
+
+mul-words : tie.Need-mul-words Inv-loop μ-loop
+mul-words c = search needs
+
+slice-write-words : tie.Need-slice-write-words Inv-loop μ-loop
+slice-write-words c = search needs
+
+add-i : tie.Need-add-i Inv-loop μ-loop
+add-i c = search needs
+
+loop-less : tie.Need-loop-less Inv-loop μ-loop
+loop-less c = search needs
+
+loop-again : tie.Need-loop-again Inv-loop μ-loop
+loop-again c =
+    (search needs, simp length-set (omega arith), rw (c .before .before .loop .inv .2, c .number4 .ensures) (name-more _ _ _ nameBytes _ _ _ (omega arith)))
+
+same-length : tie.Need-same-length Inv-loop μ-loop
+same-length c = search needs
+
+returns : tie.Need-returns Inv-loop μ-loop
+returns c =
+    let q : c .before .loop .i ≡ c .before .before .before .before .args .count = omega arith in
+    rw (← q) (c .before .loop .inv .2)
+
+pub store-names-spec : {M : Type 1} → statement M
+store-names-spec =
+    tie.close
+    (tie.spec
+    Inv-loop
+    μ-loop
+    loop-holds
+    mul-number4
+    add-number4
+    number4-requires
+    add-words
+    mul-words
+    slice-write-words
+    add-i
+    loop-less
+    loop-again
+    same-length
+    returns)

@@ -1,0 +1,79 @@
+-- `put_rows` stores the entries of the rows one after the other. The loop's invariant: what is left to store, stored from the
+-- running place on, makes the whole. Assumes nothing.
+use Prim.Native.Nat.{_+_, _-_, _≤_}
+use mathlib.Core.Path.{ap, _≡_, _∙_}
+use native.Mathlib.Omega.{arith}
+use native.Mathlib.Nat.{sub-zero}
+use lib.ListN.{length}
+use lib.Seq.{sets}
+use borrow.Author.Needs.{needs}
+use denote.Ref.{now}
+use Rattle.sheet_format.specs.Write.{sheetFault, SheetFault}
+use Rattle.sheet_writer.proofs.Puts.{onward}
+use Rattle.sheet_writer.proofs.Rows.{rest, restBytes, allBytes, next-bytes, next-length, next-sound, end-bytes}
+use Rattle.sheet_writer.proofs.put_rows.Statement.{statement}
+use Rattle.sheet_writer.proofs.put_rows.Tie as tie
+
+abbrev Inv-loop : tie.InvT-loop
+Inv-loop out₀ rows n next₀ i₀ out next i =
+    (i ≤ n)
+    × (length out ≡ length out₀)
+    × (sheetFault i (rest rows i n) ≡ SheetFault.none)
+    × (next + length (restBytes rows i n) ≡ length (allBytes rows n))
+    × (sets out next (restBytes rows i n) ≡ sets out₀ 0 (allBytes rows n))
+
+abbrev μ-loop : tie.MeasureT-loop
+μ-loop out₀ rows n next₀ i₀ out next i = n - i
+
+loop-holds : tie.Need-loop-holds Inv-loop μ-loop
+loop-holds c = (search needs, search needs, simp sub-zero (c .before .before .pre .1), simp sub-zero (omega arith), simp sub-zero)
+
+put-row-requires : tie.Need-put-row-requires Inv-loop μ-loop
+put-row-requires c κs =
+    let l = c .before .before in
+    let s = l .before .before .before in
+    let rows = now (s .args .rows) in
+    let i = l .loop .i in
+    let b = next-length rows i (s .args .n) (omega arith) in
+    (omega arith, next-sound rows i (s .args .n) (omega arith) (l .loop .inv .2) .0, omega arith)
+
+add-i : tie.Need-add-i Inv-loop μ-loop
+add-i c = omega arith
+
+loop-less : tie.Need-loop-less Inv-loop μ-loop
+loop-less c = omega arith
+
+loop-again : tie.Need-loop-again Inv-loop μ-loop
+loop-again c =
+    let l = c .before .before .before .before .before in
+    let s = l .before .before .before in
+    let rows = now (s .args .rows) in
+    let i = l .loop .i in
+    let b = next-length rows i (s .args .n) (omega arith) in
+    let f = c .before .before .put-row .ensures in
+    (omega arith, c .before .before .put-row .kept .0 ∙ l .loop .inv .1, next-sound rows i (s .args .n) (omega arith) (l .loop .inv .2) .1, omega (arith, f .past), onward _ f (next-bytes rows i (s .args .n) (omega arith)) (l .loop .inv .4))
+
+same-length : tie.Need-same-length Inv-loop μ-loop
+same-length c = c .before .loop .inv .1
+
+returns : tie.Need-returns Inv-loop μ-loop
+returns c =
+    let l = c .before in
+    let s = l .before .before .before in
+    let e = end-bytes (now (s .args .rows)) (l .loop .i) (s .args .n) (omega arith) in
+    let b = ap length e in
+    record { stored = rw e at (l .loop .inv .4); past = omega arith }
+
+pub put-rows-spec : {M : Type 1} → statement M
+put-rows-spec =
+    tie.close
+    (tie.spec
+    Inv-loop
+    μ-loop
+    loop-holds
+    put-row-requires
+    add-i
+    loop-less
+    loop-again
+    same-length
+    returns)

@@ -1,0 +1,79 @@
+-- `write` answers and leaves what `writeEntry` says, for every entry, output and offset. Assumes nothing.
+use Prim.Native.Nat.{_+_}
+use mathlib.Core.Path.{_≡_, sym, _∙_}
+use native.Mathlib.Omega.{arith}
+use lib.ListN.{length}
+use borrow.Author.Tests.{leb-true}
+use borrow.Author.Needs.{needs}
+use denote.Ref.{now}
+use Rattle.sheet_format.specs.Write.{Fault, faultOf, writeEntry, jobOf}
+use Rattle.sheet_format.specs.Job.{mostNames, encode}
+use Rattle.sheet_writer.proofs.Judging.{refused, takes, few}
+use Rattle.sheet_writer.proofs.write.Statement.{statement}
+use Rattle.sheet_writer.proofs.write.Tie as tie
+
+-- what the judgement says of an entry that takes so many bytes
+takes-at : (c : tie.After-known-told2) → let e = c .before .before .before .before .before .args .entry in (faultOf e ≡ Fault.none) × (length (encode (jobOf e)) ≡ c .before .bytes .given .0 .0)
+takes-at c =
+    let e = c .before .before .before .before .before .args .entry in
+    takes e _ (sym (c .before .before .before .judge .ensures (e .name) (e .names) (search needs)) ∙ c .before .bytes .given .1)
+
+judge-requires : tie.Need-judge-requires
+judge-requires c κs = search needs
+
+enum-known-place : tie.Need-enum-known-place
+enum-known-place c = search needs
+
+enum-known-bytes : tie.Need-enum-known-bytes
+enum-known-bytes c = search needs
+
+has-room-requires : tie.Need-has-room-requires
+has-room-requires c κs = search needs
+
+slice-aggregate-put-entry : tie.Need-slice-aggregate-put-entry
+slice-aggregate-put-entry c = search needs
+
+put-entry-requires : tie.Need-put-entry-requires
+put-entry-requires c κs =
+    let a = c .before .before .before .before .before .before .before .before .before .before .args in
+    let all : length (a .entry .names) ≡ mostNames = search needs in
+    let t = takes-at (c .before .before .before .before .before) in
+    let w = few (a .entry) (t .0) in
+    (omega arith, leb-true (a .at + length (encode (jobOf (a .entry)))) (length (now (a .out))) (rw (t .1) (sym (c .before .before .before .before .has-room .ensures) ∙ c .before .before .before .if1 .taken)))
+
+returns : tie.Need-returns
+unfolding writeEntry
+returns c =
+    let e = c .before .before .before .before .before .args .entry in
+    rw (refused e _ (sym (c .before .before .before .judge .ensures (e .name) (e .names) (search needs)) ∙ c .before .place .given .1))
+
+same-length : tie.Need-same-length
+same-length c = search needs
+
+returns-2 : tie.Need-returns-2
+unfolding writeEntry
+returns-2 c =
+    let t = takes-at (c .before .before .before .before .before .before .before .before) in
+    let f = c .before .before .put-entry .ensures in
+    rw (t .0, f .stored, f .past, t .1, ← c .before .before .before .before .before .before .before .has-room .ensures, c .before .before .before .before .before .before .if1 .taken)
+
+returns-3 : tie.Need-returns-3
+unfolding writeEntry
+returns-3 c =
+    let t = takes-at (c .before .before) in
+    rw (t .0, t .1, ← c .before .has-room .ensures, c .if1 .left)
+
+pub write-spec : {M : Type 1} → statement M
+write-spec =
+    tie.close
+    (tie.spec
+    judge-requires
+    enum-known-place
+    enum-known-bytes
+    has-room-requires
+    slice-aggregate-put-entry
+    put-entry-requires
+    returns
+    same-length
+    returns-2
+    returns-3)

@@ -1,0 +1,83 @@
+-- `write_sheet` answers and leaves what `writeSheet` says, for all rows and every output. Assumes nothing.
+use Prim.Native.Nat.{_/_}
+use mathlib.Core.Path.{_≡_, sym, _∙_}
+use native.Mathlib.Nat.{zero-add}
+use native.Mathlib.Omega.{arith}
+use lib.ListN.{length, length-map}
+use borrow.Author.Tests.{eq-eqb, ne-eqb, le-leb, lt-leb}
+use borrow.Author.Needs.{needs}
+use denote.Ref.{now}
+use Rattle.sheet_format.specs.Write.{SheetFault, sheetFault, writeSheet, jobOf, entriesOf}
+use Rattle.sheet_format.specs.Decode.{rowWords}
+use Rattle.sheet_writer.proofs.Judging.{sheet-refused, sheet-takes}
+use Rattle.sheet_writer.proofs.Rows.{allBytes, entries-length}
+use Rattle.sheet_writer.proofs.write_sheet.Statement.{statement}
+use Rattle.sheet_writer.proofs.write_sheet.Tie as tie
+
+-- what the judgement says of a sheet that takes so many bytes
+takes-at : (c : tie.After-known-told2) → let rows = now (c .before .before .before .before .before .before .before .args .rows) in (sheetFault 0 (entriesOf rows) ≡ SheetFault.none) × (length (allBytes rows (length rows / rowWords)) ≡ c .before .bytes .given .0 .0)
+takes-at c =
+    sheet-takes
+    (entriesOf (now (c .before .before .before .before .before .before .before .args .rows)))
+    _
+    (sym (c .before .before .before .judge-rows .ensures) ∙ c .before .bytes .given .1)
+
+returns : tie.Need-returns
+unfolding writeSheet
+returns c = rw (ne-eqb _ _ (c .if1 .taken))
+
+judge-rows-requires : tie.Need-judge-rows-requires
+judge-rows-requires c κs = search needs
+
+enum-known-entry : tie.Need-enum-known-entry
+enum-known-entry c = search needs
+
+enum-known-bytes : tie.Need-enum-known-bytes
+enum-known-bytes c = search needs
+
+put-rows-requires : tie.Need-put-rows-requires
+put-rows-requires c κs = let t = takes-at (c .before .before) in (omega arith, t .0, omega arith)
+
+returns-2 : tie.Need-returns-2
+unfolding writeSheet
+returns-2 c =
+    let rows = now (c .before .before .before .before .before .before .before .args .rows) in
+    let f = sheet-refused (entriesOf rows) _ _ (sym (c .before .before .before .judge-rows .ensures) ∙ c .before .entry .given .1) in
+    rw (eq-eqb _ _ (c .before .before .before .before .if1 .left), f)
+
+same-length : tie.Need-same-length
+same-length c = search needs
+
+returns-3 : tie.Need-returns-3
+unfolding writeSheet
+returns-3 c =
+    let a = c .before .before .before .before .before .before .before .before .before .before .before .before .args in
+    let rows = now (a .rows) in
+    let t = takes-at (c .before .before .before .before .before) in
+    let f = c .before .before .put-rows .ensures in
+    let k = length-map (entriesOf rows) jobOf ∙ entries-length rows 0 (length rows / rowWords) in
+    let fits = le-leb (length (allBytes rows (length rows / rowWords))) (length (now (a .out))) (omega arith) in
+    rw (eq-eqb _ _ (c .before .before .before .before .before .before .before .before .before .if1 .left), t .0, fits, k, f .stored, f .past, zero-add)
+
+returns-4 : tie.Need-returns-4
+unfolding writeSheet
+returns-4 c =
+    let a = c .before .before .before .before .before .before .before .before .args in
+    let rows = now (a .rows) in
+    let t = takes-at (c .before) in
+    let short = lt-leb (length (allBytes rows (length rows / rowWords))) (length (now (a .out))) (omega arith) in
+    rw (eq-eqb _ _ (c .before .before .before .before .before .if1 .left), t .0, short)
+
+pub write-sheet-spec : {M : Type 1} → statement M
+write-sheet-spec =
+    tie.close
+    (tie.spec
+    returns
+    judge-rows-requires
+    enum-known-entry
+    enum-known-bytes
+    put-rows-requires
+    returns-2
+    same-length
+    returns-3
+    returns-4)

@@ -1,0 +1,1 @@
+// What is claimed of every history by the rules stands in specs/.

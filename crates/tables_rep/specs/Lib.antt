@@ -1,0 +1,14 @@
+pub mod Lists
+pub mod Records
+pub mod Stand
+pub mod Find
+pub mod Fresh
+pub mod Change
+pub mod Queue
+pub mod Arcs
+pub mod Keep
+pub mod Enter
+pub mod Link
+pub mod Append
+pub mod Count
+pub mod Labels

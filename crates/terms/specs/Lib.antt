@@ -1,0 +1,4 @@
+pub mod Base
+pub mod Terms
+pub mod Runs
+pub mod Starred

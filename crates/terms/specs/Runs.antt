@@ -1,0 +1,45 @@
+-- Items, and what a list of them does: one definition for every machine that answers items. Assumes nothing.
+use mathlib.Core.List.{List, [], _∷_}
+use Prim.Native.Nat.{ℕ, _+_, _-_}
+use Rattle.terms.specs.Base.{occurrences}
+use Rattle.terms.specs.Terms.{Arguments}
+use Rattle.terms.specs.declared.Sizes.{Sizes}
+use Rattle.terms.specs.declared.Answer.{Answer}
+
+-- an item of demand 3's list: a post of an add or a finish, a step or a get, with the sizes and the worker that it brings
+pub data Item : Type 0 where
+  postAdd : Sizes → ℕ → Arguments → Item
+  postFinish : Sizes → ℕ → ℕ → Item
+  step : Sizes → ℕ → Item
+  get : Sizes → ℕ → Item
+
+-- what an item answers, and the state that it leaves
+pub record Outcome (S : Type 0) : Type 0 where
+  pub answer : Answer
+  pub state : S
+
+abbrev pub outcome : {S : Type 0} → Answer → S → Outcome S
+outcome a s = record { answer = a; state = s }
+
+-- an item with its answer
+pub record Event : Type 0 where
+  pub item : Item
+  pub answer : Answer
+
+module _ {S : Type 0} (perform : S → Item → Outcome S) where
+  -- the state after a list of items, each given the state as the last left it
+  unfoldable pub after : S → List Item → S
+  after s [] = s
+  after s (i ∷ is) = after (perform s i .state) is
+
+  -- the items with their answers
+  unfoldable pub events : S → List Item → List Event
+  events s [] = []
+  events s (i ∷ is) = record { item = i; answer = perform s i .answer } ∷ events (perform s i .state) is
+
+  -- "Its count of entries is the sum, over the items of the list, of how many more places it has [in the queue] just after the item than just before
+  -- (nought if not more)"
+  unfoldable pub entries : (S → List ℕ) → S → List Item → ℕ → ℕ
+  entries queue s [] j = 0
+  entries queue s (i ∷ is) j =
+      (occurrences j (queue (perform s i .state)) - occurrences j (queue s)) + entries queue (perform s i .state) is j

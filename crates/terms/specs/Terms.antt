@@ -1,0 +1,104 @@
+-- The terms of document 01 that every level shares: limits, refusals, labels, and the arguments of an add. Assumes nothing.
+use mathlib.Core.Bool.{Bool, true, false, _&&_, _||_}
+use mathlib.Core.List.{List, [], _∷_}
+use Prim.Native.Nat.{ℕ}
+use lib.Dec.{ltb, leb, eqb}
+use Rattle.terms.specs.Base.{contains, repeats, prefix}
+use Rattle.terms.specs.declared.Sizes.{Sizes}
+
+-- ---- limits ("Tables and their measures")
+abbrev pub mostJobs : ℕ
+mostJobs = 4096
+
+abbrev pub mostArcs : ℕ
+mostArcs = 32768
+
+abbrev pub mostBits : ℕ
+mostBits = 8
+
+abbrev pub mostWorkers : ℕ
+mostWorkers = 16
+
+abbrev pub mostNames : ℕ
+mostNames = 32
+
+abbrev pub mostClass : ℕ
+mostClass = 15
+
+abbrev pub mostGrower : ℕ
+mostGrower = 65535
+
+-- "R jobs 1 to 4,096; A arcs 0 to 32,768; b bucket bits 1 to 8; P workers 1 to 16"
+unfoldable pub withinLimits : Sizes → Bool
+withinLimits s =
+    leb 1 (s .jobs) && leb (s .jobs) mostJobs
+    && leb (s .arcs) mostArcs
+    && (leb 1 (s .bits) && leb (s .bits) mostBits)
+    && (leb 1 (s .workers) && leb (s .workers) mostWorkers)
+
+unfoldable pub sameSizes : Sizes → Sizes → Bool
+sameSizes s t =
+    eqb (s .jobs) (t .jobs) && eqb (s .arcs) (t .arcs) && eqb (s .bits) (t .bits) && eqb (s .workers) (t .workers)
+
+-- ---- refusals ("Turned-away calls")
+abbrev pub wrongSizes : ℕ
+wrongSizes = 1
+
+abbrev pub noSuchWorker : ℕ
+noSuchWorker = 2
+
+abbrev pub halfDone : ℕ
+halfDone = 3
+
+abbrev pub nothingToStep : ℕ
+nothingToStep = 4
+
+abbrev pub wrongArguments : ℕ
+wrongArguments = 5
+
+abbrev pub unknownName : ℕ
+unknownName = 6
+
+abbrev pub namePresent : ℕ
+namePresent = 7
+
+abbrev pub noRoom : ℕ
+noRoom = 8
+
+abbrev pub damaged : ℕ
+damaged = 9
+
+abbrev pub alreadyHolding : ℕ
+alreadyHolding = 10
+
+abbrev pub notHeld : ℕ
+notHeld = 11
+
+-- ---- a job's label
+pub data Label : Type 0 where
+  unexecuted executing finished : Label
+  deriving Discrete as Label-discrete
+
+-- "label (0 unexecuted, 1 executing, 2 finished)"
+abbrev pub labelNumber : Label → ℕ
+labelNumber unexecuted = 0
+labelNumber executing = 1
+labelNumber finished = 2
+
+-- ---- the arguments of an add; the list goes in as one value, the names, with its count
+pub record Arguments : Type 0 where
+  pub name : ℕ
+  pub count : ℕ
+  pub names : List ℕ
+  pub class : ℕ
+  pub grower : ℕ
+
+-- the listed names: those up to the count
+abbrev pub listed : Arguments → List ℕ
+listed a = prefix (a .count) (a .names)
+
+-- number 5: "a class over 15, a grower over 65,535, or a list over 32, holding its own job's name or a name twice"
+unfoldable pub argumentsWrong : Arguments → Bool
+argumentsWrong a =
+    ltb mostClass (a .class) || ltb mostGrower (a .grower) || ltb mostNames (a .count)
+    || (contains (a .name) (listed a) || repeats (listed a))

@@ -1,0 +1,28 @@
+// The vocabulary of the task graph: sizes and answers. What a call's arguments mean stands in specs/.
+
+// R jobs, A arcs, b bucket bits and P workers of document 01.
+#[repr(C)]
+pub struct Sizes {
+    pub jobs: u32,
+    pub arcs: u32,
+    pub bits: u32,
+    pub workers: u32,
+}
+
+// What a call or a step answers.
+pub enum Answer {
+    // The tables were laid out.
+    Laid,
+    // A call was posted, and runs by steps.
+    Posted,
+    // A step was made, and the call goes on.
+    Going,
+    // A step was made that ended the call, which was accepted.
+    Ended,
+    // A get found the queue empty.
+    NoneReady,
+    // A get handed a job out.
+    Handed { job: u32, name: u32 },
+    // A number of document 01's list; 6 comes with a place in the list, and for every other number the place is 0.
+    Refused { number: u32, place: u32 },
+}

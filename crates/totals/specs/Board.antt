@@ -1,0 +1,103 @@
+-- The board of totals: how many jobs stand under each label, and the sum of their minutes. Document 01, "The board and the
+-- day list", with numbers 1 and 9 of "Turned-away calls". The minutes by class are a table that the definitions take.
+-- Assumes nothing.
+use mathlib.Core.Bool.{Bool, true, false, _&&_}
+use mathlib.Core.List.{List, [], _∷_}
+use Prim.Native.Nat.{ℕ, _+_, _%_}
+use lib.Dec.{eqb, leb, ltb}
+use lib.ListN.{length}
+use Rattle.minutes.specs.Minutes.{classes, minutesIn}
+use Rattle.totals.specs.declared.JobRecord.{JobRecord}
+use Rattle.totals.specs.declared.Totals.{Totals}
+
+-- the labels: "0 unexecuted, 1 executing, 2 finished"
+abbrev pub unexecuted : ℕ
+unexecuted = 0
+
+abbrev pub executing : ℕ
+executing = 1
+
+abbrev pub finished : ℕ
+finished = 2
+
+-- number 1: "more than 4,096 board records"
+abbrev pub mostRecords : ℕ
+mostRecords = 4096
+
+-- how the board was answered: served, or the number of the refusal
+abbrev pub served : ℕ
+served = 0
+
+abbrev pub offLimits : ℕ
+offLimits = 1
+
+abbrev pub damaged : ℕ
+damaged = 9
+
+-- the first where the test holds, else the second
+abbrev pub pick {ℓ} : {A : Type ℓ} → Bool → A → A → A
+pick true a b = a
+pick false a b = b
+
+-- what the records of a row count for, together
+unfoldable pub sumOver : (JobRecord → ℕ) → List JobRecord → ℕ
+sumOver amount [] = 0
+sumOver amount (r ∷ rows) = amount r + sumOver amount rows
+
+-- a record counts under its own label alone
+abbrev pub under : ℕ → (JobRecord → ℕ) → JobRecord → ℕ
+under label amount r = pick (eqb (r .label) label) (amount r) 0
+
+-- a record counts for one job, and for the minutes of its class
+abbrev pub oneJob : JobRecord → ℕ
+oneJob r = 1
+
+abbrev pub itsMinutes : List ℕ → JobRecord → ℕ
+itsMinutes table r = minutesIn table (r .class)
+
+-- "the number of jobs and the sum of minutes under each label"
+abbrev pub jobsUnder : ℕ → List JobRecord → ℕ
+jobsUnder label rows = sumOver (under label oneJob) rows
+
+abbrev pub minutesUnder : List ℕ → ℕ → List JobRecord → ℕ
+minutesUnder table label rows = sumOver (under label (itsMinutes table)) rows
+
+-- the minutes of all jobs of a row
+abbrev pub minutesOfAll : List ℕ → List JobRecord → ℕ
+minutesOfAll table rows = sumOver (itsMinutes table) rows
+
+-- "A wrong label or class gives 9": neither is wrong, the label 0 to 2 and the class 0 to 15
+abbrev pub wellFormed : JobRecord → Bool
+wellFormed r = leb (r .label) finished && ltb (r .class) classes
+
+unfoldable pub allWellFormed : List JobRecord → Bool
+allWellFormed [] = true
+allWellFormed (r ∷ rows) = wellFormed r && allWellFormed rows
+
+-- a refusal hands out its number alone
+abbrev pub refused : ℕ → Totals
+refused number = record { number = number; jobs = 0 ∷ 0 ∷ 0 ∷ []; minutes = 0 ∷ 0 ∷ 0 ∷ [] }
+
+-- the totals of well-formed records, each list in the order of the labels
+unfoldable pub counted : List ℕ → List JobRecord → Totals
+counted table rows = record {
+  number = served;
+  jobs = jobsUnder unexecuted rows ∷ jobsUnder executing rows ∷ jobsUnder finished rows ∷ [];
+  minutes = minutesUnder table unexecuted rows ∷ minutesUnder table executing rows ∷ minutesUnder table finished rows ∷ [];
+}
+
+-- what the board answers of a lent row of job records; number 1 comes before number 9
+unfoldable pub totalsOf : List ℕ → List JobRecord → Totals
+totalsOf table rows =
+    pick (ltb mostRecords (length rows)) (refused offLimits)
+    (pick (allWellFormed rows) (counted table rows) (refused damaged))
+
+-- the same row as words, a label and a class for each record
+unfoldable pub rowsOfWords : List ℕ → List JobRecord
+rowsOfWords [] = []
+rowsOfWords (label ∷ []) = []
+rowsOfWords (label ∷ class ∷ words) = record { label = label; class = class } ∷ rowsOfWords words
+
+-- an odd number of words is no row of records: number 1
+unfoldable pub totalsOfWords : List ℕ → List ℕ → Totals
+totalsOfWords table words = pick (eqb (length words % 2) 0) (totalsOf table (rowsOfWords words)) (refused offLimits)

@@ -1,0 +1,5 @@
+pub mod Columns
+pub mod Layout
+pub mod Words
+pub mod Observed
+pub mod Cases

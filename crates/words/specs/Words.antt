@@ -1,0 +1,334 @@
+-- Every call and step over the words of the tables, for ALL tables and arguments: the order of the tests, every number, what is left behind
+-- ("Steps", "Turned-away calls"). A call plans by reading, and stores only where nothing is left to refuse. Assumes nothing.
+use mathlib.Core.Bool.{Bool, true, false, _&&_, _||_, not}
+use mathlib.Core.List.{List, [], _∷_, _++_}
+use Prim.Native.Nat.{ℕ, zero, suc, _+_, _*_, _-_}
+use lib.Dec.{ltb, leb, eqb}
+use lib.ListN.{length, getD}
+use lib.Seq.{sets}
+use Rattle.bucket.specs.Bucket.{bucketOf}
+use Rattle.terms.specs.Base.{pick, prefix}
+use Rattle.terms.specs.Terms.{mostNames, mostClass, mostGrower, Arguments, listed, argumentsWrong, wrongSizes, noSuchWorker, halfDone, nothingToStep, wrongArguments, unknownName, namePresent, noRoom, damaged, alreadyHolding, notHeld}
+use Rattle.terms.specs.Runs.{Item, postAdd, postFinish, step, get, Outcome, outcome}
+use Rattle.terms.specs.declared.Sizes.{Sizes}
+use Rattle.terms.specs.declared.Answer.{Answer}
+use Rattle.terms.specs.declared.Answer.the-variants.{Laid, Posted, Going, Ended, NoneReady, Handed, Refused}
+use Rattle.words.specs.Columns.{place, put, putHeader}
+use Rattle.words.specs.Layout.{none, jobShape, MADE, NAME, LABEL, COUNT, FIRST, LAST, NEXT, arcShape, RESERVED, DEPENDENT, AFTER, bucketShape, queueShape, TAKEN, PUT, workerShape, PHASE, HELD, OWN-NAME, LIST-COUNT, OWN-CLASS, OWN-GROWER, TALLY, PLACE, OWN-JOB, OWN-ARC, NAMES, IDLE, LOOKING, LINKING, MARKING, NOTIFYING, tables, view, roomFor, sizesFit, bareWorker, freshTables, Tables, View}
+use Rattle.words.specs.declared.Found.{Found}
+use Rattle.words.specs.declared.Found.the-variants.{At, Missing, Damaged}
+use Rattle.words.specs.declared.Plan.{Plan}
+use Rattle.words.specs.declared.Plan.the-variants.{Refuse, Quit, Pass, Enter, Tally, LinkFirst, LinkAfter, Settle, SettleQueue, Mark, Notify, NotifyQueue}
+use Rattle.words.specs.declared.GetPlan.{GetPlan}
+use Rattle.words.specs.declared.GetPlan.the-variants.{RefuseGet, Wait, Take}
+
+-- ---- number 9
+-- "a place that is neither none nor in use": in use is below its counter, and below the table's size
+abbrev pub inUse : ℕ → ℕ → ℕ → Bool
+inUse p counter size = ltb p counter && ltb p size
+
+abbrev pub placeOk : ℕ → ℕ → ℕ → Bool
+placeOk p counter size = eqb p none || inUse p counter size
+
+abbrev pub isPlace : ℕ → Bool
+isPlace p = not (eqb p none)
+
+-- the worker's own words, whatever its phase
+unfoldable pub ownOk : Sizes → View → ℕ → Bool
+ownOk s v w =
+    leb (v .worker PHASE w) NOTIFYING && placeOk (v .worker HELD w) (v .made) (s .jobs)
+    && leb (v .worker LIST-COUNT w) mostNames
+    && leb (v .worker OWN-CLASS w) mostClass
+    && leb (v .worker OWN-GROWER w) mostGrower
+    && leb (v .worker TALLY w) (v .worker LIST-COUNT w)
+    && leb (v .worker PLACE w) (v .worker LIST-COUNT w)
+    && placeOk (v .worker OWN-JOB w) (v .made) (s .jobs)
+    && placeOk (v .worker OWN-ARC w) (v .reserved) (s .arcs)
+
+-- ---- the job of a name: the walk along its bucket, which passes at most as many jobs as were made
+unfoldable pub walk : ℕ → (ℕ → ℕ → ℕ) → ℕ → ℕ → ℕ → Found
+walk zero f made name at = pick (eqb at none) Missing Damaged
+walk (suc k) f made name at =
+    pick (eqb at none) Missing
+    (pick (ltb at made) (pick (eqb (f NAME at) name) (At at) (walk k f made name (f NEXT at))) Damaged)
+
+unfoldable pub findOf : Sizes → View → ℕ → Found
+findOf s v name =
+    pick (leb (v .made) (s .jobs))
+    (walk (v .made) (v .job) (v .made) name (v .bucket 0 (bucketOf name (s .bits))))
+    Damaged
+
+-- ---- the plans of a step
+-- a look-up
+unfoldable pub planLookUp : ℕ → Found → Plan
+planLookUp i (At j) = Pass
+planLookUp i Missing = Quit unknownName i
+planLookUp i Damaged = Refuse damaged
+
+-- entering: 9 for the words it reads, then 7 before 8
+unfoldable pub planEntry : Sizes → View → ℕ → ℕ → Found → Plan
+planEntry s v name d (At j) = Quit namePresent 0
+planEntry s v name d Missing =
+    pick (leb (s .jobs) (v .made) || ltb (s .arcs) (v .reserved + d)) (Quit noRoom 0)
+    (Enter (v .made) (bucketOf name (s .bits)) (v .bucket 0 (bucketOf name (s .bits))) (v .reserved))
+planEntry s v name d Damaged = Refuse damaged
+
+unfoldable pub planEnter : Sizes → View → ℕ → ℕ → Found → Plan
+planEnter s v name d found = pick (leb (v .reserved) (s .arcs)) (planEntry s v name d found) (Refuse damaged)
+
+-- a link that appends the arc x of the add's job j to the list of p
+unfoldable pub planAppend : Sizes → View → ℕ → ℕ → ℕ → Plan
+planAppend s v p x j =
+    pick (ltb j (v .made) && leb (v .reserved) (s .arcs) && ltb x (v .reserved) && placeOk (v .job LAST p) (v .reserved) (s .arcs))
+    (pick (eqb (v .job LAST p) none) (LinkFirst p x j) (LinkAfter p (v .job LAST p) x j))
+    (Refuse damaged)
+
+unfoldable pub planLink : Sizes → View → ℕ → ℕ → Found → Plan
+planLink s v x j (At p) =
+    pick (leb (v .job LABEL p) 2) (pick (eqb (v .job LABEL p) 2) Tally (planAppend s v p x j)) (Refuse damaged)
+planLink s v x j Missing = Refuse damaged
+planLink s v x j Damaged = Refuse damaged
+
+-- the cell of the queue that the next job is put in: "the queue would pass its end" is 9
+unfoldable pub withCell : Sizes → View → (ℕ → Plan) → Plan
+withCell s v plan = pick (leb (v .taken) (v .put) && ltb (v .put) (s .jobs)) (plan (v .put)) (Refuse damaged)
+
+-- settling job j with tally t and a list of d names
+abbrev pub settles : ℕ → ℕ → ℕ → Bool
+settles count t d = eqb count 0 && (ltb 0 t || eqb d 0)
+
+unfoldable pub planSettle : Sizes → View → ℕ → ℕ → ℕ → Plan
+planSettle s v j t d =
+    pick (isPlace j && leb (v .job COUNT j) mostNames && leb t (v .job COUNT j))
+    (pick (settles (v .job COUNT j - t) t d)
+    (withCell s v (SettleQueue j (v .job COUNT j - t)))
+    (Settle j (v .job COUNT j - t)))
+    (Refuse damaged)
+
+-- the mark of the held job p: "the job finished has the wrong label" is 9
+unfoldable pub planMark : Sizes → View → ℕ → Plan
+planMark s v p =
+    pick (isPlace p && eqb (v .job LABEL p) 1 && leb (v .reserved) (s .arcs) && placeOk (v .job FIRST p) (v .reserved) (s .arcs))
+    (Mark p (v .job FIRST p))
+    (Refuse damaged)
+
+-- the step for the arc x: "a count would fall below 0" is 9
+unfoldable pub planNotify : Sizes → View → ℕ → Plan
+planNotify s v x =
+    pick (isPlace x && leb (v .made) (s .jobs) && leb (v .reserved) (s .arcs) && ltb (v .arc DEPENDENT x) (v .made)
+    && placeOk (v .arc AFTER x) (v .reserved) (s .arcs)
+    && leb 1 (v .job COUNT (v .arc DEPENDENT x))
+    && leb (v .job COUNT (v .arc DEPENDENT x)) mostNames)
+    (pick (eqb (v .job COUNT (v .arc DEPENDENT x)) 1)
+    (withCell s v (NotifyQueue (v .arc DEPENDENT x) (v .job COUNT (v .arc DEPENDENT x) - 1) (v .arc AFTER x)))
+    (Notify (v .arc DEPENDENT x) (v .job COUNT (v .arc DEPENDENT x) - 1) (v .arc AFTER x)))
+    (Refuse damaged)
+
+-- a worker's words, as its call has them
+abbrev pub nameAt : View → ℕ → ℕ
+nameAt v w = v .worker (NAMES + v .worker PLACE w) w
+
+unfoldable pub planAdd : Sizes → View → ℕ → Plan
+planAdd s v w =
+    pick (ltb (v .worker PLACE w) (v .worker LIST-COUNT w))
+    (planLookUp (v .worker PLACE w) (findOf s v (nameAt v w)))
+    (planEnter s v (v .worker OWN-NAME w) (v .worker LIST-COUNT w) (findOf s v (v .worker OWN-NAME w)))
+
+unfoldable pub planLinks : Sizes → View → ℕ → Plan
+planLinks s v w =
+    pick (ltb (v .worker PLACE w) (v .worker LIST-COUNT w))
+    (planLink s v (v .worker OWN-ARC w + v .worker PLACE w) (v .worker OWN-JOB w) (findOf s v (nameAt v w)))
+    (planSettle s v (v .worker OWN-JOB w) (v .worker TALLY w) (v .worker LIST-COUNT w))
+
+unfoldable pub planPhase : Sizes → View → ℕ → Plan
+planPhase s v w =
+    pick (eqb (v .worker PHASE w) IDLE) (Refuse nothingToStep)
+    (pick (eqb (v .worker PHASE w) LOOKING) (planAdd s v w)
+    (pick (eqb (v .worker PHASE w) LINKING) (planLinks s v w)
+    (pick (eqb (v .worker PHASE w) MARKING) (planMark s v (v .worker HELD w)) (planNotify s v (v .worker OWN-ARC w)))))
+
+-- "Order: 1, 2, 9 for the worker's own words"
+unfoldable pub admitted : {A : Type 0} → Sizes → Tables → ℕ → (ℕ → A) → A → A
+admitted s t w refuse plan =
+    pick (sizesFit s t)
+    (pick (ltb w (s .workers)) (pick (ownOk s (view t) w) plan (refuse damaged)) (refuse noSuchWorker))
+    (refuse wrongSizes)
+
+abbrev pub planStep : Sizes → Tables → ℕ → Plan
+planStep s t w = admitted s t w Refuse (planPhase s (view t) w)
+
+-- ---- what a plan answers
+abbrev pub goingUnless : Bool → Answer
+goingUnless true = Ended
+goingUnless false = Going
+
+abbrev pub answerOf : Plan → Answer
+answerOf (Refuse n) = Refused n 0
+answerOf (Quit n i) = Refused n i
+answerOf Pass = Going
+answerOf (Enter j k h x) = Going
+answerOf Tally = Going
+answerOf (LinkFirst p x j) = Going
+answerOf (LinkAfter p l x j) = Going
+answerOf (Settle j c) = Ended
+answerOf (SettleQueue j c q) = Ended
+answerOf (Mark p x) = goingUnless (eqb x none)
+answerOf (Notify j c x) = goingUnless (eqb x none)
+answerOf (NotifyQueue j c x q) = goingUnless (eqb x none)
+
+-- ---- what a plan stores
+-- a whole record
+abbrev pub putWorker : List ℕ → ℕ → List ℕ → List ℕ
+putWorker l w r = sets l (place workerShape w 0) r
+
+-- "A call that ends puts the words of its call back": the worker is idle, and its hold stays
+abbrev pub idleWorker : View → ℕ → List ℕ → List ℕ
+idleWorker v w l = putWorker l w (bareWorker IDLE (v .worker HELD w))
+
+abbrev pub putField : List ℕ → ℕ → ℕ → ℕ → List ℕ
+putField l w k x = put workerShape l w k x
+
+-- the entered job's words
+abbrev pub enteredJob : View → ℕ → ℕ → List ℕ
+enteredJob v w head =
+    v .worker OWN-NAME w ∷ 0 ∷ v .worker LIST-COUNT w ∷ v .worker OWN-CLASS w ∷ v .worker OWN-GROWER w ∷ none ∷ none ∷ head ∷ []
+
+-- "With d = 0" no arc is reserved, and the first reserved arc is none
+abbrev pub firstArc : ℕ → ℕ → ℕ
+firstArc d x = pick (eqb d 0) none x
+
+abbrev pub enteredWorker : View → ℕ → ℕ → ℕ → List ℕ → List ℕ
+enteredWorker v w j x l =
+    putField (putField (putField (putField l w PHASE LINKING) w PLACE 0) w OWN-JOB j) w OWN-ARC (firstArc (v .worker LIST-COUNT w) x)
+
+abbrev pub nextPlace : View → ℕ → List ℕ → List ℕ
+nextPlace v w l = putField l w PLACE (v .worker PLACE w + 1)
+
+abbrev pub putCell : List ℕ → ℕ → ℕ → List ℕ
+putCell q i j = putHeader (put queueShape q i 0 j) PUT (i + 1)
+
+abbrev pub putCount : List ℕ → ℕ → ℕ → List ℕ
+putCount l j c = put jobShape l j COUNT c
+
+abbrev pub newArc : List ℕ → ℕ → ℕ → List ℕ
+newArc l x j = put arcShape (put arcShape l x DEPENDENT j) x AFTER none
+
+-- a finish that has marked: its next arc, or the end of the call
+abbrev pub arcsFrom : ℕ → View → ℕ → List ℕ → List ℕ
+arcsFrom x v w l = pick (eqb x none) (idleWorker v w l) (putField l w OWN-ARC x)
+
+abbrev pub markedWorker : ℕ → ℕ → List ℕ → List ℕ
+markedWorker x w l =
+    pick (eqb x none) (putWorker l w (bareWorker IDLE none))
+    (putField (putField (putField l w PHASE NOTIFYING) w HELD none) w OWN-ARC x)
+
+unfoldable pub applied : Plan → Tables → ℕ → Tables
+applied (Refuse n) t w = t
+applied (Quit n i) t w = tables (t .jobs) (t .arcs) (t .buckets) (t .queue) (idleWorker (view t) w (t .workers))
+applied Pass t w = tables (t .jobs) (t .arcs) (t .buckets) (t .queue) (nextPlace (view t) w (t .workers))
+applied (Enter j k h x) t w =
+    tables (putHeader (sets (t .jobs) (place jobShape j 0) (enteredJob (view t) w h)) MADE (j + 1))
+    (putHeader (t .arcs) RESERVED (x + view t .worker LIST-COUNT w))
+    (put bucketShape (t .buckets) k 0 j)
+    (t .queue)
+    (enteredWorker (view t) w j x (t .workers))
+applied Tally t w =
+    tables (t .jobs) (t .arcs) (t .buckets) (t .queue)
+    (putField (nextPlace (view t) w (t .workers)) w TALLY (view t .worker TALLY w + 1))
+applied (LinkFirst p x j) t w =
+    tables (put jobShape (put jobShape (t .jobs) p FIRST x) p LAST x) (newArc (t .arcs) x j) (t .buckets) (t .queue)
+    (nextPlace (view t) w (t .workers))
+applied (LinkAfter p l x j) t w =
+    tables (put jobShape (t .jobs) p LAST x) (put arcShape (newArc (t .arcs) x j) l AFTER x) (t .buckets) (t .queue)
+    (nextPlace (view t) w (t .workers))
+applied (Settle j c) t w =
+    tables (putCount (t .jobs) j c) (t .arcs) (t .buckets) (t .queue) (idleWorker (view t) w (t .workers))
+applied (SettleQueue j c q) t w =
+    tables (putCount (t .jobs) j c) (t .arcs) (t .buckets) (putCell (t .queue) q j) (idleWorker (view t) w (t .workers))
+applied (Mark p x) t w =
+    tables (put jobShape (t .jobs) p LABEL 2) (t .arcs) (t .buckets) (t .queue) (markedWorker x w (t .workers))
+applied (Notify j c x) t w =
+    tables (putCount (t .jobs) j c) (t .arcs) (t .buckets) (t .queue) (arcsFrom x (view t) w (t .workers))
+applied (NotifyQueue j c x q) t w =
+    tables (putCount (t .jobs) j c) (t .arcs) (t .buckets) (putCell (t .queue) q j) (arcsFrom x (view t) w (t .workers))
+
+unfoldable pub stepWords : Sizes → Tables → ℕ → Outcome Tables
+stepWords s t w = outcome (answerOf (planStep s t w)) (applied (planStep s t w) t w)
+
+-- ---- get
+unfoldable pub planTake : Sizes → View → ℕ → GetPlan
+planTake s v j =
+    pick (leb (v .made) (s .jobs) && ltb j (v .made) && eqb (v .job LABEL j) 0) (Take j (v .job NAME j) (v .taken)) (RefuseGet damaged)
+
+unfoldable pub planQueue : Sizes → View → GetPlan
+planQueue s v =
+    pick (leb (v .taken) (v .put) && leb (v .put) (s .jobs))
+    (pick (eqb (v .taken) (v .put)) Wait (planTake s v (v .cell 0 (v .taken))))
+    (RefuseGet damaged)
+
+unfoldable pub planGet : Sizes → View → ℕ → GetPlan
+planGet s v w =
+    pick (eqb (v .worker PHASE w) IDLE)
+    (pick (eqb (v .worker HELD w) none) (planQueue s v) (RefuseGet alreadyHolding))
+    (RefuseGet halfDone)
+
+abbrev pub answerGet : GetPlan → Answer
+answerGet (RefuseGet n) = Refused n 0
+answerGet Wait = NoneReady
+answerGet (Take j name q) = Handed j name
+
+unfoldable pub appliedGet : GetPlan → Tables → ℕ → Tables
+appliedGet (RefuseGet n) t w = t
+appliedGet Wait t w = t
+appliedGet (Take j name q) t w =
+    tables (put jobShape (t .jobs) j LABEL 1) (t .arcs) (t .buckets) (putHeader (put queueShape (t .queue) q 0 none) TAKEN (q + 1))
+    (putField (t .workers) w HELD j)
+
+abbrev pub planGetOf : Sizes → Tables → ℕ → GetPlan
+planGetOf s t w = admitted s t w RefuseGet (planGet s (view t) w)
+
+unfoldable pub getWords : Sizes → Tables → ℕ → Outcome Tables
+getWords s t w = outcome (answerGet (planGetOf s t w)) (appliedGet (planGetOf s t w) t w)
+
+-- ---- posts: the number that refuses, or 0
+abbrev pub judgedAdd : View → ℕ → Arguments → ℕ
+judgedAdd v w a = pick (eqb (v .worker PHASE w) IDLE) (pick (argumentsWrong a) wrongArguments 0) halfDone
+
+-- "finish of a name that this worker does not hold"
+abbrev pub holdsName : View → ℕ → ℕ → Bool
+holdsName v w name = isPlace (v .worker HELD w) && eqb (v .job NAME (v .worker HELD w)) name
+
+abbrev pub judgedFinish : View → ℕ → ℕ → ℕ
+judgedFinish v w name = pick (eqb (v .worker PHASE w) IDLE) (pick (holdsName v w name) 0 notHeld) halfDone
+
+-- the words of the posted add; "names past the count are kept as 0"
+abbrev pub addingWorker : ℕ → Arguments → List ℕ
+addingWorker held a =
+    LOOKING ∷ held ∷ a .name ∷ a .count ∷ a .class ∷ a .grower ∷ 0 ∷ 0 ∷ none ∷ none ∷ prefix mostNames (listed a)
+
+unfoldable pub posted : ℕ → Tables → ℕ → List ℕ → Outcome Tables
+posted zero t w r =
+    outcome Posted (tables (t .jobs) (t .arcs) (t .buckets) (t .queue) (putWorker (t .workers) w r))
+posted (suc n) t w r = outcome (Refused (suc n) 0) t
+
+abbrev pub refusal : ℕ → ℕ
+refusal n = n
+
+unfoldable pub addWords : Sizes → Tables → ℕ → Arguments → Outcome Tables
+addWords s t w a =
+    posted (admitted s t w refusal (judgedAdd (view t) w a)) t w (addingWorker (view t .worker HELD w) a)
+
+unfoldable pub finishWords : Sizes → Tables → ℕ → ℕ → Outcome Tables
+finishWords s t w name =
+    posted (admitted s t w refusal (judgedFinish (view t) w name)) t w (bareWorker MARKING (view t .worker HELD w))
+
+-- ---- laying out
+unfoldable pub layOut : Sizes → Tables → Outcome Tables
+layOut s t = pick (roomFor s t) (outcome Laid (freshTables s t)) (outcome (Refused wrongSizes 0) t)
+
+-- ---- an item of demand 3's list
+unfoldable pub perform : Tables → Item → Outcome Tables
+perform t (postAdd s w a) = addWords s t w a
+perform t (postFinish s w name) = finishWords s t w name
+perform t (step s w) = stepWords s t w
+perform t (get s w) = getWords s t w

@@ -1,0 +1,79 @@
+// What a call plans to do with the tables: it first reads and judges, and stores only once nothing is left to refuse.
+// What each plan means stands in specs/.
+
+// Where a bucket's walk ended: at the job of the name, at the bucket's end, or at a damaged word.
+pub enum Found {
+    At { job: u32 },
+    Missing,
+    Damaged,
+}
+
+// What a step is to do.
+pub enum Plan {
+    // A refusal that changes nothing.
+    Refuse {
+        number: u32,
+    },
+    // 6, 7 or 8: the call ends, and the worker is idle.
+    Quit {
+        number: u32,
+        place: u32,
+    },
+    // A look-up found its name.
+    Pass,
+    // The job enters at the head of its bucket, before the job `head`, and its arcs are reserved from `arc` on.
+    Enter {
+        job: u32,
+        bucket: u32,
+        head: u32,
+        arc: u32,
+    },
+    // A link found a finished prerequisite.
+    Tally,
+    // A link appends an arc to an empty list, or after the last of a list.
+    LinkFirst {
+        prerequisite: u32,
+        arc: u32,
+        job: u32,
+    },
+    LinkAfter {
+        prerequisite: u32,
+        last: u32,
+        arc: u32,
+        job: u32,
+    },
+    // The job's remaining count becomes `count`; where it is queued, in the cell.
+    Settle {
+        job: u32,
+        count: u32,
+    },
+    SettleQueue {
+        job: u32,
+        count: u32,
+        cell: u32,
+    },
+    // The held job is finished; `first` is its first arc or none.
+    Mark {
+        job: u32,
+        first: u32,
+    },
+    // The dependent's remaining count becomes `count`; `next` is the next arc or none.
+    Notify {
+        job: u32,
+        count: u32,
+        next: u32,
+    },
+    NotifyQueue {
+        job: u32,
+        count: u32,
+        next: u32,
+        cell: u32,
+    },
+}
+
+// What a get is to do.
+pub enum GetPlan {
+    RefuseGet { number: u32 },
+    Wait,
+    Take { job: u32, name: u32, cell: u32 },
+}

@@ -1,0 +1,12 @@
+//! A second implementation of the rules of document 01, one module for each of its concerns.
+//!
+//! It is written from that document alone and shares no code with the proved library, so that a
+//! mistake in one of the two shows as a difference between them. It proves nothing.
+
+#![forbid(unsafe_code)]
+
+pub mod bucket;
+pub mod minutes;
+pub mod refusal;
+pub mod sheet;
+pub mod totals;
