@@ -1,7 +1,9 @@
-/* The C interface of the proved library: job sheets, buckets, minutes and totals.
+/* The C interface of the proved library: job sheets, buckets, minutes, totals, the task graph and the day
+ * list.
  *
  * Every function answers for all arguments; nothing is left to the caller but that a pointer with a
- * length points to that many elements. A slice of length 0 still wants a pointer that is not null.
+ * length points to that many elements, and that no elements which are written are lent twice in one
+ * call. A slice of length 0 still wants a pointer that is not null.
  * No function keeps a pointer, allocates, or reads or writes anything but its arguments.
  */
 #ifndef TASKGRAPH_H
@@ -17,12 +19,21 @@ extern "C" {
 /* The numbers of the refusals (document 01, "Turned-away calls"), as they stand in a `number`. */
 enum {
     TG_ACCEPTED = 0,
-    TG_SIZE = 1,     /* a size off its limits */
-    TG_DAMAGED = 9,  /* damaged words */
-    TG_CUT = 12,     /* the sheet ends inside an entry */
-    TG_MAP = 13,     /* a wrong map byte */
-    TG_VALUE = 14,   /* a field's value off its limits */
-    TG_NO_ROOM = 15  /* the output lacks room */
+    TG_SIZE = 1,          /* a size off its limits or not the one laid out, or a table too short */
+    TG_WORKER = 2,        /* no such worker */
+    TG_HALF_DONE = 3,     /* a post or get while the worker's call is half done */
+    TG_IDLE = 4,          /* a step while the worker is idle */
+    TG_ARGUMENTS = 5,     /* an add with wrong arguments */
+    TG_UNKNOWN_NAME = 6,  /* a look-up finds no such name */
+    TG_NAME_PRESENT = 7,  /* entering finds the name present */
+    TG_FULL = 8,          /* entering finds no room for the job or its arcs */
+    TG_DAMAGED = 9,       /* damaged words */
+    TG_HOLDING = 10,      /* a get while holding a job */
+    TG_NOT_HELD = 11,     /* a finish of a name that the worker does not hold */
+    TG_CUT = 12,          /* the sheet ends inside an entry */
+    TG_MAP = 13,          /* a wrong map byte */
+    TG_VALUE = 14,        /* a field's value off its limits */
+    TG_NO_ROOM = 15       /* the output lacks room */
 };
 
 enum {
@@ -131,6 +142,87 @@ tg_totals tg_totals_of_words(const uint32_t *words, size_t words_len);
 
 /* The totals of a row of records. */
 tg_totals tg_totals_of_records(const tg_job_record *records, size_t records_len);
+
+/* ---- The task graph (document 01, "Tables and their measures" and "Steps") ---- */
+
+/* Sizes R, A, b and P: jobs 1 to 4,096; arcs 0 to 32,768; bucket bits 1 to 8; workers 1 to 16. They come
+ * with each call. Laying out keeps them, and a later call must bring the same. */
+typedef struct {
+    uint32_t jobs, arcs, bits, workers;
+} tg_sizes;
+
+/* What an answer says. */
+enum {
+    TG_REFUSED = 0,     /* `number`, and for number 6 `place`, the place in the list from 0 */
+    TG_LAID_OUT = 1,
+    TG_POSTED = 2,
+    TG_GOING_ON = 3,
+    TG_ENDED = 4,
+    TG_NONE_READY = 5,
+    TG_HANDED_OUT = 6   /* `job` and `name` */
+};
+
+/* The kind of an answer, and the fields that belong to it; all others are 0. */
+typedef struct {
+    uint32_t kind, number, place, job, name;
+} tg_answer;
+
+/* The five lent tables, which hold no addresses and may lie in memory that several processes map. They
+ * may be longer than needed; words past the need are never touched. "None" as a place is 4294967295.
+ *   jobs     the sizes jobs, arcs, bits, workers; the jobs made; then 8 words a job: name, label, count,
+ *            class, grower, first arc, last arc, next job in its bucket
+ *   arcs     the arcs reserved; then 2 words an arc: dependent, next arc
+ *   buckets  2 to the power b heads
+ *   queue    taken, put; then a cell for each of R jobs
+ *   workers  42 words a worker: phase, held job, name, list count, class, grower, tally, list place, job,
+ *            arc, 32 names */
+#define TG_TABLES                                                                                       \
+    uint32_t *jobs, size_t jobs_len, uint32_t *arcs, size_t arcs_len, uint32_t *buckets,                \
+        size_t buckets_len, uint32_t *queue, size_t queue_len, uint32_t *workers, size_t workers_len
+
+/* number 0: the words that each table needs for these sizes.
+ * number 1: a size is off its limits; all else is 0. */
+typedef struct {
+    uint32_t number;
+    size_t jobs, arcs, buckets, queue, workers;
+} tg_need;
+
+tg_need tg_words_needed(tg_sizes sizes);
+
+/* Makes a fresh graph: laid out, or refused with 1. */
+tg_answer tg_lay_out(tg_sizes sizes, TG_TABLES);
+
+/* Posts an add: posted, or refused with 1, 2, 9, 3 or 5. Names past the count are ignored. */
+tg_answer tg_post_add(tg_sizes sizes, TG_TABLES, uint32_t worker, tg_entry entry);
+
+/* Posts a finish of the held job: posted, or refused with 1, 2, 9, 3 or 11. */
+tg_answer tg_post_finish(tg_sizes sizes, TG_TABLES, uint32_t worker, uint32_t name);
+
+/* One step of the worker's call: going on, ended, or refused with 1, 2, 9, 4, 6, 7 or 8. */
+tg_answer tg_step(tg_sizes sizes, TG_TABLES, uint32_t worker);
+
+/* Takes the job longest in the queue: handed out, none ready, or refused with 1, 2, 9, 3 or 10. */
+tg_answer tg_get(tg_sizes sizes, TG_TABLES, uint32_t worker);
+
+/* The totals of the jobs made.
+ * number 1: a size off its limits or not the one laid out, or the table too short.
+ * number 9: a wrong label or class among the jobs made, or more jobs made than R. */
+tg_totals tg_totals_of_graph(tg_sizes sizes, const uint32_t *jobs, size_t jobs_len);
+
+/* ---- The day list (document 01, "The board and the day list") ---- */
+
+/* number 0: the lines take `bytes` bytes of the output.
+ * number 1: the number of workers is not 1 to 16.
+ * number 15: the output is too short.
+ * On a refusal `bytes` is 0. */
+typedef struct {
+    uint32_t number;
+    size_t bytes;
+} tg_day;
+
+/* What the day list prints of a sheet, with so many workers. A refusal leaves the output unchanged; bytes
+ * past the lines are never touched. */
+tg_day tg_day_list(const uint8_t *sheet, size_t sheet_len, uint32_t workers, uint8_t *out, size_t out_len);
 
 #ifdef __cplusplus
 }

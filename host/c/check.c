@@ -29,6 +29,16 @@ _Static_assert(sizeof(tg_totals) == 28, "tg_totals");
 _Static_assert(offsetof(tg_totals, jobs) == 4, "tg_totals.jobs");
 _Static_assert(offsetof(tg_totals, minutes) == 16, "tg_totals.minutes");
 
+_Static_assert(sizeof(tg_sizes) == 16, "tg_sizes");
+_Static_assert(sizeof(tg_answer) == 20, "tg_answer");
+_Static_assert(offsetof(tg_answer, number) == 4, "tg_answer.number");
+_Static_assert(offsetof(tg_answer, place) == 8, "tg_answer.place");
+_Static_assert(offsetof(tg_answer, job) == 12, "tg_answer.job");
+_Static_assert(offsetof(tg_answer, name) == 16, "tg_answer.name");
+_Static_assert(sizeof(tg_need) == 48, "tg_need");
+_Static_assert(sizeof(tg_day) == 16, "tg_day");
+_Static_assert(offsetof(tg_day, bytes) == 8, "tg_day.bytes");
+
 static unsigned passed, failed;
 
 /* Counts one check, and says what was answered where it is not what was wanted. */
@@ -234,6 +244,172 @@ static void check_totals(void)
     same_bytes("tg_totals_of_words, class 16", &totals, &refused_damaged, sizeof totals);
 }
 
+/* ---- the task graph ---- */
+
+/* Tables for up to 8 jobs, 8 arcs, 4 buckets and 2 workers. */
+static uint32_t jobs[5 + 8 * 8], arcs[1 + 2 * 8], buckets[4], queue[2 + 8], workers[2 * 42];
+
+#define LEN(table) (sizeof table / sizeof *table)
+#define LENT jobs, LEN(jobs), arcs, LEN(arcs), buckets, LEN(buckets), queue, LEN(queue), workers, LEN(workers)
+
+static const tg_sizes sizes = {.jobs = 8, .arcs = 8, .bits = 2, .workers = 2};
+
+/* An answer is of a kind, with these fields and all others 0. */
+static void answers(const char *what, tg_answer answer, tg_answer wanted)
+{
+    same(what, answer.kind, wanted.kind);
+    same(what, answer.number, wanted.number);
+    same(what, answer.place, wanted.place);
+    same(what, answer.job, wanted.job);
+    same(what, answer.name, wanted.name);
+}
+
+static const tg_answer laid_out = {.kind = TG_LAID_OUT}, posted = {.kind = TG_POSTED}, going_on = {.kind = TG_GOING_ON},
+                       ended = {.kind = TG_ENDED}, none_ready = {.kind = TG_NONE_READY};
+
+static tg_answer refused(uint32_t number, uint32_t place)
+{
+    return (tg_answer){.kind = TG_REFUSED, .number = number, .place = place};
+}
+
+static tg_answer handed_out(uint32_t job, uint32_t name)
+{
+    return (tg_answer){.kind = TG_HANDED_OUT, .job = job, .name = name};
+}
+
+/* Steps to the answer that ends the call; the number of steps must be as given. */
+static tg_answer run_whole(const char *what, uint32_t worker, unsigned steps)
+{
+    unsigned taken = 1;
+    tg_answer answer = tg_step(sizes, LENT, worker);
+    for (; answer.kind == TG_GOING_ON; taken++)
+        answer = tg_step(sizes, LENT, worker);
+    same(what, taken, steps);
+    return answer;
+}
+
+static void check_words_needed(void)
+{
+    tg_need need = tg_words_needed(sizes);
+    same("tg_words_needed: number", need.number, TG_ACCEPTED);
+    same("tg_words_needed: jobs", need.jobs, LEN(jobs));
+    same("tg_words_needed: arcs", need.arcs, LEN(arcs));
+    same("tg_words_needed: buckets", need.buckets, LEN(buckets));
+    same("tg_words_needed: queue", need.queue, LEN(queue));
+    same("tg_words_needed: workers", need.workers, LEN(workers));
+    const tg_sizes wrong[] = {{0, 0, 1, 1}, {4097, 0, 1, 1}, {1, 32769, 1, 1}, {1, 0, 0, 1},
+                              {1, 0, 9, 1}, {1, 0, 1, 0},    {1, 0, 1, 17},    {UINT32_MAX, 0, 1, 1}};
+    const tg_need nothing = {.number = TG_SIZE};
+    for (size_t i = 0; i < LEN(wrong); i++) {
+        need = tg_words_needed(wrong[i]);
+        same_bytes("tg_words_needed, off the limits", &need, &nothing, sizeof need);
+        answers("tg_lay_out, off the limits", tg_lay_out(wrong[i], LENT), refused(TG_SIZE, 0));
+    }
+}
+
+/* The words of a fresh graph, and of a table that is too short. */
+static void check_lay_out(void)
+{
+    memset(queue, 7, sizeof queue);
+    answers("tg_lay_out, a table too short", tg_lay_out(sizes, jobs, LEN(jobs), arcs, LEN(arcs) - 1, buckets,
+                                                        LEN(buckets), queue, LEN(queue), workers, LEN(workers)),
+            refused(TG_SIZE, 0));
+    same("tg_lay_out, refused: the queue", queue[0], 0x07070707);
+    answers("tg_lay_out", tg_lay_out(sizes, LENT), laid_out);
+    same_bytes("tg_lay_out: the sizes", jobs, &sizes, sizeof sizes);
+    same("tg_lay_out: jobs made", jobs[4], 0);
+    same("tg_lay_out: first job, name", jobs[5], 0);
+    same("tg_lay_out: last job, next", jobs[LEN(jobs) - 1], UINT32_MAX);
+    same("tg_lay_out: arcs reserved", arcs[0], 0);
+    same("tg_lay_out: last arc", arcs[LEN(arcs) - 1], UINT32_MAX);
+    same("tg_lay_out: last bucket", buckets[3], UINT32_MAX);
+    same("tg_lay_out: put", queue[1], 0);
+    same("tg_lay_out: last cell", queue[LEN(queue) - 1], UINT32_MAX);
+    same("tg_lay_out: worker 1, held", workers[42 + 1], UINT32_MAX);
+    same("tg_lay_out: worker 1, last name", workers[42 + 41], 0);
+}
+
+/* Jobs 1, 2, 3 and 4 needing 1 and 2, added by worker 0 and worked by both. */
+static void check_graph(void)
+{
+    answers("tg_lay_out", tg_lay_out(sizes, LENT), laid_out);
+    for (uint32_t name = 1; name <= 3; name++) {
+        answers("tg_post_add", tg_post_add(sizes, LENT, 0, (tg_entry){.name = name}), posted);
+        answers("tg_step, an add without a list", run_whole("two steps", 0, 2), ended);
+    }
+    const tg_entry fourth = {.name = 4, .count = 2, .class_ = 15, .grower = 9, .names = {1, 2}};
+    answers("tg_post_add, job 4", tg_post_add(sizes, LENT, 0, fourth), posted);
+    answers("tg_post_add, half done", tg_post_add(sizes, LENT, 0, fourth), refused(TG_HALF_DONE, 0));
+    answers("tg_step, a look-up", tg_step(sizes, LENT, 0), going_on);
+    answers("tg_step, job 4", run_whole("2d + 2 steps, one taken", 0, 5), ended);
+    const uint32_t words[8] = {4, 0, 2, 15, 9, UINT32_MAX, UINT32_MAX, UINT32_MAX};
+    same_bytes("the words of job 4", jobs + 5 + 8 * 3, words, sizeof words);
+
+    for (uint32_t name = 1; name <= 2; name++)
+        answers("tg_get", tg_get(sizes, LENT, name - 1), handed_out(name - 1, name));
+    answers("tg_get, holding", tg_get(sizes, LENT, 0), refused(TG_HOLDING, 0));
+    answers("tg_post_finish, not held", tg_post_finish(sizes, LENT, 0, 2), refused(TG_NOT_HELD, 0));
+    const tg_totals totals = tg_totals_of_graph(sizes, jobs, LEN(jobs)), wanted = {0, {2, 2, 0}, {481, 2, 0}};
+    same_bytes("tg_totals_of_graph", &totals, &wanted, sizeof totals);
+    for (uint32_t name = 1; name <= 2; name++) {
+        answers("tg_post_finish", tg_post_finish(sizes, LENT, name - 1, name), posted);
+        answers("tg_step, a finish", run_whole("a mark and an arc", name - 1, 2), ended);
+    }
+    answers("tg_get, the longest waiting", tg_get(sizes, LENT, 1), handed_out(2, 3));
+    answers("tg_get, the next", tg_get(sizes, LENT, 0), handed_out(3, 4));
+    answers("tg_step, idle", tg_step(sizes, LENT, 0), refused(TG_IDLE, 0));
+}
+
+static void check_graph_refusals(void)
+{
+    answers("tg_lay_out", tg_lay_out(sizes, LENT), laid_out);
+    const tg_sizes other = {.jobs = 8, .arcs = 8, .bits = 2, .workers = 1};
+    answers("tg_get, other sizes", tg_get(other, LENT, 0), refused(TG_SIZE, 0));
+    answers("tg_get, worker 2", tg_get(sizes, LENT, 2), refused(TG_WORKER, 0));
+    answers("tg_get, none ready", tg_get(sizes, LENT, 1), none_ready);
+    answers("tg_post_add, class 16", tg_post_add(sizes, LENT, 0, (tg_entry){.class_ = 16}), refused(TG_ARGUMENTS, 0));
+    answers("tg_post_add, 33 names", tg_post_add(sizes, LENT, 0, (tg_entry){.count = 33}), refused(TG_ARGUMENTS, 0));
+    const tg_entry first = {.name = 1}, unknown = {.name = 2, .count = 2, .names = {1, 9}};
+    answers("tg_post_add", tg_post_add(sizes, LENT, 0, first), posted);
+    answers("tg_step", run_whole("two steps", 0, 2), ended);
+    answers("tg_post_add, unknown name", tg_post_add(sizes, LENT, 0, unknown), posted);
+    answers("tg_step, unknown name", run_whole("two look-ups", 0, 2), refused(TG_UNKNOWN_NAME, 1));
+    answers("tg_post_add, present name", tg_post_add(sizes, LENT, 0, first), posted);
+    answers("tg_step, present name", run_whole("entering", 0, 1), refused(TG_NAME_PRESENT, 0));
+
+    tg_totals totals = tg_totals_of_graph(sizes, jobs, LEN(jobs) - 1);
+    same("tg_totals_of_graph, too short", totals.number, TG_SIZE);
+    totals = tg_totals_of_graph(other, jobs, LEN(jobs));
+    same("tg_totals_of_graph, other sizes", totals.number, TG_SIZE);
+    jobs[5 + 1] = 3;
+    totals = tg_totals_of_graph(sizes, jobs, LEN(jobs));
+    same("tg_totals_of_graph, label 3", totals.number, TG_DAMAGED);
+    answers("tg_get, label 3", tg_get(sizes, LENT, 0), refused(TG_DAMAGED, 0));
+}
+
+static void check_day_list(void)
+{
+    static const char lines[] = "jobs 4 workers 2\n0 1 0\n1 2 1\n2 3 0\n3 4 1\nleft 0\n";
+    const size_t len = sizeof lines - 1;
+    uint8_t out[64], untouched[64];
+    memset(out, 7, sizeof out);
+    memset(untouched, 7, sizeof untouched);
+    tg_day day = tg_day_list(four_jobs, sizeof four_jobs, 2, out, len - 1);
+    same("tg_day_list, a byte too short: number", day.number, TG_NO_ROOM);
+    same("tg_day_list, a byte too short: bytes", day.bytes, 0);
+    day = tg_day_list(four_jobs, sizeof four_jobs, 17, out, sizeof out);
+    same("tg_day_list, 17 workers: number", day.number, TG_SIZE);
+    same_bytes("tg_day_list, refused: output", out, untouched, sizeof out);
+    day = tg_day_list(four_jobs, sizeof four_jobs, 2, out, sizeof out);
+    same("tg_day_list, four jobs: number", day.number, TG_ACCEPTED);
+    same("tg_day_list, four jobs: bytes", day.bytes, len);
+    same_bytes("tg_day_list, four jobs: lines", out, lines, len);
+    same("tg_day_list, four jobs: the byte behind", out[len], 7);
+    day = tg_day_list(four_jobs, 28, 2, out, sizeof out);
+    same("tg_day_list, cut: bytes", day.bytes, 13);
+    same_bytes("tg_day_list, cut: line", out, "broken 20 12\n", 13);
+}
+
 int main(void)
 {
     check_read_entry();
@@ -243,6 +419,11 @@ int main(void)
     check_read_and_write_sheet();
     check_buckets_and_minutes();
     check_totals();
+    check_words_needed();
+    check_lay_out();
+    check_graph();
+    check_graph_refusals();
+    check_day_list();
     printf("%u passed, %u failed\n", passed, failed);
     return failed != 0;
 }

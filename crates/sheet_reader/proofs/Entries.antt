@@ -27,11 +27,11 @@ pub record Stands (s : List ℕ) (at count n : ℕ) : Type 0 where
   pub from : at < n
   pub within : n ≤ length s
 
-decoded : (f : Field) (k : ℕ → ℕ → Decoded) (j : Job) (n : ℕ) {P : Type 0} → thenDecoded f k ≡ job j n → ((v m : ℕ) → f ≡ Got v m → k v m ≡ job j n → P) → P
+pub decoded : (f : Field) (k : ℕ → ℕ → Decoded) (j : Job) (n : ℕ) {P : Type 0} → thenDecoded f k ≡ job j n → ((v m : ℕ) → f ≡ Got v m → k v m ≡ job j n → P) → P
 decoded (Got v m) k j n h onward = onward v m refl h
 decoded (Refused c a) k j n h onward = never (cc)
 
-inside : (b : Bool) (d : Decoded) (j : Job) (n : ℕ) → pick b d end ≡ job j n → (b ≡ true) × (d ≡ job j n)
+pub inside : (b : Bool) (d : Decoded) (j : Job) (n : ℕ) → pick b d end ≡ job j n → (b ≡ true) × (d ≡ job j n)
 inside true d j n h = (refl, h)
 inside false d j n h = never (cc)
 

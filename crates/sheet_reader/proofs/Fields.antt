@@ -30,7 +30,7 @@ number4-at s at =
 -- WHAT A FIELD THAT WAS READ SAYS
 
 -- it passed its test
-got : (b : Bool) (x : Field) (c a v n : ℕ) → pick b x (Refused c a) ≡ Got v n → (b ≡ true) × (x ≡ Got v n)
+pub got : (b : Bool) (x : Field) (c a v n : ℕ) → pick b x (Refused c a) ≡ Got v n → (b ≡ true) × (x ≡ Got v n)
 got true x c a v n h = (refl, h)
 got false x c a v n h = never (cc)
 
@@ -93,7 +93,7 @@ pub record Listed (w : ℕ) (s : List ℕ) (at count n : ℕ) : Type 0 where
   -- where there is no name there is no count byte either
   pub names : at + countBytes + w * count ≤ length s + (1 - count)
 
-through : (f : Field) (k : ℕ → ℕ → Field) (v n : ℕ) {P : Type 0} → then f k ≡ Got v n → ((u m : ℕ) → f ≡ Got u m → k u m ≡ Got v n → P) → P
+pub through : (f : Field) (k : ℕ → ℕ → Field) (v n : ℕ) {P : Type 0} → then f k ≡ Got v n → ((u m : ℕ) → f ≡ Got u m → k u m ≡ Got v n → P) → P
 through (Got u m) k v n h onward = onward u m refl h
 through (Refused c a) k v n h onward = never (cc)
 

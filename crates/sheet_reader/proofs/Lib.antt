@@ -3,3 +3,4 @@ pub mod Entries
 pub mod Sheets
 pub mod Stores
 pub mod Rows
+pub mod Bits

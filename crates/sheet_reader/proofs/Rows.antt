@@ -10,6 +10,7 @@ use Rattle.sheet_format.specs.Job.{Job, mostNames}
 use Rattle.sheet_format.specs.Decode.{job, end, refused, decode, Sheet, jobs, broken, before, decodeSheet, scanSheet, rowWords, rowOf, rowsOf, sheetRows, readSheet, noRoom}
 use Rattle.sheet_format.specs.declared.SheetRead.{SheetRead}
 use Rattle.sheet_reader.proofs.Fields.{never}
+use Rattle.sheet_reader.proofs.Entries.{stands}
 use Rattle.sheet_reader.proofs.Stores.{sets-append}
 use Rattle.sheet_reader.proofs.Sheets.{rest, rest-start, rest-on}
 
@@ -33,6 +34,7 @@ pub record Left (s rows₀ rows : List ℕ) (at from : ℕ) : Type 0 where
   pub sheet : decodeSheet s ≡ jobs all
   pub left : List Job
   pub behind : rest s at ≡ jobs left
+  pub inside : at ≤ length s
   pub room : from + rowWords * length left ≤ length rows
   pub same : length rows ≡ length rows₀
   pub stored : sets rows from (rowsOf left) ≡ sets rows₀ 0 (rowsOf all)
@@ -40,7 +42,7 @@ pub record Left (s rows₀ rows : List ℕ) (at from : ℕ) : Type 0 where
 pub left-start : (s rows : List ℕ) (n : ℕ) → scanSheet (decodeSheet s) ≡ SheetRead.Whole n → rowWords * n ≤ length rows → Left s rows rows 0 0
 left-start s rows n h room =
     counted-jobs (decodeSheet s) n h λ js e k.
-    record { all = js; sheet = e; left = js; behind = rest-start s ∙ e; room = omega arith; same = refl; stored = refl }
+    record { all = js; sheet = e; left = js; behind = rest-start s ∙ e; inside = omega arith; room = omega arith; same = refl; stored = refl }
 
 -- one job more
 first : (j : Job) (t : Sheet) (js : List Job) {P : Type 0} → before j t ≡ jobs js → ((ks : List Job) → js ≡ j ∷ ks → t ≡ jobs ks → P) → P
@@ -70,7 +72,7 @@ module _ {s rows₀ rows : List ℕ} {at from : ℕ} (l : Left s rows₀ rows at
         let m = l .same in
         let i : length rows′ ≡ length rows = ap length e′ ∙ length-sets rows from (rowOf j) in
         let x = row-length j c in
-        record { all = l .all; sheet = l .sheet; left = ks; behind = b; room = omega arith; same = omega arith; stored = rw e′ (sets-append rows (rowOf j) (rowsOf ks) from (from + rowWords) (omega arith) ∙ (rw k at (l .stored))) }
+        record { all = l .all; sheet = l .sheet; left = ks; behind = b; inside = stands s at j n e .1 .within; room = omega arith; same = omega arith; stored = rw e′ (sets-append rows (rowOf j) (rowsOf ks) from (from + rowWords) (omega arith) ∙ (rw k at (l .stored))) }
 
   -- the whole is stored where nothing is left
   pub left-none : {n : ℕ} → decode s at ≡ end → scanSheet (decodeSheet s) ≡ SheetRead.Whole n → rowWords * n ≤ length rows₀ → sheetRows (SheetRead.Whole n) rows ≡ readSheet (decodeSheet s) rows₀

@@ -1,10 +1,10 @@
 -- The last fields of an entry as the code reads them, a number first and its limits next (document 01, "Job sheets"): what the
 -- private functions answer. That `decode` of sheet_format comes to the same is shown in proofs/Fields.antt. Assumes nothing.
-use Prim.Native.Nat.{ℕ, _/_, _%_}
+use Prim.Native.Nat.{ℕ, _+_, _*_, _/_, _%_}
 use mathlib.Core.List.{List}
 use mathlib.Core.Bool.{_&&_, _||_}
 use lib.Dec.{leb, eqb}
-use Rattle.sheet_format.specs.Job.{Job, mostClass, mostGrower, classBytes, growerBytes}
+use Rattle.sheet_format.specs.Job.{Job, mostNames, mostClass, mostGrower, nameBytes, countBytes, classBytes, growerBytes}
 use Rattle.sheet_format.specs.Decode.{pick, offLimits, nameAt, ifBit, Decoded, job, refused, thenDecoded}
 
 -- a number of w bytes that its bit lets stand: a cut is noticed before a value off its limits
@@ -22,3 +22,14 @@ fromGrower s at map name list class =
 unfoldable pub fromClass : List ℕ → ℕ → ℕ → ℕ → List ℕ → Decoded
 fromClass s at map name list =
     judgedThen classBytes mostClass (map / 4 % 2) s at λ class next. fromGrower s next map name list class
+
+-- the most bytes of an entry
+abbrev pub longestEntry : ℕ
+longestEntry = 1 + nameBytes + (countBytes + nameBytes * mostNames) + classBytes + growerBytes
+
+-- where the class and the grower of the entry at an offset stand, by its map byte and its count
+abbrev pub classPlace : ℕ → ℕ → ℕ → ℕ
+classPlace at map count = at + (1 + nameBytes) + countBytes * (map / 2 % 2) + nameBytes * count
+
+abbrev pub growerPlace : ℕ → ℕ → ℕ → ℕ
+growerPlace at map count = classPlace at map count + classBytes * (map / 4 % 2)

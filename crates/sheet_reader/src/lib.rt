@@ -9,14 +9,14 @@ use sheet_format::SheetRead;
 ghost use mathlib.Core.Path.{_≡_};
 ghost use mathlib.Core.Bool.{_&&_, _||_};
 ghost use mathlib.Core.List.{List, _∷_};
-ghost use Prim.Native.Nat.{ℕ, _+_, _*_, _-_, _≤_, _<_};
-ghost use lib.ListN.{length, replicate};
+ghost use Prim.Native.Nat.{ℕ, _+_, _*_, _-_, _/_, _%_, _≤_, _<_};
+ghost use lib.ListN.{length, getD, replicate};
 ghost use lib.Seq.{sets};
 ghost use lib.Dec.{leb, eqb};
 ghost use Rattle.sheet_format.specs.Number.{numberAt};
 ghost use Rattle.sheet_format.specs.Job.{nameBytes, mostNames};
-ghost use Rattle.sheet_format.specs.Decode.{nameAt, listAt, ifBit, namesAt, padded, decode, blank, scanOf, readingOf, decodeSheet, scanSheet, rowWords, sheetRows, readSheet};
-ghost use Rattle.sheet_reader.specs.Stages.{fromGrower, fromClass};
+ghost use Rattle.sheet_format.specs.Decode.{nameAt, listAt, ifBit, namesAt, padded, decode, refused, blank, scanOf, readingOf, decodeSheet, scanSheet, rowWords, sheetRows, readSheet};
+ghost use Rattle.sheet_reader.specs.Stages.{fromGrower, fromClass, longestEntry, classPlace, growerPlace};
 
 // the refusals
 const CUT: u32 = 12;
@@ -37,8 +37,18 @@ const MOST_GROWER: u32 = 65535;
 // the bytes of a name
 const NAME_BYTES: usize = 4;
 
-// where the names of an entry start: past the map byte, the name and the count byte
+// the most bytes of an entry: the map byte, a name, a full list, a class and a grower
+const LONGEST_ENTRY: usize = 137;
+
+// where the list of an entry stands: past the map byte and the name; and where its names start: past the count byte too
+const LIST_PLACE: usize = 5;
+
 const NAMES_FROM: usize = 6;
+
+// map bytes: of a name alone, and of a name with a list
+const NAME_ALONE: u32 = 1;
+
+const NAME_AND_LIST: u32 = 3;
 
 // the words of a row: four numbers and the places of the names
 const ROW_WORDS: usize = 36;
@@ -328,6 +338,113 @@ pub fn read(s: &[u8], at: usize) -> Reading
     }
 }
 
+// The class and the grower of an entry, 0 where their bit is clear, and the offset past them.
+struct LastFields {
+    class: u32,
+    grower: u32,
+    next: usize,
+}
+
+// The last fields of the entry at an offset, each multiplied by its bit: in a sheet of many kinds of entry a jump on a bit is
+// guessed wrong half the time.
+fn last_fields(s: &[u8], at: usize, map: u32, count: u32) -> LastFields
+    requires { ⌜ (at + longestEntry ≤ length (now s)) × (count ≤ mostNames) ⌝ }
+    ensures { λ r. ⌜ (r .class ≡ (map / 4 % 2) * numberAt 1 (now (s .entry)) (classPlace at map count)) × (r .grower ≡ (map / 8 % 2) * numberAt 2 (now (s .entry)) (growerPlace at map count)) × (r .next ≡ growerPlace at map count + 2 * (map / 8 % 2)) ⌝ }
+{
+    let list_bit = map / 2 % 2;
+    let class_at = at + LIST_PLACE + (list_bit as usize) + NAME_BYTES * (count as usize);
+    let class_bit = map / 4 % 2;
+    let class = class_bit * number1(s, class_at);
+    let grower_at = class_at + (class_bit as usize);
+    let grower_bit = map / 8 % 2;
+    let grower = grower_bit * number2(s, grower_at);
+    LastFields {
+        class,
+        grower,
+        next: grower_at + 2 * (grower_bit as usize),
+    }
+}
+
+// The numbers of an entry, by its map byte, where the longest entry would fit: no field's end is tested.
+fn scan_by_bits(s: &[u8], at: usize, map: u32) -> Scan
+    requires { ⌜ (at + longestEntry ≤ length (now s)) × (map ≡ getD (now s) at 0) ⌝ }
+    ensures { λ r. ⌜ r ≡ scanOf (decode (now (s .entry)) at) ⌝ }
+{
+    let list_bit = map / 2 % 2;
+    let count = list_bit * number1(s, at + LIST_PLACE);
+    let right = (map < 16) & (map % 2 == 1);
+    if right & within_if(list_bit, count, MOST_NAMES as u32) {
+        let last = last_fields(s, at, map, count);
+        if within_if(map / 4 % 2, last.class, MOST_CLASS)
+            & within_if(map / 8 % 2, last.grower, MOST_GROWER)
+        {
+            return Scan::Fields {
+                name: number4(s, at + 1),
+                count,
+                class: last.class,
+                grower: last.grower,
+                next: last.next,
+            };
+        }
+    }
+    scan(s, at)
+}
+
+// The numbers of the entry at an offset, as `scan` answers them. A name alone and a name with a list have jumps of their own: in a
+// sheet of such entries these are guessed right, and the next entry need not wait for the map byte.
+fn scan_next(s: &[u8], at: usize) -> Scan
+    requires { ⌜ at ≤ length (now s) ⌝ }
+    ensures { λ r. ⌜ r ≡ scanOf (decode (now (s .entry)) at) ⌝ }
+{
+    if s.len() < at + LONGEST_ENTRY {
+        return scan(s, at);
+    }
+    let map = wide(s[at]);
+    if map == NAME_ALONE {
+        return Scan::Fields {
+            name: number4(s, at + 1),
+            count: 0,
+            class: 0,
+            grower: 0,
+            next: at + LIST_PLACE,
+        };
+    }
+    let count = number1(s, at + LIST_PLACE);
+    let listed = (1 <= count) & (count <= MOST_NAMES as u32);
+    if (map == NAME_AND_LIST) & listed {
+        return Scan::Fields {
+            name: number4(s, at + 1),
+            count,
+            class: 0,
+            grower: 0,
+            next: at + NAMES_FROM + NAME_BYTES * (count as usize),
+        };
+    }
+    scan_by_bits(s, at, map)
+}
+
+// The same in a sheet that has no refusal: no value is judged.
+fn scan_again(s: &[u8], at: usize) -> Scan
+    requires { ⌜ (at ≤ length (now s)) × ((number place : ℕ) → decode (now s) at ≡ refused number place → ⊥) ⌝ }
+    ensures { λ r. ⌜ r ≡ scanOf (decode (now (s .entry)) at) ⌝ }
+{
+    if at + LONGEST_ENTRY <= s.len() {
+        let map = wide(s[at]);
+        let list_bit = map / 2 % 2;
+        let count = list_bit * number1(s, at + LIST_PLACE);
+        let last = last_fields(s, at, map, count);
+        Scan::Fields {
+            name: number4(s, at + 1),
+            count,
+            class: last.class,
+            grower: last.grower,
+            next: last.next,
+        }
+    } else {
+        scan(s, at)
+    }
+}
+
 // Counts the entries of a whole sheet.
 pub fn scan_sheet(s: &[u8]) -> SheetRead
     ensures { λ r. ⌜ r ≡ scanSheet (decodeSheet (now (s .entry))) ⌝ }
@@ -335,7 +452,7 @@ pub fn scan_sheet(s: &[u8]) -> SheetRead
     let mut at = 0;
     let mut entries: usize = 0;
     loop {
-        match scan(s, at) {
+        match scan_next(s, at) {
             Scan::Fields {
                 name: _,
                 count: _,
@@ -394,7 +511,7 @@ fn store_sheet(s: &[u8], entries: usize, rows: &mut [u32])
     let mut at = 0;
     let mut from = 0;
     loop {
-        match scan(s, at) {
+        match scan_again(s, at) {
             Scan::Fields {
                 name,
                 count,

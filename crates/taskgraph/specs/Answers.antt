@@ -1,15 +1,21 @@
--- The structs of the C interface: for each case of an answer the number and the values that document 01, "Turned-away calls" and
+-- The structs of the C interface: for each case of an answer the number and the values that document 01, "Turned-away calls", "Steps" and
 -- "Job sheets", has for it. What does not belong to a case is 0.
 -- Assumes nothing.
 use Prim.Native.Nat.{ℕ}
 use Rattle.sheet_format.specs.Decode.{Decoded, job, end, refused, entryOf, blank, Sheet, scanSheet}
+use Rattle.terms.specs.Terms.{Arguments}
+use Rattle.terms.specs.declared.Answer.{Answer}
+use Rattle.sheet_format.specs.declared.Entry.{Entry}
 use Rattle.sheet_format.specs.declared.Wrote.{Wrote}
 use Rattle.sheet_format.specs.declared.SheetRead.{SheetRead}
 use Rattle.sheet_format.specs.declared.SheetWrote.{SheetWrote}
+use Rattle.day_format.specs.declared.DayAnswer.{DayAnswer}
+use Rattle.taskgraph.specs.declared.DayPrinted.{DayPrinted}
 use Rattle.taskgraph.specs.declared.EntryRead.{EntryRead}
 use Rattle.taskgraph.specs.declared.EntryWritten.{EntryWritten}
 use Rattle.taskgraph.specs.declared.SheetScanned.{SheetScanned}
 use Rattle.taskgraph.specs.declared.SheetWritten.{SheetWritten}
+use Rattle.taskgraph.specs.declared.graph_calls.GraphAnswer.{GraphAnswer}
 
 -- the list of refusals starts at 1, so 0 says that nothing was refused
 abbrev pub accepted : ℕ
@@ -40,3 +46,49 @@ sheetScanned sheet = sheetRead (scanSheet sheet)
 abbrev pub sheetWritten : SheetWrote → SheetWritten
 sheetWritten (SheetWrote.Done entries bytes) = record { number = accepted; entry = entries; at = bytes }
 sheetWritten (SheetWrote.Refused number entry field) = record { number = number; entry = entry; at = field }
+
+-- how many bytes the day list printed; 1 and 15 have none
+abbrev pub dayPrinted : DayAnswer → DayPrinted
+dayPrinted (DayAnswer.Printed bytes) = record { number = accepted; bytes = bytes }
+dayPrinted (DayAnswer.Refused number) = record { number = number; bytes = 0 }
+
+-- ---- the graph
+-- the kinds of answers of a call or a step of the graph
+abbrev pub kindRefused : ℕ
+kindRefused = 0
+
+abbrev pub kindLaidOut : ℕ
+kindLaidOut = 1
+
+abbrev pub kindPosted : ℕ
+kindPosted = 2
+
+abbrev pub kindGoingOn : ℕ
+kindGoingOn = 3
+
+abbrev pub kindEnded : ℕ
+kindEnded = 4
+
+abbrev pub kindNoneReady : ℕ
+kindNoneReady = 5
+
+abbrev pub kindHandedOut : ℕ
+kindHandedOut = 6
+
+-- an answer that has nothing but its kind
+abbrev pub plain : ℕ → GraphAnswer
+plain kind = record { kind = kind; number = accepted; place = 0; job = 0; name = 0 }
+
+-- a get hands out a job's place and name. A refusal has its number, and 6 also the "place in the list from 0"
+abbrev pub graphAnswer : Answer → GraphAnswer
+graphAnswer Answer.Laid = plain kindLaidOut
+graphAnswer Answer.Posted = plain kindPosted
+graphAnswer Answer.Going = plain kindGoingOn
+graphAnswer Answer.Ended = plain kindEnded
+graphAnswer Answer.NoneReady = plain kindNoneReady
+graphAnswer (Answer.Handed j name) = record { kind = kindHandedOut; number = accepted; place = 0; job = j; name = name }
+graphAnswer (Answer.Refused number place) = record { kind = kindRefused; number = number; place = place; job = 0; name = 0 }
+
+-- an add of the job that an entry of a sheet tells of
+abbrev pub argumentsOf : Entry → Arguments
+argumentsOf e = record { name = e .name; count = e .count; names = e .names; class = e .class; grower = e .grower }

@@ -1,3 +1,3 @@
 pub mod Sums
 pub mod Running
-pub mod Words
+pub mod Tables

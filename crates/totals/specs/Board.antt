@@ -3,9 +3,9 @@
 -- Assumes nothing.
 use mathlib.Core.Bool.{Bool, true, false, _&&_}
 use mathlib.Core.List.{List, [], _∷_}
-use Prim.Native.Nat.{ℕ, _+_, _%_}
+use Prim.Native.Nat.{ℕ, zero, suc, _+_, _*_, _%_}
 use lib.Dec.{eqb, leb, ltb}
-use lib.ListN.{length}
+use lib.ListN.{length, getD}
 use Rattle.minutes.specs.Minutes.{classes, minutesIn}
 use Rattle.totals.specs.declared.JobRecord.{JobRecord}
 use Rattle.totals.specs.declared.Totals.{Totals}
@@ -97,6 +97,21 @@ unfoldable pub rowsOfWords : List ℕ → List JobRecord
 rowsOfWords [] = []
 rowsOfWords (label ∷ []) = []
 rowsOfWords (label ∷ class ∷ words) = record { label = label; class = class } ∷ rowsOfWords words
+
+-- n records from record i on, in order
+unfoldable pub recordsFrom : (ℕ → JobRecord) → ℕ → ℕ → List JobRecord
+recordsFrom f i zero = []
+recordsFrom f i (suc n) = f i ∷ recordsFrom f (suc i) n
+
+-- record i of a table of words whose records of `width` words follow the first `head`: its label and class stand at the same places of
+-- every record, and past the table's end stands 0
+abbrev pub recordAt : (head width label class : ℕ) → List ℕ → ℕ → JobRecord
+recordAt head width label class words i =
+    record { label = getD words (head + width * i + label) 0; class = getD words (head + width * i + class) 0 }
+
+-- a row that stands in such a table
+abbrev pub rowsOfTable : (head width label class : ℕ) → List ℕ → ℕ → List JobRecord
+rowsOfTable head width label class words count = recordsFrom (recordAt head width label class words) 0 count
 
 -- an odd number of words is no row of records: number 1
 unfoldable pub totalsOfWords : List ℕ → List ℕ → Totals

@@ -1,8 +1,9 @@
 // The board of totals: how many jobs stand under each label, and the sum of their minutes.
 // Document 01, "The board and the day list"; specs/Board.antt has the definitions. Assumes nothing.
 ghost use mathlib.Core.Path.{_≡_};
+ghost use lib.ListN.{getD};
 ghost use Rattle.minutes.specs.Minutes.{fixedMinutes};
-ghost use Rattle.totals.specs.Board.{totalsOf, totalsOfWords, refused};
+ghost use Rattle.totals.specs.Board.{totalsOf, totalsOfWords, rowsOfTable, refused};
 ghost use Rattle.totals.specs.Step.{withRecord, Room};
 
 // A row is served, or refused by a number of document 01, "Turned-away calls".
@@ -35,7 +36,7 @@ pub struct Totals {
 }
 
 // No totals yet, or a refusal.
-fn blank(number: u32) -> Totals
+pub fn blank(number: u32) -> Totals
     ensures { λ r. ⌜ r ≡ refused number ⌝ }
 {
     Totals {
@@ -66,6 +67,42 @@ fn with_record(t: Totals, label: u32, class: u32) -> Totals
     next
 }
 
+// A word of a table; 0 past its end.
+fn word(words: &[u32], i: usize) -> u32
+    ensures { λ r. ⌜ r ≡ getD (now (words .entry)) i 0 ⌝ }
+{
+    if i < words.len() { words[i] } else { 0 }
+}
+
+// The board on a table of words: `count` records of `width` words follow the first `head`, and words `label` and `class` of a
+// record are its label and class.
+pub fn of_table(
+    words: &[u32],
+    head: u32,
+    width: u32,
+    label: u32,
+    class: u32,
+    count: usize,
+) -> Totals
+    ensures { λ r. ⌜ r ≡ totalsOf fixedMinutes (rowsOfTable head width label class (now (words .entry)) count) ⌝ }
+{
+    if MOST_RECORDS < count {
+        return blank(OFF_LIMITS);
+    }
+    let mut t = blank(SERVED);
+    let mut i = 0;
+    while i < count {
+        let at = (head as usize) + (width as usize) * i;
+        t = with_record(
+            t,
+            word(words, at + (label as usize)),
+            word(words, at + (class as usize)),
+        );
+        i += 1;
+    }
+    t
+}
+
 // The board on words: a label and a class for each record. An odd number of words is refused as too many records are.
 pub fn of_words(words: &[u32]) -> Totals
     ensures { λ r. ⌜ r ≡ totalsOfWords fixedMinutes (now (words .entry)) ⌝ }
@@ -73,17 +110,7 @@ pub fn of_words(words: &[u32]) -> Totals
     if words.len() % 2 != 0 {
         return blank(OFF_LIMITS);
     }
-    let count = words.len() / 2;
-    if MOST_RECORDS < count {
-        return blank(OFF_LIMITS);
-    }
-    let mut t = blank(SERVED);
-    let mut i = 0;
-    while i < count {
-        t = with_record(t, words[2 * i], words[2 * i + 1]);
-        i += 1;
-    }
-    t
+    of_table(words, 0, 2, 0, 1, words.len() / 2)
 }
 
 // The board on a lent row of records: each is taken apart, and the covered step adds it.

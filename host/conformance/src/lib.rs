@@ -10,6 +10,6 @@ pub mod measures;
 pub mod random;
 pub mod reading;
 pub mod round_trip;
-mod shrink;
+pub mod shrink;
 pub mod totals;
 pub mod writing;

@@ -37,6 +37,15 @@ impl Random {
         random
     }
 
+    /// The generator of one of many inputs of a test. A label with a number in it would not do: labels
+    /// differ in the low bits of the state alone, so that many give the same one. This mixes the number,
+    /// and no two numbers give the same.
+    pub fn nth(seed: u64, test: &str, number: u64) -> Random {
+        let start = Random::new(seed, test).number();
+        let mut mixer = Random { state: start.wrapping_add(number) };
+        Random { state: mixer.number() }
+    }
+
     pub fn number(&mut self) -> u64 {
         self.state = self.state.wrapping_add(0x9e37_79b9_7f4a_7c15);
         let mut mixed = self.state;
@@ -65,5 +74,18 @@ impl Random {
 
     pub fn pick<T: Copy>(&mut self, choices: &[T]) -> T {
         choices[self.below(choices.len())]
+    }
+}
+
+#[cfg(test)]
+mod tests {
+    use super::*;
+    use std::collections::HashSet;
+
+    #[test]
+    fn every_input_has_numbers_of_its_own() {
+        let first = |number| Random::nth(1993, "test", number).number();
+        let distinct: HashSet<u64> = (0..1_000_000).map(first).collect();
+        assert_eq!(distinct.len(), 1_000_000);
     }
 }

@@ -40,7 +40,8 @@ impl Case for Row {
     }
 }
 
-fn expected(result: Result<totals::Totals, TotalsError>) -> Totals {
+/// What the library is to answer.
+pub fn expected(result: Result<totals::Totals, TotalsError>) -> Totals {
     match result {
         Ok(totals) => Totals {
             number: 0,

@@ -62,6 +62,43 @@ pub struct Totals {
     pub minutes: [u32; 3],
 }
 
+#[repr(C)]
+#[derive(Clone, Copy, Debug, Default, PartialEq, Eq)]
+pub struct Sizes {
+    pub jobs: u32,
+    pub arcs: u32,
+    pub bits: u32,
+    pub workers: u32,
+}
+
+#[repr(C)]
+#[derive(Clone, Copy, Debug, Default, PartialEq, Eq)]
+pub struct Answer {
+    pub kind: u32,
+    pub number: u32,
+    pub place: u32,
+    pub job: u32,
+    pub name: u32,
+}
+
+#[repr(C)]
+#[derive(Clone, Copy, Debug, Default, PartialEq, Eq)]
+pub struct Need {
+    pub number: u32,
+    pub jobs: usize,
+    pub arcs: usize,
+    pub buckets: usize,
+    pub queue: usize,
+    pub workers: usize,
+}
+
+#[repr(C)]
+#[derive(Clone, Copy, Debug, Default, PartialEq, Eq)]
+pub struct Day {
+    pub number: u32,
+    pub bytes: usize,
+}
+
 const _: () = assert!(size_of::<Entry>() == 4 * ENTRY_WORDS);
 const _: () = assert!(size_of::<Reading>() == 16 + 4 * ENTRY_WORDS);
 const _: () = assert!(size_of::<Written>() == 16);
@@ -69,6 +106,10 @@ const _: () = assert!(size_of::<Sheet>() == 24);
 const _: () = assert!(size_of::<SheetWritten>() == 24);
 const _: () = assert!(size_of::<JobRecord>() == 8);
 const _: () = assert!(size_of::<Totals>() == 28);
+const _: () = assert!(size_of::<Sizes>() == 16);
+const _: () = assert!(size_of::<Answer>() == 20);
+const _: () = assert!(size_of::<Need>() == 24);
+const _: () = assert!(size_of::<Day>() == 16);
 
 extern "C" {
     pub fn tg_read_entry(sheet: *const u8, sheet_len: usize, at: usize) -> Reading;
@@ -80,4 +121,78 @@ extern "C" {
     pub fn tg_minutes(class: u32) -> u32;
     pub fn tg_totals_of_words(words: *const u32, words_len: usize) -> Totals;
     pub fn tg_totals_of_records(records: *const JobRecord, records_len: usize) -> Totals;
+    pub fn tg_words_needed(sizes: Sizes) -> Need;
+    pub fn tg_lay_out(
+        sizes: Sizes,
+        jobs: *mut u32,
+        jobs_len: usize,
+        arcs: *mut u32,
+        arcs_len: usize,
+        buckets: *mut u32,
+        buckets_len: usize,
+        queue: *mut u32,
+        queue_len: usize,
+        workers: *mut u32,
+        workers_len: usize,
+    ) -> Answer;
+    pub fn tg_post_add(
+        sizes: Sizes,
+        jobs: *mut u32,
+        jobs_len: usize,
+        arcs: *mut u32,
+        arcs_len: usize,
+        buckets: *mut u32,
+        buckets_len: usize,
+        queue: *mut u32,
+        queue_len: usize,
+        workers: *mut u32,
+        workers_len: usize,
+        worker: u32,
+        entry: Entry,
+    ) -> Answer;
+    pub fn tg_post_finish(
+        sizes: Sizes,
+        jobs: *mut u32,
+        jobs_len: usize,
+        arcs: *mut u32,
+        arcs_len: usize,
+        buckets: *mut u32,
+        buckets_len: usize,
+        queue: *mut u32,
+        queue_len: usize,
+        workers: *mut u32,
+        workers_len: usize,
+        worker: u32,
+        name: u32,
+    ) -> Answer;
+    pub fn tg_step(
+        sizes: Sizes,
+        jobs: *mut u32,
+        jobs_len: usize,
+        arcs: *mut u32,
+        arcs_len: usize,
+        buckets: *mut u32,
+        buckets_len: usize,
+        queue: *mut u32,
+        queue_len: usize,
+        workers: *mut u32,
+        workers_len: usize,
+        worker: u32,
+    ) -> Answer;
+    pub fn tg_get(
+        sizes: Sizes,
+        jobs: *mut u32,
+        jobs_len: usize,
+        arcs: *mut u32,
+        arcs_len: usize,
+        buckets: *mut u32,
+        buckets_len: usize,
+        queue: *mut u32,
+        queue_len: usize,
+        workers: *mut u32,
+        workers_len: usize,
+        worker: u32,
+    ) -> Answer;
+    pub fn tg_totals_of_graph(sizes: Sizes, jobs: *const u32, jobs_len: usize) -> Totals;
+    pub fn tg_day_list(sheet: *const u8, sheet_len: usize, workers: u32, out: *mut u8, out_len: usize) -> Day;
 }

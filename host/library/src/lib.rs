@@ -2,6 +2,7 @@
 //! functions. Every function of the library answers for all arguments, so nothing is tested here.
 
 mod ffi;
+pub mod graph;
 
 pub use ffi::{Entry, JobRecord, Reading, Sheet, SheetWritten, Totals, Written, ENTRY_WORDS, MAX_NAMES};
 

@@ -5,7 +5,11 @@
 
 #![forbid(unsafe_code)]
 
+pub mod book;
 pub mod bucket;
+pub mod day_list;
+pub mod graph;
+pub mod history;
 pub mod minutes;
 pub mod refusal;
 pub mod sheet;

@@ -21,21 +21,21 @@ abbrev μ-loop : tie.MeasureT-loop
 loop-holds : tie.Need-loop-holds Inv-loop μ-loop
 loop-holds c = (search needs, search needs, rw (rest-start, counted-none))
 
-scan-requires : tie.Need-scan-requires Inv-loop μ-loop
-scan-requires c κs = search needs
+scan-next-requires : tie.Need-scan-next-requires Inv-loop μ-loop
+scan-next-requires c κs = search needs
 
 enum-known-next : tie.Need-enum-known-next Inv-loop μ-loop
 enum-known-next c = search needs
 
 add-entries : tie.Need-add-entries Inv-loop μ-loop
-add-entries c = omega (arith, scan-job (c .before .before .before .scan .ensures) (c .before .next .given .1))
+add-entries c = omega (arith, scan-job (c .before .before .before .scan-next .ensures) (c .before .next .given .1))
 
 loop-less : tie.Need-loop-less Inv-loop μ-loop
-loop-less c = omega (arith, scan-job (c .before .before .before .scan .ensures) (c .before .next .given .1))
+loop-less c = omega (arith, scan-job (c .before .before .before .scan-next .ensures) (c .before .next .given .1))
 
 loop-again : tie.Need-loop-again Inv-loop μ-loop
 loop-again c =
-    let e = scan-job (c .before .before .before .scan .ensures) (c .before .next .given .1) in
+    let e = scan-job (c .before .before .before .scan-next .ensures) (c .before .next .given .1) in
     let k = c .before .before .before .before .loop .inv .2 in
     (e .reach .within, omega arith, rw (rest-on, e .entry, counted-more) at k)
 
@@ -45,7 +45,7 @@ enum-told c = search needs
 returns : tie.Need-returns Inv-loop μ-loop
 returns c =
     let k = c .before .before .before .loop .inv .2 in
-    rw (rest-on, scan-end _ _ (c .before .before .scan .ensures) (c .enum-told .given .1), add-zero) at k
+    rw (rest-on, scan-end _ _ (c .before .before .scan-next .ensures) (c .enum-told .given .1), add-zero) at k
 
 enum-known-number : tie.Need-enum-known-number Inv-loop μ-loop
 enum-known-number c = search needs
@@ -53,7 +53,7 @@ enum-known-number c = search needs
 returns-2 : tie.Need-returns-2 Inv-loop μ-loop
 returns-2 c =
     let k = c .before .before .before .before .loop .inv .2 in
-    rw (rest-on, scan-refused _ _ (c .before .before .before .scan .ensures) (c .before .number .given .1)) at k
+    rw (rest-on, scan-refused _ _ (c .before .before .before .scan-next .ensures) (c .before .number .given .1)) at k
 
 pub scan-sheet-spec : {M : Type 1} → statement M
 scan-sheet-spec =
@@ -62,7 +62,7 @@ scan-sheet-spec =
     Inv-loop
     μ-loop
     loop-holds
-    scan-requires
+    scan-next-requires
     enum-known-next
     add-entries
     loop-less

@@ -1,0 +1,78 @@
+-- `print_list` prints what the day list prints, or that the sheet is broken. Assumes nothing.
+use mathlib.Core.Path.{sym, _∙_}
+use denote.Ref.{now}
+use borrow.Author.Needs.{needs}
+use borrow.Author.Tests.{le-leb, lt-leb}
+use lib.ListN.{length}
+use Rattle.sheet_format.specs.Decode.{decodeSheet}
+use Rattle.day_format.specs.Day.{mostBytes, dayText}
+use Rattle.day_list.proofs.Entries.{whole-scanned, broken-scanned}
+use Rattle.day_list.proofs.print_list.Statement.{statement}
+use Rattle.day_list.proofs.print_list.Tie as tie
+
+broken-line-requires : tie.Need-broken-line-requires
+broken-line-requires c κs = search needs
+
+same-length : tie.Need-same-length
+same-length c = search needs
+
+returns : tie.Need-returns
+unfolding dayText
+returns c =
+    let a = c .before .before .before .before .before .before .before .args in
+    rw (lt-leb (length (now (a .sheet))) mostBytes (c .before .before .before .before .if1 .taken)) (c .before .before .broken-line .ensures)
+
+scan-sheet-requires : tie.Need-scan-sheet-requires
+scan-sheet-requires c κs = search needs
+
+enum-told : tie.Need-enum-told
+enum-told c = search needs
+
+print-fresh-day-requires : tie.Need-print-fresh-day-requires
+print-fresh-day-requires c κs =
+    let a = c .before .before .before .before .before .before .before .args in
+    let w = whole-scanned (decodeSheet (now (a .sheet))) _ (sym (c .before .before .before .scan-sheet .ensures) ∙ c .before .enum-told .given .1) in
+    (w .0, c .before .before .before .before .if1 .left, c .before .before .before .before .before .before .before .pre)
+
+enum-known-number : tie.Need-enum-known-number
+enum-known-number c = search needs
+
+broken-line-requires-2 : tie.Need-broken-line-requires-2
+broken-line-requires-2 c κs = search needs
+
+same-length-2 : tie.Need-same-length-2
+same-length-2 c = search needs
+
+returns-2 : tie.Need-returns-2
+unfolding dayText
+returns-2 c =
+    let a = c .before .before .before .before .before .before .before .before .before .before .args in
+    let w = whole-scanned (decodeSheet (now (a .sheet))) _ (sym (c .before .before .before .before .before .before .scan-sheet .ensures) ∙ c .before .before .before .before .enum-told .given .1) in
+    rw (le-leb (length (now (a .sheet))) mostBytes (c .before .before .before .before .before .before .before .if1 .left), w .1) (c .before .before .print-fresh-day .ensures)
+
+same-length-3 : tie.Need-same-length-3
+same-length-3 c = search needs
+
+returns-3 : tie.Need-returns-3
+unfolding dayText
+returns-3 c =
+    let a = c .before .before .before .before .before .before .before .before .before .before .before .args in
+    let w = broken-scanned (decodeSheet (now (a .sheet))) _ _ (sym (c .before .before .before .before .before .before .before .scan-sheet .ensures) ∙ c .before .before .before .before .before .number .given .1) in
+    rw (le-leb (length (now (a .sheet))) mostBytes (c .before .before .before .before .before .before .before .before .if1 .left), w) (c .before .before .broken-line2 .ensures)
+
+pub print-list-spec : {M : Type 1} → statement M
+print-list-spec =
+    tie.close
+    (tie.spec
+    broken-line-requires
+    same-length
+    returns
+    scan-sheet-requires
+    enum-told
+    print-fresh-day-requires
+    enum-known-number
+    broken-line-requires-2
+    same-length-2
+    returns-2
+    same-length-3
+    returns-3)

@@ -1,0 +1,38 @@
+-- Digits one by one, and a list from a place on after a store there. Assumes nothing.
+use mathlib.Core.Path.{_≡_, refl, _∙_}
+use mathlib.Core.List.{List, [], _∷_, _++_}
+use Prim.Native.Nat.{ℕ, zero, suc, _+_, _≤_, _<_, _/_, _%_}
+use native.Mathlib.Omega.{arith}
+use lib.ListN.{length, set, drop}
+use borrow.Author.Tests.{lt-ltb, le-ltb}
+use Rattle.day_format.specs.Text.{digits, decimal}
+use Rattle.day_text.specs.Page.{Page, print, print-place, print-append, decimal-length}
+
+pub digits-end : (k n : ℕ) (rest : List ℕ) → n < 10 → digits (suc k) n rest ≡ (48 + n % 10) ∷ rest
+unfolding digits
+digits-end k n rest h = let e : n % 10 ≡ n = omega arith in rw (lt-ltb n 10 h, e)
+
+pub digits-on : (k n : ℕ) (rest : List ℕ) → 10 ≤ n → digits (suc k) n rest ≡ digits k (n / 10) ((48 + n % 10) ∷ rest)
+unfolding digits
+digits-on k n rest h = rw (le-ltb n 10 h)
+
+pub digits-none : (n : ℕ) (rest : List ℕ) → digits 0 n rest ≡ rest
+unfolding digits
+digits-none n rest = refl
+
+pub drop-set : (l : List ℕ) (i v : ℕ) → i < length l → drop i (set l i v) ≡ v ∷ drop (suc i) l
+drop-set [] i v h = absurd (omega arith)
+drop-set (x ∷ l) zero v h = refl
+drop-set (x ∷ l) (suc i) v h = drop-set l i v (omega arith)
+
+-- where a text ends
+pub placed : (limit : ℕ) (p q : Page) (text : List ℕ) → q ≡ print limit p text → q .place ≡ p .place + length text
+placed limit p q text e = rw e (print-place limit p text)
+
+-- a number takes at most 20 places
+pub numbered : (limit : ℕ) (p q : Page) (n : ℕ) → q ≡ print limit p (decimal n) → q .place ≤ p .place + 20
+numbered limit p q n e = omega (arith, placed limit p q (decimal n) e, decimal-length n)
+
+-- a text after a text
+pub next : (limit : ℕ) (p q r : Page) (a b : List ℕ) → q ≡ print limit p a → r ≡ print limit q b → r ≡ print limit p (a ++ b)
+next limit p q r a b e f = f ∙ rw e (print-append limit p a b)

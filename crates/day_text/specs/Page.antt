@@ -1,0 +1,104 @@
+-- A text printed into a lent output from a place on (document 01, "The board and the day list"): only places below a limit are stored, so that a
+-- text can be measured with the limit 0 before it is stored. Assumes nothing.
+use mathlib.Core.Path.{_≡_, refl, _∙_}
+use mathlib.Core.Bool.{Bool, true, false}
+use mathlib.Core.List.{List, [], _∷_, _++_}
+use Prim.Native.Nat.{ℕ, zero, suc, _+_, _≤_, _/_, _%_}
+use native.Mathlib.Omega.{arith}
+use lib.Dec.{ltb, leb}
+use lib.ListN.{length, set, length-set, length-append}
+use lib.Seq.{sets}
+use borrow.Author.Tests.{lt-ltb, le-ltb}
+use Rattle.terms.specs.Base.{pick}
+use Rattle.day_format.specs.Text.{digits, decimal}
+
+-- the output after a text: each byte whose place is below the limit is stored
+unfoldable pub emitted : ℕ → List ℕ → ℕ → List ℕ → List ℕ
+emitted limit out at [] = out
+emitted limit out at (b ∷ bs) = emitted limit (pick (ltb at limit) (set out at b) out) (suc at) bs
+
+-- an output, with the place up to which it was printed
+pub record Page : Type 0 where
+  pub place : ℕ
+  pub out : List ℕ
+
+abbrev pub page : ℕ → List ℕ → Page
+page p o = record { place = p; out = o }
+
+unfoldable pub print : ℕ → Page → List ℕ → Page
+print limit p text = page (p .place + length text) (emitted limit (p .out) (p .place) text)
+
+-- no line starts past this place, so that no place wraps; every day list ends long before it
+abbrev pub mostPlace : ℕ
+mostPlace = 4294967296
+
+-- more bytes than a line takes
+abbrev pub lineRoom : ℕ
+lineRoom = 128
+
+-- a line that starts within these bounds still has so many bytes at a place
+abbrev pub Roomy : ℕ → ℕ → Type 0
+Roomy at bytes = at + bytes ≤ mostPlace + lineRoom
+
+abbrev pub printLine : ℕ → Page → List ℕ → Page
+printLine limit p text = pick (leb (p .place) mostPlace) (print limit p text) p
+
+-- ---- laws
+-- a text after a text
+emitted-append : (limit : ℕ) (a b out : List ℕ) (at k : ℕ) → k ≡ at + length a
+    → emitted limit (emitted limit out at a) k b ≡ emitted limit out at (a ++ b)
+unfolding emitted
+emitted-append limit [] b out at k e = let z : k ≡ at = omega arith in rw z
+emitted-append limit (x ∷ a) b out at k e =
+    emitted-append limit a b (pick (ltb at limit) (set out at x) out) (suc at) k (omega arith)
+
+pub print-append : (limit : ℕ) (p : Page) (a b : List ℕ) → print limit (print limit p a) b ≡ print limit p (a ++ b)
+unfolding print
+print-append limit p a b =
+    let e : p .place + length a + length b ≡ p .place + length (a ++ b) = omega (arith, length-append a b) in
+    rw (e, emitted-append limit a b (p .out) (p .place) (p .place + length a) refl)
+
+pub print-place : (limit : ℕ) (p : Page) (text : List ℕ) → print limit p text .place ≡ p .place + length text
+unfolding print
+print-place limit p text = refl
+
+pub print-nothing : (limit : ℕ) (p : Page) → print limit p [] ≡ p
+unfolding print emitted
+print-nothing limit p = let e : p .place + 0 ≡ p .place = omega arith in rw e
+
+-- with the limit 0 the output stays
+pub emitted-none : (out : List ℕ) (at : ℕ) (text : List ℕ) → emitted 0 out at text ≡ out
+unfolding emitted
+emitted-none out at [] = refl
+emitted-none out at (b ∷ bs) = rw (le-ltb at 0 (omega arith)) (emitted-none out (suc at) bs)
+
+-- a text that ends below the limit is stored whole
+pub emitted-whole : (limit : ℕ) (text out : List ℕ) (at : ℕ) → at + length text ≤ limit → emitted limit out at text ≡ sets out at text
+unfolding emitted
+emitted-whole limit [] out at h = refl
+emitted-whole limit (b ∷ bs) out at h =
+    rw (lt-ltb at limit (omega arith)) (emitted-whole limit bs (set out at b) (suc at) (omega arith))
+
+-- the output keeps its length
+pub length-emitted : (limit : ℕ) (text out : List ℕ) (at : ℕ) → length (emitted limit out at text) ≡ length out
+unfolding emitted
+length-emitted limit [] out at = refl
+length-emitted limit (b ∷ bs) out at = length-emitted limit bs (pick (ltb at limit) (set out at b) out) (suc at) ∙ kept (ltb at limit)
+  where
+    kept : (t : Bool) → length (pick t (set out at b) out) ≡ length out
+    kept true = length-set out at b
+    kept false = refl
+
+-- a number has at most 20 digits
+digits-length : (k n : ℕ) (rest : List ℕ) → length (digits k n rest) ≤ k + length rest
+unfolding digits
+digits-length zero n rest = omega arith
+digits-length (suc k) n rest = go (ltb n 10) (digits-length k (n / 10) ((48 + n % 10) ∷ rest))
+  where
+    go : (t : Bool) → length (digits k (n / 10) ((48 + n % 10) ∷ rest)) ≤ k + suc (length rest)
+        → length (pick t ((48 + n) ∷ rest) (digits k (n / 10) ((48 + n % 10) ∷ rest))) ≤ suc k + length rest
+    go true h = omega arith
+    go false h = omega arith
+
+pub decimal-length : (n : ℕ) → length (decimal n) ≤ 20
+decimal-length n = omega (arith, digits-length 20 n [])

@@ -1,0 +1,116 @@
+-- Runs of stores: one after another, past the table's end, and record after record. Assumes nothing.
+use mathlib.Core.Path.{_≡_, refl, sym, ap, _∙_}
+use mathlib.Core.List.{List, [], _∷_, _++_}
+use Prim.Native.Nat.{ℕ, zero, suc, _+_, _*_, _-_, _≤_, _<_}
+use native.Mathlib.Omega.{arith}
+use native.Mathlib.Nat.{mul-suc}
+use native.Mathlib.Numerals.{add-one}
+use lib.ListN.{length, getD, set, drop, replicate, length-set}
+use lib.Seq.{sets, set-out, drop-cons}
+use Rattle.terms.specs.Base.{prefix}
+use Rattle.words.specs.Columns.{Shape, place, put, putHeader}
+use Rattle.words.specs.Layout.{workerShape, repeated}
+
+-- ---- one run after another
+pub sets-append : (l vs ws : List ℕ) (i k : ℕ) → k ≡ i + length vs → sets (sets l i vs) k ws ≡ sets l i (vs ++ ws)
+sets-append l [] ws i k e = let z : k ≡ i = omega arith in rw z
+sets-append l (v ∷ vs) ws i k e = sets-append (set l i v) vs ws (suc i) k (omega arith)
+
+-- a store before a run
+pub put-sets : (s : Shape) (l : List ℕ) (i k v : ℕ) (vs : List ℕ) → sets (put s l i k v) (place s i (k + 1)) vs ≡ sets l (place s i k) (v ∷ vs)
+unfolding put
+put-sets s l i k v vs = let z : place s i (k + 1) ≡ suc (place s i k) = omega arith in rw z
+
+-- fields of one record, stored one after another from field k on
+abbrev pub puts : Shape → List ℕ → ℕ → ℕ → List ℕ → List ℕ
+puts s l i k [] = l
+puts s l i k (v ∷ vs) = puts s (put s l i k v) i (k + 1) vs
+
+pub puts-sets : (s : Shape) (l : List ℕ) (i k : ℕ) (vs : List ℕ) → puts s l i k vs ≡ sets l (place s i k) vs
+puts-sets s l i k [] = refl
+puts-sets s l i k (v ∷ vs) = puts-sets s (put s l i k v) i (k + 1) vs ∙ put-sets s l i k v vs
+
+pub header-sets : (l : List ℕ) (k v : ℕ) (vs : List ℕ) → sets (putHeader l k v) (k + 1) vs ≡ sets l k (v ∷ vs)
+unfolding putHeader
+header-sets l k v vs = rw (add-one k)
+
+-- ---- past the end
+pub sets-out : (vs l : List ℕ) (i : ℕ) → length l ≤ i → sets l i vs ≡ l
+sets-out [] l i h = refl
+sets-out (v ∷ vs) l i h = rw (set-out l i v h) (sets-out vs l (suc i) (omega arith))
+
+pub fill-clipped : (k n : ℕ) (l : List ℕ) (i v : ℕ) → k ≤ n → length l ≤ i + k → sets l i (replicate k v) ≡ sets l i (replicate n v)
+fill-clipped zero n l i v a b = sym (sets-out (replicate n v) l i (omega arith))
+fill-clipped (suc k) zero l i v a b = absurd (omega arith)
+fill-clipped (suc k) (suc n) l i v a b = fill-clipped k n (set l i v) (suc i) v (omega arith) (rw (length-set l i v) (omega arith))
+
+-- ---- one word, or one record, of a run that is left to store
+pub fill-one : (l : List ℕ) (i e v : ℕ) → i < e → sets (set l i v) (i + 1) (replicate (e - (i + 1)) v) ≡ sets l i (replicate (e - i) v)
+fill-one l i e v h = let z : e - i ≡ suc (e - (i + 1)) = omega arith in rw (z, add-one i)
+
+pub fill-none : (l : List ℕ) (i e v : ℕ) → e ≤ i → l ≡ sets l i (replicate (e - i) v)
+fill-none l i e v h = let z : e - i ≡ 0 = omega arith in rw z
+
+module _ (s : Shape) (r : List ℕ) (whole : length r ≡ s .width) where
+  pub record-one : (l : List ℕ) (i n : ℕ) → i < n → sets (sets l (place s i 0) r) (place s (i + 1) 0) (repeated (n - (i + 1)) r) ≡ sets l (place s i 0) (repeated (n - i) r)
+  unfolding repeated
+  record-one l i n h =
+      let z : n - i ≡ suc (n - (i + 1)) = omega arith in
+      rw z (sets-append l r (repeated (n - (i + 1)) r) (place s i 0) (place s (i + 1) 0) (rw (add-one i, mul-suc (s .width) i) (omega arith)))
+
+  pub record-none : (l : List ℕ) (i n : ℕ) → n ≤ i → l ≡ sets l (place s i 0) (repeated (n - i) r)
+  unfolding repeated
+  record-none l i n h = let z : n - i ≡ 0 = omega arith in rw z
+
+-- records of two equal words
+pub repeated-two : (n v : ℕ) → repeated n (v ∷ v ∷ []) ≡ replicate (2 * n) v
+unfolding repeated
+repeated-two zero v = refl
+repeated-two (suc n) v = let z : 2 * suc n ≡ suc (suc (2 * n)) = omega arith in rw z (ap (λ (l : List ℕ). v ∷ v ∷ l) (repeated-two n v))
+
+-- ---- the names of a list, and 0 past them
+prefix-none : (n : ℕ) → prefix n [] ≡ replicate n 0
+unfolding prefix
+prefix-none zero = refl
+prefix-none (suc n) = ap (λ (l : List ℕ). 0 ∷ l) (prefix-none n)
+
+prefix-length : (n : ℕ) (l : List ℕ) → length (prefix n l) ≡ n
+unfolding prefix
+prefix-length zero l = refl
+prefix-length (suc n) [] = ap suc (prefix-length n [])
+prefix-length (suc n) (x ∷ l) = ap suc (prefix-length n l)
+
+prefix-at : (n : ℕ) (l : List ℕ) (i : ℕ) → i < n → getD (prefix n l) i 0 ≡ getD l i 0
+unfolding prefix
+prefix-at zero l i h = absurd (omega arith)
+prefix-at (suc n) [] zero h = refl
+prefix-at (suc n) [] (suc i) h = prefix-at n [] i (omega arith)
+prefix-at (suc n) (x ∷ l) zero h = refl
+prefix-at (suc n) (x ∷ l) (suc i) h = prefix-at n l i (omega arith)
+
+pub names-one : (n d : ℕ) (names l : List ℕ) (at i : ℕ) → i < n → i < d → sets (set l (at + i) (getD names i 0)) (at + (i + 1)) (drop (i + 1) (prefix n (prefix d names))) ≡ sets l (at + i) (drop i (prefix n (prefix d names)))
+names-one n d names l at i a b =
+    let z : at + (i + 1) ≡ suc (at + i) = omega arith in
+    let q : i < length (prefix n (prefix d names)) = rw (prefix-length n (prefix d names)) a in
+    rw (drop-cons (prefix n (prefix d names)) i 0 q, prefix-at n (prefix d names) i a, prefix-at d names i b, z, add-one i)
+
+-- after the last listed name there are only 0
+pub names-rest : (n d r : ℕ) (names : List ℕ) → r ≤ n → r ≤ d → (r < n → r ≡ d) → drop r (prefix n (prefix d names)) ≡ replicate (n - r) 0
+unfolding prefix
+names-rest zero d zero names a b e = refl
+names-rest (suc n) zero zero names a b e = let z : suc n - 0 ≡ suc n = omega arith in rw z (prefix-none (suc n))
+names-rest (suc n) (suc d) zero names a b e = absurd (omega (arith, e (omega arith)))
+names-rest zero d (suc r) names a b e = absurd (omega arith)
+names-rest (suc n) zero (suc r) names a b e = absurd (omega arith)
+names-rest (suc n) (suc d) (suc r) [] a b e =
+    let z : suc n - suc r ≡ n - r = omega arith in
+    rw z (names-rest n d r [] (omega arith) (omega arith) (λ h. omega (arith, e (omega arith))))
+names-rest (suc n) (suc d) (suc r) (x ∷ l) a b e =
+    let z : suc n - suc r ≡ n - r = omega arith in
+    rw z (names-rest n d r l (omega arith) (omega arith) (λ h. omega (arith, e (omega arith))))
+
+-- ---- a worker's record in three runs
+pub worker-record : (l : List ℕ) (w : ℕ) (xs ys zs : List ℕ) → length xs ≡ 6 → length ys ≡ 4 → sets (sets (sets l (place workerShape w 0) xs) (place workerShape w 6) ys) (place workerShape w 10) zs ≡ sets l (place workerShape w 0) (xs ++ (ys ++ zs))
+worker-record l w xs ys zs a b =
+    sets-append (sets l (place workerShape w 0) xs) ys zs (place workerShape w 6) (place workerShape w 10) (omega arith)
+    ∙ sets-append l xs (ys ++ zs) (place workerShape w 0) (place workerShape w 6) (omega arith)

@@ -1,0 +1,65 @@
+-- The first names of a list, one at a time: whether a name is among them, and whether one comes again. Assumes nothing.
+use mathlib.Core.Path.{_≡_, refl, ap, sym, _∙_}
+use mathlib.Core.Bool.{Bool, true, false, _||_}
+use mathlib.Core.List.{List, [], _∷_}
+use Prim.Native.Nat.{ℕ, zero, suc, _+_, _≤_, _<_}
+use native.Mathlib.Omega.{arith}
+use native.Mathlib.Numerals.{add-one}
+use lib.Dec.{eqb}
+use lib.ListN.{length, getD, drop}
+use lib.Seq.{drop-cons, drop-length}
+use borrow.Author.Tests.{eq-eqb, ne-eqb}
+use Rattle.terms.specs.Base.{contains, repeats, prefix}
+
+length-prefix : (n : ℕ) (l : List ℕ) → length (prefix n l) ≡ n
+unfolding prefix
+length-prefix zero l = refl
+length-prefix (suc n) [] = ap suc (length-prefix n [])
+length-prefix (suc n) (x ∷ l) = ap suc (length-prefix n l)
+
+getD-prefix : (n : ℕ) (l : List ℕ) (i : ℕ) → i < n → getD (prefix n l) i 0 ≡ getD l i 0
+unfolding prefix
+getD-prefix zero l i h = absurd (omega arith)
+getD-prefix (suc n) [] zero h = refl
+getD-prefix (suc n) [] (suc i) h = getD-prefix n [] i (omega arith)
+getD-prefix (suc n) (x ∷ l) zero h = refl
+getD-prefix (suc n) (x ∷ l) (suc i) h = getD-prefix n l i (omega arith)
+
+module _ (count : ℕ) (names : List ℕ) (i : ℕ) where
+  next : i < count → drop i (prefix count names) ≡ getD names i 0 ∷ drop (i + 1) (prefix count names)
+  next h =
+      let inside : i < length (prefix count names) = rw (length-prefix count names) h in
+      rw (drop-cons (prefix count names) i 0 inside, getD-prefix count names i h, add-one)
+
+  none-left : count ≤ i → i ≤ count → drop i (prefix count names) ≡ []
+  none-left h k =
+      let e : i ≡ length (prefix count names) = rw (length-prefix count names) (omega arith) in
+      ap (λ n. drop n (prefix count names)) e ∙ drop-length (prefix count names)
+
+  pub found : (name : ℕ) → i < count → getD names i 0 ≡ name → true ≡ contains name (drop i (prefix count names))
+  unfolding contains
+  found name h e = rw (next h, eq-eqb name (getD names i 0) (sym e))
+
+  pub passed : (name : ℕ) → i < count → (getD names i 0 ≡ name → ⊥) → contains name (drop (i + 1) (prefix count names)) ≡ contains name (drop i (prefix count names))
+  unfolding contains
+  passed name h e = rw (next h, ne-eqb name (getD names i 0) (λ q. e (sym q)))
+
+  pub not-found : (name : ℕ) → count ≤ i → i ≤ count → false ≡ contains name (drop i (prefix count names))
+  unfolding contains
+  not-found name h k = rw (none-left h k)
+
+  pub again : i < count → contains (getD names i 0) (drop (i + 1) (prefix count names)) ≡ true → true ≡ repeats (drop i (prefix count names))
+  unfolding repeats
+  again h e = rw (next h, e)
+
+  pub once : i < count → contains (getD names i 0) (drop (i + 1) (prefix count names)) ≡ false → repeats (drop (i + 1) (prefix count names)) ≡ repeats (drop i (prefix count names))
+  unfolding repeats
+  once h e = rw (next h, e)
+
+  pub not-again : count ≤ i → i ≤ count → false ≡ repeats (drop i (prefix count names))
+  unfolding repeats
+  not-again h k = rw (none-left h k)
+
+pub or-right : (a b : Bool) → (a || b) ≡ false → b ≡ false
+or-right true b e = cc
+or-right false b e = e

@@ -1,0 +1,55 @@
+-- `graph_plan::admit` meets its contract: each way through the code is a case of the definition.
+-- Assumes nothing.
+use borrow.Author.Needs.{needs}
+use Rattle.words.specs.Words.{admitted}
+use Rattle.graph_plan.proofs.admit.Statement.{statement}
+use Rattle.graph_plan.proofs.admit.Tie as tie
+
+sizes-fit-requires : tie.Need-sizes-fit-requires
+sizes-fit-requires c κs = search needs
+
+own-ok-requires : tie.Need-own-ok-requires
+own-ok-requires c κs = search needs
+
+returns : tie.Need-returns
+unfolding admitted
+returns c =
+    rw (
+      ← c .before .before .before .before .before .sizes-fit .ensures,
+      c .before .before .before .before .if1 .taken,
+      c .before .before .if2 .taken,
+      ← c .before .own-ok .ensures,
+      c .if3 .taken,
+    )
+
+returns-2 : tie.Need-returns-2
+unfolding admitted
+returns-2 c =
+    rw (
+      ← c .before .before .before .before .before .sizes-fit .ensures,
+      c .before .before .before .before .if1 .taken,
+      c .before .before .if2 .taken,
+      ← c .before .own-ok .ensures,
+      c .if3 .left,
+    )
+
+returns-3 : tie.Need-returns-3
+unfolding admitted
+returns-3 c =
+    rw (
+      ← c .before .before .before .sizes-fit .ensures,
+      c .before .before .if1 .taken,
+      c .if2 .left,
+    )
+
+returns-4 : tie.Need-returns-4
+unfolding admitted
+returns-4 c =
+    rw (
+      ← c .before .sizes-fit .ensures,
+      c .if1 .left,
+    )
+
+pub admit-spec : {M : Type 1} → statement M
+admit-spec =
+    tie.close (tie.spec sizes-fit-requires own-ok-requires returns returns-2 returns-3 returns-4)

@@ -1,0 +1,254 @@
+// What a call is to do with the tables: it reads and judges, and stores nothing.
+// Follows document 01, "Steps" and "Turned-away calls". Assumes nothing: each definition holds of all tables and arguments.
+ghost use mathlib.Core.Path.{_≡_};
+ghost use mathlib.Core.List.{List};
+ghost use Prim.Native.Nat.{ℕ};
+ghost use Rattle.words.specs.Layout.{tables, lent, view};
+ghost use Rattle.words.specs.Words.{planPhase, admitted, refusal, planStep, planTake, planQueue, planGet, planGetOf, judgedAdd, judgedFinish};
+
+pub mod arguments;
+
+use arguments::arguments_wrong;
+use graph_steps::adding::plan_add;
+use graph_steps::adding::plan_links;
+use graph_steps::finishing::plan_mark;
+use graph_steps::finishing::plan_notify;
+use graph_words::cell;
+use graph_words::header;
+use graph_words::job_word;
+use graph_words::layout::*;
+use graph_words::numbers::*;
+use graph_words::own_ok;
+use graph_words::sizes_fit;
+use graph_words::worker_word;
+use terms::Sizes;
+use words::GetPlan;
+use words::Plan;
+
+// The number that turns any call of the worker away, or 0: the tests that come first, in their order.
+fn admit(
+    sizes: Sizes,
+    jobs: &[u32],
+    arcs: &[u32],
+    buckets: &[u32],
+    queue: &[u32],
+    workers: &[u32],
+    worker: u32,
+) -> u32
+    ensures { λ r. ⌜ r ≡ admitted sizes (lent (jobs .entry) (arcs .entry) (buckets .entry) (queue .entry) (workers .entry)) worker refusal 0 ⌝ }
+{
+    let fit = sizes_fit(sizes, jobs, arcs, buckets, queue, workers);
+    if fit {
+        let known = worker < sizes.workers;
+        if known {
+            let sound = own_ok(sizes, jobs, arcs, workers, worker);
+            if sound { 0 } else { DAMAGED }
+        } else {
+            NO_SUCH_WORKER
+        }
+    } else {
+        WRONG_SIZES
+    }
+}
+
+// What the worker's phase asks for.
+fn plan_phase(
+    sizes: Sizes,
+    jobs: &[u32],
+    arcs: &[u32],
+    buckets: &[u32],
+    queue: &[u32],
+    workers: &[u32],
+    worker: u32,
+) -> Plan
+    ensures { λ r. ⌜ r ≡ planPhase sizes (view (lent (jobs .entry) (arcs .entry) (buckets .entry) (queue .entry) (workers .entry))) worker ⌝ }
+{
+    let phase = worker_word(workers, worker, PHASE);
+    let idle = phase == IDLE;
+    if idle {
+        return Plan::Refuse {
+            number: NOTHING_TO_STEP,
+        };
+    }
+    let looking = phase == LOOKING;
+    if looking {
+        return plan_add(sizes, jobs, arcs, buckets, workers, worker);
+    }
+    let linking = phase == LINKING;
+    if linking {
+        return plan_links(sizes, jobs, arcs, buckets, queue, workers, worker);
+    }
+    let marking = phase == MARKING;
+    if marking {
+        plan_mark(sizes, jobs, arcs, worker_word(workers, worker, HELD))
+    } else {
+        plan_notify(
+            sizes,
+            jobs,
+            arcs,
+            queue,
+            worker_word(workers, worker, OWN_ARC),
+        )
+    }
+}
+
+pub fn plan_step(
+    sizes: Sizes,
+    jobs: &[u32],
+    arcs: &[u32],
+    buckets: &[u32],
+    queue: &[u32],
+    workers: &[u32],
+    worker: u32,
+) -> Plan
+    ensures { λ r. ⌜ r ≡ planStep sizes (lent (jobs .entry) (arcs .entry) (buckets .entry) (queue .entry) (workers .entry)) worker ⌝ }
+{
+    let number = admit(sizes, jobs, arcs, buckets, queue, workers, worker);
+    let admitted = number == 0;
+    if admitted {
+        plan_phase(sizes, jobs, arcs, buckets, queue, workers, worker)
+    } else {
+        Plan::Refuse { number }
+    }
+}
+
+fn plan_take(sizes: Sizes, jobs: &[u32], queue: &[u32], job: u32) -> GetPlan
+    ensures { λ r. ⌜ ((arcs buckets workers : List ℕ) → r ≡ planTake sizes (view (tables (now (jobs .entry)) arcs buckets (now (queue .entry)) workers)) job) ⌝ }
+{
+    let made = header(jobs, MADE);
+    let label = job_word(jobs, job, LABEL);
+    let sound = (made <= sizes.jobs) & (job < made) & (label == UNEXECUTED);
+    if sound {
+        let name = job_word(jobs, job, NAME);
+        GetPlan::Take {
+            job,
+            name,
+            cell: header(queue, TAKEN),
+        }
+    } else {
+        GetPlan::RefuseGet { number: DAMAGED }
+    }
+}
+
+fn plan_queue(sizes: Sizes, jobs: &[u32], queue: &[u32]) -> GetPlan
+    ensures { λ r. ⌜ ((arcs buckets workers : List ℕ) → r ≡ planQueue sizes (view (tables (now (jobs .entry)) arcs buckets (now (queue .entry)) workers))) ⌝ }
+{
+    let taken = header(queue, TAKEN);
+    let put = header(queue, PUT);
+    let sound = (taken <= put) & (put <= sizes.jobs);
+    if sound {
+        let empty = taken == put;
+        if empty {
+            GetPlan::Wait
+        } else {
+            plan_take(sizes, jobs, queue, cell(queue, taken))
+        }
+    } else {
+        GetPlan::RefuseGet { number: DAMAGED }
+    }
+}
+
+fn plan_admitted_get(
+    sizes: Sizes,
+    jobs: &[u32],
+    queue: &[u32],
+    workers: &[u32],
+    worker: u32,
+) -> GetPlan
+    ensures { λ r. ⌜ ((arcs buckets : List ℕ) → r ≡ planGet sizes (view (tables (now (jobs .entry)) arcs buckets (now (queue .entry)) (now (workers .entry)))) worker) ⌝ }
+{
+    let idle = worker_word(workers, worker, PHASE) == IDLE;
+    if idle {
+        let free = worker_word(workers, worker, HELD) == NONE;
+        if free {
+            plan_queue(sizes, jobs, queue)
+        } else {
+            GetPlan::RefuseGet {
+                number: ALREADY_HOLDING,
+            }
+        }
+    } else {
+        GetPlan::RefuseGet { number: HALF_DONE }
+    }
+}
+
+pub fn plan_get(
+    sizes: Sizes,
+    jobs: &[u32],
+    arcs: &[u32],
+    buckets: &[u32],
+    queue: &[u32],
+    workers: &[u32],
+    worker: u32,
+) -> GetPlan
+    ensures { λ r. ⌜ r ≡ planGetOf sizes (lent (jobs .entry) (arcs .entry) (buckets .entry) (queue .entry) (workers .entry)) worker ⌝ }
+{
+    let number = admit(sizes, jobs, arcs, buckets, queue, workers, worker);
+    let admitted = number == 0;
+    if admitted {
+        plan_admitted_get(sizes, jobs, queue, workers, worker)
+    } else {
+        GetPlan::RefuseGet { number }
+    }
+}
+
+// The number that turns the post of an add away, or 0.
+pub fn judge_add(
+    sizes: Sizes,
+    jobs: &[u32],
+    arcs: &[u32],
+    buckets: &[u32],
+    queue: &[u32],
+    workers: &[u32],
+    worker: u32,
+    name: u32,
+    names: [u32; 32],
+    count: u32,
+    class: u32,
+    grower: u32,
+) -> u32
+    ensures { λ r. ⌜ r ≡ admitted sizes (lent (jobs .entry) (arcs .entry) (buckets .entry) (queue .entry) (workers .entry)) worker refusal (judgedAdd (view (lent (jobs .entry) (arcs .entry) (buckets .entry) (queue .entry) (workers .entry))) worker (record { name = name; count = count; names = names; class = class; grower = grower })) ⌝ }
+{
+    let number = admit(sizes, jobs, arcs, buckets, queue, workers, worker);
+    let admitted = number == 0;
+    if admitted {
+        let idle = worker_word(workers, worker, PHASE) == IDLE;
+        if idle {
+            let wrong = arguments_wrong(name, names, count, class, grower);
+            if wrong { WRONG_ARGUMENTS } else { 0 }
+        } else {
+            HALF_DONE
+        }
+    } else {
+        number
+    }
+}
+
+// The number that turns the post of a finish away, or 0.
+pub fn judge_finish(
+    sizes: Sizes,
+    jobs: &[u32],
+    arcs: &[u32],
+    buckets: &[u32],
+    queue: &[u32],
+    workers: &[u32],
+    worker: u32,
+    name: u32,
+) -> u32
+    ensures { λ r. ⌜ r ≡ admitted sizes (lent (jobs .entry) (arcs .entry) (buckets .entry) (queue .entry) (workers .entry)) worker refusal (judgedFinish (view (lent (jobs .entry) (arcs .entry) (buckets .entry) (queue .entry) (workers .entry))) worker name) ⌝ }
+{
+    let number = admit(sizes, jobs, arcs, buckets, queue, workers, worker);
+    let admitted = number == 0;
+    if admitted {
+        let idle = worker_word(workers, worker, PHASE) == IDLE;
+        if idle {
+            let held = worker_word(workers, worker, HELD);
+            let holds = (held != NONE) & (job_word(jobs, held, NAME) == name);
+            if holds { 0 } else { NOT_HELD }
+        } else {
+            HALF_DONE
+        }
+    } else {
+        number
+    }
+}

@@ -1,0 +1,53 @@
+-- `graph_steps::finishing::plan_mark` meets its contract: each way through the code is a case of the definition.
+-- Assumes nothing.
+use borrow.Author.Needs.{needs}
+use Rattle.words.specs.Words.{planMark}
+use Rattle.graph_steps.proofs.finishing.plan_mark.Statement.{statement}
+use Rattle.graph_steps.proofs.finishing.plan_mark.Tie as tie
+
+header-requires : tie.Need-header-requires
+header-requires c κs = search needs
+
+job-word-requires : tie.Need-job-word-requires
+job-word-requires c κs = search needs
+
+job-word-requires-2 : tie.Need-job-word-requires-2
+job-word-requires-2 c κs = search needs
+
+place-ok-requires : tie.Need-place-ok-requires
+place-ok-requires c κs = search needs
+
+returns : tie.Need-returns
+unfolding planMark
+returns c =
+    λ buckets queue workers.
+    rw (
+      ← c .before .before .before .before .before .header .ensures,
+      ← c .before .before .before .before .job-word .ensures,
+      ← c .before .before .before .job-word2 .ensures,
+      ← c .before .before .place-ok .ensures,
+      c .if1 .taken,
+    )
+
+returns-2 : tie.Need-returns-2
+unfolding planMark
+returns-2 c =
+    λ buckets queue workers.
+    rw (
+      ← c .before .before .before .before .before .header .ensures,
+      ← c .before .before .before .before .job-word .ensures,
+      ← c .before .before .before .job-word2 .ensures,
+      ← c .before .before .place-ok .ensures,
+      c .if1 .left,
+    )
+
+pub plan-mark-spec : {M : Type 1} → statement M
+plan-mark-spec =
+    tie.close
+    (tie.spec
+    header-requires
+    job-word-requires
+    job-word-requires-2
+    place-ok-requires
+    returns
+    returns-2)

@@ -1,0 +1,66 @@
+// What the steps of a finish plan: the mark, and the notice along each arc.
+// Follows document 01, "Steps" and "Turned-away calls". Assumes nothing: each definition holds of all tables, and where a table
+// is not read the contract holds with any.
+ghost use mathlib.Core.Path.{_≡_};
+ghost use mathlib.Core.List.{List};
+ghost use Prim.Native.Nat.{ℕ};
+ghost use Rattle.words.specs.Layout.{tables, view};
+ghost use Rattle.words.specs.Words.{planMark, planNotify};
+use super::queueing::less;
+use super::queueing::notify_queue;
+use graph_words::arc_word;
+use graph_words::header;
+use graph_words::job_word;
+use graph_words::layout::*;
+use graph_words::numbers::*;
+use graph_words::place_ok;
+use terms::Sizes;
+use words::Plan;
+
+pub fn plan_mark(sizes: Sizes, jobs: &[u32], arcs: &[u32], job: u32) -> Plan
+    ensures { λ r. ⌜ ((buckets queue workers : List ℕ) → r ≡ planMark sizes (view (tables (now (jobs .entry)) (now (arcs .entry)) buckets queue workers)) job) ⌝ }
+{
+    let reserved = header(arcs, RESERVED);
+    let label = job_word(jobs, job, LABEL);
+    let first = job_word(jobs, job, FIRST);
+    let kept = place_ok(first, reserved, sizes.arcs);
+    let sound = (job != NONE) & (label == EXECUTING) & (reserved <= sizes.arcs) & kept;
+    if sound {
+        Plan::Mark { job, first }
+    } else {
+        Plan::Refuse { number: DAMAGED }
+    }
+}
+
+pub fn plan_notify(sizes: Sizes, jobs: &[u32], arcs: &[u32], queue: &[u32], arc: u32) -> Plan
+    ensures { λ r. ⌜ ((buckets workers : List ℕ) → r ≡ planNotify sizes (view (tables (now (jobs .entry)) (now (arcs .entry)) buckets (now (queue .entry)) workers)) arc) ⌝ }
+{
+    let made = header(jobs, MADE);
+    let reserved = header(arcs, RESERVED);
+    let job = arc_word(arcs, arc, DEPENDENT);
+    let next = arc_word(arcs, arc, AFTER);
+    let count = job_word(jobs, job, COUNT);
+    let kept = place_ok(next, reserved, sizes.arcs);
+    let sound = (arc != NONE)
+        & (made <= sizes.jobs)
+        & (reserved <= sizes.arcs)
+        & (job < made)
+        & kept
+        & (1 <= count)
+        & (count <= MOST_NAMES);
+    if sound {
+        let left = less(count, 1);
+        let last = count == 1;
+        if last {
+            notify_queue(sizes, queue, job, left, next)
+        } else {
+            Plan::Notify {
+                job,
+                count: left,
+                next,
+            }
+        }
+    } else {
+        Plan::Refuse { number: DAMAGED }
+    }
+}

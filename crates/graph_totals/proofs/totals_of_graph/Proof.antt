@@ -1,0 +1,79 @@
+-- `graph_totals::totals_of_graph` meets its contract: the code's tests are the definition's, and the graph's row stands in its table of jobs.
+-- Assumes nothing.
+use mathlib.Core.Path.{_≡_, refl}
+use mathlib.Core.List.{List}
+use Prim.Native.Nat.{ℕ, zero, suc}
+use borrow.Author.Needs.{needs}
+use borrow.Author.Tests.{le-leb, lt-leb}
+use Rattle.totals.specs.Board.{recordsFrom, recordAt}
+use Rattle.words.specs.Columns.{columns}
+use Rattle.words.specs.Layout.{jobShape, LABEL, CLASS}
+use Rattle.graph_board.specs.Board.{rowsFrom, graphTotals}
+use Rattle.graph_totals.proofs.totals_of_graph.Statement.{statement}
+use Rattle.graph_totals.proofs.totals_of_graph.Tie as tie
+
+-- a job's record stands in the columns of its label and its class
+graph-rows : (jobs : List ℕ) (j n : ℕ)
+    → recordsFrom (recordAt (jobShape .head) (jobShape .width) LABEL CLASS jobs) j n ≡ rowsFrom (columns jobShape jobs) j n
+unfolding recordsFrom rowsFrom columns
+graph-rows jobs j zero = refl
+graph-rows jobs j (suc n) = rw (graph-rows jobs (suc j) n)
+
+jobs-fit-requires : tie.Need-jobs-fit-requires
+jobs-fit-requires c κs = search needs
+
+header-requires : tie.Need-header-requires
+header-requires c κs = search needs
+
+cast-of-table : tie.Need-cast-of-table
+cast-of-table c = search needs
+
+of-table-requires : tie.Need-of-table-requires
+of-table-requires c κs = search needs
+
+blank-requires : tie.Need-blank-requires
+blank-requires c κs = search needs
+
+blank-requires-2 : tie.Need-blank-requires-2
+blank-requires-2 c κs = search needs
+
+returns : tie.Need-returns
+unfolding graphTotals
+returns c =
+    rw (
+      ← c .before .before .before .before .before .jobs-fit .ensures,
+      c .before .before .before .before .if1 .taken,
+      ← c .before .before .before .header .ensures,
+      le-leb _ _ (c .before .if2 .taken),
+      ← (graph-rows _ 0 _),
+    )
+    (c .of-table .ensures)
+
+returns-2 : tie.Need-returns-2
+unfolding graphTotals
+returns-2 c =
+    rw (
+      ← c .before .before .before .before .before .jobs-fit .ensures,
+      c .before .before .before .before .if1 .taken,
+      ← c .before .before .before .header .ensures,
+      lt-leb _ _ (c .before .if2 .left),
+    )
+    (c .blank .ensures)
+
+returns-3 : tie.Need-returns-3
+unfolding graphTotals
+returns-3 c = rw (← c .before .before .jobs-fit .ensures, c .before .if1 .left) (c .blank2 .ensures)
+
+pub totals-of-graph-spec : {M : Type 1} → statement M
+totals-of-graph-spec =
+    tie.close
+    (tie.spec
+    jobs-fit-requires
+    header-requires
+    cast-of-table
+    of-table-requires
+    blank-requires
+    blank-requires-2
+    returns
+    returns-2
+    returns-3)

@@ -1,0 +1,45 @@
+-- `taskgraph::tg_day_list` meets its contract: each arm is given the answer of `day_list`, whose contract says what that is.
+-- Assumes nothing.
+use mathlib.Core.Path.{sym, ap, _∙_}
+use borrow.Author.Needs.{needs}
+use Rattle.day_format.specs.Day.{Printing}
+use Rattle.taskgraph.specs.Answers.{dayPrinted}
+use Rattle.taskgraph.proofs.tg_day_list.Statement.{statement}
+use Rattle.taskgraph.proofs.tg_day_list.Tie as tie
+
+day-list-requires : tie.Need-day-list-requires
+day-list-requires c κs = search needs
+
+enum-known-bytes : tie.Need-enum-known-bytes
+enum-known-bytes c = search needs
+
+enum-known-number : tie.Need-enum-known-number
+enum-known-number c = search needs
+
+same-length : tie.Need-same-length
+same-length c = search needs
+
+returns : tie.Need-returns
+returns c =
+    let told : _ = c .before .before .before .before .before .day-list .ensures in
+    (ap dayPrinted (sym (c .before .bytes .given .1) ∙ ap (λ (w : Printing). w .answer) told), ap (λ (w : Printing). w .out) told)
+
+same-length-2 : tie.Need-same-length-2
+same-length-2 c = search needs
+
+returns-2 : tie.Need-returns-2
+returns-2 c =
+    let told : _ = c .before .before .before .before .before .day-list .ensures in
+    (ap dayPrinted (sym (c .before .number .given .1) ∙ ap (λ (w : Printing). w .answer) told), ap (λ (w : Printing). w .out) told)
+
+pub tg-day-list-spec : {M : Type 1} → statement M
+tg-day-list-spec =
+    tie.close
+    (tie.spec
+    day-list-requires
+    enum-known-bytes
+    enum-known-number
+    same-length
+    returns
+    same-length-2
+    returns-2)

@@ -1,0 +1,146 @@
+//! The speed of the task graph.
+//!
+//! Without arguments: nanoseconds a job for building and draining graphs of several shapes, with the proved
+//! library through C, the same rules in unproved Rust, oneTBB's flow graph and Python's graphlib, all in this
+//! run and with one thread each. A peer that is not there is named and left out.
+//!
+//! With the argument `steps`: nanoseconds a step by the numbers of jobs and of bucket bits, as a table that
+//! scripts/plot-steps draws.
+
+mod peers;
+
+use std::{env, process::ExitCode, time::Instant};
+
+use bench_graph::{
+    calls::{build, drain, Arena, Calls, Proved, Unproved},
+    shapes::{self, Shape},
+};
+use library::graph::Sizes;
+use peers::Peer;
+
+/// The two implementations take turns; the best round of each counts.
+const ROUNDS: usize = 60;
+
+const BITS: u32 = 8;
+
+fn main() -> ExitCode {
+    let arguments: Vec<String> = env::args().skip(1).collect();
+    match arguments.iter().map(String::as_str).collect::<Vec<_>>()[..] {
+        [] => beside_others(),
+        ["steps"] => steps(),
+        _ => {
+            eprintln!("usage: bench_graph [steps]");
+            return ExitCode::FAILURE;
+        }
+    }
+    ExitCode::SUCCESS
+}
+
+// ---- beside others
+
+fn beside_others() {
+    println!("Building and draining a graph, in ns a job, the best of several rounds, one thread each.");
+    let peers = peers::all();
+    for peer in &peers {
+        if let Err(why) = &peer.command {
+            println!("left out: {} ({why})", peer.name);
+        }
+    }
+    let mut greatest: f64 = 0.0;
+    let shapes =
+        [shapes::random(4_096, 8), shapes::chain(4_096), shapes::fans(4_096), shapes::grid(64), shapes::random(256, 4)];
+    for shape in &shapes {
+        greatest = greatest.max(measure(shape, &peers));
+    }
+    println!("greatest ratio of the library to unproved Rust {greatest:.2}");
+}
+
+/// Prints the times of a shape, and gives the library's as a multiple of unproved Rust's.
+fn measure(shape: &Shape, peers: &[Peer]) -> f64 {
+    println!("{}", shape.name);
+    let sizes = shape.sizes(BITS);
+    let mut arena = Arena::new(sizes);
+    let (mut proved, mut unproved) = (f64::INFINITY, f64::INFINITY);
+    for _ in 0..ROUNDS {
+        proved = proved.min(round::<Proved>(sizes, &mut arena, shape).total());
+        unproved = unproved.min(round::<Unproved>(sizes, &mut arena, shape).total());
+    }
+    let jobs = shape.lists.len() as f64;
+    let line = |name: &str, nanoseconds: f64| {
+        println!("  {name:<22} {nanoseconds:9.0} ns a job   {:6.2} times the library's", nanoseconds * jobs / proved);
+    };
+    line(Proved::NAME, proved / jobs);
+    line(Unproved::NAME, unproved / jobs);
+    for peer in peers {
+        match peer.nanoseconds_a_job(shape) {
+            None => {}
+            Some(Ok(nanoseconds)) => line(peer.name, nanoseconds),
+            Some(Err(error)) => println!("  {:<22} failed: {error}", peer.name),
+        }
+    }
+    proved / unproved
+}
+
+/// The times of one round in nanoseconds, and its calls.
+#[derive(Clone, Copy)]
+struct Round {
+    building: f64,
+    build_calls: usize,
+    draining: f64,
+    drain_calls: usize,
+}
+
+impl Round {
+    fn total(&self) -> f64 {
+        self.building + self.draining
+    }
+}
+
+fn round<C: Calls>(sizes: Sizes, arena: &mut Arena, shape: &Shape) -> Round {
+    let mut tables = arena.lent();
+    let start = Instant::now();
+    let build_calls = build::<C>(sizes, &mut tables, shape);
+    let built = Instant::now();
+    let (jobs, drain_calls) = drain::<C>(sizes, &mut tables);
+    let drained = Instant::now();
+    assert_eq!(jobs, shape.lists.len(), "all jobs were handed out");
+    Round {
+        building: (built - start).as_nanos() as f64,
+        build_calls,
+        draining: (drained - built).as_nanos() as f64,
+        drain_calls,
+    }
+}
+
+// ---- steps
+
+/// The longest lists of the graphs whose steps are timed.
+const STEPS_LONGEST: usize = 4;
+
+fn steps() {
+    println!("# ns a step, the best of several rounds: jobs, bits, adding and draining with the library,");
+    println!("# adding and draining with unproved Rust");
+    for jobs in [16, 256, 4_096] {
+        let shape = shapes::random(jobs, STEPS_LONGEST);
+        for bits in [1, 4, 8] {
+            let (adding, draining) = a_step::<Proved>(&shape, bits);
+            let (adding_unproved, draining_unproved) = a_step::<Unproved>(&shape, bits);
+            println!("{jobs} {bits} {adding:.1} {draining:.1} {adding_unproved:.1} {draining_unproved:.1}");
+        }
+    }
+}
+
+/// Nanoseconds a step for adding and for draining.
+fn a_step<C: Calls>(shape: &Shape, bits: u32) -> (f64, f64) {
+    let sizes = shape.sizes(bits);
+    let mut arena = Arena::new(sizes);
+    // As many rounds for small graphs as fill about as much time as few for large ones.
+    let rounds = (ROUNDS * 4_096 / shape.lists.len()).min(4_000);
+    let mut best = (f64::INFINITY, f64::INFINITY);
+    for _ in 0..rounds {
+        let round = round::<C>(sizes, &mut arena, shape);
+        best.0 = best.0.min(round.building / round.build_calls as f64);
+        best.1 = best.1.min(round.draining / round.drain_calls as f64);
+    }
+    best
+}

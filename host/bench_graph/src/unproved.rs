@@ -1,0 +1,499 @@
+//! The rules of document 01 over the same tables of words with the same tests, in plain unproved Rust:
+//! what the proved library is timed beside. The layout of the tables is that of `include/taskgraph.h`. The
+//! five calls are never inlined, as those of the library cannot be.
+
+use library::graph::{kind, Answer, Entry, Sizes, Tables};
+
+const NONE: u32 = u32::MAX;
+const FACTOR: u32 = 2_654_435_769;
+
+/// Words before the first record of each table.
+const JOBS_HEADER: usize = 5;
+const ARCS_HEADER: usize = 1;
+const QUEUE_HEADER: usize = 2;
+
+/// Words per record.
+const JOB_WORDS: usize = 8;
+const ARC_WORDS: usize = 2;
+const WORKER_WORDS: usize = 42;
+
+const MAX_NAMES: u32 = 32;
+const MAX_CLASS: u32 = 15;
+const MAX_GROWER: u32 = 65_535;
+
+/// The fields of a job.
+mod job {
+    pub const NAME: usize = 0;
+    pub const LABEL: usize = 1;
+    pub const COUNT: usize = 2;
+    pub const FIRST: usize = 5;
+    pub const LAST: usize = 6;
+    pub const NEXT: usize = 7;
+}
+
+/// The fields of a worker.
+mod worker {
+    pub const PHASE: usize = 0;
+    pub const HELD: usize = 1;
+    pub const NAME: usize = 2;
+    pub const COUNT: usize = 3;
+    pub const CLASS: usize = 4;
+    pub const GROWER: usize = 5;
+    pub const TALLY: usize = 6;
+    pub const PLACE: usize = 7;
+    pub const JOB: usize = 8;
+    pub const ARC: usize = 9;
+    pub const NAMES: usize = 10;
+}
+
+mod phase {
+    pub const IDLE: u32 = 0;
+    pub const LOOKING_UP: u32 = 1;
+    pub const LINKING: u32 = 2;
+    pub const MARKING: u32 = 3;
+    pub const NOTIFYING: u32 = 4;
+}
+
+const UNEXECUTED: u32 = 0;
+const EXECUTING: u32 = 1;
+const FINISHED: u32 = 2;
+
+/// A refusal's number, and for number 6 the place.
+type Refusal = (u32, u32);
+
+const DAMAGED: Refusal = (9, 0);
+
+type Outcome<T> = Result<T, Refusal>;
+
+fn answer(kind: u32) -> Answer {
+    Answer { kind, ..Answer::default() }
+}
+
+fn answered(outcome: Outcome<Answer>) -> Answer {
+    outcome.unwrap_or_else(|(number, place)| Answer { number, place, ..answer(kind::REFUSED) })
+}
+
+/// The words that each table needs, or `None` where a size is off its limits.
+pub fn words_needed(sizes: Sizes) -> Option<[usize; 5]> {
+    let within = (1..=4_096).contains(&sizes.jobs)
+        && sizes.arcs <= 32_768
+        && (1..=8).contains(&sizes.bits)
+        && (1..=16).contains(&sizes.workers);
+    within.then(|| {
+        [
+            JOBS_HEADER + JOB_WORDS * sizes.jobs as usize,
+            ARCS_HEADER + ARC_WORDS * sizes.arcs as usize,
+            1 << sizes.bits,
+            QUEUE_HEADER + sizes.jobs as usize,
+            WORKER_WORDS * sizes.workers as usize,
+        ]
+    })
+}
+
+/// The tables, each with at least the words it needs.
+struct Graph<'a> {
+    sizes: Sizes,
+    jobs: &'a mut [u32],
+    arcs: &'a mut [u32],
+    buckets: &'a mut [u32],
+    queue: &'a mut [u32],
+    workers: &'a mut [u32],
+}
+
+impl<'a> Graph<'a> {
+    /// The tables cut to their need; 1 where one is too short or a size off its limits.
+    #[inline(always)]
+    fn lent(sizes: Sizes, tables: &'a mut Tables) -> Outcome<Graph<'a>> {
+        let [jobs, arcs, buckets, queue, workers] = words_needed(sizes).ok_or((1, 0))?;
+        Ok(Graph {
+            sizes,
+            jobs: tables.jobs.get_mut(..jobs).ok_or((1, 0))?,
+            arcs: tables.arcs.get_mut(..arcs).ok_or((1, 0))?,
+            buckets: tables.buckets.get_mut(..buckets).ok_or((1, 0))?,
+            queue: tables.queue.get_mut(..queue).ok_or((1, 0))?,
+            workers: tables.workers.get_mut(..workers).ok_or((1, 0))?,
+        })
+    }
+
+    /// Numbers 1, 2 and 9 for the worker's own words: the graph, and where the worker's record starts.
+    #[inline(always)]
+    fn admitted(sizes: Sizes, tables: &'a mut Tables, worker: u32) -> Outcome<(Graph<'a>, usize)> {
+        let graph = Graph::lent(sizes, tables)?;
+        if graph.jobs[..4] != [sizes.jobs, sizes.arcs, sizes.bits, sizes.workers] {
+            return Err((1, 0));
+        }
+        if worker >= sizes.workers {
+            return Err((2, 0));
+        }
+        let at = WORKER_WORDS * worker as usize;
+        if !graph.own_words_fit(at) {
+            return Err(DAMAGED);
+        }
+        Ok((graph, at))
+    }
+
+    fn own_words_fit(&self, at: usize) -> bool {
+        let own = &self.workers[at..at + worker::NAMES];
+        let job_fits = |place: u32| place == NONE || self.job_in_use(place);
+        own[worker::PHASE] <= phase::NOTIFYING
+            && job_fits(own[worker::HELD])
+            && own[worker::COUNT] <= MAX_NAMES
+            && own[worker::CLASS] <= MAX_CLASS
+            && own[worker::GROWER] <= MAX_GROWER
+            && own[worker::TALLY] <= own[worker::COUNT]
+            && own[worker::PLACE] <= own[worker::COUNT]
+            && job_fits(own[worker::JOB])
+            && self.arc_fits(own[worker::ARC])
+    }
+
+    fn made(&self) -> u32 {
+        self.jobs[4]
+    }
+
+    fn reserved(&self) -> u32 {
+        self.arcs[0]
+    }
+
+    fn job_in_use(&self, place: u32) -> bool {
+        place < self.made() && place < self.sizes.jobs
+    }
+
+    fn arc_in_use(&self, place: u32) -> bool {
+        place < self.reserved() && place < self.sizes.arcs
+    }
+
+    /// None, or in use.
+    fn arc_fits(&self, place: u32) -> bool {
+        place == NONE || self.arc_in_use(place)
+    }
+
+    fn job(&mut self, number: u32) -> &mut [u32] {
+        let at = JOBS_HEADER + JOB_WORDS * number as usize;
+        &mut self.jobs[at..at + JOB_WORDS]
+    }
+
+    fn arc(&mut self, number: u32) -> &mut [u32] {
+        let at = ARCS_HEADER + ARC_WORDS * number as usize;
+        &mut self.arcs[at..at + ARC_WORDS]
+    }
+
+    fn bucket(&self, name: u32) -> usize {
+        (name.wrapping_mul(FACTOR) >> (32 - self.sizes.bits)) as usize
+    }
+
+    /// The job of a name, or none; a walk that strays or passes more jobs than were made is damage.
+    fn find(&self, name: u32) -> Outcome<u32> {
+        if self.made() > self.sizes.jobs {
+            return Err(DAMAGED);
+        }
+        let mut place = self.buckets[self.bucket(name)];
+        for _ in 0..self.made() {
+            if place == NONE {
+                return Ok(NONE);
+            }
+            if place >= self.made() {
+                return Err(DAMAGED);
+            }
+            let at = JOBS_HEADER + JOB_WORDS * place as usize;
+            if self.jobs[at + job::NAME] == name {
+                return Ok(place);
+            }
+            place = self.jobs[at + job::NEXT];
+        }
+        if place == NONE {
+            Ok(NONE)
+        } else {
+            Err(DAMAGED)
+        }
+    }
+
+    /// The queue's counters, taken and put.
+    fn counters(&self) -> Outcome<(u32, u32)> {
+        let (taken, put) = (self.queue[0], self.queue[1]);
+        if taken <= put && put <= self.sizes.jobs {
+            Ok((taken, put))
+        } else {
+            Err(DAMAGED)
+        }
+    }
+
+    /// Damage where a job could not enter the queue.
+    fn judge_room(&self) -> Outcome<()> {
+        let (_, put) = self.counters()?;
+        if put == self.sizes.jobs {
+            return Err(DAMAGED);
+        }
+        Ok(())
+    }
+
+    fn enqueue(&mut self, number: u32) {
+        let put = self.queue[1];
+        self.queue[QUEUE_HEADER + put as usize] = number;
+        self.queue[1] = put + 1;
+    }
+
+    /// The words of the worker's call, put back to those of an idle worker.
+    fn clear(&mut self, at: usize) {
+        let own = &mut self.workers[at..at + WORKER_WORDS];
+        own[worker::PHASE] = phase::IDLE;
+        own[worker::NAME..=worker::PLACE].fill(0);
+        own[worker::JOB] = NONE;
+        own[worker::ARC] = NONE;
+        own[worker::NAMES..].fill(0);
+    }
+
+    fn look_up(&mut self, at: usize) -> Outcome<Answer> {
+        let place = self.workers[at + worker::PLACE];
+        let name = self.workers[at + worker::NAMES + place as usize];
+        if self.find(name)? == NONE {
+            self.clear(at);
+            return Err((6, place));
+        }
+        self.workers[at + worker::PLACE] = place + 1;
+        Ok(answer(kind::GOING_ON))
+    }
+
+    fn enter(&mut self, at: usize) -> Outcome<Answer> {
+        let own = &self.workers[at..at + worker::NAMES];
+        let (name, count, class, grower) =
+            (own[worker::NAME], own[worker::COUNT], own[worker::CLASS], own[worker::GROWER]);
+        let (made, reserved) = (self.made(), self.reserved());
+        if reserved > self.sizes.arcs {
+            return Err(DAMAGED);
+        }
+        let present = self.find(name)? != NONE;
+        if present || made == self.sizes.jobs || self.sizes.arcs - reserved < count {
+            self.clear(at);
+            return Err((if present { 7 } else { 8 }, 0));
+        }
+        let bucket = self.bucket(name);
+        let head = self.buckets[bucket];
+        self.job(made).copy_from_slice(&[name, UNEXECUTED, count, class, grower, NONE, NONE, head]);
+        self.buckets[bucket] = made;
+        self.jobs[4] = made + 1;
+        self.arcs[0] = reserved + count;
+        let own = &mut self.workers[at..at + worker::NAMES];
+        own[worker::PHASE] = phase::LINKING;
+        own[worker::TALLY] = 0;
+        own[worker::PLACE] = 0;
+        own[worker::JOB] = made;
+        own[worker::ARC] = if count == 0 { NONE } else { reserved };
+        Ok(answer(kind::GOING_ON))
+    }
+
+    fn link(&mut self, at: usize) -> Outcome<Answer> {
+        let own = &self.workers[at..at + WORKER_WORDS];
+        let (dependent, base, place) = (own[worker::JOB], own[worker::ARC], own[worker::PLACE]);
+        let name = own[worker::NAMES + place as usize];
+        if dependent == NONE || base == NONE || !self.arc_in_use(base + place) || self.reserved() > self.sizes.arcs {
+            return Err(DAMAGED);
+        }
+        let arc = base + place;
+        let prerequisite = self.find(name)?;
+        if prerequisite == NONE {
+            return Err(DAMAGED);
+        }
+        let label = self.job(prerequisite)[job::LABEL];
+        if label == FINISHED {
+            self.workers[at + worker::TALLY] += 1;
+        } else if label > FINISHED {
+            return Err(DAMAGED);
+        } else {
+            let last = self.job(prerequisite)[job::LAST];
+            if !self.arc_fits(last) {
+                return Err(DAMAGED);
+            }
+            self.append(prerequisite, last, arc, dependent);
+        }
+        self.workers[at + worker::PLACE] = place + 1;
+        Ok(answer(kind::GOING_ON))
+    }
+
+    fn append(&mut self, prerequisite: u32, last: u32, arc: u32, dependent: u32) {
+        self.arc(arc).copy_from_slice(&[dependent, NONE]);
+        if last == NONE {
+            self.job(prerequisite)[job::FIRST] = arc;
+        } else {
+            self.arc(last)[1] = arc;
+        }
+        self.job(prerequisite)[job::LAST] = arc;
+    }
+
+    fn settle(&mut self, at: usize) -> Outcome<Answer> {
+        let own = &self.workers[at..at + worker::NAMES];
+        let (number, tally, listed) = (own[worker::JOB], own[worker::TALLY], own[worker::COUNT]);
+        if number == NONE {
+            return Err(DAMAGED);
+        }
+        let count = self.job(number)[job::COUNT];
+        if count > MAX_NAMES || tally > count {
+            return Err(DAMAGED);
+        }
+        let queues = count == tally && (tally > 0 || listed == 0);
+        if queues {
+            self.judge_room()?;
+            self.enqueue(number);
+        }
+        self.job(number)[job::COUNT] = count - tally;
+        self.clear(at);
+        Ok(answer(kind::ENDED))
+    }
+
+    fn mark(&mut self, at: usize) -> Outcome<Answer> {
+        let held = self.workers[at + worker::HELD];
+        if held == NONE {
+            return Err(DAMAGED);
+        }
+        let first = self.job(held)[job::FIRST];
+        if self.job(held)[job::LABEL] != EXECUTING || !self.arc_fits(first) {
+            return Err(DAMAGED);
+        }
+        self.job(held)[job::LABEL] = FINISHED;
+        self.workers[at + worker::HELD] = NONE;
+        self.workers[at + worker::PHASE] = phase::NOTIFYING;
+        Ok(self.go_on(at, first))
+    }
+
+    fn notify(&mut self, at: usize) -> Outcome<Answer> {
+        let arc = self.workers[at + worker::ARC];
+        if arc == NONE {
+            return Err(DAMAGED);
+        }
+        let (dependent, next) = (self.arc(arc)[0], self.arc(arc)[1]);
+        if !self.job_in_use(dependent) || !self.arc_fits(next) {
+            return Err(DAMAGED);
+        }
+        let count = self.job(dependent)[job::COUNT];
+        if count == 0 || count > MAX_NAMES {
+            return Err(DAMAGED);
+        }
+        if count == 1 {
+            self.judge_room()?;
+            self.enqueue(dependent);
+        }
+        self.job(dependent)[job::COUNT] = count - 1;
+        Ok(self.go_on(at, next))
+    }
+
+    /// A finish goes on with an arc, or ends where there is none.
+    fn go_on(&mut self, at: usize, arc: u32) -> Answer {
+        if arc == NONE {
+            self.clear(at);
+            return answer(kind::ENDED);
+        }
+        self.workers[at + worker::ARC] = arc;
+        answer(kind::GOING_ON)
+    }
+
+    fn take(&mut self, at: usize) -> Outcome<Answer> {
+        let (taken, put) = self.counters()?;
+        if taken == put {
+            return Ok(answer(kind::NONE_READY));
+        }
+        let cell = QUEUE_HEADER + taken as usize;
+        let number = self.queue[cell];
+        if !self.job_in_use(number) || self.job(number)[job::LABEL] != UNEXECUTED {
+            return Err(DAMAGED);
+        }
+        self.queue[cell] = NONE;
+        self.queue[0] = taken + 1;
+        self.job(number)[job::LABEL] = EXECUTING;
+        self.workers[at + worker::HELD] = number;
+        Ok(Answer { job: number, name: self.job(number)[job::NAME], ..answer(kind::HANDED_OUT) })
+    }
+}
+
+#[inline(never)]
+pub fn lay_out(sizes: Sizes, tables: &mut Tables) -> Answer {
+    answered(Graph::lent(sizes, tables).map(|mut graph| {
+        graph.jobs[..JOBS_HEADER].copy_from_slice(&[sizes.jobs, sizes.arcs, sizes.bits, sizes.workers, 0]);
+        for job in graph.jobs[JOBS_HEADER..].chunks_exact_mut(JOB_WORDS) {
+            job.copy_from_slice(&[0, 0, 0, 0, 0, NONE, NONE, NONE]);
+        }
+        graph.arcs[0] = 0;
+        graph.arcs[ARCS_HEADER..].fill(NONE);
+        graph.buckets.fill(NONE);
+        graph.queue[..QUEUE_HEADER].fill(0);
+        graph.queue[QUEUE_HEADER..].fill(NONE);
+        for number in 0..sizes.workers as usize {
+            graph.clear(WORKER_WORDS * number);
+            graph.workers[WORKER_WORDS * number + worker::HELD] = NONE;
+        }
+        answer(kind::LAID_OUT)
+    }))
+}
+
+fn arguments_fit(entry: &Entry) -> bool {
+    if entry.class > MAX_CLASS || entry.grower > MAX_GROWER || entry.count > MAX_NAMES {
+        return false;
+    }
+    let list = &entry.names[..entry.count as usize];
+    list.iter().enumerate().all(|(place, name)| *name != entry.name && !list[..place].contains(name))
+}
+
+#[inline(never)]
+pub fn post_add(sizes: Sizes, tables: &mut Tables, worker: u32, entry: Entry) -> Answer {
+    answered(Graph::admitted(sizes, tables, worker).and_then(|(graph, at)| {
+        let own = &mut graph.workers[at..at + WORKER_WORDS];
+        if own[worker::PHASE] != phase::IDLE {
+            return Err((3, 0));
+        }
+        if !arguments_fit(&entry) {
+            return Err((5, 0));
+        }
+        own[worker::PHASE] = phase::LOOKING_UP;
+        let call = [entry.name, entry.count, entry.class, entry.grower, 0, 0, NONE, NONE];
+        own[worker::NAME..worker::NAMES].copy_from_slice(&call);
+        let (listed, rest) = own[worker::NAMES..].split_at_mut(entry.count as usize);
+        listed.copy_from_slice(&entry.names[..listed.len()]);
+        rest.fill(0);
+        Ok(answer(kind::POSTED))
+    }))
+}
+
+#[inline(never)]
+pub fn post_finish(sizes: Sizes, tables: &mut Tables, worker: u32, name: u32) -> Answer {
+    answered(Graph::admitted(sizes, tables, worker).and_then(|(mut graph, at)| {
+        if graph.workers[at + worker::PHASE] != phase::IDLE {
+            return Err((3, 0));
+        }
+        let held = graph.workers[at + worker::HELD];
+        if held == NONE || graph.job(held)[job::NAME] != name {
+            return Err((11, 0));
+        }
+        graph.clear(at);
+        graph.workers[at + worker::PHASE] = phase::MARKING;
+        graph.workers[at + worker::NAME] = name;
+        Ok(answer(kind::POSTED))
+    }))
+}
+
+#[inline(never)]
+pub fn step(sizes: Sizes, tables: &mut Tables, worker: u32) -> Answer {
+    answered(Graph::admitted(sizes, tables, worker).and_then(|(mut graph, at)| {
+        let own = &graph.workers[at..at + worker::NAMES];
+        let more = own[worker::PLACE] < own[worker::COUNT];
+        match (own[worker::PHASE], more) {
+            (phase::IDLE, _) => Err((4, 0)),
+            (phase::LOOKING_UP, true) => graph.look_up(at),
+            (phase::LOOKING_UP, false) => graph.enter(at),
+            (phase::LINKING, true) => graph.link(at),
+            (phase::LINKING, false) => graph.settle(at),
+            (phase::MARKING, _) => graph.mark(at),
+            _ => graph.notify(at),
+        }
+    }))
+}
+
+#[inline(never)]
+pub fn get(sizes: Sizes, tables: &mut Tables, worker: u32) -> Answer {
+    answered(Graph::admitted(sizes, tables, worker).and_then(|(mut graph, at)| {
+        if graph.workers[at + worker::PHASE] != phase::IDLE {
+            return Err((3, 0));
+        }
+        if graph.workers[at + worker::HELD] != NONE {
+            return Err((10, 0));
+        }
+        graph.take(at)
+    }))
+}

@@ -1,0 +1,132 @@
+//! What the logs and the tables must say after a run.
+
+use crate::{
+    log::Line,
+    plan::Plan,
+    shared::{ARCS, JOBS, WORKERS},
+};
+
+/// What the logs say of a job.
+#[derive(Clone, Copy, Debug, Default)]
+struct Record {
+    added: bool,
+    start: Option<u32>,
+    end: Option<u32>,
+    finished: bool,
+}
+
+/// The tables after a run, copied.
+pub struct Words {
+    pub jobs: Vec<u32>,
+    pub arcs: Vec<u32>,
+    pub queue: Vec<u32>,
+    pub workers: Vec<u32>,
+}
+
+const JOBS_HEADER: usize = 5;
+const JOB_WORDS: usize = 8;
+const MADE: usize = 4;
+const LABEL: usize = 1;
+const COUNT: usize = 2;
+const CLASS: usize = 3;
+const WORKER_WORDS: usize = 42;
+const FINISHED: u32 = 2;
+
+pub struct Check<'a> {
+    plan: &'a Plan,
+    records: Vec<Record>,
+}
+
+impl<'a> Check<'a> {
+    /// Reads the logs; a job started twice is a fault.
+    pub fn new(plan: &'a Plan, logs: &[String]) -> Result<Check<'a>, String> {
+        let mut check = Check { plan, records: vec![Record::default(); JOBS] };
+        for line in logs.iter().flat_map(|log| log.lines()) {
+            check.take(line.parse()?)?;
+        }
+        Ok(check)
+    }
+
+    fn record(&mut self, name: u32) -> Result<&mut Record, String> {
+        let job = self.plan.job(name).ok_or_else(|| format!("no job has the name {name}"))?;
+        Ok(&mut self.records[job])
+    }
+
+    fn take(&mut self, line: Line) -> Result<(), String> {
+        match line {
+            Line::Added { job } => self.records[job].added = true,
+            Line::Start { name, ticket } => {
+                if self.record(name)?.start.replace(ticket).is_some() {
+                    return Err(format!("the job with the name {name} was handed out twice"));
+                }
+            }
+            Line::End { name, ticket } => self.record(name)?.end = Some(ticket),
+            Line::Finished { name } => self.record(name)?.finished = true,
+        }
+        Ok(())
+    }
+
+    /// No job starts before the end of each prerequisite.
+    pub fn order(&self) -> Result<(), String> {
+        for (job, record) in self.records.iter().enumerate() {
+            let start = match record.start {
+                Some(start) => start,
+                None => continue,
+            };
+            for prerequisite in &self.plan.lists[job] {
+                if self.records[*prerequisite].end.map_or(true, |end| end >= start) {
+                    return Err(format!("job {job} started before the end of its prerequisite {prerequisite}"));
+                }
+            }
+        }
+        Ok(())
+    }
+
+    /// Every job whose add ended, and whose prerequisites' finishes all ended, was finished, save the one
+    /// that a killed worker may have held.
+    pub fn progress(&self, killed: usize) -> Result<(), String> {
+        let unfinished = |job: &usize| {
+            let record = &self.records[*job];
+            let due = record.added && self.plan.lists[*job].iter().all(|other| self.records[*other].finished);
+            !record.finished && (due || record.start.is_some())
+        };
+        let left: Vec<usize> = (0..JOBS).filter(unfinished).collect();
+        if left.len() > killed {
+            return Err(format!("jobs {left:?} were ready and are not finished, with {killed} workers killed"));
+        }
+        Ok(())
+    }
+
+    pub fn finished(&self) -> usize {
+        self.records.iter().filter(|record| record.finished).count()
+    }
+
+    /// The tables beside the logs: classes by name, labels, and for a run in which nobody was killed all
+    /// of it done.
+    pub fn tables(&self, words: &Words, killed: usize) -> Result<(), String> {
+        let made = words.jobs[MADE] as usize;
+        for number in 0..made.min(JOBS) {
+            let record = &words.jobs[JOBS_HEADER + JOB_WORDS * number..][..JOB_WORDS];
+            let job = self.plan.job(record[0]).ok_or_else(|| format!("no job has the name {}", record[0]))?;
+            let (said, class) = (self.records[job], (job % 16) as u32);
+            if record[CLASS] != class || said.finished && record[LABEL] != FINISHED {
+                return Err(format!("the words of job {job} are {record:?}"));
+            }
+            if killed == 0 && (record[LABEL], record[COUNT]) != (FINISHED, 0) {
+                return Err(format!("at the end the words of job {job} are {record:?}"));
+            }
+        }
+        let idle = words.workers.chunks(WORKER_WORDS).filter(|worker| worker[0] == 0).count();
+        if idle + killed < WORKERS {
+            return Err(format!("only {idle} workers are idle at the end"));
+        }
+        let counters = (made, words.arcs[0] as usize, words.queue[0] as usize, words.queue[1] as usize);
+        if killed == 0 && counters != (JOBS, ARCS, JOBS, JOBS) {
+            return Err(format!("jobs made, arcs reserved, taken and put are {counters:?}"));
+        }
+        if words.queue[0] != words.queue[1] {
+            return Err("jobs still wait in the queue".into());
+        }
+        Ok(())
+    }
+}

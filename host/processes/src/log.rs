@@ -1,0 +1,42 @@
+//! The lines of a worker's log.
+
+use std::{fmt, str::FromStr};
+
+#[derive(Clone, Copy, Debug, PartialEq, Eq)]
+pub enum Line {
+    /// The add of a job of the plan ended.
+    Added { job: usize },
+    /// A job was handed out; its work starts.
+    Start { name: u32, ticket: u32 },
+    /// Its work is over, and its finish is about to be posted.
+    End { name: u32, ticket: u32 },
+    /// Its finish ended.
+    Finished { name: u32 },
+}
+
+impl fmt::Display for Line {
+    fn fmt(&self, f: &mut fmt::Formatter<'_>) -> fmt::Result {
+        match self {
+            Line::Added { job } => write!(f, "added {job}"),
+            Line::Start { name, ticket } => write!(f, "start {name} {ticket}"),
+            Line::End { name, ticket } => write!(f, "end {name} {ticket}"),
+            Line::Finished { name } => write!(f, "finished {name}"),
+        }
+    }
+}
+
+impl FromStr for Line {
+    type Err = String;
+
+    fn from_str(text: &str) -> Result<Line, String> {
+        let words: Vec<&str> = text.split(' ').collect();
+        let number = |word: &str| word.parse::<u32>().map_err(|_| format!("not a line of a log: {text}"));
+        match words[..] {
+            ["added", job] => Ok(Line::Added { job: number(job)? as usize }),
+            ["start", name, ticket] => Ok(Line::Start { name: number(name)?, ticket: number(ticket)? }),
+            ["end", name, ticket] => Ok(Line::End { name: number(name)?, ticket: number(ticket)? }),
+            ["finished", name] => Ok(Line::Finished { name: number(name)? }),
+            _ => Err(format!("not a line of a log: {text}")),
+        }
+    }
+}

@@ -1,0 +1,52 @@
+//! The jobs that the workers add: 4,096 with 32,768 listed names, the same in each process by the seed.
+
+use std::collections::HashMap;
+
+use conformance::random::Random;
+use library::{Entry, MAX_NAMES};
+
+use crate::shared::{ARCS, JOBS};
+
+/// Most prerequisites lie at most so many jobs back.
+const NEAR: usize = 200;
+
+pub struct Plan {
+    /// The prerequisites of each job, which have lower numbers.
+    pub lists: Vec<Vec<usize>>,
+    names: Vec<u32>,
+    numbers: HashMap<u32, usize>,
+}
+
+impl Plan {
+    pub fn new(seed: u64) -> Plan {
+        let mut random = Random::new(seed, "the plan of the processes");
+        let mut lists = vec![Vec::new(); JOBS];
+        let mut listed = 0;
+        while listed < ARCS {
+            let job = 1 + random.below(JOBS - 1);
+            let near = if random.once_in(10) { job } else { job.min(NEAR) };
+            let prerequisite = job - 1 - random.below(near);
+            if lists[job].len() < MAX_NAMES && !lists[job].contains(&prerequisite) {
+                lists[job].push(prerequisite);
+                listed += 1;
+            }
+        }
+        // An odd factor gives each number a name of its own.
+        let start = random.word();
+        let names: Vec<u32> = (0..JOBS as u32).map(|job| job.wrapping_mul(0x9e37_79b1).wrapping_add(start)).collect();
+        let numbers = names.iter().copied().zip(0..).collect();
+        Plan { lists, names, numbers }
+    }
+
+    /// The job of a name, if it is one of the plan's.
+    pub fn job(&self, name: u32) -> Option<usize> {
+        self.numbers.get(&name).copied()
+    }
+
+    pub fn entry(&self, job: usize) -> Entry {
+        let list = &self.lists[job];
+        let mut names = [0; MAX_NAMES];
+        names.iter_mut().zip(list).for_each(|(name, prerequisite)| *name = self.names[*prerequisite]);
+        Entry { name: self.names[job], count: list.len() as u32, class: (job % 16) as u32, grower: job as u32, names }
+    }
+}

@@ -1,0 +1,320 @@
+//! The history of calls (document 01, "Steps", "The plain book" and demand 3), read off the items of a
+//! list and their answers alone: whole calls in the order of their deciding steps, and the entries of
+//! each job into the queue.
+
+use std::collections::HashMap;
+
+use crate::{
+    book::{Ending, GetAnswer, Request},
+    graph::{Answer, Refusal, Reply},
+    refusal,
+    sheet::Entry,
+};
+
+/// One item of a list.
+#[derive(Clone, Debug, PartialEq, Eq)]
+pub enum Item {
+    PostAdd { worker: u32, entry: Entry },
+    PostFinish { worker: u32, name: u32 },
+    Step { worker: u32 },
+    Get { worker: u32 },
+}
+
+/// A decided call.
+#[derive(Clone, Debug)]
+pub struct Call {
+    pub worker: usize,
+    pub request: Request,
+    /// How it ended, once it has.
+    pub ending: Option<Ending>,
+}
+
+/// A job that has entered.
+#[derive(Clone, Debug)]
+pub struct Job {
+    pub prerequisites: Vec<usize>,
+    pub add_ended: bool,
+    /// An accepted finish call of it has ended.
+    pub finish_ended: bool,
+}
+
+/// A call posted and not yet ended.
+#[derive(Clone, Debug)]
+struct Open {
+    request: Request,
+    /// Steps that were answered "going on".
+    steps: usize,
+    /// Its number among the decided calls, once it is decided.
+    decided: Option<usize>,
+    /// The job it enters or finishes, once it is decided.
+    job: Option<usize>,
+}
+
+#[derive(Clone, Debug, Default)]
+pub struct History {
+    open: HashMap<u32, Open>,
+    calls: Vec<Call>,
+    jobs: Vec<Job>,
+    numbers: HashMap<u32, usize>,
+}
+
+impl History {
+    /// The decided calls, in the order of their deciding steps.
+    pub fn calls(&self) -> &[Call] {
+        &self.calls
+    }
+
+    /// The jobs, in the order of their entering steps.
+    pub fn jobs(&self) -> &[Job] {
+        &self.jobs
+    }
+
+    pub fn is_half_done(&self) -> bool {
+        !self.open.is_empty()
+    }
+
+    /// Takes the next item and its answer. Items turned away by 1 to 4 belong to no call.
+    pub fn take(&mut self, item: &Item, answer: &Answer) {
+        match item {
+            Item::PostAdd { worker, entry } => self.post(*worker, Request::Add(*entry), answer),
+            Item::PostFinish { worker, name } => self.post(*worker, Request::Finish { name: *name }, answer),
+            Item::Step { worker } => self.step(*worker, answer),
+            Item::Get { worker } => self.get(*worker, answer),
+        }
+    }
+
+    fn post(&mut self, worker: u32, request: Request, answer: &Answer) {
+        match answer {
+            Ok(_) => {
+                self.open.insert(worker, Open { request, steps: 0, decided: None, job: None });
+            }
+            Err(refusal) if ends_a_call(refusal) => self.ended(worker, request, Ending::Refused(*refusal)),
+            Err(_) => {}
+        }
+    }
+
+    fn get(&mut self, worker: u32, answer: &Answer) {
+        match answer {
+            Ok(Reply::HandedOut { job, .. }) => {
+                self.ended(worker, Request::Get(GetAnswer::HandedOut { job: *job }), Ending::Accepted);
+            }
+            Ok(_) => self.ended(worker, Request::Get(GetAnswer::NoneReady), Ending::Accepted),
+            Err(refusal) if ends_a_call(refusal) => {
+                self.ended(worker, Request::Get(GetAnswer::Refused), Ending::Refused(*refusal));
+            }
+            Err(_) => {}
+        }
+    }
+
+    fn step(&mut self, worker: u32, answer: &Answer) {
+        let mut open = match self.open.remove(&worker) {
+            Some(open) => open,
+            None => return,
+        };
+        match answer {
+            Ok(reply) => {
+                open.steps += 1;
+                if open.steps == deciding_step(&open.request) {
+                    self.decide(worker, &mut open);
+                }
+                if *reply == Reply::Ended {
+                    self.end(&open);
+                } else {
+                    self.open.insert(worker, open);
+                }
+            }
+            Err(refusal) if ends_a_call(refusal) => self.ended(worker, open.request, Ending::Refused(*refusal)),
+            Err(_) => {
+                self.open.insert(worker, open);
+            }
+        }
+    }
+
+    /// A call that is decided and ended at once.
+    fn ended(&mut self, worker: u32, request: Request, ending: Ending) {
+        self.calls.push(Call { worker: worker as usize, request, ending: Some(ending) });
+    }
+
+    /// The deciding step of an accepted add or finish.
+    fn decide(&mut self, worker: u32, open: &mut Open) {
+        open.decided = Some(self.calls.len());
+        self.calls.push(Call { worker: worker as usize, request: open.request.clone(), ending: None });
+        match &open.request {
+            Request::Add(entry) => {
+                open.job = Some(self.jobs.len());
+                self.enter(entry);
+            }
+            Request::Finish { name } => open.job = self.numbers.get(name).copied(),
+            Request::Get(_) => {}
+        }
+    }
+
+    fn enter(&mut self, entry: &Entry) {
+        let list = &entry.prerequisites.names[..entry.prerequisites.count];
+        let prerequisites = list.iter().filter_map(|name| self.numbers.get(name).copied()).collect();
+        self.numbers.insert(entry.name, self.jobs.len());
+        self.jobs.push(Job { prerequisites, add_ended: false, finish_ended: false });
+    }
+
+    fn end(&mut self, open: &Open) {
+        if let Some(call) = open.decided {
+            self.calls[call].ending = Some(Ending::Accepted);
+        }
+        if let Some(job) = open.job {
+            match open.request {
+                Request::Add(_) => self.jobs[job].add_ended = true,
+                _ => self.jobs[job].finish_ended = true,
+            }
+        }
+    }
+
+    /// What is wrong with the entries of the jobs into the queue, by demand 3: at most one; nought
+    /// unless each prerequisite is marked finished; one if its add and an accepted finish call of each
+    /// prerequisite have ended.
+    pub fn wrong_entries(&self, entries: &Entries, is_finished: impl Fn(usize) -> bool) -> Option<String> {
+        self.jobs.iter().enumerate().find_map(|(number, job)| {
+            let count = entries.of(number);
+            let due = job.add_ended && job.prerequisites.iter().all(|other| self.jobs[*other].finish_ended);
+            let wrong = count > 1
+                || count > 0 && !job.prerequisites.iter().all(|other| is_finished(*other))
+                || count == 0 && due;
+            wrong.then(|| format!("job {number} entered the queue {count} times; one entry is due: {due}"))
+        })
+    }
+}
+
+/// Numbers 1 to 4 end no call, and number 9 leaves it half done.
+fn ends_a_call(refusal: &Refusal) -> bool {
+    refusal.number > refusal::IDLE && refusal.number != refusal::DAMAGED
+}
+
+/// Which step, from 1, decides an accepted add (entering) or finish (the mark).
+fn deciding_step(request: &Request) -> usize {
+    match request {
+        Request::Add(entry) => entry.prerequisites.count + 1,
+        _ => 1,
+    }
+}
+
+/// The count of each job's entries: the sum, over the items, of how many more places in the queue it
+/// has just after the item than just before.
+#[derive(Clone, Debug, Default)]
+pub struct Entries {
+    counts: Vec<usize>,
+    places: Vec<usize>,
+}
+
+impl Entries {
+    /// Takes the places of the queue as they stand just after an item: a job number each.
+    pub fn take(&mut self, jobs: usize, queue: impl Iterator<Item = usize>) {
+        let mut places = vec![0_usize; jobs];
+        queue.filter(|job| *job < jobs).for_each(|job| places[job] += 1);
+        self.counts.resize(jobs, 0);
+        self.places.resize(jobs, 0);
+        for (job, count) in self.counts.iter_mut().enumerate() {
+            *count += places[job].saturating_sub(self.places[job]);
+        }
+        self.places = places;
+    }
+
+    pub fn of(&self, job: usize) -> usize {
+        self.counts.get(job).copied().unwrap_or(0)
+    }
+}
+
+#[cfg(test)]
+mod tests {
+    use super::*;
+    use crate::graph::refused;
+
+    fn entry(name: u32, list: &[u32]) -> Entry {
+        let mut entry = Entry { name, ..Entry::default() };
+        entry.prerequisites.count = list.len();
+        entry.prerequisites.names[..list.len()].copy_from_slice(list);
+        entry
+    }
+
+    fn history(items: &[(Item, Answer)]) -> History {
+        let mut history = History::default();
+        items.iter().for_each(|(item, answer)| history.take(item, answer));
+        history
+    }
+
+    const POSTED: Answer = Ok(Reply::Posted);
+    const GOING_ON: Answer = Ok(Reply::GoingOn);
+    const ENDED: Answer = Ok(Reply::Ended);
+
+    #[test]
+    fn adds_are_ordered_by_entering() {
+        let history = history(&[
+            (Item::PostAdd { worker: 0, entry: entry(1, &[]) }, POSTED),
+            (Item::PostAdd { worker: 1, entry: entry(2, &[]) }, POSTED),
+            (Item::Step { worker: 2 }, refused(4)),
+            (Item::Step { worker: 1 }, GOING_ON),
+            (Item::Step { worker: 0 }, GOING_ON),
+            (Item::Step { worker: 0 }, ENDED),
+        ]);
+        let requests: Vec<_> = history.calls().iter().map(|call| call.request.clone()).collect();
+        assert_eq!(requests, [Request::Add(entry(2, &[])), Request::Add(entry(1, &[]))]);
+        let endings: Vec<_> = history.calls().iter().map(|call| call.ending).collect();
+        assert_eq!(endings, [None, Some(Ending::Accepted)]);
+        assert!(history.is_half_done());
+    }
+
+    #[test]
+    fn a_finish_is_decided_by_its_mark_and_a_refused_call_by_its_refusal() {
+        let unknown = Refusal { number: 6, place: 0 };
+        let history = history(&[
+            (Item::PostAdd { worker: 0, entry: entry(1, &[]) }, POSTED),
+            (Item::Step { worker: 0 }, GOING_ON),
+            (Item::Step { worker: 0 }, ENDED),
+            (Item::Get { worker: 1 }, Ok(Reply::HandedOut { job: 0, name: 1 })),
+            (Item::PostFinish { worker: 1, name: 1 }, POSTED),
+            (Item::PostAdd { worker: 0, entry: entry(7, &[8]) }, POSTED),
+            (Item::Get { worker: 0 }, refused(3)),
+            (Item::Step { worker: 0 }, Err(unknown)),
+            (Item::Step { worker: 1 }, ENDED),
+            (Item::Get { worker: 1 }, Ok(Reply::NoneReady)),
+        ]);
+        let endings: Vec<_> = history.calls().iter().map(|call| (call.worker, call.ending.unwrap())).collect();
+        let accepted = Ending::Accepted;
+        assert_eq!(
+            endings,
+            [(0, accepted), (1, accepted), (0, Ending::Refused(unknown)), (1, accepted), (1, accepted)]
+        );
+        assert!(!history.is_half_done());
+        assert!(history.jobs()[0].finish_ended);
+    }
+
+    #[test]
+    fn entries_are_counted_by_places() {
+        let mut entries = Entries::default();
+        entries.take(2, [].into_iter());
+        entries.take(2, [0, 1].into_iter());
+        entries.take(2, [1].into_iter());
+        entries.take(2, [1, 0].into_iter());
+        assert_eq!((entries.of(0), entries.of(1), entries.of(2)), (2, 1, 0));
+    }
+
+    #[test]
+    fn each_clause_on_entries() {
+        let history = history(&[
+            (Item::PostAdd { worker: 0, entry: entry(1, &[]) }, POSTED),
+            (Item::Step { worker: 0 }, GOING_ON),
+            (Item::PostAdd { worker: 1, entry: entry(2, &[1]) }, POSTED),
+            (Item::Step { worker: 1 }, GOING_ON),
+            (Item::Step { worker: 1 }, GOING_ON),
+            (Item::Step { worker: 0 }, ENDED),
+        ]);
+        let queued = |jobs: &[usize]| {
+            let mut entries = Entries::default();
+            entries.take(2, jobs.iter().copied());
+            entries
+        };
+        assert_eq!(history.wrong_entries(&queued(&[0]), |_| false), None);
+        assert!(history.wrong_entries(&queued(&[]), |_| false).is_some(), "one is due");
+        assert!(history.wrong_entries(&queued(&[0, 0]), |_| false).is_some(), "at most one");
+        assert!(history.wrong_entries(&queued(&[0, 1]), |_| false).is_some(), "nought before the prerequisite");
+        assert_eq!(history.wrong_entries(&queued(&[0, 1]), |_| true), None);
+    }
+}
