@@ -108,7 +108,7 @@ const _: () = assert!(size_of::<JobRecord>() == 8);
 const _: () = assert!(size_of::<Totals>() == 28);
 const _: () = assert!(size_of::<Sizes>() == 16);
 const _: () = assert!(size_of::<Answer>() == 20);
-const _: () = assert!(size_of::<Need>() == 24);
+const _: () = assert!(size_of::<Need>() == 48);
 const _: () = assert!(size_of::<Day>() == 16);
 
 extern "C" {
