@@ -11,8 +11,8 @@ use reference::sheet;
 /// The longest sheet of the day list, in bytes.
 const SHEET_BYTES: usize = 32_768;
 
-/// How many sheets of a random mix are taken in turn, beside the one that is judged. One sheet, read
-/// again and again, is learnt by the processor's branch prediction; so many are not.
+/// How many sheets of a random mix are taken in turn. A host reads each sheet once; one sheet, read again
+/// and again, is learnt by the processor's branch prediction, so that it is shown beside them and not judged.
 const SHEETS_IN_TURN: usize = 16;
 
 /// Sheets of one kind, read or written in turn.
@@ -40,10 +40,10 @@ pub fn all() -> [Workload; 4] {
     let longest =
         repeated(|| Entry { count: MAX_NAMES as u32, names: names(&mut random, MAX_NAMES), ..name(&mut random) });
     [
-        workload(&format!("a random mix (seed {seed})"), vec![one_mixed], true),
+        workload(&format!("random mixes in turn (seed {seed})"), in_turn, true),
         workload("the smallest entries", vec![smallest], true),
         workload("the longest lists", vec![longest], true),
-        workload("random mixes in turn, shown and not judged", in_turn, false),
+        workload("one random mix again and again, shown and not judged", vec![one_mixed], false),
     ]
 }
 
