@@ -1,4 +1,4 @@
-//! Links the static library that `rt staticlib taskgraph` writes.
+//! Links the static library that `scripts/library` writes.
 
 use std::{env, path::Path, process};
 
@@ -10,7 +10,7 @@ fn main() {
     println!("cargo:rustc-link-search=native={}", folder.display());
     println!("cargo:rustc-link-lib=static=taskgraph");
     if !archive.is_file() {
-        eprintln!("target/staticlib/libtaskgraph.a is missing: run `rt staticlib taskgraph` in the repository first");
+        eprintln!("target/staticlib/libtaskgraph.a is missing: run `bash scripts/library` in the repository first");
         process::exit(1);
     }
 }

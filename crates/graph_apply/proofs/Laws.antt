@@ -5,11 +5,12 @@ use Prim.Native.Nat.{ℕ, zero, suc, _+_, _*_, _-_, _≤_, _<_}
 use native.Mathlib.Omega.{arith}
 use native.Mathlib.Nat.{mul-suc}
 use native.Mathlib.Numerals.{add-one}
+use lib.Dec.{lit<}
 use lib.ListN.{length, getD, set, drop, replicate, length-set}
-use lib.Seq.{sets, set-out, drop-cons}
+use lib.Seq.{sets, set-out, set-set, set-comm, drop-cons}
 use Rattle.terms.specs.Base.{prefix}
 use Rattle.words.specs.Columns.{Shape, place, put, putHeader}
-use Rattle.words.specs.Layout.{workerShape, repeated}
+use Rattle.words.specs.Layout.{none, workerShape, PHASE, HELD, OWN-JOB, OWN-ARC, bareWorker, repeated}
 
 -- ---- one run after another
 pub sets-append : (l vs ws : List ℕ) (i k : ℕ) → k ≡ i + length vs → sets (sets l i vs) k ws ≡ sets l i (vs ++ ws)
@@ -108,6 +109,33 @@ names-rest (suc n) (suc d) (suc r) [] a b e =
 names-rest (suc n) (suc d) (suc r) (x ∷ l) a b e =
     let z : suc n - suc r ≡ n - r = omega arith in
     rw z (names-rest n d r l (omega arith) (omega arith) (λ h. omega (arith, e (omega arith))))
+
+-- ---- a store into a run
+set-before : (l vs : List ℕ) (i k v : ℕ) → i < k → set (sets l k vs) i v ≡ sets (set l i v) k vs
+set-before l [] i k v h = refl
+set-before l (w ∷ vs) i k v h =
+    set-before (set l k w) vs i (suc k) v (omega arith) ∙ ap (λ (m : List ℕ). sets m (suc k) vs) (set-comm l k i w v λ e. omega arith)
+
+set-in : (l vs : List ℕ) (i k v : ℕ) → k < length vs → set (sets l i vs) (i + k) v ≡ sets l i (set vs k v)
+set-in l [] i k v h = absurd (omega arith)
+set-in l (x ∷ vs) i zero v h =
+    let z : i + 0 ≡ i = omega arith in
+    rw (z, set-before (set l i x) vs i (suc i) v (omega arith), set-set l i x v)
+set-in l (x ∷ vs) i (suc k) v h = let z : i + suc k ≡ suc i + k = omega arith in rw z (set-in (set l i x) vs (suc i) k v (omega arith))
+
+put-in : (l vs : List ℕ) (w k v : ℕ) → k < length vs → put workerShape (sets l (place workerShape w 0) vs) w k v ≡ sets l (place workerShape w 0) (set vs k v)
+unfolding put
+put-in l vs w k v h = let z : place workerShape w k ≡ place workerShape w 0 + k = omega arith in rw z (set-in l vs (place workerShape w 0) k v h)
+
+-- a worker's record of 0, and the words of it that are not
+pub bare-record : (l : List ℕ) (w p h : ℕ) → put workerShape (put workerShape (put workerShape (put workerShape (sets l (place workerShape w 0) (replicate 42 0)) w PHASE p) w HELD h) w OWN-JOB none) w OWN-ARC none ≡ sets l (place workerShape w 0) (bareWorker p h)
+bare-record l w p h =
+    rw (
+      put-in l (replicate 42 0) w PHASE p (lit< tt),
+      put-in l (set (replicate 42 0) PHASE p) w HELD h (lit< tt),
+      put-in l (set (set (replicate 42 0) PHASE p) HELD h) w OWN-JOB none (lit< tt),
+      put-in l (set (set (set (replicate 42 0) PHASE p) HELD h) OWN-JOB none) w OWN-ARC none (lit< tt),
+    )
 
 -- ---- a worker's record in three runs
 pub worker-record : (l : List ℕ) (w : ℕ) (xs ys zs : List ℕ) → length xs ≡ 6 → length ys ≡ 4 → sets (sets (sets l (place workerShape w 0) xs) (place workerShape w 6) ys) (place workerShape w 10) zs ≡ sets l (place workerShape w 0) (xs ++ (ys ++ zs))

@@ -95,20 +95,29 @@ fn put_start(workers: &mut [u32], worker: u32)
     put_worker(workers, worker, OWN_ARC, NONE);
 }
 
+// Where a worker's record begins.
+fn record_at(worker: u32) -> usize
+    ensures { λ r. ⌜ r ≡ place workerShape worker PHASE ⌝ }
+{
+    (WORKER_HEAD as usize) + (WORKER_WIDTH as usize) * (worker as usize)
+}
+
 // Where a worker's list begins.
 fn names_at(worker: u32) -> usize
     ensures { λ r. ⌜ r ≡ place workerShape worker NAMES ⌝ }
 {
-    (WORKER_HEAD as usize) + (WORKER_WIDTH as usize) * (worker as usize) + (NAMES as usize)
+    record_at(worker) + (NAMES as usize)
 }
 
 // A worker's words with a call that has no arguments.
 pub fn put_bare_worker(workers: &mut [u32], worker: u32, phase: u32, held: u32)
     ensures { λ _. ⌜ now (workers .exit) ≡ putWorker (now (workers .entry)) worker (bareWorker phase held) ⌝ }
 {
-    put_arguments(workers, worker, phase, held, 0, 0, 0, 0);
-    put_start(workers, worker);
-    fill(workers, names_at(worker), MOST_NAMES as usize, 0);
+    fill(workers, record_at(worker), WORKER_WIDTH as usize, 0);
+    put_worker(workers, worker, PHASE, phase);
+    put_worker(workers, worker, HELD, held);
+    put_worker(workers, worker, OWN_JOB, NONE);
+    put_worker(workers, worker, OWN_ARC, NONE);
 }
 
 // How many of the names are listed: all that are counted, of those that a record keeps.

@@ -1,13 +1,17 @@
 -- The tests that come first are the same for every call: what they let pass goes on, and their number is what any call refuses with.
 -- Assumes nothing.
-use mathlib.Core.Path.{_≡_, refl}
-use mathlib.Core.Bool.{Bool, true, false}
-use Prim.Native.Nat.{ℕ}
-use lib.Dec.{ltb, eqb}
+use mathlib.Core.Path.{_≡_, refl, sym, _∙_}
+use mathlib.Core.Bool.{Bool, true, false, _&&_}
+use Prim.Native.Nat.{ℕ, _^_}
+use native.Mathlib.Omega.{arith}
+use lib.Dec.{ltb, leb, eqb}
+use lib.ListN.{length}
+use borrow.Author.Tests.{ltb-true, leb-true, le-leb}
 use Rattle.terms.specs.Base.{pick}
-use Rattle.terms.specs.Terms.{wrongSizes, noSuchWorker, damaged}
+use Rattle.terms.specs.Terms.{wrongSizes, noSuchWorker, damaged, withinLimits}
 use Rattle.terms.specs.declared.Sizes.{Sizes}
-use Rattle.words.specs.Layout.{Tables, view, sizesFit}
+use Rattle.words.specs.Columns.{place}
+use Rattle.words.specs.Layout.{jobShape, arcShape, bucketShape, queueShape, workerShape, NAMES, need, longEnough, sizesKept, Tables, view, sizesFit}
 use Rattle.words.specs.Words.{ownOk, admitted, refusal}
 
 tests : {A : Type 0} (a b c : Bool) (refuse : ℕ → A) (plan : A)
@@ -22,3 +26,38 @@ pub admits : {A : Type 0} (s : Sizes) (t : Tables) (w : ℕ) (refuse : ℕ → A
     → admitted s t w refuse plan ≡ pick (eqb (admitted s t w refusal 0) 0) plan (refuse (admitted s t w refusal 0))
 unfolding admitted
 admits s t w refuse plan = tests (sizesFit s t) (ltb w (s .workers)) (ownOk s (view t) w) refuse plan
+
+and-left : (a b : Bool) → (a && b) ≡ true → a ≡ true
+and-left true b e = refl
+and-left false b e = e
+
+and-right : (a b : Bool) → (a && b) ≡ true → b ≡ true
+and-right true b e = e
+and-right false b e = cc
+
+-- a known worker's words before its list are within a table that is long enough
+own-within : (s : Sizes) (t : Tables) (w : ℕ) → sizesFit s t ≡ true → ltb w (s .workers) ≡ true
+    → leb (place workerShape w NAMES) (length (t .workers)) ≡ true
+unfolding longEnough
+own-within s t w fit known =
+    let room = and-right (withinLimits s) (longEnough s t) (and-left (withinLimits s && longEnough s t) (sizesKept s (t .jobs)) fit) in
+    let rest =
+      leb (need jobShape (s .jobs)) (length (t .jobs)) && leb (need arcShape (s .arcs)) (length (t .arcs))
+      && leb (need bucketShape (2 ^ s .bits)) (length (t .buckets))
+      && leb (need queueShape (s .jobs)) (length (t .queue)) in
+    let fits = leb (need workerShape (s .workers)) (length (t .workers)) in
+    let long = leb-true (need workerShape (s .workers)) (length (t .workers)) (and-right rest fits room) in
+    let below = ltb-true w (s .workers) known in
+    le-leb (place workerShape w NAMES) (length (t .workers)) (omega (arith, long, below))
+
+and-known : (r a b : Bool) → r ≡ (a && b) → a ≡ true → b ≡ r
+and-known r true b e h = sym e
+and-known r false b e h = cc
+
+-- the code's test of a known worker's own words is the definition's
+pub own-known : (s : Sizes) (t : Tables) (w : ℕ) (fit r : Bool)
+    → fit ≡ sizesFit s t → r ≡ (leb (place workerShape w NAMES) (length (t .workers)) && ownOk s (view t) w)
+    → fit ≡ true → ltb w (s .workers) ≡ true → ownOk s (view t) w ≡ r
+own-known s t w fit r f e taken known =
+    and-known r (leb (place workerShape w NAMES) (length (t .workers))) (ownOk s (view t) w) e
+    (own-within s t w (sym f ∙ taken) known)

@@ -92,6 +92,8 @@ fn plan_phase(
     }
 }
 
+// A step makes the tests of `admit` itself. Most calls are steps; and where the outcome of these tests is known, the compiler sees that
+// what the step reads and stores lies within the tables.
 pub fn plan_step(
     sizes: Sizes,
     jobs: &[u32],
@@ -103,12 +105,25 @@ pub fn plan_step(
 ) -> Plan
     ensures { λ r. ⌜ r ≡ planStep sizes (lent (jobs .entry) (arcs .entry) (buckets .entry) (queue .entry) (workers .entry)) worker ⌝ }
 {
-    let number = admit(sizes, jobs, arcs, buckets, queue, workers, worker);
-    let admitted = number == 0;
-    if admitted {
-        plan_phase(sizes, jobs, arcs, buckets, queue, workers, worker)
+    let fit = sizes_fit(sizes, jobs, arcs, buckets, queue, workers);
+    if fit {
+        let known = worker < sizes.workers;
+        if known {
+            let sound = own_ok(sizes, jobs, arcs, workers, worker);
+            if sound {
+                plan_phase(sizes, jobs, arcs, buckets, queue, workers, worker)
+            } else {
+                Plan::Refuse { number: DAMAGED }
+            }
+        } else {
+            Plan::Refuse {
+                number: NO_SUCH_WORKER,
+            }
+        }
     } else {
-        Plan::Refuse { number }
+        Plan::Refuse {
+            number: WRONG_SIZES,
+        }
     }
 }
 

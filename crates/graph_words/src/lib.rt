@@ -2,12 +2,13 @@
 // Follows document 01, "Tables and their measures" and "Turned-away calls". Nothing is required of a table: past its end a read
 // answers 0 and a store does nothing.
 ghost use mathlib.Core.Path.{_≡_};
-ghost use mathlib.Core.Bool.{true};
+ghost use mathlib.Core.Bool.{true, _&&_};
 ghost use mathlib.Core.List.{List};
 ghost use Prim.Native.Nat.{ℕ, _+_, _^_, _≤_};
-ghost use lib.ListN.{getD, set};
+ghost use lib.Dec.{leb};
+ghost use lib.ListN.{length, getD, set};
 ghost use Rattle.terms.specs.Terms.{mostBits, withinLimits};
-ghost use Rattle.words.specs.Columns.{columns, put, header, putHeader};
+ghost use Rattle.words.specs.Columns.{place, columns, put, header, putHeader};
 ghost use Rattle.words.specs.Layout.{jobShape, arcShape, bucketShape, queueShape, workerShape, NAMES, tables, lent, view, need, longEnough, sizesKept, roomFor, sizesFit};
 ghost use Rattle.words.specs.Words.{placeOk, ownOk};
 
@@ -222,33 +223,75 @@ pub fn sizes_fit(
 ) -> bool
     ensures { λ r. ⌜ r ≡ sizesFit sizes (lent (jobs .entry) (arcs .entry) (buckets .entry) (queue .entry) (workers .entry)) ⌝ }
 {
-    room_for(sizes, jobs, arcs, buckets, queue, workers) & sizes_kept(sizes, jobs)
+    let room = room_for(sizes, jobs, arcs, buckets, queue, workers);
+    if room {
+        sizes_kept(sizes, jobs)
+    } else {
+        false
+    }
 }
 
 // A place is none or in use: below its counter, and below the table's size.
 pub fn place_ok(place: u32, counter: u32, size: u32) -> bool
     ensures { λ r. ⌜ r ≡ placeOk place counter size ⌝ }
 {
-    (place == NONE) | ((place < counter) & (place < size))
+    let none = place == NONE;
+    if none {
+        true
+    } else {
+        (place < counter) & (place < size)
+    }
 }
 
-// The worker's own words are sound, whatever its phase. The buckets and the queue are not read: it holds with any.
-pub fn own_ok(sizes: Sizes, jobs: &[u32], arcs: &[u32], workers: &[u32], worker: u32) -> bool
+// The worker's own words are sound. The tests of its places are branches: what follows a call knows their outcome.
+fn own_sound(sizes: Sizes, jobs: &[u32], arcs: &[u32], workers: &[u32], worker: u32) -> bool
     ensures { λ r. ⌜ ((buckets queue : List ℕ) → r ≡ ownOk sizes (view (tables (now (jobs .entry)) (now (arcs .entry)) buckets queue (now (workers .entry)))) worker) ⌝ }
 {
     let made = header(jobs, MADE);
     let count = worker_word(workers, worker, LIST_COUNT);
-    (worker_word(workers, worker, PHASE) <= NOTIFYING)
-        & place_ok(worker_word(workers, worker, HELD), made, sizes.jobs)
-        & (count <= MOST_NAMES)
-        & (worker_word(workers, worker, OWN_CLASS) <= MOST_CLASS)
-        & (worker_word(workers, worker, OWN_GROWER) <= MOST_GROWER)
-        & (worker_word(workers, worker, TALLY) <= count)
-        & (worker_word(workers, worker, PLACE) <= count)
-        & place_ok(worker_word(workers, worker, OWN_JOB), made, sizes.jobs)
-        & place_ok(
-            worker_word(workers, worker, OWN_ARC),
-            header(arcs, RESERVED),
-            sizes.arcs,
-        )
+    let phase = worker_word(workers, worker, PHASE) <= NOTIFYING;
+    if phase {
+        let held = place_ok(worker_word(workers, worker, HELD), made, sizes.jobs);
+        if held {
+            let call = (count <= MOST_NAMES)
+                & (worker_word(workers, worker, OWN_CLASS) <= MOST_CLASS)
+                & (worker_word(workers, worker, OWN_GROWER) <= MOST_GROWER)
+                & (worker_word(workers, worker, TALLY) <= count)
+                & (worker_word(workers, worker, PLACE) <= count);
+            if call {
+                let job = place_ok(worker_word(workers, worker, OWN_JOB), made, sizes.jobs);
+                if job {
+                    place_ok(
+                        worker_word(workers, worker, OWN_ARC),
+                        header(arcs, RESERVED),
+                        sizes.arcs,
+                    )
+                } else {
+                    false
+                }
+            } else {
+                false
+            }
+        } else {
+            false
+        }
+    } else {
+        false
+    }
+}
+
+// The worker's own words are sound, whatever its phase, and all are within the table. The buckets and the queue are not read: it
+// holds with any.
+pub fn own_ok(sizes: Sizes, jobs: &[u32], arcs: &[u32], workers: &[u32], worker: u32) -> bool
+    ensures { λ r. ⌜ ((buckets queue : List ℕ) → r ≡ (leb (place workerShape worker NAMES) (length (now (workers .entry))) && ownOk sizes (view (tables (now (jobs .entry)) (now (arcs .entry)) buckets queue (now (workers .entry)))) worker)) ⌝ }
+{
+    let within = (WORKER_HEAD as usize)
+        + (WORKER_WIDTH as usize) * (worker as usize)
+        + (NAMES as usize)
+        <= workers.len();
+    if within {
+        own_sound(sizes, jobs, arcs, workers, worker)
+    } else {
+        false
+    }
 }

@@ -9,8 +9,6 @@ use Rattle.sheet_format.specs.declared.Entry.{Entry}
 use Rattle.sheet_format.specs.declared.Wrote.{Wrote}
 use Rattle.sheet_format.specs.declared.SheetRead.{SheetRead}
 use Rattle.sheet_format.specs.declared.SheetWrote.{SheetWrote}
-use Rattle.day_format.specs.declared.DayAnswer.{DayAnswer}
-use Rattle.taskgraph.specs.declared.DayPrinted.{DayPrinted}
 use Rattle.taskgraph.specs.declared.EntryRead.{EntryRead}
 use Rattle.taskgraph.specs.declared.EntryWritten.{EntryWritten}
 use Rattle.taskgraph.specs.declared.SheetScanned.{SheetScanned}
@@ -46,11 +44,6 @@ sheetScanned sheet = sheetRead (scanSheet sheet)
 abbrev pub sheetWritten : SheetWrote → SheetWritten
 sheetWritten (SheetWrote.Done entries bytes) = record { number = accepted; entry = entries; at = bytes }
 sheetWritten (SheetWrote.Refused number entry field) = record { number = number; entry = entry; at = field }
-
--- how many bytes the day list printed; 1 and 15 have none
-abbrev pub dayPrinted : DayAnswer → DayPrinted
-dayPrinted (DayAnswer.Printed bytes) = record { number = accepted; bytes = bytes }
-dayPrinted (DayAnswer.Refused number) = record { number = number; bytes = 0 }
 
 -- ---- the graph
 -- the kinds of answers of a call or a step of the graph

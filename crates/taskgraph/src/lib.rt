@@ -7,13 +7,11 @@ ghost use Rattle.minutes.specs.Minutes.{minutesIn, fixedMinutes};
 ghost use Rattle.sheet_format.specs.Decode.{decode, decodeSheet, readSheet};
 ghost use Rattle.sheet_format.specs.Write.{writeEntry, writeSheet};
 ghost use Rattle.totals.specs.Board.{totalsOf, totalsOfWords};
-ghost use Rattle.day_format.specs.Day.{dayList};
-ghost use Rattle.taskgraph.specs.Answers.{entryRead, entryWritten, sheetScanned, sheetRead, sheetWritten, dayPrinted};
+ghost use Rattle.taskgraph.specs.Answers.{entryRead, entryWritten, sheetScanned, sheetRead, sheetWritten};
 
 // The calls of the task graph.
 pub mod graph_calls;
 
-use day_format::DayAnswer;
 use sheet_format::Entry;
 use sheet_format::Read;
 use sheet_format::SheetRead;
@@ -55,13 +53,6 @@ pub struct SheetWritten {
     pub number: u32,
     pub entry: usize,
     pub at: usize,
-}
-
-// How many bytes the day list printed, or a refusal.
-#[repr(C)]
-pub struct DayPrinted {
-    pub number: u32,
-    pub bytes: usize,
 }
 
 // The bucket of a name: its top bits after the multiplication.
@@ -170,20 +161,6 @@ pub extern "C" fn tg_write_sheet(rows: &[u32], out: &mut [u8]) -> SheetWritten
             at: bytes,
         },
         SheetWrote::Refused { number, entry, at } => SheetWritten { number, entry, at },
-    }
-}
-
-// Prints the day list of a sheet in the front of the output. A refusal leaves the output as it was.
-#[no_mangle]
-pub extern "C" fn tg_day_list(sheet: &[u8], workers: u32, out: &mut [u8]) -> DayPrinted
-    ensures { λ r. ⌜ r ≡ dayPrinted (dayList workers (now (sheet .entry)) (now (out .entry)) .answer) × now (out .exit) ≡ dayList workers (now (sheet .entry)) (now (out .entry)) .out ⌝ }
-{
-    match day_list::day_list(sheet, workers, out) {
-        DayAnswer::Printed { bytes } => DayPrinted {
-            number: ACCEPTED,
-            bytes,
-        },
-        DayAnswer::Refused { number } => DayPrinted { number, bytes: 0 },
     }
 }
 

@@ -1,5 +1,6 @@
 //! Other task graphs, as programs of their own: each reads a graph, builds and drains it several times, and
-//! prints the best time in nanoseconds a job.
+//! prints the best time in nanoseconds a job. The library finds prerequisites by name, and so does graphlib;
+//! oneTBB has no names, so it is timed with a hash table of them and with none.
 
 use std::{
     env, fs,
@@ -16,8 +17,14 @@ pub struct Peer {
     pub command: Result<Vec<PathBuf>, String>,
 }
 
-pub fn all() -> [Peer; 2] {
-    [Peer { name: "oneTBB flow graph", command: flow_graph() }, Peer { name: "Python graphlib", command: graphlib() }]
+pub fn all() -> [Peer; 3] {
+    let flow_graph = flow_graph();
+    let finding = |by: &str| flow_graph.clone().map(|program| vec![program, by.into()]);
+    [
+        Peer { name: "oneTBB, by name", command: finding("names") },
+        Peer { name: "oneTBB, by place", command: finding("places") },
+        Peer { name: "Python graphlib", command: graphlib() },
+    ]
 }
 
 fn source(name: &str) -> PathBuf {
@@ -30,12 +37,12 @@ fn succeeds(command: &mut Command) -> bool {
 }
 
 /// Builds the C++ program, beside this one.
-fn flow_graph() -> Result<Vec<PathBuf>, String> {
+fn flow_graph() -> Result<PathBuf, String> {
     let program = env::current_exe().map_err(|error| error.to_string())?.with_file_name("flow_graph");
     let mut build = Command::new("g++");
     build.args(["-std=c++17", "-O2", "-o"]).arg(&program).arg(source("flow_graph.cpp")).arg("-ltbb");
     if succeeds(&mut build) {
-        Ok(vec![program])
+        Ok(program)
     } else {
         Err("it needs g++ and Debian's libtbb-dev".into())
     }

@@ -274,7 +274,6 @@ impl<'a> Graph<'a> {
         self.arcs[0] = reserved + count;
         let own = &mut self.workers[at..at + worker::NAMES];
         own[worker::PHASE] = phase::LINKING;
-        own[worker::TALLY] = 0;
         own[worker::PLACE] = 0;
         own[worker::JOB] = made;
         own[worker::ARC] = if count == 0 { NONE } else { reserved };
@@ -285,10 +284,6 @@ impl<'a> Graph<'a> {
         let own = &self.workers[at..at + WORKER_WORDS];
         let (dependent, base, place) = (own[worker::JOB], own[worker::ARC], own[worker::PLACE]);
         let name = own[worker::NAMES + place as usize];
-        if dependent == NONE || base == NONE || !self.arc_in_use(base + place) || self.reserved() > self.sizes.arcs {
-            return Err(DAMAGED);
-        }
-        let arc = base + place;
         let prerequisite = self.find(name)?;
         if prerequisite == NONE {
             return Err(DAMAGED);
@@ -300,10 +295,15 @@ impl<'a> Graph<'a> {
             return Err(DAMAGED);
         } else {
             let last = self.job(prerequisite)[job::LAST];
-            if !self.arc_fits(last) {
+            let fits = dependent < self.made()
+                && self.reserved() <= self.sizes.arcs
+                && base < self.reserved()
+                && base + place < self.reserved()
+                && self.arc_fits(last);
+            if !fits {
                 return Err(DAMAGED);
             }
-            self.append(prerequisite, last, arc, dependent);
+            self.append(prerequisite, last, base + place, dependent);
         }
         self.workers[at + worker::PLACE] = place + 1;
         Ok(answer(kind::GOING_ON))
@@ -345,7 +345,10 @@ impl<'a> Graph<'a> {
             return Err(DAMAGED);
         }
         let first = self.job(held)[job::FIRST];
-        if self.job(held)[job::LABEL] != EXECUTING || !self.arc_fits(first) {
+        let fits = self.job(held)[job::LABEL] == EXECUTING
+            && self.reserved() <= self.sizes.arcs
+            && self.arc_fits(first);
+        if !fits {
             return Err(DAMAGED);
         }
         self.job(held)[job::LABEL] = FINISHED;
@@ -360,7 +363,11 @@ impl<'a> Graph<'a> {
             return Err(DAMAGED);
         }
         let (dependent, next) = (self.arc(arc)[0], self.arc(arc)[1]);
-        if !self.job_in_use(dependent) || !self.arc_fits(next) {
+        let fits = self.made() <= self.sizes.jobs
+            && self.reserved() <= self.sizes.arcs
+            && dependent < self.made()
+            && self.arc_fits(next);
+        if !fits {
             return Err(DAMAGED);
         }
         let count = self.job(dependent)[job::COUNT];
@@ -392,7 +399,10 @@ impl<'a> Graph<'a> {
         }
         let cell = QUEUE_HEADER + taken as usize;
         let number = self.queue[cell];
-        if !self.job_in_use(number) || self.job(number)[job::LABEL] != UNEXECUTED {
+        let fits = self.made() <= self.sizes.jobs
+            && number < self.made()
+            && self.job(number)[job::LABEL] == UNEXECUTED;
+        if !fits {
             return Err(DAMAGED);
         }
         self.queue[cell] = NONE;
@@ -463,7 +473,6 @@ pub fn post_finish(sizes: Sizes, tables: &mut Tables, worker: u32, name: u32) ->
         }
         graph.clear(at);
         graph.workers[at + worker::PHASE] = phase::MARKING;
-        graph.workers[at + worker::NAME] = name;
         Ok(answer(kind::POSTED))
     }))
 }

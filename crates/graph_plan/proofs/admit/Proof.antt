@@ -1,7 +1,10 @@
 -- `graph_plan::admit` meets its contract: each way through the code is a case of the definition.
 -- Assumes nothing.
+use denote.Ref.{now}
 use borrow.Author.Needs.{needs}
+use Rattle.words.specs.Layout.{tables}
 use Rattle.words.specs.Words.{admitted}
+use Rattle.graph_plan.proofs.Admitted.{own-known}
 use Rattle.graph_plan.proofs.admit.Statement.{statement}
 use Rattle.graph_plan.proofs.admit.Tie as tie
 
@@ -14,22 +17,34 @@ own-ok-requires c κs = search needs
 returns : tie.Need-returns
 unfolding admitted
 returns c =
+    let a = c .before .before .before .before .before .before .before .before .before .before .before .args in
+    let t = tables (now (a .jobs)) (now (a .arcs)) (now (a .buckets)) (now (a .queue)) (now (a .workers)) in
+    let fit = c .before .before .before .before .before .sizes-fit in
+    let own = c .before .own-ok in
     rw (
-      ← c .before .before .before .before .before .sizes-fit .ensures,
+      own-known (a .sizes) t (a .worker) (fit .result) (own .result) (fit .ensures) (own .ensures (now (a .buckets)) (now (a .queue)))
+      (c .before .before .before .before .if1 .taken)
+      (c .before .before .if2 .taken),
+      ← fit .ensures,
       c .before .before .before .before .if1 .taken,
       c .before .before .if2 .taken,
-      ← c .before .own-ok .ensures,
       c .if3 .taken,
     )
 
 returns-2 : tie.Need-returns-2
 unfolding admitted
 returns-2 c =
+    let a = c .before .before .before .before .before .before .before .before .before .before .before .args in
+    let t = tables (now (a .jobs)) (now (a .arcs)) (now (a .buckets)) (now (a .queue)) (now (a .workers)) in
+    let fit = c .before .before .before .before .before .sizes-fit in
+    let own = c .before .own-ok in
     rw (
-      ← c .before .before .before .before .before .sizes-fit .ensures,
+      own-known (a .sizes) t (a .worker) (fit .result) (own .result) (fit .ensures) (own .ensures (now (a .buckets)) (now (a .queue)))
+      (c .before .before .before .before .if1 .taken)
+      (c .before .before .if2 .taken),
+      ← fit .ensures,
       c .before .before .before .before .if1 .taken,
       c .before .before .if2 .taken,
-      ← c .before .own-ok .ensures,
       c .if3 .left,
     )
 

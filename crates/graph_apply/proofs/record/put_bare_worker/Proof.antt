@@ -1,22 +1,12 @@
--- `graph_apply::record::put_bare_worker` meets its contract: a worker's record is stored in three runs.
+-- `graph_apply::record::put_bare_worker` meets its contract: a record of 0, and then the words that are not.
 -- Assumes nothing.
-use mathlib.Core.List.{[], _∷_}
-use mathlib.Core.Path.{refl}
-use lib.ListN.{replicate}
-use Rattle.words.specs.Layout.{none}
-use Rattle.graph_apply.proofs.Laws.{worker-record}
 use borrow.Author.Needs.{needs}
+use Rattle.graph_apply.proofs.Laws.{bare-record}
 use Rattle.graph_apply.proofs.record.put_bare_worker.Statement.{statement}
 use Rattle.graph_apply.proofs.record.put_bare_worker.Tie as tie
 
-put-arguments-requires : tie.Need-put-arguments-requires
-put-arguments-requires c κs = search needs
-
-put-start-requires : tie.Need-put-start-requires
-put-start-requires c κs = search needs
-
-names-at-requires : tie.Need-names-at-requires
-names-at-requires c κs = search needs
+record-at-requires : tie.Need-record-at-requires
+record-at-requires c κs = search needs
 
 cast-fill : tie.Need-cast-fill
 cast-fill c = search needs
@@ -24,28 +14,44 @@ cast-fill c = search needs
 fill-requires : tie.Need-fill-requires
 fill-requires c κs = search needs
 
+put-worker-requires : tie.Need-put-worker-requires
+put-worker-requires c κs = search needs
+
+put-worker-requires-2 : tie.Need-put-worker-requires-2
+put-worker-requires-2 c κs = search needs
+
+put-worker-requires-3 : tie.Need-put-worker-requires-3
+put-worker-requires-3 c κs = search needs
+
+put-worker-requires-4 : tie.Need-put-worker-requires-4
+put-worker-requires-4 c κs = search needs
+
 same-length : tie.Need-same-length
 same-length c = search needs
 
 returns : tie.Need-returns
 returns c =
-    let a = c .before .before .before .before .before .before .before .before .before .before .before .before .before .before .args in
+    let a = c .before .before .before .before .before .before .before .before .before .before .before .before .before .before .before .before .before .before .before .before .before .before .args in
     rw (
-      c .before .before .fill .ensures,
-      c .before .before .before .names-at .ensures,
-      c .before .before .before .before .before .before .before .put-start .ensures,
-      c .before .before .before .before .before .before .before .before .before .before .before .put-arguments .ensures,
+      c .before .before .put-worker4 .ensures,
+      c .before .before .before .before .before .before .put-worker3 .ensures,
+      c .before .before .before .before .before .before .before .before .before .before .put-worker2 .ensures,
+      c .before .before .before .before .before .before .before .before .before .before .before .before .before .before .put-worker .ensures,
+      c .before .before .before .before .before .before .before .before .before .before .before .before .before .before .before .before .before .before .fill .ensures,
+      c .before .before .before .before .before .before .before .before .before .before .before .before .before .before .before .before .before .before .before .record-at .ensures,
     )
-    (worker-record (a .workers .now) (a .worker) (a .phase ∷ a .held ∷ 0 ∷ 0 ∷ 0 ∷ 0 ∷ []) (0 ∷ 0 ∷ none ∷ none ∷ []) (replicate 32 0) refl refl)
+    (bare-record (a .workers .now) (a .worker) (a .phase) (a .held))
 
 pub put-bare-worker-spec : {M : Type 1} → statement M
 put-bare-worker-spec =
     tie.close
     (tie.spec
-    put-arguments-requires
-    put-start-requires
-    names-at-requires
+    record-at-requires
     cast-fill
     fill-requires
+    put-worker-requires
+    put-worker-requires-2
+    put-worker-requires-3
+    put-worker-requires-4
     same-length
     returns)
