@@ -54,10 +54,13 @@ and-known : (r a b : Bool) → r ≡ (a && b) → a ≡ true → b ≡ r
 and-known r true b e h = sym e
 and-known r false b e h = cc
 
--- the code's test of a known worker's own words is the definition's
-pub own-known : (s : Sizes) (t : Tables) (w : ℕ) (fit r : Bool)
+-- what the tests leave of a known worker: the code's test of its own words
+pub admits-known : (s : Sizes) (t : Tables) (w : ℕ) (fit r : Bool)
     → fit ≡ sizesFit s t → r ≡ (leb (place workerShape w NAMES) (length (t .workers)) && ownOk s (view t) w)
-    → fit ≡ true → ltb w (s .workers) ≡ true → ownOk s (view t) w ≡ r
-own-known s t w fit r f e taken known =
-    and-known r (leb (place workerShape w NAMES) (length (t .workers))) (ownOk s (view t) w) e
-    (own-within s t w (sym f ∙ taken) known)
+    → fit ≡ true → ltb w (s .workers) ≡ true
+    → {A : Type 0} (refuse : ℕ → A) (plan : A) → admitted s t w refuse plan ≡ pick r plan (refuse damaged)
+unfolding admitted
+admits-known s t w fit r f e taken known refuse plan =
+    let fits = sym f ∙ taken in
+    let own = and-known r (leb (place workerShape w NAMES) (length (t .workers))) (ownOk s (view t) w) e (own-within s t w fits known) in
+    rw (fits, known, own)

@@ -19,8 +19,11 @@ use bench_graph::{
 use library::graph::Sizes;
 use peers::Peer;
 
-/// The two implementations take turns; the best round of each counts.
-const ROUNDS: usize = 60;
+/// Rounds of a graph of 4,096 jobs. The two implementations take turns; the best round of each counts.
+const ROUNDS: usize = 20;
+
+/// After so many rounds it is the peers' turn, and then all begin again: a machine has slow seconds.
+const TURNS: usize = 3;
 
 /// The most that the library may take, as a multiple of unproved Rust's time.
 const MOST: f64 = 1.25;
@@ -69,9 +72,15 @@ fn measure(shape: &Shape, peers: &[Peer]) -> f64 {
     let sizes = shape.sizes(BITS);
     let mut arena = Arena::new(sizes);
     let (mut proved, mut unproved) = (f64::INFINITY, f64::INFINITY);
-    for _ in 0..ROUNDS {
-        proved = proved.min(round::<Proved>(sizes, &mut arena, shape).total());
-        unproved = unproved.min(round::<Unproved>(sizes, &mut arena, shape).total());
+    let mut theirs: Vec<Option<Result<f64, String>>> = vec![None; peers.len()];
+    for _ in 0..TURNS {
+        for _ in 0..rounds(shape) {
+            proved = proved.min(round::<Proved>(sizes, &mut arena, shape).total());
+            unproved = unproved.min(round::<Unproved>(sizes, &mut arena, shape).total());
+        }
+        for (peer, best) in peers.iter().zip(&mut theirs) {
+            *best = better(best.take(), peer.nanoseconds_a_job(shape));
+        }
     }
     let jobs = shape.lists.len() as f64;
     let line = |name: &str, nanoseconds: f64| {
@@ -79,14 +88,28 @@ fn measure(shape: &Shape, peers: &[Peer]) -> f64 {
     };
     line(Proved::NAME, proved / jobs);
     line(Unproved::NAME, unproved / jobs);
-    for peer in peers {
-        match peer.nanoseconds_a_job(shape) {
+    for (peer, best) in peers.iter().zip(theirs) {
+        match best {
             None => {}
             Some(Ok(nanoseconds)) => line(peer.name, nanoseconds),
             Some(Err(error)) => println!("  {:<22} failed: {error}", peer.name),
         }
     }
     proved / unproved
+}
+
+/// As many rounds for a small graph as fill about as much time as a large one's.
+fn rounds(shape: &Shape) -> usize {
+    ROUNDS * 4_096 / shape.lists.len()
+}
+
+/// The better of two times; a failure stays.
+fn better(best: Option<Result<f64, String>>, time: Option<Result<f64, String>>) -> Option<Result<f64, String>> {
+    match (best, time) {
+        (Some(Ok(best)), Some(Ok(time))) => Some(Ok(best.min(time))),
+        (Some(Err(error)), _) => Some(Err(error)),
+        (_, time) => time,
+    }
 }
 
 /// The times of one round in nanoseconds, and its calls.
@@ -131,25 +154,24 @@ fn steps() -> ExitCode {
     for jobs in [16, 256, 4_096] {
         let shape = shapes::random(jobs, STEPS_LONGEST);
         for bits in [1, 4, 8] {
-            let (adding, draining) = a_step::<Proved>(&shape, bits);
-            let (adding_unproved, draining_unproved) = a_step::<Unproved>(&shape, bits);
-            println!("{jobs} {bits} {adding:.1} {draining:.1} {adding_unproved:.1} {draining_unproved:.1}");
+            let [proved, unproved] = a_step(&shape, bits);
+            println!("{jobs} {bits} {:.1} {:.1} {:.1} {:.1}", proved.0, proved.1, unproved.0, unproved.1);
         }
     }
     ExitCode::SUCCESS
 }
 
-/// Nanoseconds a step for adding and for draining.
-fn a_step<C: Calls>(shape: &Shape, bits: u32) -> (f64, f64) {
+/// Nanoseconds a step for adding and for draining, with the library and with unproved Rust.
+fn a_step(shape: &Shape, bits: u32) -> [(f64, f64); 2] {
     let sizes = shape.sizes(bits);
     let mut arena = Arena::new(sizes);
-    // As many rounds for small graphs as fill about as much time as few for large ones.
-    let rounds = (ROUNDS * 4_096 / shape.lists.len()).min(4_000);
-    let mut best = (f64::INFINITY, f64::INFINITY);
-    for _ in 0..rounds {
-        let round = round::<C>(sizes, &mut arena, shape);
-        best.0 = best.0.min(round.building / round.build_calls as f64);
-        best.1 = best.1.min(round.draining / round.drain_calls as f64);
+    let mut best = [(f64::INFINITY, f64::INFINITY); 2];
+    for _ in 0..TURNS * rounds(shape) {
+        let taken = [round::<Proved>(sizes, &mut arena, shape), round::<Unproved>(sizes, &mut arena, shape)];
+        for (best, taken) in best.iter_mut().zip(taken) {
+            best.0 = best.0.min(taken.building / taken.build_calls as f64);
+            best.1 = best.1.min(taken.draining / taken.drain_calls as f64);
+        }
     }
     best
 }

@@ -4,7 +4,7 @@ use denote.Ref.{now}
 use borrow.Author.Needs.{needs}
 use Rattle.words.specs.Layout.{tables}
 use Rattle.words.specs.Words.{admitted}
-use Rattle.graph_plan.proofs.Admitted.{own-known}
+use Rattle.graph_plan.proofs.Admitted.{admits-known}
 use Rattle.graph_plan.proofs.admit.Statement.{statement}
 use Rattle.graph_plan.proofs.admit.Tie as tie
 
@@ -22,12 +22,9 @@ returns c =
     let fit = c .before .before .before .before .before .sizes-fit in
     let own = c .before .own-ok in
     rw (
-      own-known (a .sizes) t (a .worker) (fit .result) (own .result) (fit .ensures) (own .ensures (now (a .buckets)) (now (a .queue)))
+      admits-known (a .sizes) t (a .worker) (fit .result) (own .result) (fit .ensures) (own .ensures (now (a .buckets)) (now (a .queue)))
       (c .before .before .before .before .if1 .taken)
       (c .before .before .if2 .taken),
-      ← fit .ensures,
-      c .before .before .before .before .if1 .taken,
-      c .before .before .if2 .taken,
       c .if3 .taken,
     )
 
@@ -39,12 +36,9 @@ returns-2 c =
     let fit = c .before .before .before .before .before .sizes-fit in
     let own = c .before .own-ok in
     rw (
-      own-known (a .sizes) t (a .worker) (fit .result) (own .result) (fit .ensures) (own .ensures (now (a .buckets)) (now (a .queue)))
+      admits-known (a .sizes) t (a .worker) (fit .result) (own .result) (fit .ensures) (own .ensures (now (a .buckets)) (now (a .queue)))
       (c .before .before .before .before .if1 .taken)
       (c .before .before .if2 .taken),
-      ← fit .ensures,
-      c .before .before .before .before .if1 .taken,
-      c .before .before .if2 .taken,
       c .if3 .left,
     )
 
