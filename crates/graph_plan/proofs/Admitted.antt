@@ -1,31 +1,18 @@
--- The tests that come first are the same for every call: what they let pass goes on, and their number is what any call refuses with.
+-- The tests that come first, for a worker that is known: the code looks at its own words only within the table, where they always are.
 -- Assumes nothing.
 use mathlib.Core.Path.{_≡_, refl, sym, _∙_}
 use mathlib.Core.Bool.{Bool, true, false, _&&_}
 use Prim.Native.Nat.{ℕ, _^_}
 use native.Mathlib.Omega.{arith}
-use lib.Dec.{ltb, leb, eqb}
+use lib.Dec.{ltb, leb}
 use lib.ListN.{length}
 use borrow.Author.Tests.{ltb-true, leb-true, le-leb}
 use Rattle.terms.specs.Base.{pick}
-use Rattle.terms.specs.Terms.{wrongSizes, noSuchWorker, damaged, withinLimits}
+use Rattle.terms.specs.Terms.{damaged, withinLimits}
 use Rattle.terms.specs.declared.Sizes.{Sizes}
 use Rattle.words.specs.Columns.{place}
 use Rattle.words.specs.Layout.{jobShape, arcShape, bucketShape, queueShape, workerShape, NAMES, need, longEnough, sizesKept, Tables, view, sizesFit}
-use Rattle.words.specs.Words.{ownOk, admitted, refusal}
-
-tests : {A : Type 0} (a b c : Bool) (refuse : ℕ → A) (plan : A)
-    → pick a (pick b (pick c plan (refuse damaged)) (refuse noSuchWorker)) (refuse wrongSizes)
-    ≡ pick (eqb (pick a (pick b (pick c 0 damaged) noSuchWorker) wrongSizes) 0) plan (refuse (pick a (pick b (pick c 0 damaged) noSuchWorker) wrongSizes))
-tests true true true refuse plan = refl
-tests true true false refuse plan = refl
-tests true false c refuse plan = refl
-tests false b c refuse plan = refl
-
-pub admits : {A : Type 0} (s : Sizes) (t : Tables) (w : ℕ) (refuse : ℕ → A) (plan : A)
-    → admitted s t w refuse plan ≡ pick (eqb (admitted s t w refusal 0) 0) plan (refuse (admitted s t w refusal 0))
-unfolding admitted
-admits s t w refuse plan = tests (sizesFit s t) (ltb w (s .workers)) (ownOk s (view t) w) refuse plan
+use Rattle.words.specs.Words.{ownOk, admitted}
 
 and-left : (a b : Bool) → (a && b) ≡ true → a ≡ true
 and-left true b e = refl
@@ -42,9 +29,9 @@ unfolding longEnough
 own-within s t w fit known =
     let room = and-right (withinLimits s) (longEnough s t) (and-left (withinLimits s && longEnough s t) (sizesKept s (t .jobs)) fit) in
     let rest =
-      leb (need jobShape (s .jobs)) (length (t .jobs)) && leb (need arcShape (s .arcs)) (length (t .arcs))
-      && leb (need bucketShape (2 ^ s .bits)) (length (t .buckets))
-      && leb (need queueShape (s .jobs)) (length (t .queue)) in
+    leb (need jobShape (s .jobs)) (length (t .jobs)) && leb (need arcShape (s .arcs)) (length (t .arcs))
+    && leb (need bucketShape (2 ^ s .bits)) (length (t .buckets))
+    && leb (need queueShape (s .jobs)) (length (t .queue)) in
     let fits = leb (need workerShape (s .workers)) (length (t .workers)) in
     let long = leb-true (need workerShape (s .workers)) (length (t .workers)) (and-right rest fits room) in
     let below = ltb-true w (s .workers) known in

@@ -25,32 +25,6 @@ use terms::Sizes;
 use words::GetPlan;
 use words::Plan;
 
-// The number that turns any call of the worker away, or 0: the tests that come first, in their order.
-fn admit(
-    sizes: Sizes,
-    jobs: &[u32],
-    arcs: &[u32],
-    buckets: &[u32],
-    queue: &[u32],
-    workers: &[u32],
-    worker: u32,
-) -> u32
-    ensures { λ r. ⌜ r ≡ admitted sizes (lent (jobs .entry) (arcs .entry) (buckets .entry) (queue .entry) (workers .entry)) worker refusal 0 ⌝ }
-{
-    let fit = sizes_fit(sizes, jobs, arcs, buckets, queue, workers);
-    if fit {
-        let known = worker < sizes.workers;
-        if known {
-            let sound = own_ok(sizes, jobs, arcs, workers, worker);
-            if sound { 0 } else { DAMAGED }
-        } else {
-            NO_SUCH_WORKER
-        }
-    } else {
-        WRONG_SIZES
-    }
-}
-
 // What the worker's phase asks for.
 fn plan_phase(
     sizes: Sizes,
@@ -92,8 +66,8 @@ fn plan_phase(
     }
 }
 
-// A step makes the tests of `admit` itself. Most calls are steps; and where the outcome of these tests is known, the compiler sees that
-// what the step reads and stores lies within the tables.
+// The tests that come first are written out in each call, as in its definition, and not a function of their own: where their outcome is
+// known, the compiler sees that what the call reads and stores lies within the tables (docs/SPEED.md).
 pub fn plan_step(
     sizes: Sizes,
     jobs: &[u32],
@@ -198,12 +172,45 @@ pub fn plan_get(
 ) -> GetPlan
     ensures { λ r. ⌜ r ≡ planGetOf sizes (lent (jobs .entry) (arcs .entry) (buckets .entry) (queue .entry) (workers .entry)) worker ⌝ }
 {
-    let number = admit(sizes, jobs, arcs, buckets, queue, workers, worker);
-    let admitted = number == 0;
-    if admitted {
-        plan_admitted_get(sizes, jobs, queue, workers, worker)
+    let fit = sizes_fit(sizes, jobs, arcs, buckets, queue, workers);
+    if fit {
+        let known = worker < sizes.workers;
+        if known {
+            let sound = own_ok(sizes, jobs, arcs, workers, worker);
+            if sound {
+                plan_admitted_get(sizes, jobs, queue, workers, worker)
+            } else {
+                GetPlan::RefuseGet { number: DAMAGED }
+            }
+        } else {
+            GetPlan::RefuseGet {
+                number: NO_SUCH_WORKER,
+            }
+        }
     } else {
-        GetPlan::RefuseGet { number }
+        GetPlan::RefuseGet {
+            number: WRONG_SIZES,
+        }
+    }
+}
+
+fn judge_admitted_add(
+    workers: &[u32],
+    worker: u32,
+    name: u32,
+    names: [u32; 32],
+    count: u32,
+    class: u32,
+    grower: u32,
+) -> u32
+    ensures { λ r. ⌜ ((jobs arcs buckets queue : List ℕ) → r ≡ judgedAdd (view (tables jobs arcs buckets queue (now (workers .entry)))) worker (record { name = name; count = count; names = names; class = class; grower = grower })) ⌝ }
+{
+    let idle = worker_word(workers, worker, PHASE) == IDLE;
+    if idle {
+        let wrong = arguments_wrong(name, names, count, class, grower);
+        if wrong { WRONG_ARGUMENTS } else { 0 }
+    } else {
+        HALF_DONE
     }
 }
 
@@ -224,18 +231,34 @@ pub fn judge_add(
 ) -> u32
     ensures { λ r. ⌜ r ≡ admitted sizes (lent (jobs .entry) (arcs .entry) (buckets .entry) (queue .entry) (workers .entry)) worker refusal (judgedAdd (view (lent (jobs .entry) (arcs .entry) (buckets .entry) (queue .entry) (workers .entry))) worker (record { name = name; count = count; names = names; class = class; grower = grower })) ⌝ }
 {
-    let number = admit(sizes, jobs, arcs, buckets, queue, workers, worker);
-    let admitted = number == 0;
-    if admitted {
-        let idle = worker_word(workers, worker, PHASE) == IDLE;
-        if idle {
-            let wrong = arguments_wrong(name, names, count, class, grower);
-            if wrong { WRONG_ARGUMENTS } else { 0 }
+    let fit = sizes_fit(sizes, jobs, arcs, buckets, queue, workers);
+    if fit {
+        let known = worker < sizes.workers;
+        if known {
+            let sound = own_ok(sizes, jobs, arcs, workers, worker);
+            if sound {
+                judge_admitted_add(workers, worker, name, names, count, class, grower)
+            } else {
+                DAMAGED
+            }
         } else {
-            HALF_DONE
+            NO_SUCH_WORKER
         }
     } else {
-        number
+        WRONG_SIZES
+    }
+}
+
+fn judge_admitted_finish(jobs: &[u32], workers: &[u32], worker: u32, name: u32) -> u32
+    ensures { λ r. ⌜ ((arcs buckets queue : List ℕ) → r ≡ judgedFinish (view (tables (now (jobs .entry)) arcs buckets queue (now (workers .entry)))) worker name) ⌝ }
+{
+    let idle = worker_word(workers, worker, PHASE) == IDLE;
+    if idle {
+        let held = worker_word(workers, worker, HELD);
+        let holds = (held != NONE) & (job_word(jobs, held, NAME) == name);
+        if holds { 0 } else { NOT_HELD }
+    } else {
+        HALF_DONE
     }
 }
 
@@ -252,18 +275,20 @@ pub fn judge_finish(
 ) -> u32
     ensures { λ r. ⌜ r ≡ admitted sizes (lent (jobs .entry) (arcs .entry) (buckets .entry) (queue .entry) (workers .entry)) worker refusal (judgedFinish (view (lent (jobs .entry) (arcs .entry) (buckets .entry) (queue .entry) (workers .entry))) worker name) ⌝ }
 {
-    let number = admit(sizes, jobs, arcs, buckets, queue, workers, worker);
-    let admitted = number == 0;
-    if admitted {
-        let idle = worker_word(workers, worker, PHASE) == IDLE;
-        if idle {
-            let held = worker_word(workers, worker, HELD);
-            let holds = (held != NONE) & (job_word(jobs, held, NAME) == name);
-            if holds { 0 } else { NOT_HELD }
+    let fit = sizes_fit(sizes, jobs, arcs, buckets, queue, workers);
+    if fit {
+        let known = worker < sizes.workers;
+        if known {
+            let sound = own_ok(sizes, jobs, arcs, workers, worker);
+            if sound {
+                judge_admitted_finish(jobs, workers, worker, name)
+            } else {
+                DAMAGED
+            }
         } else {
-            HALF_DONE
+            NO_SUCH_WORKER
         }
     } else {
-        number
+        WRONG_SIZES
     }
 }

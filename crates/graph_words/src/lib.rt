@@ -224,11 +224,7 @@ pub fn sizes_fit(
     ensures { λ r. ⌜ r ≡ sizesFit sizes (lent (jobs .entry) (arcs .entry) (buckets .entry) (queue .entry) (workers .entry)) ⌝ }
 {
     let room = room_for(sizes, jobs, arcs, buckets, queue, workers);
-    if room {
-        sizes_kept(sizes, jobs)
-    } else {
-        false
-    }
+    if room { sizes_kept(sizes, jobs) } else { false }
 }
 
 // A place is none or in use: below its counter, and below the table's size.

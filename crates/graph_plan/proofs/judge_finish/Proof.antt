@@ -1,63 +1,65 @@
 -- `graph_plan::judge_finish` meets its contract: each way through the code is a case of the definition.
 -- Assumes nothing.
+use denote.Ref.{now}
 use borrow.Author.Needs.{needs}
-use Rattle.graph_plan.proofs.Admitted.{admits}
+use Rattle.words.specs.Layout.{tables}
+use Rattle.words.specs.Words.{admitted}
+use Rattle.graph_plan.proofs.Admitted.{admits-known}
 use Rattle.graph_plan.proofs.judge_finish.Statement.{statement}
 use Rattle.graph_plan.proofs.judge_finish.Tie as tie
 
-admit-requires : tie.Need-admit-requires
-admit-requires c κs = search needs
+sizes-fit-requires : tie.Need-sizes-fit-requires
+sizes-fit-requires c κs = search needs
 
-worker-word-requires : tie.Need-worker-word-requires
-worker-word-requires c κs = search needs
+own-ok-requires : tie.Need-own-ok-requires
+own-ok-requires c κs = search needs
 
-worker-word-requires-2 : tie.Need-worker-word-requires-2
-worker-word-requires-2 c κs = search needs
-
-job-word-requires : tie.Need-job-word-requires
-job-word-requires c κs = search needs
+judge-admitted-finish-requires : tie.Need-judge-admitted-finish-requires
+judge-admitted-finish-requires c κs = search needs
 
 returns : tie.Need-returns
+unfolding admitted
 returns c =
+    let a = c .before .before .before .before .before .before .before .before .before .before .before .before .args in
+    let t = tables (now (a .jobs)) (now (a .arcs)) (now (a .buckets)) (now (a .queue)) (now (a .workers)) in
+    let fit = c .before .before .before .before .before .before .sizes-fit in
+    let own = c .before .before .own-ok in
     rw (
-      admits,
-      ← c .before .before .before .before .before .before .admit .ensures,
-      c .before .before .before .before .before .if1 .taken,
-      ← c .before .before .before .before .worker-word .ensures,
-      c .before .before .before .if2 .taken,
-      ← c .before .before .worker-word2 .ensures,
-      ← c .before .job-word .ensures,
-      c .if3 .taken,
+      admits-known (a .sizes) t (a .worker) (fit .result) (own .result) (fit .ensures) (own .ensures (now (a .buckets)) (now (a .queue)))
+          (c .before .before .before .before .before .if1 .taken)
+          (c .before .before .before .if2 .taken),
+      c .before .if3 .taken,
+      ← c .judge-admitted-finish .ensures,
     )
 
 returns-2 : tie.Need-returns-2
+unfolding admitted
 returns-2 c =
+    let a = c .before .before .before .before .before .before .before .before .before .before .before .args in
+    let t = tables (now (a .jobs)) (now (a .arcs)) (now (a .buckets)) (now (a .queue)) (now (a .workers)) in
+    let fit = c .before .before .before .before .before .sizes-fit in
+    let own = c .before .own-ok in
     rw (
-      admits,
-      ← c .before .before .before .before .before .before .admit .ensures,
-      c .before .before .before .before .before .if1 .taken,
-      ← c .before .before .before .before .worker-word .ensures,
-      c .before .before .before .if2 .taken,
-      ← c .before .before .worker-word2 .ensures,
-      ← c .before .job-word .ensures,
+      admits-known (a .sizes) t (a .worker) (fit .result) (own .result) (fit .ensures) (own .ensures (now (a .buckets)) (now (a .queue)))
+          (c .before .before .before .before .if1 .taken)
+          (c .before .before .if2 .taken),
       c .if3 .left,
     )
 
 returns-3 : tie.Need-returns-3
+unfolding admitted
 returns-3 c =
     rw (
-      admits,
-      ← c .before .before .before .admit .ensures,
+      ← c .before .before .before .sizes-fit .ensures,
       c .before .before .if1 .taken,
-      ← c .before .worker-word .ensures,
       c .if2 .left,
     )
 
 returns-4 : tie.Need-returns-4
+unfolding admitted
 returns-4 c =
     rw (
-      admits,
-      ← c .before .admit .ensures,
+      ← c .before .sizes-fit .ensures,
       c .if1 .left,
     )
 
@@ -65,10 +67,9 @@ pub judge-finish-spec : {M : Type 1} → statement M
 judge-finish-spec =
     tie.close
     (tie.spec
-    admit-requires
-    worker-word-requires
-    worker-word-requires-2
-    job-word-requires
+    sizes-fit-requires
+    own-ok-requires
+    judge-admitted-finish-requires
     returns
     returns-2
     returns-3

@@ -26,8 +26,8 @@ returns c =
     let own = c .before .before .own-ok in
     rw (
       admits-known (a .sizes) t (a .worker) (fit .result) (own .result) (fit .ensures) (own .ensures (now (a .buckets)) (now (a .queue)))
-      (c .before .before .before .before .before .if1 .taken)
-      (c .before .before .before .if2 .taken),
+          (c .before .before .before .before .before .if1 .taken)
+          (c .before .before .before .if2 .taken),
       c .before .if3 .taken,
       ← c .plan-phase .ensures,
     )
@@ -41,8 +41,8 @@ returns-2 c =
     let own = c .before .own-ok in
     rw (
       admits-known (a .sizes) t (a .worker) (fit .result) (own .result) (fit .ensures) (own .ensures (now (a .buckets)) (now (a .queue)))
-      (c .before .before .before .before .if1 .taken)
-      (c .before .before .if2 .taken),
+          (c .before .before .before .before .if1 .taken)
+          (c .before .before .if2 .taken),
       c .if3 .left,
     )
 

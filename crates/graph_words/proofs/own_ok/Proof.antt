@@ -28,9 +28,10 @@ own-sound-requires c κs = search needs
 returns : tie.Need-returns
 returns c =
     λ buckets queue.
-    rw
-    (c .before .if1 .taken,
-    ← c .own-sound .ensures)
+    rw (
+      c .before .if1 .taken,
+      ← c .own-sound .ensures,
+    )
 
 returns-2 : tie.Need-returns-2
 returns-2 c =

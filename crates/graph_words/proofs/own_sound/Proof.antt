@@ -51,87 +51,92 @@ returns : tie.Need-returns
 unfolding ownOk
 returns c =
     λ buckets queue.
-    rw
-    (← c .before .before .before .before .before .before .before .before .before .before .before .before .before .before .before .before .before .header .ensures,
-    ← c .before .before .before .before .before .before .before .before .before .before .before .before .before .before .before .before .worker-word .ensures,
-    ← c .before .before .before .before .before .before .before .before .before .before .before .before .before .before .before .worker-word2 .ensures,
-    c .before .before .before .before .before .before .before .before .before .before .before .before .before .before .if1 .taken,
-    ← c .before .before .before .before .before .before .before .before .before .before .before .before .before .worker-word3 .ensures,
-    ← c .before .before .before .before .before .before .before .before .before .before .before .before .place-ok .ensures,
-    c .before .before .before .before .before .before .before .before .before .before .before .if2 .taken,
-    ← c .before .before .before .before .before .before .before .before .before .before .worker-word4 .ensures,
-    ← c .before .before .before .before .before .before .before .before .before .worker-word5 .ensures,
-    ← c .before .before .before .before .before .before .before .before .worker-word6 .ensures,
-    ← c .before .before .before .before .before .before .before .worker-word7 .ensures,
-    c .before .before .before .before .before .before .if3 .taken,
-    ← c .before .before .before .before .before .worker-word8 .ensures,
-    ← c .before .before .before .before .place-ok2 .ensures,
-    c .before .before .before .if4 .taken,
-    ← c .before .before .worker-word9 .ensures,
-    ← c .before .header2 .ensures,
-    ← c .place-ok3 .ensures)
+    rw (
+      ← c .before .before .before .before .before .before .before .before .before .before .before .before .before .before .before .before .before .header .ensures,
+      ← c .before .before .before .before .before .before .before .before .before .before .before .before .before .before .before .before .worker-word .ensures,
+      ← c .before .before .before .before .before .before .before .before .before .before .before .before .before .before .before .worker-word2 .ensures,
+      c .before .before .before .before .before .before .before .before .before .before .before .before .before .before .if1 .taken,
+      ← c .before .before .before .before .before .before .before .before .before .before .before .before .before .worker-word3 .ensures,
+      ← c .before .before .before .before .before .before .before .before .before .before .before .before .place-ok .ensures,
+      c .before .before .before .before .before .before .before .before .before .before .before .if2 .taken,
+      ← c .before .before .before .before .before .before .before .before .before .before .worker-word4 .ensures,
+      ← c .before .before .before .before .before .before .before .before .before .worker-word5 .ensures,
+      ← c .before .before .before .before .before .before .before .before .worker-word6 .ensures,
+      ← c .before .before .before .before .before .before .before .worker-word7 .ensures,
+      c .before .before .before .before .before .before .if3 .taken,
+      ← c .before .before .before .before .before .worker-word8 .ensures,
+      ← c .before .before .before .before .place-ok2 .ensures,
+      c .before .before .before .if4 .taken,
+      ← c .before .before .worker-word9 .ensures,
+      ← c .before .header2 .ensures,
+      ← c .place-ok3 .ensures,
+    )
 
 returns-2 : tie.Need-returns-2
 unfolding ownOk
 returns-2 c =
     λ buckets queue.
-    rw
-    (← c .before .before .before .before .before .before .before .before .before .before .before .before .before .before .header .ensures,
-    ← c .before .before .before .before .before .before .before .before .before .before .before .before .before .worker-word .ensures,
-    ← c .before .before .before .before .before .before .before .before .before .before .before .before .worker-word2 .ensures,
-    c .before .before .before .before .before .before .before .before .before .before .before .if1 .taken,
-    ← c .before .before .before .before .before .before .before .before .before .before .worker-word3 .ensures,
-    ← c .before .before .before .before .before .before .before .before .before .place-ok .ensures,
-    c .before .before .before .before .before .before .before .before .if2 .taken,
-    ← c .before .before .before .before .before .before .before .worker-word4 .ensures,
-    ← c .before .before .before .before .before .before .worker-word5 .ensures,
-    ← c .before .before .before .before .before .worker-word6 .ensures,
-    ← c .before .before .before .before .worker-word7 .ensures,
-    c .before .before .before .if3 .taken,
-    ← c .before .before .worker-word8 .ensures,
-    ← c .before .place-ok2 .ensures,
-    c .if4 .left)
+    rw (
+      ← c .before .before .before .before .before .before .before .before .before .before .before .before .before .before .header .ensures,
+      ← c .before .before .before .before .before .before .before .before .before .before .before .before .before .worker-word .ensures,
+      ← c .before .before .before .before .before .before .before .before .before .before .before .before .worker-word2 .ensures,
+      c .before .before .before .before .before .before .before .before .before .before .before .if1 .taken,
+      ← c .before .before .before .before .before .before .before .before .before .before .worker-word3 .ensures,
+      ← c .before .before .before .before .before .before .before .before .before .place-ok .ensures,
+      c .before .before .before .before .before .before .before .before .if2 .taken,
+      ← c .before .before .before .before .before .before .before .worker-word4 .ensures,
+      ← c .before .before .before .before .before .before .worker-word5 .ensures,
+      ← c .before .before .before .before .before .worker-word6 .ensures,
+      ← c .before .before .before .before .worker-word7 .ensures,
+      c .before .before .before .if3 .taken,
+      ← c .before .before .worker-word8 .ensures,
+      ← c .before .place-ok2 .ensures,
+      c .if4 .left,
+    )
 
 returns-3 : tie.Need-returns-3
 unfolding ownOk
 returns-3 c =
     λ buckets queue.
-    rw
-    (← c .before .before .before .before .before .before .before .before .before .before .before .header .ensures,
-    ← c .before .before .before .before .before .before .before .before .before .before .worker-word .ensures,
-    ← c .before .before .before .before .before .before .before .before .before .worker-word2 .ensures,
-    c .before .before .before .before .before .before .before .before .if1 .taken,
-    ← c .before .before .before .before .before .before .before .worker-word3 .ensures,
-    ← c .before .before .before .before .before .before .place-ok .ensures,
-    c .before .before .before .before .before .if2 .taken,
-    ← c .before .before .before .before .worker-word4 .ensures,
-    ← c .before .before .before .worker-word5 .ensures,
-    ← c .before .before .worker-word6 .ensures,
-    ← c .before .worker-word7 .ensures,
-    c .if3 .left)
+    rw (
+      ← c .before .before .before .before .before .before .before .before .before .before .before .header .ensures,
+      ← c .before .before .before .before .before .before .before .before .before .before .worker-word .ensures,
+      ← c .before .before .before .before .before .before .before .before .before .worker-word2 .ensures,
+      c .before .before .before .before .before .before .before .before .if1 .taken,
+      ← c .before .before .before .before .before .before .before .worker-word3 .ensures,
+      ← c .before .before .before .before .before .before .place-ok .ensures,
+      c .before .before .before .before .before .if2 .taken,
+      ← c .before .before .before .before .worker-word4 .ensures,
+      ← c .before .before .before .worker-word5 .ensures,
+      ← c .before .before .worker-word6 .ensures,
+      ← c .before .worker-word7 .ensures,
+      c .if3 .left,
+    )
 
 returns-4 : tie.Need-returns-4
 unfolding ownOk
 returns-4 c =
     λ buckets queue.
-    rw
-    (← c .before .before .before .before .before .before .header .ensures,
-    ← c .before .before .before .before .before .worker-word .ensures,
-    ← c .before .before .before .before .worker-word2 .ensures,
-    c .before .before .before .if1 .taken,
-    ← c .before .before .worker-word3 .ensures,
-    ← c .before .place-ok .ensures,
-    c .if2 .left)
+    rw (
+      ← c .before .before .before .before .before .before .header .ensures,
+      ← c .before .before .before .before .before .worker-word .ensures,
+      ← c .before .before .before .before .worker-word2 .ensures,
+      c .before .before .before .if1 .taken,
+      ← c .before .before .worker-word3 .ensures,
+      ← c .before .place-ok .ensures,
+      c .if2 .left,
+    )
 
 returns-5 : tie.Need-returns-5
 unfolding ownOk
 returns-5 c =
     λ buckets queue.
-    rw
-    (← c .before .before .before .header .ensures,
-    ← c .before .before .worker-word .ensures,
-    ← c .before .worker-word2 .ensures,
-    c .if1 .left)
+    rw (
+      ← c .before .before .before .header .ensures,
+      ← c .before .before .worker-word .ensures,
+      ← c .before .worker-word2 .ensures,
+      c .if1 .left,
+    )
 
 pub own-sound-spec : {M : Type 1} → statement M
 own-sound-spec =

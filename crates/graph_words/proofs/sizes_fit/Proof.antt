@@ -12,16 +12,18 @@ sizes-kept-requires c κs = search needs
 
 returns : tie.Need-returns
 returns c =
-    rw
-    (← c .before .before .room-for .ensures,
-    c .before .if1 .taken,
-    ← c .sizes-kept .ensures)
+    rw (
+      ← c .before .before .room-for .ensures,
+      c .before .if1 .taken,
+      ← c .sizes-kept .ensures,
+    )
 
 returns-2 : tie.Need-returns-2
 returns-2 c =
-    rw
-    (← c .before .room-for .ensures,
-    c .if1 .left)
+    rw (
+      ← c .before .room-for .ensures,
+      c .if1 .left,
+    )
 
 pub sizes-fit-spec : {M : Type 1} → statement M
 sizes-fit-spec = tie.close (tie.spec room-for-requires sizes-kept-requires returns returns-2)

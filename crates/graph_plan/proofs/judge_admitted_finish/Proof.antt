@@ -1,0 +1,55 @@
+-- `graph_plan::judge_admitted_finish` meets its contract: each way through the code is a case of the definition.
+-- Assumes nothing.
+use borrow.Author.Needs.{needs}
+use Rattle.graph_plan.proofs.judge_admitted_finish.Statement.{statement}
+use Rattle.graph_plan.proofs.judge_admitted_finish.Tie as tie
+
+worker-word-requires : tie.Need-worker-word-requires
+worker-word-requires c κs = search needs
+
+worker-word-requires-2 : tie.Need-worker-word-requires-2
+worker-word-requires-2 c κs = search needs
+
+job-word-requires : tie.Need-job-word-requires
+job-word-requires c κs = search needs
+
+returns : tie.Need-returns
+returns c =
+    λ arcs buckets queue.
+    rw (
+      ← c .before .before .before .before .worker-word .ensures,
+      c .before .before .before .if1 .taken,
+      ← c .before .before .worker-word2 .ensures,
+      ← c .before .job-word .ensures,
+      c .if2 .taken,
+    )
+
+returns-2 : tie.Need-returns-2
+returns-2 c =
+    λ arcs buckets queue.
+    rw (
+      ← c .before .before .before .before .worker-word .ensures,
+      c .before .before .before .if1 .taken,
+      ← c .before .before .worker-word2 .ensures,
+      ← c .before .job-word .ensures,
+      c .if2 .left,
+    )
+
+returns-3 : tie.Need-returns-3
+returns-3 c =
+    λ arcs buckets queue.
+    rw (
+      ← c .before .worker-word .ensures,
+      c .if1 .left,
+    )
+
+pub judge-admitted-finish-spec : {M : Type 1} → statement M
+judge-admitted-finish-spec =
+    tie.close
+    (tie.spec
+    worker-word-requires
+    worker-word-requires-2
+    job-word-requires
+    returns
+    returns-2
+    returns-3)
