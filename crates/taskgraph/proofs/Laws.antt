@@ -4,7 +4,7 @@ use mathlib.Core.Path.{_≡_, ap, _∙_}
 use Rattle.terms.specs.Runs.{Outcome}
 use Rattle.words.specs.Layout.{Tables}
 use Rattle.taskgraph.specs.Answers.{graphAnswer}
-use Rattle.taskgraph.specs.declared.graph_calls.GraphAnswer.{GraphAnswer}
+use Rattle.taskgraph.specs.declared.GraphAnswer.{GraphAnswer}
 
 pub in-c : {made said : Outcome Tables} {r : GraphAnswer} → made ≡ said → r ≡ graphAnswer (made .answer)
     → (r ≡ graphAnswer (said .answer)) × (made .state ≡ said .state)

@@ -1,181 +1,192 @@
-// The C interface: what a host program links. A slice is a pointer and a count of elements in C; answers are structs by value.
-// Numbers are those of document 01, "Turned-away calls", and 0 where nothing was refused. include/taskgraph.h declares all of this.
-// Assumes nothing but that a pointer with a count points to that many elements.
+// The calls of the task graph as C has them: the sizes, the five lent tables, then the worker and what the call is about. A slice is a
+// pointer and a count of elements in C; answers are structs by value. include/taskgraph.h declares all of this.
+// Follows document 01, "Steps" and "Turned-away calls". Assumes nothing but that a pointer with a count points to that many elements.
 ghost use mathlib.Core.Path.{_≡_};
-ghost use Rattle.bucket.specs.Bucket.{bucketOf};
-ghost use Rattle.minutes.specs.Minutes.{minutesIn, fixedMinutes};
-ghost use Rattle.sheet_format.specs.Decode.{decode, decodeSheet, readSheet};
-ghost use Rattle.sheet_format.specs.Write.{writeEntry, writeSheet};
-ghost use Rattle.totals.specs.Board.{totalsOf, totalsOfWords};
-ghost use Rattle.taskgraph.specs.Answers.{entryRead, entryWritten, sheetScanned, sheetRead, sheetWritten};
-
-// The calls of the task graph.
-pub mod graph_calls;
-
+ghost use Rattle.minutes.specs.Minutes.{fixedMinutes};
+ghost use Rattle.words.specs.Layout.{lent};
+ghost use Rattle.words.specs.Words.{layOut, addWords, finishWords, stepWords, getWords};
+ghost use Rattle.graph.specs.Needed.{wordsNeeded};
+ghost use Rattle.graph_board.specs.Board.{graphTotals};
+ghost use Rattle.taskgraph.specs.Answers.{plain, graphAnswer, argumentsOf};
+use graph::Need;
 use sheet_format::Entry;
-use sheet_format::Read;
-use sheet_format::SheetRead;
-use sheet_format::SheetWrote;
-use sheet_format::Wrote;
-use totals::JobRecord;
+use terms::Answer;
+use terms::Sizes;
 use totals::Totals;
 
-// The number where nothing was refused.
-const ACCEPTED: u32 = 0;
+// The kinds of answers.
+const REFUSED: u32 = 0;
 
-// What stands at an offset of a sheet: found is 1 for a job, at the offset past it; number and found are 0 at the end of the sheet.
+const LAID_OUT: u32 = 1;
+
+const POSTED: u32 = 2;
+
+const GOING_ON: u32 = 3;
+
+const ENDED: u32 = 4;
+
+const NONE_READY: u32 = 5;
+
+const HANDED_OUT: u32 = 6;
+
+// What a call or a step answers. A refusal has its number, 6 also the place in the list; a job handed out has its place and its name.
+// What does not belong to a kind is 0.
 #[repr(C)]
-pub struct EntryRead {
+pub struct GraphAnswer {
+    pub kind: u32,
     pub number: u32,
-    pub found: u32,
-    pub at: usize,
-    pub entry: Entry,
+    pub place: u32,
+    pub job: u32,
+    pub name: u32,
 }
 
-// Where the entry ends in the output, or a refusal with the place of its field from the entry's start.
-#[repr(C)]
-pub struct EntryWritten {
-    pub number: u32,
-    pub at: usize,
-}
-
-// How many entries a sheet has, or a refusal with its offset.
-#[repr(C)]
-pub struct SheetScanned {
-    pub number: u32,
-    pub entries: usize,
-    pub at: usize,
-}
-
-// How many entries and bytes were written, or a refusal with the entry's number and the place of its field from the entry's start.
-#[repr(C)]
-pub struct SheetWritten {
-    pub number: u32,
-    pub entry: usize,
-    pub at: usize,
-}
-
-// The bucket of a name: its top bits after the multiplication.
-#[no_mangle]
-pub extern "C" fn tg_bucket(name: u32, bits: u32) -> u32
-    ensures { λ r. ⌜ r ≡ bucketOf name bits ⌝ }
+// An answer that has nothing but its kind.
+fn plain(kind: u32) -> GraphAnswer
+    ensures { λ r. ⌜ r ≡ plain kind ⌝ }
 {
-    bucket::bucket(name, bits)
-}
-
-// The minutes of a class; 0 where there is no such class.
-#[no_mangle]
-pub extern "C" fn tg_minutes(class: u32) -> u32
-    ensures { λ r. ⌜ r ≡ minutesIn fixedMinutes class ⌝ }
-{
-    minutes::minutes(class)
-}
-
-// The entry at an offset of a sheet.
-#[no_mangle]
-pub extern "C" fn tg_read_entry(sheet: &[u8], at: usize) -> EntryRead
-    ensures { λ r. ⌜ r ≡ entryRead at (decode (now (sheet .entry)) at) ⌝ }
-{
-    let reading = sheet_reader::read(sheet, at);
-    let answer = reading.answer;
-    let entry = reading.entry;
-    match answer {
-        Read::Job { next } => EntryRead {
-            number: ACCEPTED,
-            found: 1,
-            at: next,
-            entry,
-        },
-        Read::End => EntryRead {
-            number: ACCEPTED,
-            found: 0,
-            at,
-            entry,
-        },
-        Read::Refused { number, at: field } => EntryRead {
-            number,
-            found: 0,
-            at: field,
-            entry,
-        },
+    GraphAnswer {
+        kind,
+        number: 0,
+        place: 0,
+        job: 0,
+        name: 0,
     }
 }
 
-// Stores an entry at an offset of the output. A refusal leaves the output as it was.
-#[no_mangle]
-pub extern "C" fn tg_write_entry(out: &mut [u8], at: usize, entry: Entry) -> EntryWritten
-    ensures { λ r. ⌜ r ≡ entryWritten (writeEntry entry (now (out .entry)) at .answer) × now (out .exit) ≡ writeEntry entry (now (out .entry)) at .out ⌝ }
-{
-    match sheet_writer::write(out, at, entry) {
-        Wrote::Done { next } => EntryWritten {
-            number: ACCEPTED,
-            at: next,
-        },
-        Wrote::Refused { number, at: field } => EntryWritten { number, at: field },
-    }
-}
-
-// How reading a whole sheet ended, as C has it.
-fn scanned(answer: SheetRead) -> SheetScanned
-    ensures { λ r. ⌜ r ≡ sheetRead answer ⌝ }
+// An answer of the graph, as C has it.
+fn answered(answer: Answer) -> GraphAnswer
+    ensures { λ r. ⌜ r ≡ graphAnswer answer ⌝ }
 {
     match answer {
-        SheetRead::Whole { entries } => SheetScanned {
-            number: ACCEPTED,
-            entries,
-            at: 0,
+        Answer::Laid => plain(LAID_OUT),
+        Answer::Posted => plain(POSTED),
+        Answer::Going => plain(GOING_ON),
+        Answer::Ended => plain(ENDED),
+        Answer::NoneReady => plain(NONE_READY),
+        Answer::Handed { job, name } => GraphAnswer {
+            kind: HANDED_OUT,
+            number: 0,
+            place: 0,
+            job,
+            name,
         },
-        SheetRead::Refused { number, at } => SheetScanned {
+        Answer::Refused { number, place } => GraphAnswer {
+            kind: REFUSED,
             number,
-            entries: 0,
-            at,
+            place,
+            job: 0,
+            name: 0,
         },
     }
 }
 
-// Judges a whole sheet and counts its entries.
+// How long the tables must be for these sizes.
 #[no_mangle]
-pub extern "C" fn tg_scan_sheet(sheet: &[u8]) -> SheetScanned
-    ensures { λ r. ⌜ r ≡ sheetScanned (decodeSheet (now (sheet .entry))) ⌝ }
+pub extern "C" fn tg_words_needed(sizes: Sizes) -> Need
+    ensures { λ r. ⌜ r ≡ wordsNeeded sizes ⌝ }
 {
-    scanned(sheet_reader::scan_sheet(sheet))
+    graph::words_needed(sizes)
 }
 
-// Reads a whole sheet into rows of words, one for each entry. A refusal leaves the rows as they were.
+// Lays the tables out for a fresh graph.
 #[no_mangle]
-pub extern "C" fn tg_read_sheet(sheet: &[u8], rows: &mut [u32]) -> SheetScanned
-    ensures { λ r. ⌜ r ≡ sheetRead (readSheet (decodeSheet (now (sheet .entry))) (now (rows .entry)) .answer) × now (rows .exit) ≡ readSheet (decodeSheet (now (sheet .entry))) (now (rows .entry)) .rows ⌝ }
+pub extern "C" fn tg_lay_out(
+    sizes: Sizes,
+    jobs: &mut [u32],
+    arcs: &mut [u32],
+    buckets: &mut [u32],
+    queue: &mut [u32],
+    workers: &mut [u32],
+) -> GraphAnswer
+    ensures { λ r. ⌜ r ≡ graphAnswer (layOut sizes (lent (jobs .entry) (arcs .entry) (buckets .entry) (queue .entry) (workers .entry)) .answer) × lent (jobs .exit) (arcs .exit) (buckets .exit) (queue .exit) (workers .exit) ≡ layOut sizes (lent (jobs .entry) (arcs .entry) (buckets .entry) (queue .entry) (workers .entry)) .state ⌝ }
 {
-    scanned(sheet_reader::read_sheet(sheet, rows))
+    answered(graph::lay_out(sizes, jobs, arcs, buckets, queue, workers))
 }
 
-// Stores the entries of all rows in the front of the output. A refusal leaves the output as it was.
+// Posts an add of the entry's job.
 #[no_mangle]
-pub extern "C" fn tg_write_sheet(rows: &[u32], out: &mut [u8]) -> SheetWritten
-    ensures { λ r. ⌜ r ≡ sheetWritten (writeSheet (now (rows .entry)) (now (out .entry)) .answer) × now (out .exit) ≡ writeSheet (now (rows .entry)) (now (out .entry)) .out ⌝ }
+pub extern "C" fn tg_post_add(
+    sizes: Sizes,
+    jobs: &mut [u32],
+    arcs: &mut [u32],
+    buckets: &mut [u32],
+    queue: &mut [u32],
+    workers: &mut [u32],
+    worker: u32,
+    entry: Entry,
+) -> GraphAnswer
+    ensures { λ r. ⌜ r ≡ graphAnswer (addWords sizes (lent (jobs .entry) (arcs .entry) (buckets .entry) (queue .entry) (workers .entry)) worker (argumentsOf entry) .answer) × lent (jobs .exit) (arcs .exit) (buckets .exit) (queue .exit) (workers .exit) ≡ addWords sizes (lent (jobs .entry) (arcs .entry) (buckets .entry) (queue .entry) (workers .entry)) worker (argumentsOf entry) .state ⌝ }
 {
-    match sheet_writer::write_sheet(rows, out) {
-        SheetWrote::Done { entries, bytes } => SheetWritten {
-            number: ACCEPTED,
-            entry: entries,
-            at: bytes,
-        },
-        SheetWrote::Refused { number, entry, at } => SheetWritten { number, entry, at },
-    }
+    let names = entry.names;
+    answered(graph::post_add(
+        sizes,
+        jobs,
+        arcs,
+        buckets,
+        queue,
+        workers,
+        worker,
+        entry.name,
+        names,
+        entry.count,
+        entry.class,
+        entry.grower,
+    ))
 }
 
-// The board on words: a label and a class for each record.
+// Posts a finish of the held job of this name.
 #[no_mangle]
-pub extern "C" fn tg_totals_of_words(words: &[u32]) -> Totals
-    ensures { λ r. ⌜ r ≡ totalsOfWords fixedMinutes (now (words .entry)) ⌝ }
+pub extern "C" fn tg_post_finish(
+    sizes: Sizes,
+    jobs: &mut [u32],
+    arcs: &mut [u32],
+    buckets: &mut [u32],
+    queue: &mut [u32],
+    workers: &mut [u32],
+    worker: u32,
+    name: u32,
+) -> GraphAnswer
+    ensures { λ r. ⌜ r ≡ graphAnswer (finishWords sizes (lent (jobs .entry) (arcs .entry) (buckets .entry) (queue .entry) (workers .entry)) worker name .answer) × lent (jobs .exit) (arcs .exit) (buckets .exit) (queue .exit) (workers .exit) ≡ finishWords sizes (lent (jobs .entry) (arcs .entry) (buckets .entry) (queue .entry) (workers .entry)) worker name .state ⌝ }
 {
-    totals::of_words(words)
+    answered(graph::post_finish(sizes, jobs, arcs, buckets, queue, workers, worker, name))
 }
 
-// The board on a lent row of records.
+// Makes one step of the worker's call.
 #[no_mangle]
-pub extern "C" fn tg_totals_of_records(records: &[JobRecord]) -> Totals
-    ensures { λ r. ⌜ r ≡ totalsOf fixedMinutes (now (records .entry)) ⌝ }
+pub extern "C" fn tg_step(
+    sizes: Sizes,
+    jobs: &mut [u32],
+    arcs: &mut [u32],
+    buckets: &mut [u32],
+    queue: &mut [u32],
+    workers: &mut [u32],
+    worker: u32,
+) -> GraphAnswer
+    ensures { λ r. ⌜ r ≡ graphAnswer (stepWords sizes (lent (jobs .entry) (arcs .entry) (buckets .entry) (queue .entry) (workers .entry)) worker .answer) × lent (jobs .exit) (arcs .exit) (buckets .exit) (queue .exit) (workers .exit) ≡ stepWords sizes (lent (jobs .entry) (arcs .entry) (buckets .entry) (queue .entry) (workers .entry)) worker .state ⌝ }
 {
-    totals::of_records(records)
+    answered(graph::step(sizes, jobs, arcs, buckets, queue, workers, worker))
+}
+
+// Hands the worker the job at the head of the queue.
+#[no_mangle]
+pub extern "C" fn tg_get(
+    sizes: Sizes,
+    jobs: &mut [u32],
+    arcs: &mut [u32],
+    buckets: &mut [u32],
+    queue: &mut [u32],
+    workers: &mut [u32],
+    worker: u32,
+) -> GraphAnswer
+    ensures { λ r. ⌜ r ≡ graphAnswer (getWords sizes (lent (jobs .entry) (arcs .entry) (buckets .entry) (queue .entry) (workers .entry)) worker .answer) × lent (jobs .exit) (arcs .exit) (buckets .exit) (queue .exit) (workers .exit) ≡ getWords sizes (lent (jobs .entry) (arcs .entry) (buckets .entry) (queue .entry) (workers .entry)) worker .state ⌝ }
+{
+    answered(graph::get(sizes, jobs, arcs, buckets, queue, workers, worker))
+}
+
+// The board over the graph's own jobs.
+#[no_mangle]
+pub extern "C" fn tg_totals_of_graph(sizes: Sizes, jobs: &[u32]) -> Totals
+    ensures { λ r. ⌜ r ≡ graphTotals fixedMinutes sizes (now (jobs .entry)) ⌝ }
+{
+    graph_totals::totals_of_graph(sizes, jobs)
 }
