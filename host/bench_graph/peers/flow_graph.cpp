@@ -33,6 +33,8 @@ static double nanoseconds_a_job(const std::vector<std::vector<size_t>> &lists, b
     flow::graph graph;
     std::deque<Node> nodes;
     std::unordered_map<uint32_t, Node *> named;
+    if (by_name)
+        named.reserve(lists.size()); // the library's tables too have their size beforehand
     for (const auto &list : lists) {
         nodes.emplace_back(graph, [&done](const flow::continue_msg &message) { done++; return message; });
         for (size_t prerequisite : list)
@@ -54,9 +56,12 @@ static double nanoseconds_a_job(const std::vector<std::vector<size_t>> &lists, b
 
 int main(int count, char **arguments)
 {
-    if (count != 3)
+    std::string by = count == 3 ? arguments[1] : "";
+    if (by != "places" && by != "names") {
+        std::fprintf(stderr, "usage: flow_graph places|names FILE\n");
         return 2;
-    bool by_name = std::string(arguments[1]) == "names";
+    }
+    bool by_name = by == "names";
     oneapi::tbb::global_control one_thread(oneapi::tbb::global_control::max_allowed_parallelism, 1);
     std::vector<std::vector<size_t>> lists;
     std::ifstream file(arguments[2]);

@@ -20,7 +20,7 @@ use library::graph::Sizes;
 use peers::Peer;
 
 /// Rounds of a graph of 4,096 jobs. The two implementations take turns; the best round of each counts.
-const ROUNDS: usize = 20;
+const ROUNDS: usize = 100;
 
 /// After so many rounds it is the peers' turn, and then all begin again: a machine has slow seconds.
 const TURNS: usize = 3;
@@ -74,7 +74,7 @@ fn measure(shape: &Shape, peers: &[Peer]) -> f64 {
     let (mut proved, mut unproved) = (f64::INFINITY, f64::INFINITY);
     let mut theirs: Vec<Option<Result<f64, String>>> = vec![None; peers.len()];
     for _ in 0..TURNS {
-        for _ in 0..rounds(shape) {
+        for _ in 0..rounds(ROUNDS, shape) {
             proved = proved.min(round::<Proved>(sizes, &mut arena, shape).total());
             unproved = unproved.min(round::<Unproved>(sizes, &mut arena, shape).total());
         }
@@ -98,9 +98,9 @@ fn measure(shape: &Shape, peers: &[Peer]) -> f64 {
     proved / unproved
 }
 
-/// As many rounds for a small graph as fill about as much time as a large one's.
-fn rounds(shape: &Shape) -> usize {
-    ROUNDS * 4_096 / shape.lists.len()
+/// So many rounds of a graph of 4,096 jobs, and of a smaller one as many as fill about that time.
+fn rounds(of_large: usize, shape: &Shape) -> usize {
+    of_large * 4_096 / shape.lists.len()
 }
 
 /// The better of two times; a failure stays.
@@ -145,6 +145,9 @@ fn round<C: Calls>(sizes: Sizes, arena: &mut Arena, shape: &Shape) -> Round {
 
 // ---- steps
 
+/// Rounds of a graph of 4,096 jobs whose steps are timed: with one bucket bit a round takes long.
+const STEPS_ROUNDS: usize = 60;
+
 /// The longest lists of the graphs whose steps are timed.
 const STEPS_LONGEST: usize = 4;
 
@@ -166,7 +169,7 @@ fn a_step(shape: &Shape, bits: u32) -> [(f64, f64); 2] {
     let sizes = shape.sizes(bits);
     let mut arena = Arena::new(sizes);
     let mut best = [(f64::INFINITY, f64::INFINITY); 2];
-    for _ in 0..TURNS * rounds(shape) {
+    for _ in 0..rounds(STEPS_ROUNDS, shape) {
         let taken = [round::<Proved>(sizes, &mut arena, shape), round::<Unproved>(sizes, &mut arena, shape)];
         for (best, taken) in best.iter_mut().zip(taken) {
             best.0 = best.0.min(taken.building / taken.build_calls as f64);
