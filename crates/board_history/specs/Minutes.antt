@@ -1,5 +1,5 @@
--- "From a fresh graph, the three sums together equal the minutes of all jobs that ever entered": after any items, the board over the graph's own row is
--- served, and its sums are together the minutes of the accepted adds, by any table of minutes. Assumes nothing.
+-- After any items from a fresh graph, the board over the graph's own row accounts for every job (graph_board,
+-- Accounted.antt), by any table of minutes. Assumes nothing.
 use mathlib.Core.Path.{_≡_, refl, sym, ap, _∙_}
 use mathlib.Core.Bool.{Bool, true, false, _&&_, _||_}
 use mathlib.Core.List.{List, [], _∷_}
@@ -20,16 +20,19 @@ use Rattle.words.specs.Words.{perform, layOut}
 use Rattle.rules.specs.Rules.{Graph, empty, job}
 use Rattle.rules.specs.Rules as rules
 use Rattle.rules.specs.Sound.{Sound}
-use Rattle.reference.specs.Book.{Book, blank, Call, add, get, finish, End, accepted, noneReady, handed, refused, addEnd, addKnown, firstUnknown, Follows, done, feed}
+use Rattle.reference.specs.Book.{Book, blank, Call, add, get, finish, End, accepted, noneReady, handed, refused, addEnd}
+use Rattle.reference.specs.Book.{addKnown, firstUnknown, Follows, done, feed}
 use Rattle.reference.specs.Book as book
 use Rattle.reading.specs.Reading.{reading, acceptedAdds}
 use Rattle.story.specs.Story.{noArguments, Added, Booked}
 use Rattle.refinement.specs.Rep.{Ghost, Stands}
 use Rattle.tables_rep.specs.Stand.{limits-of}
-use Rattle.totals.specs.Board.{sumOver, itsMinutes, minutesOfAll, wellFormed, allWellFormed, mostRecords, served, totalsOf, counted}
-use Rattle.totals.specs.AllJobs.{together, all-jobs}
+use Rattle.totals.specs.Board.{sumOver, itsMinutes, minutesOfAll, wellFormed, allWellFormed, mostRecords, served}
+use Rattle.totals.specs.Board.{totalsOf, counted}
+use Rattle.totals.specs.AllJobs.{all-jobs}
 use Rattle.totals.specs.declared.JobRecord.{JobRecord}
 use Rattle.graph_board.specs.Board.{rowsFrom, graphRows, jobsFit, graphTotals, minutesEntered}
+use Rattle.graph_board.specs.Accounted.{Accounted, graph-counts}
 use Rattle.history.specs.Theorem.{Reached, after-items}
 
 -- ---- an accepted add had right arguments
@@ -40,7 +43,8 @@ add-right : (s : Sizes) (b : Book) (a : Arguments) → accepted ≡ addEnd s b a
 unfolding addEnd
 add-right s b a e = go (argumentsWrong a) e
   where
-    go : (wrong : Bool) → accepted ≡ pick wrong (refused 5 0) (addKnown s b a (firstUnknown (b .jobs) (Rattle.terms.specs.Terms.listed a) 0)) → wrong ≡ false
+    go : (wrong : Bool)
+        → accepted ≡ pick wrong (refused 5 0) (addKnown s b a (firstUnknown (b .jobs) (Rattle.terms.specs.Terms.listed a) 0)) → wrong ≡ false
     go true e = never (cc)
     go false e = refl
 
@@ -56,10 +60,11 @@ unfolding acceptedAdds
 adds-right done = λ k h. absurd (omega arith)
 adds-right {s} (feed {b} {c} {e} {l} z f) = by (e .call) (e .end) z (adds-right f)
   where
-    by : (x : Call) (y : End) → book.Ends s b x y → Right (acceptedAdds l) → Right (acceptedAdds (record { call = x; end = y } ∷ l))
+    by : (x : Call) (y : End) → book.Ends s b x y → Right (acceptedAdds l)
+        → Right (acceptedAdds (record { call = x; end = y } ∷ l))
     by (add w a) accepted z r = right-more a (acceptedAdds l) (add-right s b a z) r
     by (add w a) noneReady z r = r
-    by (add w a) (handed j) z r = r
+    by (add w a) (handed j name) z r = r
     by (add w a) (refused n i) z r = r
     by (get w) y z r = r
     by (finish w name) y z r = r
@@ -83,7 +88,8 @@ unfolding rowsFrom
 rows-length f j zero = refl
 rows-length f j (suc n) = ap suc (rows-length f (suc j) n)
 
-rows-well : (f : ℕ → ℕ → ℕ) (j n : ℕ) → ((k : ℕ) → k < n → (f LABEL (j + k) ≤ 2) × (f CLASS (j + k) ≤ 15)) → allWellFormed (rowsFrom f j n) ≡ true
+rows-well : (f : ℕ → ℕ → ℕ) (j n : ℕ) → ((k : ℕ) → k < n → (f LABEL (j + k) ≤ 2) × (f CLASS (j + k) ≤ 15))
+    → allWellFormed (rowsFrom f j n) ≡ true
 unfolding rowsFrom allWellFormed
 rows-well f j zero h = refl
 rows-well f j (suc n) h =
@@ -92,7 +98,8 @@ rows-well f j (suc n) h =
     let rest = rows-well f (suc j) n (λ k l. let e : suc j + k ≡ j + suc k = omega arith in rw e (h (suc k) (omega arith))) in
     rw (le-leb (f LABEL j) 2 (here .0), lt-ltb (f CLASS j) 16 (omega (arith, here .1)), rest)
 
-rows-minutes : (table : List ℕ) (f : ℕ → ℕ → ℕ) (l : List Arguments) (j : ℕ) → ((k : ℕ) → k < length l → f CLASS (j + k) ≡ getD l k noArguments .class)
+rows-minutes : (table : List ℕ) (f : ℕ → ℕ → ℕ) (l : List Arguments) (j : ℕ)
+    → ((k : ℕ) → k < length l → f CLASS (j + k) ≡ getD l k noArguments .class)
     → minutesOfAll table (rowsFrom f j (length l)) ≡ minutesEntered table l
 unfolding rowsFrom sumOver minutesEntered
 rows-minutes table f [] j h = refl
@@ -103,10 +110,6 @@ rows-minutes table f (a ∷ l) j h =
     rw (here, rest)
 
 -- ---- the theorem
-pub record Accounted (table : List ℕ) (s : Sizes) (jobs : List ℕ) (adds : List Arguments) : Type 0 where
-  pub answered : graphTotals table s jobs .number ≡ served
-  pub minutes : together (graphTotals table s jobs .minutes) ≡ minutesEntered table adds
-
 module _ (table : List ℕ) (s : Sizes) (t : Tables) (laid : layOut s t .answer ≡ Laid) (items : List Item) where
   abbrev T : Tables
   T = after perform (layOut s t .state) items
@@ -158,10 +161,14 @@ module _ (table : List ℕ) (s : Sizes) (t : Tables) (laid : layOut s t .answer 
       let small : length (rowsFrom f 0 (length adds)) ≤ mostRecords = omega (arith, few, limits-of s (R .stands .limits) .jobs) in
       rw (le-ltb mostRecords (length (rowsFrom f 0 (length adds))) small, formed)
 
-  pub accounted : Accounted table s (T .jobs) adds
+  is-served : graphTotals table s (T .jobs) .number ≡ served
+  is-served = rw plain answers
+
+  pub accounted : Accounted graphTotals table s (T .jobs) adds
   accounted = record {
-    answered = rw plain answers;
-    minutes =
+    answered = is-served;
+    under-labels = graph-counts table s (T .jobs) is-served;
+    all-minutes =
         rw plain
         (all-jobs table (rowsFrom f 0 (length adds)) answers .minutes
         ∙ rows-minutes table f adds 0 (λ k h. let e : 0 + k ≡ k = omega arith in rw e (class-of k h)));

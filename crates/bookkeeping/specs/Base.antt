@@ -1,4 +1,5 @@
--- Small laws of maps changed at one place, of choices by a test, of occurrences, and of what a change at one place leaves in a list. Assumes nothing.
+-- Small laws of maps changed at one place, of choices by a test, of occurrences, and of what a change at one place
+-- leaves in a list. Assumes nothing.
 use mathlib.Core.Path.{_≡_, refl, sym, ap, _∙_}
 use mathlib.Core.Logic.{_≢_}
 use mathlib.Core.Bool.{Bool, true, false}
@@ -9,6 +10,10 @@ use lib.ListN.{getD, set, List·getD-map}
 use lib.Seq.{map-set-same}
 use borrow.Author.Tests.{eq-eqb, ne-eqb}
 use Rattle.terms.specs.Base.{pick, update, occurrences}
+
+-- ---- 0 is not 1
+pub never : {A : Type 0} → _≡_ {A = ℕ} 0 1 → A
+never e = absurd (omega arith)
 
 -- ---- a map changed at one place
 pub update-same : {A : Type 0} (f : ℕ → A) (i : ℕ) (v : A) → update f i v i ≡ v
@@ -29,7 +34,8 @@ pick-by Q true f g = f refl
 pick-by Q false f g = g refl
 
 -- ---- a change at one place that keeps a field keeps it everywhere
-pub kept-field : {A B : Type 0} (f : A → B) (l : List A) (i : ℕ) (y d : A) → f y ≡ f (getD l i d) → (j : ℕ) → f (getD (set l i y) j d) ≡ f (getD l j d)
+pub kept-field : {A B : Type 0} (f : A → B) (l : List A) (i : ℕ) (y d : A) → f y ≡ f (getD l i d) → (j : ℕ)
+    → f (getD (set l i y) j d) ≡ f (getD l j d)
 kept-field f l i y d e j =
     sym (List·getD-map f (set l i y) j d) ∙ ap (λ m. getD m j (f d)) (map-set-same f l i y d e) ∙ List·getD-map f l j d
 

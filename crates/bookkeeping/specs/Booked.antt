@@ -1,5 +1,6 @@
--- The plain book, fed the calls read so far in the order of their deciding steps, has each end as it did, and has the graph's jobs, labels and
--- holds ("The plain book", demand 3), in every story. Assumes that every story's graph is sound.
+-- The plain book, fed the calls read so far in the order of their deciding steps, has each end as it did, and has the
+-- graph's jobs, labels and holds ("The plain book", demand 3), in every story. Assumes that every story's graph is
+-- sound.
 use mathlib.Core.Path.{_≡_, refl, sym, ap, _∙_, fun-ext}
 use mathlib.Core.Bool.{Bool, true, false}
 use mathlib.Core.List.{List, [], _∷_, _++_, map}
@@ -10,23 +11,32 @@ use lib.Dec.{eqb}
 use native.Mathlib.Decide.{ℕ-discrete}
 use lib.ListN.{length, getD, set, length-map, List·getD-map}
 use Rattle.terms.specs.Base.{pick, update, prefix}
-use Rattle.terms.specs.Terms.{Label, Arguments, wrongArguments, unknownName, namePresent, noRoom, alreadyHolding, notHeld, finished, executing}
+use Rattle.terms.specs.Terms.{Label, Arguments, wrongArguments, unknownName, namePresent, noRoom, alreadyHolding}
+use Rattle.terms.specs.Terms.{notHeld, finished, executing}
 use Rattle.terms.specs.declared.Sizes.{Sizes}
 use Rattle.terms.specs.declared.Answer.{Answer}
-use Rattle.rules.specs.Rules.{Call, idle, looking, linking, notifying, Worker, Graph, empty, job, perform, withLabel, newJob, turn, withCall, entered, marked, handedOut}
+use Rattle.rules.specs.Rules.{Call, idle, looking, linking, notifying, Worker, Graph, empty, job, perform, withLabel}
+use Rattle.rules.specs.Rules.{newJob, turn, withCall, entered, marked, handedOut}
 use Rattle.rules.specs.Sound.{Looking, Sound}
-use Rattle.reference.specs.Book.{noEntry, Book, blank, labelled, finishedBy, next, Ends, Follows, done, listedNames, addEnd, add, get, finish, accepted, noneReady, handed, refused, holding, taken}
+use Rattle.reference.specs.Book.{noEntry, Book, blank, labelled, finishedBy, next, Ends, Follows, done, listedNames}
+use Rattle.reference.specs.Book.{addEnd, add, get, finish, accepted, noneReady, handed, refused, holding, taken}
 use Rattle.reference.specs.Book as book
 use Rattle.reading.specs.Reading.{Reading, unread, becomes, decided, note, acceptedAdds}
 use Rattle.reading.specs.Reading as reading
 use Rattle.story.specs.Story.{Story, start, then, entryOf, entriesOf, noArguments, Booked}
 use Rattle.bookkeeping.specs.Base.{update-at, update-other, head-occurs}
-use Rattle.bookkeeping.specs.Change.{Change, nothing, addWrong, addPosted, finishWrong, finishPosted, lookedUp, nameUnknown, nameThere, roomLacking, jobEntered, tallied, arcAppended, jobSettled, markedLast, markedGoing, arcNotified, lastNotified, getHolding, getNone, getHanded, workerOf}
+use Rattle.bookkeeping.specs.Change.{Change, nothing, addWrong, addPosted, finishWrong, finishPosted, lookedUp}
+use Rattle.bookkeeping.specs.Change.{nameUnknown, nameThere, roomLacking, jobEntered, tallied, arcAppended}
+use Rattle.bookkeeping.specs.Change.{jobSettled, markedLast, markedGoing, arcNotified, lastNotified, getHolding}
+use Rattle.bookkeeping.specs.Change.{getNone, getHanded}
+use Rattle.terms.specs.Runs.{workerOf}
 use Rattle.bookkeeping.specs.Changes.{changes}
 use Rattle.bookkeeping.specs.Paced.{paced}
-use Rattle.bookkeeping.specs.Entries.{entry-at, entries-length, entries-append, entries-set, entries-kept, listed-append, listed-kept, listed-length}
+use Rattle.bookkeeping.specs.Entries.{entry-at, entries-length, entries-append, entries-set, entries-kept}
+use Rattle.bookkeeping.specs.Entries.{listed-append, listed-kept, listed-length}
 use Rattle.bookkeeping.specs.Feeding.{follows-then, Asked, askedOf, asks, accepted-asked}
-use Rattle.bookkeeping.specs.Ends.{bookOf, finish-not, finish-held, add-wrong, add-unknown, add-there, add-no-room, add-accepted, queued-ready}
+use Rattle.bookkeeping.specs.Ends.{bookOf, name-at, finish-not, finish-held, add-wrong, add-unknown, add-there}
+use Rattle.bookkeeping.specs.Ends.{add-no-room, add-accepted, queued-ready}
 
 -- what is kept: the book of the graph is reached, and the reserved arcs are the names in the jobs' lists
 pub record Kept (s : Sizes) (g : Graph) (r : Reading) : Type 0 where
@@ -34,7 +44,8 @@ pub record Kept (s : Sizes) (g : Graph) (r : Reading) : Type 0 where
   pub reserved : listedNames (entriesOf (g .jobs)) ≡ g .reserved
 
 -- ---- holds
-held-after : (f : ℕ → Worker) (w : ℕ) (h : Option ℕ) (c : Call) → (λ v. update f w (record { held = h; call = c }) v .held) ≡ update (λ v. f v .held) w h
+held-after : (f : ℕ → Worker) (w : ℕ) (h : Option ℕ) (c : Call)
+    → (λ v. update f w (record { held = h; call = c }) v .held) ≡ update (λ v. f v .held) w h
 unfolding update
 held-after f w h c = fun-ext (λ v. go v (eqb v w))
   where
@@ -42,7 +53,8 @@ held-after f w h c = fun-ext (λ v. go v (eqb v w))
     go v true = refl
     go v false = refl
 
-held-kept : (f : ℕ → Worker) (w : ℕ) (c : Call) (v : ℕ) → update f w (record { held = f w .held; call = c }) v .held ≡ f v .held
+pub held-kept : (f : ℕ → Worker) (w : ℕ) (c : Call) (v : ℕ)
+    → update f w (record { held = f w .held; call = c }) v .held ≡ f v .held
 held-kept f w c v = elim (ℕ-discrete v w) [
   | yes z ↦ rw (update-at f w (record { held = f w .held; call = c }) v z, z)
   | no z ↦ rw (update-other f w (record { held = f w .held; call = c }) v z)
@@ -55,7 +67,8 @@ next-refused b (add w a) n i = refl
 next-refused b (get w) n i = refl
 next-refused b (finish w name) n i = refl
 
-labelled-same : (g : Graph) (j : ℕ) (l : Label) → entriesOf (set (g .jobs) j (withLabel (job g j) l)) ≡ labelled (bookOf g) j l
+labelled-same : (g : Graph) (j : ℕ) (l : Label)
+    → entriesOf (set (g .jobs) j (withLabel (job g j) l)) ≡ labelled (bookOf g) j l
 labelled-same g j l = entries-set (g .jobs) j (withLabel (job g j) l) ∙ rw (entry-at (g .jobs) j)
 
 labelled-listed : (g : Graph) (j : ℕ) (l : Label) → listedNames (entriesOf (g .jobs)) ≡ g .reserved
@@ -63,7 +76,8 @@ labelled-listed : (g : Graph) (j : ℕ) (l : Label) → listedNames (entriesOf (
 labelled-listed g j l e = ap listedNames (labelled-same g j l) ∙ listed-kept (entriesOf (g .jobs)) j _ refl ∙ e
 
 module _ (s : Sizes) (g : Graph) (r : Reading) (S : Sound s g) (K : Kept s g r) (w : ℕ) where
-  same-book : (after : Graph) → entriesOf (after .jobs) ≡ entriesOf (g .jobs) → ((v : ℕ) → after .workers v .held ≡ g .workers v .held)
+  same-book : (after : Graph) → entriesOf (after .jobs) ≡ entriesOf (g .jobs)
+      → ((v : ℕ) → after .workers v .held ≡ g .workers v .held)
       → bookOf after ≡ bookOf g
   same-book after e h = λ i. record { jobs = e i; held = λ v. h v i }
 
@@ -74,13 +88,16 @@ module _ (s : Sizes) (g : Graph) (r : Reading) (S : Sound s g) (K : Kept s g r) 
   looking-at e = rw e at (S .calls w)
 
   -- ---- a change that does not show in the book
-  unseen : (after : Graph) (later : Reading) → entriesOf (after .jobs) ≡ entriesOf (g .jobs) → ((v : ℕ) → after .workers v .held ≡ g .workers v .held)
+  unseen : (after : Graph) (later : Reading) → entriesOf (after .jobs) ≡ entriesOf (g .jobs)
+      → ((v : ℕ) → after .workers v .held ≡ g .workers v .held)
       → after .reserved ≡ g .reserved → later .calls ≡ r .calls → Kept s after later
   unseen after later e h n c = record { follows = rw (c, same-book after e h) (K .follows); reserved = rw (e, n) (K .reserved) }
 
   -- ---- a call more
-  fed : (after : Graph) (later : Reading) (x : book.Call) (e : book.End) → later .calls ≡ r .calls ++ (record { call = x; end = e } ∷ [])
-      → Ends s (bookOf g) x e → bookOf after ≡ next (bookOf g) x e → listedNames (entriesOf (after .jobs)) ≡ after .reserved → Kept s after later
+  fed : (after : Graph) (later : Reading) (x : book.Call) (e : book.End)
+      → later .calls ≡ r .calls ++ (record { call = x; end = e } ∷ [])
+      → Ends s (bookOf g) x e → bookOf after ≡ next (bookOf g) x e
+      → listedNames (entriesOf (after .jobs)) ≡ after .reserved → Kept s after later
   fed after later x e c z same n = record { follows = rw (c, same) (follows-then (K .follows) x e z); reserved = n }
 
   refused-now : (x : book.Call) (n i : ℕ) → Ends s (bookOf g) x (refused n i) → Kept s g (decided r x (refused n i))
@@ -92,24 +109,27 @@ module _ (s : Sizes) (g : Graph) (r : Reading) (S : Sound s g) (K : Kept s g r) 
   refused-add a n i z = fed (withCall g w idle) (becomes (decided r (add w a) (refused n i)) w reading.idle) (add w a) (refused n i) refl z
       (same-book (withCall g w idle) refl (turned idle) ∙ sym (next-refused (bookOf g) (add w a) n i)) (K .reserved)
 
-  enters : (a : Arguments) (later : Reading) → later .calls ≡ r .calls ++ (record { call = add w a; end = accepted } ∷ []) → accepted ≡ addEnd s (bookOf g) a
+  enters : (a : Arguments) (later : Reading)
+      → later .calls ≡ r .calls ++ (record { call = add w a; end = accepted } ∷ []) → accepted ≡ addEnd s (bookOf g) a
       → Kept s (entered g w a) later
   unfolding next
   enters a later c z = fed (entered g w a) later (add w a) accepted c z
       (λ i. record { jobs = entries-append (g .jobs) (newJob a) i; held = λ v. turned (linking a (length (g .jobs)) 0 0) v i })
       (rw (entries-append, listed-append) (omega (arith, K .reserved, listed-length a)))
 
-  marks : (p : ℕ) (c : Call) (later : Reading) → later .calls ≡ r .calls ++ (record { call = finish w (job g p .name); end = accepted } ∷ [])
+  marks : (p : ℕ) (c : Call) (later : Reading)
+      → later .calls ≡ r .calls ++ (record { call = finish w (job g p .name); end = accepted } ∷ [])
       → g .workers w .held ≡ some p → Kept s (marked g w p c) later
   unfolding next finishedBy
   marks p c later l h = fed (marked g w p c) later (finish w (job g p .name)) accepted l (rw h (finish-held g p))
       (rw (h, labelled-same g p finished, held-after (g .workers) w none c))
       (labelled-listed g p finished (K .reserved))
 
-  hands : (j : ℕ) (q : List ℕ) → g .workers w .held ≡ none → g .queue ≡ j ∷ q → Kept s (handedOut g w j q) (decided r (get w) (handed j))
+  hands : (j : ℕ) (q : List ℕ) → g .workers w .held ≡ none → g .queue ≡ j ∷ q
+      → Kept s (handedOut g w j q) (decided r (get w) (handed j (job g j .name)))
   unfolding next
-  hands j q h z = fed (handedOut g w j q) (decided r (get w) (handed j)) (get w) (handed j) refl
-      (rw h (taken j (queued-ready S j (rw z (head-occurs j q)))))
+  hands j q h z = fed (handedOut g w j q) (decided r (get w) (handed j (job g j .name))) (get w) (handed j (job g j .name)) refl
+      (rw h (rw (name-at g j) at (taken j (queued-ready S j (rw z (head-occurs j q))))))
       (rw (labelled-same g j executing, held-after (g .workers) w (some j) idle))
       (labelled-listed g j executing (K .reserved))
 

@@ -7,26 +7,31 @@ use Prim.Native.Nat.{ℕ, suc, _+_, _<_}
 use native.Mathlib.Omega.{arith}
 use lib.Dec.{ltb, eqb}
 use lib.ListN.{length, getD}
-use borrow.Author.Tests.{eq-eqb, ne-eqb, ltb-true, ltb-false, eqb-true}
-use Rattle.terms.specs.Terms.{Label, unexecuted, executing, finished, Arguments, listed, argumentsWrong, wrongSizes, noSuchWorker, halfDone, nothingToStep, damaged, sameSizes}
+use borrow.Author.Tests.{eq-eqb, ne-eqb, ltb-true, ltb-false, eqb-true, le-ltb, lt-leb}
+use Rattle.terms.specs.Terms.{Label, unexecuted, executing, finished, Arguments, listed, argumentsWrong, wrongSizes}
+use Rattle.terms.specs.Terms.{noSuchWorker, halfDone, nothingToStep, damaged, sameSizes}
 use Rattle.terms.specs.Runs.{Item, postAdd, postFinish, step, get, Outcome, outcome}
 use Rattle.terms.specs.declared.Sizes.{Sizes}
 use Rattle.terms.specs.declared.Answer.the-variants.{Going, Ended, Refused}
-use Rattle.rules.specs.Rules.{Found, at, missing, Call, idle, looking, linking, marking, notifying, Graph, job, find, lookUp, enter, link, linkTo, settled, markDependents, mark, notify, stepCall, whenIdle, addPosted, finishPosted, takeNext, getJob, admitted, perform}
+use Rattle.rules.specs.Rules.{Found, at, missing, Call, idle, looking, linking, marking, notifying, Graph, job, find}
+use Rattle.rules.specs.Rules.{lookUp, enter, link, linkTo, settled, markDependents, mark, notify, stepCall, whenIdle}
+use Rattle.rules.specs.Rules.{addPosted, finishPosted, takeNext, getJob, admitted, perform}
 use Rattle.rules.specs.Sound.{CallSound, Sound}
-use Rattle.reading.specs.Reading.{Pending, adding, finishing, Reading, becomes, endsCall, noteStep, noteAdd, noteFinish, noteGet, note}
+use Rattle.reading.specs.Reading.{Pending, adding, finishing, Reading, becomes, endsCall, noteStep, noteAdd, noteFinish}
+use Rattle.reading.specs.Reading.{noteGet, note}
 use Rattle.reading.specs.Reading as reading
 use Rattle.story.specs.Story.{PacedCall, Paced}
 use Rattle.bookkeeping.specs.Base.{pick-by}
 use Rattle.bookkeeping.specs.Change as to
-use Rattle.bookkeeping.specs.Change.{noPlace, workerOf, Change}
+use Rattle.bookkeeping.specs.Change.{noPlace, Change}
+use Rattle.terms.specs.Runs.{workerOf}
 
 -- ---- a refusal by 1 to 4, or 9, is not noted
 noted-step : (r : Reading) (w : ℕ) (p : Pending) (n i : ℕ) → endsCall n ≡ false → noteStep r w p (Refused n i) ≡ r
 unfolding noteStep
 noted-step r w reading.idle n i e = refl
 noted-step r w (adding a k) n i e = rw e
-noted-step r w (finishing name k) n i e = refl
+noted-step r w (finishing name k) n i e = rw e
 
 noted : (r : Reading) (x : Item) (n i : ℕ) → endsCall n ≡ false → note r x (Refused n i) ≡ r
 unfolding note noteAdd noteFinish noteGet
@@ -50,7 +55,8 @@ module _ (s : Sizes) (g : Graph) (r : Reading) where
       (λ _. pick-by (λ o. Done s g r w x o) (ltb w (s .workers)) (λ _. d) (λ _. refused-still w x noSuchWorker refl))
       (λ _. refused-still w x wrongSizes refl)
 
-  when-idle : (w : ℕ) (x : Item) (c : Call) {o : Outcome Graph} → (c ≡ idle → Done s g r w x o) → Done s g r w x (whenIdle g c o)
+  when-idle : (w : ℕ) (x : Item) (c : Call) {o : Outcome Graph} → (c ≡ idle → Done s g r w x o)
+      → Done s g r w x (whenIdle g c o)
   unfolding whenIdle
   when-idle w x idle d = d refl
   when-idle w x (looking a i) d = refused-still w x halfDone refl
@@ -63,7 +69,8 @@ module _ (s : Sizes) (g : Graph) (r : Reading) where
   unfolding addPosted note noteAdd
   post-add t w a = pick-by (λ o. Done s g r w (postAdd t w a) o) (argumentsWrong a) (λ e. to.addWrong a e) (λ e. to.addPosted a)
 
-  post-finish : (t : Sizes) (w name : ℕ) (h : Option ℕ) → g .workers w .held ≡ h → Done s g r w (postFinish t w name) (finishPosted g w name h)
+  post-finish : (t : Sizes) (w name : ℕ) (h : Option ℕ) → g .workers w .held ≡ h
+      → Done s g r w (postFinish t w name) (finishPosted g w name h)
   unfolding finishPosted note noteFinish
   post-finish t w name none e = to.finishWrong name (rw e tt)
   post-finish t w name (some p) e = pick-by (λ o. Done s g r w (postFinish t w name) o) (eqb (job g p .name) name)
@@ -77,25 +84,31 @@ module _ (s : Sizes) (g : Graph) (r : Reading) where
   take-next t w [] z e f = to.getNone e
   take-next t w (j ∷ q) z e f = to.getHanded j e f z
 
-  get-job : (t : Sizes) (w : ℕ) (h : Option ℕ) → g .workers w .held ≡ h → g .workers w .call ≡ idle → Done s g r w (get t w) (getJob g w h)
+  get-job : (t : Sizes) (w : ℕ) (h : Option ℕ) → g .workers w .held ≡ h → g .workers w .call ≡ idle
+      → Done s g r w (get t w) (getJob g w h)
   unfolding getJob note noteGet
   get-job t w none e f = take-next t w (g .queue) refl e f
   get-job t w (some j) e f = to.getHolding j e
 
   -- ---- the steps of an add
   module _ (t : Sizes) (w : ℕ) (a : Arguments) where
-    look-up : (i : ℕ) (f : Found) → find g (getD (listed a) i 0) ≡ f → g .workers w .call ≡ looking a i → r .pending w ≡ adding a i → i < a .count
+    same-count : ltb (a .count) (a .count) ≡ false
+    same-count = le-ltb (a .count) (a .count) (omega arith)
+
+    look-up : (i : ℕ) (f : Found) → find g (getD (listed a) i 0) ≡ f → g .workers w .call ≡ looking a i
+        → r .pending w ≡ adding a i → i < a .count
         → Done s g r w (step t w) (lookUp g w a i f)
     unfolding lookUp note noteStep
     look-up i (at j) z e p h = rw (p, ne-eqb i (a .count) (λ q. omega arith)) (to.lookedUp e h)
-    look-up i missing z e p h = rw p (to.nameUnknown e h z)
+    look-up i missing z e p h = rw (p, le-ltb (a .count) i (omega arith)) (to.nameUnknown e h z)
 
-    entering : (f : Found) → find g (a .name) ≡ f → g .workers w .call ≡ looking a (a .count) → r .pending w ≡ adding a (a .count)
+    entering : (f : Found) → find g (a .name) ≡ f → g .workers w .call ≡ looking a (a .count)
+        → r .pending w ≡ adding a (a .count)
         → Done s g r w (step t w) (enter s g w a f)
     unfolding enter note noteStep
-    entering (at j) z e p = rw p (to.nameThere j e z)
+    entering (at j) z e p = rw (p, same-count) (to.nameThere j e z)
     entering missing z e p = pick-by (λ o. Done s g r w (step t w) o) (noPlace s g a)
-        (λ q. rw p (to.roomLacking e z q))
+        (λ q. rw (p, same-count) (to.roomLacking e z q))
         (λ q. let after : suc (a .count) ≡ a .count + 1 + 0 = omega arith in rw (p, eq-eqb (a .count) (a .count) refl, after) (to.jobEntered e z q))
 
     module _ (j i u : ℕ) (e : g .workers w .call ≡ linking a j i u) (p : r .pending w ≡ adding a (a .count + 1 + i)) where
@@ -117,14 +130,16 @@ module _ (s : Sizes) (g : Graph) (r : Reading) where
       linking-one (at q) = link-to q (job g q .label)
       linking-one missing = refused-still w (step t w) damaged refl
 
-    settling : (j u : ℕ) → g .workers w .call ≡ linking a j (a .count) u → r .pending w ≡ adding a (a .count + 1 + a .count)
+    settling : (j u : ℕ) → g .workers w .call ≡ linking a j (a .count) u
+        → r .pending w ≡ adding a (a .count + 1 + a .count)
         → Done s g r w (step t w) (outcome Ended (settled g w j u (a .count)))
     unfolding note noteStep
-    settling j u e p = rw p (to.jobSettled e)
+    settling j u e p = rw (p, lt-leb (a .count + 1 + a .count) (a .count) (omega arith)) (to.jobSettled e)
 
   -- ---- the steps of a finish
   module _ (t : Sizes) (w p : ℕ) where
-    mark-dependents : (l : List ℕ) → job g p .dependents ≡ l → g .workers w .call ≡ marking → g .workers w .held ≡ some p
+    mark-dependents : (l : List ℕ) → job g p .dependents ≡ l → g .workers w .call ≡ marking
+        → g .workers w .held ≡ some p
         → r .pending w ≡ finishing (job g p .name) 0 → Done s g r w (step t w) (markDependents g w p l)
     unfolding markDependents note noteStep
     mark-dependents [] z e h q = rw q (to.markedLast p e h z)
@@ -138,7 +153,8 @@ module _ (s : Sizes) (g : Graph) (r : Reading) where
         (λ z. rw (q, ne-eqb (suc k) 0 (λ z. omega arith)) (to.lastNotified e (ltb-false (suc k) (length (job g p .dependents)) z)))
 
   -- ---- a step, by the call that the worker is in
-  steps : (t : Sizes) (w : ℕ) (h : Option ℕ) (c : Call) → g .workers w .held ≡ h → g .workers w .call ≡ c → CallSound g h c
+  steps : (t : Sizes) (w : ℕ) (h : Option ℕ) (c : Call) → g .workers w .held ≡ h → g .workers w .call ≡ c
+      → CallSound g h c
       → PacedCall g h c (r .pending w) → Done s g r w (step t w) (stepCall s g w c)
   unfolding stepCall mark
   steps t w h idle e f S P = refused-still w (step t w) nothingToStep refl

@@ -8,15 +8,18 @@ use native.Mathlib.Omega.{arith}
 use lib.ListN.{getD}
 use borrow.Author.Tests.{eq-eqb}
 use Rattle.terms.specs.Base.{pick, occurrences}
-use Rattle.terms.specs.Terms.{unexecuted, Arguments, listed, argumentsWrong, wrongArguments, unknownName, namePresent, noRoom, notHeld}
+use Rattle.terms.specs.Terms.{unexecuted, Arguments, listed, argumentsWrong, wrongArguments, unknownName, namePresent}
+use Rattle.terms.specs.Terms.{noRoom, notHeld}
 use Rattle.terms.specs.declared.Sizes.{Sizes}
 use Rattle.rules.specs.Rules.{Graph, job, find, at, missing}
 use Rattle.rules.specs.Sound.{Looking, Sound}
-use Rattle.reference.specs.Book.{Entry, noEntry, Book, known, Ready, accepted, refused, firstUnknown, nowhere, listedNames, full, addKnown, addEnd, finishEnd}
+use Rattle.reference.specs.Book.{Entry, noEntry, Book, known, Ready, accepted, refused, firstUnknown, nowhere}
+use Rattle.reference.specs.Book.{listedNames, full, addKnown, addEnd, finishEnd}
 use Rattle.reference.specs.Book as book
 use Rattle.story.specs.Story.{entriesOf}
 use Rattle.bookkeeping.specs.Change.{HoldsNot, noPlace}
-use Rattle.bookkeeping.specs.Entries.{entry-at, entries-length, listed-length, known-found, unknown-at, unknown-nowhere, none-awaited, finished-not-awaited}
+use Rattle.bookkeeping.specs.Entries.{entry-at, entries-length, listed-length, known-found, unknown-at}
+use Rattle.bookkeeping.specs.Entries.{unknown-nowhere, none-awaited, finished-not-awaited}
 
 -- the graph as the book has it
 abbrev pub bookOf : Graph → Book
@@ -26,7 +29,8 @@ pub name-at : (g : Graph) (j : ℕ) → getD (entriesOf (g .jobs)) j noEntry .na
 name-at g j = ap (λ (x : Entry). x .name) (entry-at (g .jobs) j)
 
 -- ---- a finish
-pub finish-not : (g : Graph) (name : ℕ) (h : Option ℕ) → HoldsNot g name h → refused notHeld 0 ≡ finishEnd (bookOf g) name h
+pub finish-not : (g : Graph) (name : ℕ) (h : Option ℕ) → HoldsNot g name h
+    → refused notHeld 0 ≡ finishEnd (bookOf g) name h
 unfolding finishEnd
 finish-not g name none e = refl
 finish-not g name (some p) e = rw (name-at g p, e)
@@ -36,12 +40,14 @@ unfolding finishEnd
 finish-held g p = rw (name-at g p, eq-eqb (job g p .name) (job g p .name) refl)
 
 -- ---- an add
-pub add-wrong : (s : Sizes) (g : Graph) (a : Arguments) → argumentsWrong a ≡ true → refused wrongArguments 0 ≡ addEnd s (bookOf g) a
+pub add-wrong : (s : Sizes) (g : Graph) (a : Arguments) → argumentsWrong a ≡ true
+    → refused wrongArguments 0 ≡ addEnd s (bookOf g) a
 unfolding addEnd
 add-wrong s g a e = rw e
 
 module _ (s : Sizes) (g : Graph) (a : Arguments) where
-  pub add-unknown : (i : ℕ) → Looking g a i → i < a .count → find g (getD (listed a) i 0) ≡ missing → refused unknownName i ≡ addEnd s (bookOf g) a
+  pub add-unknown : (i : ℕ) → Looking g a i → i < a .count → find g (getD (listed a) i 0) ≡ missing
+      → refused unknownName i ≡ addEnd s (bookOf g) a
   unfolding addEnd addKnown
   add-unknown i L h z =
       let first : firstUnknown (entriesOf (g .jobs)) (listed a) 0 ≡ book.at i =

@@ -1,4 +1,5 @@
--- The graph's jobs as the plain book has them: what the book works out from them is what the rules find ("The plain book"). Assumes nothing.
+-- The graph's jobs as the plain book has them: what the book works out from them is what the rules find ("The plain
+-- book"). Assumes nothing.
 use mathlib.Core.Path.{_≡_, refl, sym, ap, _∙_}
 use mathlib.Core.Bool.{Bool, true, false, _&&_, _||_, true≢false}
 use mathlib.Core.List.{List, [], _∷_, _++_}
@@ -12,7 +13,8 @@ use Rattle.terms.specs.Terms.{finished, Arguments, listed}
 use Rattle.rules.specs.Rules.{Job, noJob, Graph, job, Found, at, missing, seek, find}
 use Rattle.terms.specs.declared.Sizes.{Sizes}
 use Rattle.rules.specs.Sound.{Sound, Finished}
-use Rattle.reference.specs.Book.{Entry, noEntry, entry, known, unfinished, awaited, awaitedNames, nowhere, firstUnknown, listedNames}
+use Rattle.reference.specs.Book.{Entry, noEntry, entry, known, unfinished, awaited, awaitedNames, nowhere, firstUnknown}
+use Rattle.reference.specs.Book.{listedNames}
 use Rattle.reference.specs.Book as book
 use Rattle.story.specs.Story.{entryOf, entriesOf}
 
@@ -40,7 +42,8 @@ entries-set (y ∷ l) zero x = refl
 entries-set (y ∷ l) (suc j) x = ap (λ m. entryOf y ∷ m) (entries-set l j x)
 
 -- counts and dependents do not show
-pub entries-kept : (l : List Job) (j : ℕ) (x : Job) → entryOf x ≡ entryOf (getD l j noJob) → entriesOf (set l j x) ≡ entriesOf l
+pub entries-kept : (l : List Job) (j : ℕ) (x : Job) → entryOf x ≡ entryOf (getD l j noJob)
+    → entriesOf (set l j x) ≡ entriesOf l
 unfolding entriesOf
 entries-kept [] j x e = refl
 entries-kept (y ∷ l) zero x e = ap (λ z. z ∷ entriesOf l) e
@@ -52,7 +55,8 @@ unfolding listedNames
 listed-append [] x = omega arith
 listed-append (y ∷ l) x = omega (arith, listed-append l x)
 
-pub listed-kept : (l : List Entry) (j : ℕ) (x : Entry) → x .list ≡ getD l j noEntry .list → listedNames (set l j x) ≡ listedNames l
+pub listed-kept : (l : List Entry) (j : ℕ) (x : Entry) → x .list ≡ getD l j noEntry .list
+    → listedNames (set l j x) ≡ listedNames l
 unfolding listedNames
 listed-kept [] j x e = refl
 listed-kept (y ∷ l) zero x e = ap (λ (m : List ℕ). length m + listedNames l) e
@@ -104,23 +108,27 @@ found-name name (x ∷ l) i j e = go (λ z. found-name name l (suc i) j z) (eqb 
 
 -- ---- what is awaited
 -- a name is not awaited if every job that has it is finished
-not-awaited : (name : ℕ) (l : List Job) → ((j : ℕ) → j < length l → getD l j noJob .name ≡ name → getD l j noJob .label ≡ finished)
+not-awaited : (name : ℕ) (l : List Job)
+    → ((j : ℕ) → j < length l → getD l j noJob .name ≡ name → getD l j noJob .label ≡ finished)
     → awaited name (entriesOf l) ≡ false
 unfolding awaited entriesOf
 not-awaited name [] all = refl
 not-awaited name (x ∷ l) all = go (not-awaited name l (λ j h e. all (suc j) (suc-le-suc h) e)) (eqb (x .name) name) refl
   where
-    go : awaited name (entriesOf l) ≡ false → (b : Bool) → eqb (x .name) name ≡ b → ((b && unfinished (x .label)) || awaited name (entriesOf l)) ≡ false
+    go : awaited name (entriesOf l) ≡ false → (b : Bool) → eqb (x .name) name ≡ b
+        → ((b && unfinished (x .label)) || awaited name (entriesOf l)) ≡ false
     go rest true z = rw (all zero (suc-le-suc zero-le) (eqb-true (x .name) name z), rest)
     go rest false z = rest
 
-pub none-awaited : (l : List Entry) (names : List ℕ) → ((i : ℕ) → i < length names → awaited (getD names i 0) l ≡ false) → awaitedNames l names ≡ 0
+pub none-awaited : (l : List Entry) (names : List ℕ) → ((i : ℕ) → i < length names → awaited (getD names i 0) l ≡ false)
+    → awaitedNames l names ≡ 0
 unfolding awaitedNames
 none-awaited l [] all = refl
 none-awaited l (x ∷ names) all = rw (all zero (suc-le-suc zero-le), none-awaited l names (λ i h. all (suc i) (suc-le-suc h)))
 
 -- ---- the first unknown place
-pub unknown-at : (l : List Entry) (names : List ℕ) (i k : ℕ) → i < length names → ((q : ℕ) → q < i → known (getD names q 0) l ≡ true)
+pub unknown-at : (l : List Entry) (names : List ℕ) (i k : ℕ) → i < length names
+    → ((q : ℕ) → q < i → known (getD names q 0) l ≡ true)
     → known (getD names i 0) l ≡ false → firstUnknown l names k ≡ book.at (k + i)
 unfolding firstUnknown
 unknown-at l [] i k h all e = absurd (omega arith)
@@ -128,14 +136,16 @@ unknown-at l (x ∷ names) zero k h all e = rw e (ap book.at (omega arith))
 unknown-at l (x ∷ names) (suc i) k h all e = rw (all zero (suc-le-suc zero-le))
     (unknown-at l names i (suc k) (omega arith) (λ q z. all (suc q) (suc-le-suc z)) e ∙ ap book.at (omega arith))
 
-pub unknown-nowhere : (l : List Entry) (names : List ℕ) (k : ℕ) → ((q : ℕ) → q < length names → known (getD names q 0) l ≡ true)
+pub unknown-nowhere : (l : List Entry) (names : List ℕ) (k : ℕ)
+    → ((q : ℕ) → q < length names → known (getD names q 0) l ≡ true)
     → firstUnknown l names k ≡ nowhere
 unfolding firstUnknown
 unknown-nowhere l [] k all = refl
 unknown-nowhere l (x ∷ names) k all = rw (all zero (suc-le-suc zero-le)) (unknown-nowhere l names (suc k) (λ q z. all (suc q) (suc-le-suc z)))
 
 -- a name whose job is finished is not awaited: names are had once
-pub finished-not-awaited : {s : Sizes} {g : Graph} (name : ℕ) → Sound s g → Finished g name → awaited name (entriesOf (g .jobs)) ≡ false
+pub finished-not-awaited : {s : Sizes} {g : Graph} (name : ℕ) → Sound s g → Finished g name
+    → awaited name (entriesOf (g .jobs)) ≡ false
 finished-not-awaited {s} {g} name S f =
     let had = found-name name (g .jobs) 0 (f .job) (f .found) in
     let place : had .place ≡ f .job = omega arith in

@@ -12,13 +12,18 @@ use Rattle.terms.specs.Base.{update}
 use Rattle.terms.specs.Terms.{Arguments}
 use Rattle.terms.specs.declared.Sizes.{Sizes}
 use Rattle.terms.specs.declared.Answer.{Answer}
-use Rattle.rules.specs.Rules.{Job, noJob, Call, idle, looking, linking, marking, notifying, Worker, Graph, empty, job, perform}
+use Rattle.rules.specs.Rules.{Job, noJob, Call, idle, looking, linking, marking, notifying, Worker, Graph, empty, job}
+use Rattle.rules.specs.Rules.{perform}
 use Rattle.rules.specs.Sound.{CallSound, Sound}
 use Rattle.reading.specs.Reading.{Pending, finishing, Reading, unread, Quiet, note}
 use Rattle.reading.specs.Reading as reading
 use Rattle.story.specs.Story.{Story, start, then, PacedCall, Paced, AllIdle}
 use Rattle.bookkeeping.specs.Base.{update-same, update-other, kept-field}
-use Rattle.bookkeeping.specs.Change.{Change, nothing, addWrong, addPosted, finishWrong, finishPosted, lookedUp, nameUnknown, nameThere, roomLacking, jobEntered, tallied, arcAppended, jobSettled, markedLast, markedGoing, arcNotified, lastNotified, getHolding, getNone, getHanded, workerOf}
+use Rattle.bookkeeping.specs.Change.{Change, nothing, addWrong, addPosted, finishWrong, finishPosted, lookedUp}
+use Rattle.bookkeeping.specs.Change.{nameUnknown, nameThere, roomLacking, jobEntered, tallied, arcAppended}
+use Rattle.bookkeeping.specs.Change.{jobSettled, markedLast, markedGoing, arcNotified, lastNotified, getHolding}
+use Rattle.bookkeeping.specs.Change.{getNone, getHanded}
+use Rattle.terms.specs.Runs.{workerOf}
 use Rattle.bookkeeping.specs.Changes.{changes}
 
 -- every job keeps its name
@@ -26,7 +31,8 @@ abbrev SameNames : Graph → Graph → Type 0
 SameNames g after = (j : ℕ) → j < length (g .jobs) → job after j .name ≡ job g j .name
 
 -- ---- a call stays paced while jobs keep their names
-call-kept : (g after : Graph) → SameNames g after → (h : Option ℕ) (c : Call) (p : Pending) → ((j : ℕ) → h ≡ some j → j < length (g .jobs))
+call-kept : (g after : Graph) → SameNames g after → (h : Option ℕ) (c : Call) (p : Pending)
+    → ((j : ℕ) → h ≡ some j → j < length (g .jobs))
     → CallSound g h c → PacedCall g h c p → PacedCall after h c p
 call-kept g after n h idle p there S P = P
 call-kept g after n h (looking a i) p there S P = P
@@ -37,21 +43,25 @@ call-kept g after n h (notifying j k) p there S P = rw (n j (S .there)) P
 
 module _ (s : Sizes) (g : Graph) (r : Reading) (S : Sound s g) (P : Paced g r) (w : ℕ) where
   -- one worker changes, to what is paced again
-  replaced : (after : Graph) (later : Reading) (x : Worker) → SameNames g after → after .workers ≡ update (g .workers) w x
-      → ((v : ℕ) → v ≢ w → later .pending v ≡ r .pending v) → PacedCall after (x .held) (x .call) (later .pending w) → Paced after later
+  replaced : (after : Graph) (later : Reading) (x : Worker) → SameNames g after
+      → after .workers ≡ update (g .workers) w x
+      → ((v : ℕ) → v ≢ w → later .pending v ≡ r .pending v) → PacedCall after (x .held) (x .call) (later .pending w)
+      → Paced after later
   replaced after later x n e f c v = elim (ℕ-discrete v w) [
     | yes z ↦ rw (z, ap (λ (f : ℕ → Worker). f w) e ∙ update-same (g .workers) w x) c
     | no z ↦ rw (ap (λ (f : ℕ → Worker). f v) e ∙ update-other (g .workers) w x v z, f v z)
         (call-kept g after n (g .workers v .held) (g .workers v .call) (r .pending v) (S .held-there v) (S .calls v) (P v))
   ]
 
-  moved : (after : Graph) (later : Reading) (x : Worker) (p : Pending) → SameNames g after → after .workers ≡ update (g .workers) w x
+  moved : (after : Graph) (later : Reading) (x : Worker) (p : Pending) → SameNames g after
+      → after .workers ≡ update (g .workers) w x
       → later .pending ≡ update (r .pending) w p → PacedCall after (x .held) (x .call) p → Paced after later
   moved after later x p n e f c = replaced after later x n e (λ v z. rw f (update-other (r .pending) w p v z))
       (rw (f, update-same (r .pending) w p) c)
 
   -- a job that is changed, its name kept
-  same-names : (p : ℕ) (y : Job) → y .name ≡ job g p .name → (j : ℕ) → getD (set (g .jobs) p y) j noJob .name ≡ job g j .name
+  same-names : (p : ℕ) (y : Job) → y .name ≡ job g p .name → (j : ℕ)
+      → getD (set (g .jobs) p y) j noJob .name ≡ job g j .name
   same-names p y e j = kept-field (λ (x : Job). x .name) (g .jobs) p y noJob e j
 
   linked-name : {a : Arguments} {j i t : ℕ} → g .workers w .call ≡ linking a j i t → a .name ≡ job g j .name
@@ -103,5 +113,9 @@ call-idle g none marking p P e = absurd P
 call-idle g (some j) marking p P e = cc
 call-idle g h (notifying j k) p P e = cc
 
+pub worker-idle : (g : Graph) (r : Reading) → Paced g r → (w : ℕ) → r .pending w ≡ reading.idle
+    → g .workers w .call ≡ idle
+worker-idle g r P w = call-idle g (g .workers w .held) (g .workers w .call) (r .pending w) (P w)
+
 pub all-idle : (g : Graph) (r : Reading) → Paced g r → Quiet r → AllIdle g
-all-idle g r P q w = call-idle g (g .workers w .held) (g .workers w .call) (r .pending w) (P w) (q w)
+all-idle g r P q w = worker-idle g r P w (q w)

@@ -1,5 +1,5 @@
--- With no call half done: the graph's counts are the book's remaining counts, and the jobs in its queue are those ready in the book
--- ("The plain book", demand 3). Assumes that the graph is booked and balanced.
+-- With no call half done: the graph's counts are the book's remaining counts, and the jobs in its queue are those ready
+-- in the book ("The plain book", demand 3). Assumes that the graph is booked and balanced.
 use mathlib.Core.Path.{_≡_, refl, sym, ap, _∙_}
 use mathlib.Core.List.{List, [], _∷_}
 use mathlib.Core.Option.{none}
@@ -7,27 +7,27 @@ use mathlib.Core.Logic.{_↔_}
 use Prim.Native.Nat.{ℕ, _<_}
 use native.Mathlib.Omega.{arith}
 use lib.ListN.{length}
-use borrow.Author.Tests.{eq-eqb, lt-ltb}
 use Rattle.terms.specs.Base.{occurrences}
-use Rattle.terms.specs.Terms.{sameSizes}
 use Rattle.terms.specs.Runs.{get, Outcome}
 use Rattle.terms.specs.declared.Sizes.{Sizes}
 use Rattle.terms.specs.declared.Answer.the-variants.{NoneReady}
-use Rattle.rules.specs.Rules.{idle, Graph, job, takeNext, getJob, whenIdle, admitted, perform}
+use Rattle.rules.specs.Rules.{idle, Graph, job, takeNext, getJob, whenIdle, perform}
 use Rattle.reference.specs.Book.{entry, awaitedNames, remaining, Ready}
 use Rattle.reading.specs.Reading.{Reading}
 use Rattle.story.specs.Story.{entryOf, entriesOf, Booked, Balanced, Free, AllIdle}
 use Rattle.bookkeeping.specs.Base.{head-occurs}
+use Rattle.bookkeeping.specs.Own.{performed}
 use Rattle.bookkeeping.specs.Entries.{entry-at, entries-length}
 
 -- ---- a get by an idle worker that holds nothing
-get-answer : (s : Sizes) (g : Graph) (w : ℕ) → w < s .workers → g .workers w .call ≡ idle → g .workers w .held ≡ none
+pub get-answer : (s : Sizes) (g : Graph) (w : ℕ) → w < s .workers → g .workers w .call ≡ idle
+    → g .workers w .held ≡ none
     → perform s g (get s w) ≡ takeNext g w (g .queue)
-unfolding perform admitted sameSizes whenIdle getJob
-get-answer s g w h e f =
-    rw (eq-eqb (s .jobs) (s .jobs) refl, eq-eqb (s .arcs) (s .arcs) refl, eq-eqb (s .bits) (s .bits) refl, eq-eqb (s .workers) (s .workers) refl, lt-ltb w (s .workers) h, e, f)
+unfolding perform whenIdle getJob
+get-answer s g w h e f = performed s g w h _ ∙ rw (e, f)
 
-none-in-queue : (g : Graph) (w : ℕ) (q : List ℕ) → (takeNext g w q .answer ≡ NoneReady) ↔ ((j : ℕ) → 0 < occurrences j q → ⊥)
+none-in-queue : (g : Graph) (w : ℕ) (q : List ℕ)
+    → (takeNext g w q .answer ≡ NoneReady) ↔ ((j : ℕ) → 0 < occurrences j q → ⊥)
 unfolding takeNext occurrences
 none-in-queue g w [] = (λ e j h. omega arith, λ empty. refl)
 none-in-queue g w (x ∷ q) = (λ e. let z : _≡_ {A = ℕ} 0 1 = cc in absurd (omega arith), λ empty. absurd (empty x (head-occurs x q)))

@@ -1,111 +1,141 @@
--- "An accepted add takes exactly 2d + 2 steps and a finish one more than it has arcs" ("Steps"), in every story.
--- Assumes that every story's graph is sound.
-use mathlib.Core.Path.{_≡_, sym, ap, _∙_}
-use mathlib.Core.List.{[]}
-use mathlib.Core.Option.{some}
+-- How calls go on and end, by the rules, in every story: what the step after k answered steps of an add or of a finish
+-- answers ("Steps"). Assumes that every story's graph is sound.
+use mathlib.Core.Path.{_≡_, refl, sym, ap, _∙_}
+use mathlib.Core.Logic.{_≢_}
+use mathlib.Core.List.{List, [], _∷_}
+use mathlib.Core.Option.{Option, none, some}
 use Prim.Native.Nat.{ℕ, suc, _+_, _*_, _≤_, _<_}
 use native.Mathlib.Omega.{arith}
-use lib.ListN.{length}
-use Rattle.terms.specs.Terms.{Arguments}
-use Rattle.terms.specs.Runs.{step}
+use native.Mathlib.Decide.{decLt, ℕ-discrete}
+use lib.Dec.{ltb}
+use lib.ListN.{length, getD}
+use borrow.Author.Tests.{ltb-true, ltb-false}
+use Rattle.terms.specs.Terms.{Label, unexecuted, executing, finished, Arguments, listed}
+use Rattle.terms.specs.Runs.{step, Outcome}
 use Rattle.terms.specs.declared.Sizes.{Sizes}
 use Rattle.terms.specs.declared.Answer.{Answer}
-use Rattle.terms.specs.declared.Answer.the-variants.{Ended}
-use Rattle.rules.specs.Rules.{linking, marking, notifying, Graph, job, perform, find, at}
-use Rattle.rules.specs.Sound.{Sound, Notifying}
-use Rattle.reading.specs.Reading.{adding, finishing, Reading, note}
-use Rattle.story.specs.Story.{Story, PacedCall, Paced}
-use Rattle.bookkeeping.specs.Change.{Change, nothing, addWrong, addPosted, finishWrong, finishPosted, lookedUp, nameUnknown, nameThere, roomLacking, jobEntered, tallied, arcAppended, jobSettled, markedLast, markedGoing, arcNotified, lastNotified, getHolding, getNone, getHanded}
-use Rattle.bookkeeping.specs.Changes.{changes}
-use Rattle.bookkeeping.specs.Entries.{found-name}
+use Rattle.rules.specs.Rules.{Found, at, missing, Call, idle, looking, linking, marking, notifying, Graph, empty, job}
+use Rattle.rules.specs.Rules.{find, lookUp, enter, link, linkTo, markDependents, mark, notify, stepCall, perform}
+use Rattle.rules.specs.Observed.{seen}
+use Rattle.rules.specs.Sound.{CallSound, Sound}
+use Rattle.reading.specs.Reading.{Pending, adding, finishing, Reading}
+use Rattle.reading.specs.Reading as reading
+use Rattle.story.specs.Story.{Story, start, then, PacedCall}
+use Rattle.demand.specs.Ends.{AddStep, looked-up, unknown, entered, present, no-room, linked, settled, FinishStep}
+use Rattle.demand.specs.Ends.{goes-on, ends, FinishOf}
+use Rattle.bookkeeping.specs.Base.{pick-by}
+use Rattle.bookkeeping.specs.Change.{noPlace}
+use Rattle.terms.specs.Runs.{workerOf}
+use Rattle.bookkeeping.specs.Own.{performed, turned-away, others}
 use Rattle.bookkeeping.specs.Paced.{paced}
 
--- what ends a call: a settling, a mark of a job with no dependents, the last arc
-pub data Ending (g : Graph) (w : ℕ) : Type 0 where
-  settling : (a : Arguments) (j t : ℕ) → g .workers w .call ≡ linking a j (a .count) t → Ending g w
-  mark : (p : ℕ) → g .workers w .call ≡ marking → g .workers w .held ≡ some p → job g p .dependents ≡ [] → Ending g w
-  arc : (p k : ℕ) → g .workers w .call ≡ notifying p k → length (job g p .dependents) ≤ suc k → Ending g w
+-- what a step of the call half done may answer
+abbrev StepOf : Graph → Pending → Answer → Type 0
+StepOf g reading.idle x = Unit {0}
+StepOf g (adding a k) x = AddStep a k x
+StepOf g (finishing name k) x = FinishOf (seen g) name k x
 
-never : {A : Type 0} → _≡_ {A = ℕ} 0 1 → A
-never e = absurd (omega arith)
+module _ (s : Sizes) (g : Graph) (w : ℕ) where
+  abbrev Adds : Arguments → ℕ → Outcome Graph → Type 0
+  Adds a k o = AddStep a k (o .answer)
 
-ending : {s : Sizes} {g : Graph} {r : Reading} {w : ℕ} (x : Answer) (after : Graph) (later : Reading) → Change s g r w x after later → x ≡ Ended → Ending g w
-ending x after later nothing z = never (cc)
-ending x after later (addWrong a e) z = never (cc)
-ending x after later (addPosted a) z = never (cc)
-ending x after later (finishWrong name e) z = never (cc)
-ending x after later (finishPosted p e) z = never (cc)
-ending x after later (lookedUp e h) z = never (cc)
-ending x after later (nameUnknown e h f) z = never (cc)
-ending x after later (nameThere j e f) z = never (cc)
-ending x after later (roomLacking e f h) z = never (cc)
-ending x after later (jobEntered e f h) z = never (cc)
-ending x after later (tallied e) z = never (cc)
-ending x after later (arcAppended p e) z = never (cc)
-ending x after later (jobSettled {a} {j} {t} e) z = settling a j t e
-ending x after later (markedLast p e h f) z = mark p e h f
-ending x after later (markedGoing p e h) z = never (cc)
-ending x after later (arcNotified e) z = never (cc)
-ending x after later (lastNotified {p} {k} e h) z = arc p k e h
-ending x after later (getHolding j e) z = never (cc)
-ending x after later (getNone e) z = never (cc)
-ending x after later (getHanded j e f h) z = never (cc)
+  abbrev Finishes : ℕ → ℕ → Outcome Graph → Type 0
+  Finishes arcs k o = FinishStep arcs k (o .answer)
 
--- ---- the steps answered, at the end of a call
-module _ (s : Sizes) (g : Graph) (r : Reading) (S : Sound s g) (P : Paced g r) (w : ℕ) where
-  settled-steps : {a : Arguments} {j i t : ℕ} → g .workers w .call ≡ linking a j i t → r .pending w ≡ adding a (a .count + 1 + i)
-  settled-steps {a} {j} {i} {t} e = let call : PacedCall g (g .workers w .held) (linking a j i t) (r .pending w) = rw e at (P w) in call .0
+  -- ---- the steps of an add
+  looks : (a : Arguments) (i : ℕ) (f : Found) → i < a .count → AddStep a i (lookUp g w a i f .answer)
+  unfolding lookUp
+  looks a i (at j) h = looked-up h
+  looks a i missing h = unknown h
 
-  marked-steps : {p : ℕ} → g .workers w .call ≡ marking → g .workers w .held ≡ some p → r .pending w ≡ finishing (job g p .name) 0
-  marked-steps e h = rw (e, h) at (P w)
+  enters : (a : Arguments) (f : Found) → AddStep a (a .count) (enter s g w a f .answer)
+  unfolding enter
+  enters a (at j) = present
+  enters a missing = pick-by (Adds a (a .count)) (noPlace s g a) (λ _. no-room) (λ _. entered)
 
-  notified-steps : {p k : ℕ} → g .workers w .call ≡ notifying p k → r .pending w ≡ finishing (job g p .name) (suc k)
-  notified-steps e = rw e at (P w)
+  links : (a : Arguments) (j i t p : ℕ) (l : Label) {k : ℕ} → a .count < k → k < 2 * a .count + 1
+      → AddStep a k (linkTo g w a j i t p l .answer)
+  unfolding linkTo
+  links a j i t p unexecuted h l = linked h l
+  links a j i t p executing h l = linked h l
+  links a j i t p finished h l = linked h l
 
-  add-ends : (a : Arguments) (k : ℕ) → r .pending w ≡ adding a k → Ending g w → suc k ≡ 2 * a .count + 2
-  add-ends a k e (settling b j t c) =
-      let known = settled-steps c in
-      let same : a ≡ b = cc in
-      let steps : k ≡ b .count + 1 + b .count = cc in
-      omega (arith, ap (λ (x : Arguments). x .count) same)
-  add-ends a k e (mark p c h z) = cc (marked-steps c h)
-  add-ends a k e (arc p m c z) = cc (notified-steps c)
+  -- ---- the steps of a finish
+  marks : (p : ℕ) (l : List ℕ) → FinishStep (length l) 0 (markDependents g w p l .answer)
+  unfolding markDependents
+  marks p [] = ends
+  marks p (j ∷ l) = goes-on {k = 0} (omega arith)
 
-  -- the job that a name finds is the one that has it
-  named-so : (name p q : ℕ) → find g name ≡ at p → q < length (g .jobs) → job g q .name ≡ name → p ≡ q
-  named-so name p q f h e =
-      let here = found-name name (g .jobs) 0 p f in
-      let same : p ≡ here .place = omega (arith, here .job) in
-      same ∙ S .names (here .place) q (here .there) h (here .named ∙ sym e)
+  notifies : (p k : ℕ) → k < length (job g p .dependents)
+      → FinishStep (length (job g p .dependents)) (suc k) (notify g w p k .answer)
+  unfolding notify
+  notifies p k h =
+      let arcs = length (job g p .dependents) in
+      pick-by (Finishes arcs (suc k)) (ltb (suc k) arcs) (λ z. goes-on (ltb-true (suc k) arcs z))
+      (λ z. let last : suc k ≡ arcs = omega (arith, ltb-false (suc k) arcs z) in rw last ends)
 
-  finish-ends : (name k p : ℕ) → r .pending w ≡ finishing name k → find g name ≡ at p → Ending g w → suc k ≡ 1 + length (job g p .dependents)
-  finish-ends name k p e f (settling b j t c) = cc (settled-steps c)
-  finish-ends name k p e f (mark q d i z) =
-      let named : job g q .name ≡ name = cc (marked-steps d i) in
-      let same : p ≡ q = named-so name p q f (S .held-there w q i) named in
-      let steps : k ≡ 0 = cc (marked-steps d i) in
-      let last : length (job g p .dependents) ≡ 0 = rw (same, z) in
-      omega arith
-  finish-ends name k p e f (arc q m d z) =
-      let sound : Notifying g q m = rw d at (S .calls w) in
-      let named : job g q .name ≡ name = cc (notified-steps d) in
-      let same : p ≡ q = named-so name p q f (sound .there) named in
-      let steps : k ≡ suc m = cc (notified-steps d) in
-      rw same (omega (arith, sound .within))
+  -- ---- a step of the call that the worker is in
+  stepped : Sound s g → (h : Option ℕ) (c : Call) (q : Pending) → g .workers w .held ≡ h → CallSound g h c
+      → PacedCall g h c q → StepOf g q (stepCall s g w c .answer)
+  unfolding stepCall link mark
+  stepped S h idle q e C P = rw P tt
+  stepped S h (looking a i) q e C P = rw P (pick-by (Adds a i) (ltb i (a .count))
+      (λ z. looks a i (find g (getD (listed a) i 0)) (ltb-true i (a .count) z))
+      (λ z. let all : i ≡ a .count = omega (arith, ltb-false i (a .count) z, C .within) in
+      rw all (enters a (find g (a .name)))))
+  stepped S h (linking a j i t) q e C P = rw (P .0)
+      (pick-by (Adds a (a .count + 1 + i)) (ltb i (a .count))
+      (λ z. let within = ltb-true i (a .count) z in
+      let F = C .found i within in
+      rw (F .found) (links a j i t (F .job) (job g (F .job) .label) (omega arith) (omega arith)))
+      (λ z. let last : a .count + 1 + i ≡ 2 * a .count + 1 = omega (arith, ltb-false i (a .count) z, C .within) in
+      rw last settled))
+  stepped S none marking q e C P = absurd C
+  stepped S (some p) marking q e C P = rw (P, e) (record {
+    job = p;
+    there = S .held-there w p e;
+    named = refl;
+    step = marks p (job g p .dependents);
+  })
+  stepped S h (notifying p k) q e C P = rw P (record {
+    job = p;
+    there = C .there;
+    named = refl;
+    step = notifies p k (C .within);
+  })
 
 module _ {s : Sizes} (sound : (g : Graph) (r : Reading) (e : ℕ → ℕ) → Story s g r e → Sound s g) where
-  step-ends : {g : Graph} {r : Reading} {e : ℕ → ℕ} → Story s g r e → (t : Sizes) (w : ℕ) → perform s g (step t w) .answer ≡ Ended → Ending g w
-  step-ends {g} {r} {e} story t w z =
-      ending (perform s g (step t w) .answer) (perform s g (step t w) .state) (note r (step t w) (perform s g (step t w) .answer))
-      (changes s g r (sound g r e story) (paced sound story) (step t w)) z
+  step-of : {g : Graph} {r : Reading} {e : ℕ → ℕ} → Story s g r e → (w : ℕ) → w < s .workers
+      → StepOf g (r .pending w) (perform s g (step s w) .answer)
+  unfolding perform
+  step-of {g} {r} {e} story w h =
+      let S = sound g r e story in
+      rw (performed s g w h (stepCall s g w (g .workers w .call)))
+      (stepped s g w S (g .workers w .held) (g .workers w .call) (r .pending w) refl (S .calls w) (paced sound story w))
 
-  -- "An accepted add takes exactly 2d + 2 steps": k were answered before the step that ends it
-  pub add-steps : {g : Graph} {r : Reading} {e : ℕ → ℕ} → Story s g r e → (t : Sizes) (w : ℕ) (a : Arguments) (k : ℕ) → r .pending w ≡ adding a k
-      → perform s g (step t w) .answer ≡ Ended → suc k ≡ 2 * a .count + 2
-  add-steps {g} {r} {e} story t w a k p z = add-ends s g r (sound g r e story) (paced sound story) w a k p (step-ends story t w z)
+  -- "An accepted add takes exactly 2d + 2 steps"
+  pub add-step : {g : Graph} {r : Reading} {e : ℕ → ℕ} → Story s g r e → (w : ℕ) → w < s .workers
+      → (a : Arguments) (k : ℕ) → r .pending w ≡ adding a k → AddStep a k (perform s g (step s w) .answer)
+  add-step story w h a k e = rw e at (step-of story w h)
 
-  -- "and a finish one more than it has arcs"
-  pub finish-steps : {g : Graph} {r : Reading} {e : ℕ → ℕ} → Story s g r e → (t : Sizes) (w name k p : ℕ) → r .pending w ≡ finishing name k
-      → find g name ≡ at p → perform s g (step t w) .answer ≡ Ended → suc k ≡ 1 + length (job g p .dependents)
-  finish-steps {g} {r} {e} story t w name k p q f z =
-      finish-ends s g r (sound g r e story) (paced sound story) w name k p q f (step-ends story t w z)
+  -- a finish "takes 1 step more than it has arcs"
+  pub finish-step : {g : Graph} {r : Reading} {e : ℕ → ℕ} → Story s g r e → (w : ℕ) → w < s .workers
+      → (name k : ℕ) → r .pending w ≡ finishing name k → FinishOf (seen g) name k (perform s g (step s w) .answer)
+  finish-step story w h name k e = rw e at (step-of story w h)
+
+  -- ---- only a worker below P is in a call: 2, "worker number not below P", comes first
+  idle-past : {g : Graph} {r : Reading} {e : ℕ → ℕ} → Story s g r e → (w : ℕ) → s .workers ≤ w
+      → g .workers w .call ≡ idle
+  unfolding empty
+  idle-past start w h = refl
+  idle-past (then {g} story i) w h = elim (ℕ-discrete w (workerOf i)) [
+    | yes z ↦ rw (turned-away s g i (omega arith)) (idle-past story w h)
+    | no z ↦ rw (others s g i w z) (idle-past story w h)
+  ]
+
+  pub pending-there : {g : Graph} {r : Reading} {e : ℕ → ℕ} → Story s g r e → (w : ℕ) → r .pending w ≢ reading.idle
+      → w < s .workers
+  pending-there {r} story w n = elim (decLt w (s .workers)) [
+    | yes h ↦ h
+    | no h ↦ absurd (n (rw (idle-past story w (omega arith)) at (paced sound story w)))
+  ]

@@ -1,32 +1,79 @@
-// The day list as a program: a sheet from standard input, the list to standard output.
+// The day list as a program: a sheet from standard input, the list to standard output. A read or a write that fails is
+// said on standard error; after a failed read nothing is printed.
 // Follows document 01, "The board and the day list" (R 256, A 1,024, b 4, P 2). What it prints is the library's: day_list says it.
-use day_format::DayAnswer;
-use day_list::day_list;
+mod two;
+
+ghost use Rattle.io.specs.Counts.{Counts};
+use libc::STDERR_FILENO;
 use libc::STDIN_FILENO;
 use libc::STDOUT_FILENO;
-
-const WORKERS: u32 = 2;
+use two::OUT_BYTES;
+use two::day_list_of_two;
 
 // One byte more than the longest sheet, so that a longer one is seen.
 const SHEET_BYTES: usize = 32769;
 
-// More than the longest list of a sheet that is not too long.
-const OUT_BYTES: usize = 98304;
+// How many bytes were put at the start of a buffer, and whether a read failed.
+struct Input {
+    failed: bool,
+    bytes: usize,
+}
+
+// One read.
+fn read_some(fd: i32, buf: &mut [u8]) -> Input
+    ensures { λ r. ⌜ Counts (r .bytes) (now (buf .exit)) ⌝ }
+{
+    let got = libc::read(fd, buf);
+    Input {
+        failed: got < 0,
+        bytes: io::count(got, buf),
+    }
+}
+
+// Reads until the buffer is full, the input ends or a read fails. `io::read_full` does not tell the last two apart.
+fn read_whole(fd: i32, buf: &mut [u8]) -> Input
+    ensures { λ r. ⌜ Counts (r .bytes) (now (buf .exit)) ⌝ }
+{
+    let mut bytes = 0;
+    while bytes < buf.len() {
+        let more = read_some(fd, &mut buf[bytes..]);
+        if more.failed {
+            return Input {
+                failed: true,
+                bytes,
+            };
+        }
+        if more.bytes == 0 {
+            return Input {
+                failed: false,
+                bytes,
+            };
+        }
+        bytes += more.bytes;
+    }
+    Input {
+        failed: false,
+        bytes,
+    }
+}
 
 // Writes the bytes that were printed.
 fn show(out: &[u8], bytes: usize) {
     if bytes <= out.len() {
-        io::write_all(STDOUT_FILENO, &out[..bytes]);
+        if !io::write_all(STDOUT_FILENO, &out[..bytes]) {
+            io::write_all(STDERR_FILENO, b"daylist: the list cannot be written\n");
+        }
     }
 }
 
 fn main() {
     let mut sheet = [0u8; SHEET_BYTES];
-    let length = io::read_full(STDIN_FILENO, &mut sheet);
-    let mut out = [0u8; OUT_BYTES];
-    let answer = day_list(&sheet[..length], WORKERS, &mut out);
-    match answer {
-        DayAnswer::Printed { bytes } => show(&out, bytes),
-        DayAnswer::Refused { number: _ } => {}
+    let input = read_whole(STDIN_FILENO, &mut sheet);
+    if input.failed {
+        io::write_all(STDERR_FILENO, b"daylist: the sheet cannot be read\n");
+        return;
     }
+    let mut out = [0u8; OUT_BYTES];
+    let bytes = day_list_of_two(&sheet[..input.bytes], &mut out);
+    show(&out, bytes);
 }

@@ -1,1 +1,6 @@
 pub mod Demand
+pub mod Ends
+pub mod Wrong
+pub mod WrongIdle
+pub mod WrongTexts
+pub mod WrongOthers

@@ -10,7 +10,7 @@ use Rattle.terms.specs.Base.{pick}
 use Rattle.terms.specs.Terms.{mostJobs, mostArcs, mostBits, mostWorkers, mostNames, mostClass, mostGrower, withinLimits}
 use Rattle.terms.specs.declared.Sizes.{Sizes}
 use Rattle.words.specs.Layout.{none, LABEL, COUNT, FIRST, LAST, DEPENDENT, AFTER, PHASE, HELD, LIST-COUNT, OWN-CLASS, OWN-GROWER, TALLY, PLACE, OWN-JOB, OWN-ARC, IDLE, LOOKING, LINKING, MARKING, NOTIFYING, Tables, View, view, longEnough, sizesKept, roomFor, sizesFit}
-use Rattle.words.specs.Words.{placeOk, isPlace, settles, ownOk, planLookUp, planEntry, planEnter, planAppend, planLink, withCell, planSettle, planMark, planNotify, planAdd, planLinks, planPhase, admitted, planStep, planTake, planQueue, planGet, planGetOf}
+use Rattle.words.specs.Words.{placeOk, isPlace, settles, countersOk, ownOk, planLookUp, planEnter, planAppend, planLink, withCell, planSettle, planMark, planNotify, planAdd, planLinks, planCall, planPhase, admitted, planStep, planTake, planQueue, planGet, planGetOf}
 use Rattle.words.specs.declared.Found.{Found}
 use Rattle.words.specs.declared.Found.the-variants.{At, Missing, Damaged}
 use Rattle.words.specs.declared.Plan.{Plan}
@@ -138,23 +138,23 @@ module _ (s : Sizes) (v : View) (w : ℕ) (jobs : s .jobs ≤ mostJobs) (arcs : 
   look-up i Missing = quit _ _
   look-up i Damaged = refuse _
 
-  entry : (name : ℕ) (f : Found) → Fine (planEntry s v name (v .worker LIST-COUNT w) f)
-  unfolding planEntry
-  entry name (At j) = quit _ _
-  entry name Missing =
+  entering : (name : ℕ) (f : Found) → Fine (planEnter s v name (v .worker LIST-COUNT w) f)
+  unfolding planEnter
+  entering name (At j) = quit _ _
+  entering name Missing =
       choice Fine (leb (s .jobs) (v .made) || ltb (s .arcs) (v .reserved + v .worker LIST-COUNT w)) _ _ (λ _. quit _ _)
       (λ h. let full = leb (s .jobs) (v .made) in
       let over = ltb (s .arcs) (v .reserved + v .worker LIST-COUNT w) in
       let a = leb-false (s .jobs) (v .made) (or-left full over h) in
       let b = ltb-false (s .arcs) (v .reserved + v .worker LIST-COUNT w) (or-right full over h) in
       enter _ _ _ _ (omega arith) (omega arith))
-  entry name Damaged = refuse _
+  entering name Damaged = refuse _
 
   append : (p x j : ℕ) → Fine (planAppend s v p x j)
   unfolding planAppend
   append p x j =
       choice Fine
-      (ltb j (v .made) && leb (v .reserved) (s .arcs) && ltb x (v .reserved) && placeOk (v .job LAST p) (v .reserved) (s .arcs))
+      (ltb j (v .made) && ltb x (v .reserved) && placeOk (v .job LAST p) (v .reserved) (s .arcs))
       _
       _
       (λ _. choice Fine (eqb (v .job LAST p) none) _ _ (λ _. link-first _ _ _) (λ _. link-after _ _ _ _))
@@ -187,7 +187,7 @@ module _ (s : Sizes) (v : View) (w : ℕ) (jobs : s .jobs ≤ mostJobs) (arcs : 
   unfolding planMark
   mark p =
       choice Fine
-      (isPlace p && eqb (v .job LABEL p) 1 && leb (v .reserved) (s .arcs) && placeOk (v .job FIRST p) (v .reserved) (s .arcs))
+      (isPlace p && eqb (v .job LABEL p) 1 && placeOk (v .job FIRST p) (v .reserved) (s .arcs))
       _
       _
       (λ _. marked _ _)
@@ -198,7 +198,7 @@ module _ (s : Sizes) (v : View) (w : ℕ) (jobs : s .jobs ≤ mostJobs) (arcs : 
   notify x =
       let j = v .arc DEPENDENT x in
       choice Fine
-      (isPlace x && leb (v .made) (s .jobs) && leb (v .reserved) (s .arcs) && ltb j (v .made) && placeOk (v .arc AFTER x) (v .reserved) (s .arcs)
+      (isPlace x && ltb j (v .made) && placeOk (v .arc AFTER x) (v .reserved) (s .arcs)
       && leb 1 (v .job COUNT j)
       && leb (v .job COUNT j) mostNames)
       _
@@ -207,22 +207,23 @@ module _ (s : Sizes) (v : View) (w : ℕ) (jobs : s .jobs ≤ mostJobs) (arcs : 
       (λ _. refuse _)
 
   adding : Fine (planAdd s v w)
-  unfolding planAdd planEnter
+  unfolding planAdd
   adding =
-      choice Fine (ltb (v .worker PLACE w) (v .worker LIST-COUNT w)) _ _ (λ _. look-up _ _)
-      (λ _. choice Fine (leb (v .reserved) (s .arcs)) _ _ (λ _. entry _ _) (λ _. refuse _))
+      choice Fine (ltb (v .worker PLACE w) (v .worker LIST-COUNT w)) _ _ (λ _. look-up _ _) (λ _. entering _ _)
 
   linking : Fine (planLinks s v w)
   unfolding planLinks
   linking = choice Fine (ltb (v .worker PLACE w) (v .worker LIST-COUNT w)) _ _ (λ _. link _ _ _) (λ _. settle _ _ _)
 
   phase : Fine (planPhase s v w)
-  unfolding planPhase
+  unfolding planPhase planCall
   phase =
       choice Fine (eqb (v .worker PHASE w) IDLE) _ _ (λ _. refuse _)
+      (λ _. choice Fine (countersOk s v) _ _
       (λ _. choice Fine (eqb (v .worker PHASE w) LOOKING) _ _ (λ _. adding)
       (λ _. choice Fine (eqb (v .worker PHASE w) LINKING) _ _ (λ _. linking)
       (λ _. choice Fine (eqb (v .worker PHASE w) MARKING) _ _ (λ _. mark _) (λ _. notify _))))
+      (λ _. refuse _))
 
 -- what is admitted, and what refuses it, is fine: so is the answer to both
 let-in : {A : Type 0} (P : A → Type 0) (s : Sizes) (t : Tables) (w : ℕ) (refused : ℕ → A) (x : A) → ((n : ℕ) → P (refused n)) → (sizesFit s t ≡ true → ownOk s (view t) w ≡ true → P x) → P (admitted s t w refused x)
@@ -255,14 +256,16 @@ takes j name q h = h
 take-fits : (s : Sizes) (v : View) (j : ℕ) → v .taken < none → FittingGet (planTake s v j)
 unfolding planTake
 take-fits s v j h =
-    choice FittingGet (leb (v .made) (s .jobs) && ltb j (v .made) && eqb (v .job LABEL j) 0) _ _ (λ _. takes _ _ _ h) (λ _. refuse-get _)
+    choice FittingGet (ltb j (v .made) && eqb (v .job LABEL j) 0) _ _ (λ _. takes _ _ _ h) (λ _. refuse-get _)
 
 queue-fits : (s : Sizes) (v : View) → s .jobs ≤ mostJobs → FittingGet (planQueue s v)
 unfolding planQueue
 queue-fits s v jobs =
-    choice FittingGet (leb (v .taken) (v .put) && leb (v .put) (s .jobs)) _ _
-    (λ h. let a = leb-true (v .taken) (v .put) (and-left (leb (v .taken) (v .put)) (leb (v .put) (s .jobs)) h) in
-    let b = leb-true (v .put) (s .jobs) (and-right (leb (v .taken) (v .put)) (leb (v .put) (s .jobs)) h) in
+    choice FittingGet (countersOk s v && leb (v .taken) (v .put) && leb (v .put) (s .jobs)) _ _
+    (λ h. let start = countersOk s v && leb (v .taken) (v .put) in
+    let ordered = and-right (countersOk s v) (leb (v .taken) (v .put)) (and-left start (leb (v .put) (s .jobs)) h) in
+    let a = leb-true (v .taken) (v .put) ordered in
+    let b = leb-true (v .put) (s .jobs) (and-right start (leb (v .put) (s .jobs)) h) in
     choice FittingGet (eqb (v .taken) (v .put)) _ _ (λ _. waits) (λ _. take-fits s v (v .cell 0 (v .taken)) (omega arith)))
     (λ _. refuse-get _)
 

@@ -1,4 +1,5 @@
--- The board over the graph's own row: the label and class of each job that was made (document 01, "The board and the day list"). Assumes nothing.
+-- The board over the graph's own row: the label and class of each job that was made (document 01, "The board and the
+-- day list"). Assumes nothing.
 use mathlib.Core.Bool.{Bool, _&&_}
 use mathlib.Core.List.{List, [], _∷_}
 use Prim.Native.Nat.{ℕ, zero, suc, _+_}

@@ -48,11 +48,6 @@ pub fn find(sizes: Sizes, jobs: &[u32], buckets: &[u32], name: u32) -> Found
     ensures { λ r. ⌜ ((arcs queue workers : List ℕ) → r ≡ findOf sizes (view (tables (now (jobs .entry)) arcs (now (buckets .entry)) queue workers)) name) ⌝ }
 {
     let made = header(jobs, MADE);
-    let sound = made <= sizes.jobs;
-    if sound {
-        let newest = bucket_word(buckets, bucket(name, sizes.bits));
-        walk_from(jobs, made, name, newest)
-    } else {
-        Found::Damaged
-    }
+    let newest = bucket_word(buckets, bucket(name, sizes.bits));
+    walk_from(jobs, made, name, newest)
 }

@@ -4,7 +4,7 @@ ghost use mathlib.Core.Path.{_≡_};
 ghost use mathlib.Core.List.{List};
 ghost use Prim.Native.Nat.{ℕ};
 ghost use Rattle.words.specs.Layout.{tables, lent, view};
-ghost use Rattle.words.specs.Words.{planPhase, admitted, refusal, planStep, planTake, planQueue, planGet, planGetOf, judgedAdd, judgedFinish};
+ghost use Rattle.words.specs.Words.{planPhase, admitted, refusal, planStep, planQueue, planGet, planGetOf, judgedCounters, judgedAdd, judgedFinish};
 
 pub mod arguments;
 
@@ -14,6 +14,7 @@ use graph_steps::adding::plan_links;
 use graph_steps::finishing::plan_mark;
 use graph_steps::finishing::plan_notify;
 use graph_words::cell;
+use graph_words::counters_ok;
 use graph_words::header;
 use graph_words::job_word;
 use graph_words::layout::*;
@@ -43,6 +44,10 @@ fn plan_phase(
         return Plan::Refuse {
             number: NOTHING_TO_STEP,
         };
+    }
+    let counted = counters_ok(sizes, jobs, arcs);
+    if counted {} else {
+        return Plan::Refuse { number: DAMAGED };
     }
     let looking = phase == LOOKING;
     if looking {
@@ -101,36 +106,31 @@ pub fn plan_step(
     }
 }
 
-fn plan_take(sizes: Sizes, jobs: &[u32], queue: &[u32], job: u32) -> GetPlan
-    ensures { λ r. ⌜ ((arcs buckets workers : List ℕ) → r ≡ planTake sizes (view (tables (now (jobs .entry)) arcs buckets (now (queue .entry)) workers)) job) ⌝ }
-{
-    let made = header(jobs, MADE);
-    let label = job_word(jobs, job, LABEL);
-    let sound = (made <= sizes.jobs) & (job < made) & (label == UNEXECUTED);
-    if sound {
-        let name = job_word(jobs, job, NAME);
-        GetPlan::Take {
-            job,
-            name,
-            cell: header(queue, TAKEN),
-        }
-    } else {
-        GetPlan::RefuseGet { number: DAMAGED }
-    }
-}
-
-fn plan_queue(sizes: Sizes, jobs: &[u32], queue: &[u32]) -> GetPlan
-    ensures { λ r. ⌜ ((arcs buckets workers : List ℕ) → r ≡ planQueue sizes (view (tables (now (jobs .entry)) arcs buckets (now (queue .entry)) workers))) ⌝ }
+// The job's label is read only where its number is that of a job.
+fn plan_queue(sizes: Sizes, jobs: &[u32], arcs: &[u32], queue: &[u32]) -> GetPlan
+    ensures { λ r. ⌜ ((buckets workers : List ℕ) → r ≡ planQueue sizes (view (tables (now (jobs .entry)) (now (arcs .entry)) buckets (now (queue .entry)) workers))) ⌝ }
 {
     let taken = header(queue, TAKEN);
     let put = header(queue, PUT);
-    let sound = (taken <= put) & (put <= sizes.jobs);
-    if sound {
-        let empty = taken == put;
-        if empty {
-            GetPlan::Wait
-        } else {
-            plan_take(sizes, jobs, queue, cell(queue, taken))
+    let sound = counters_ok(sizes, jobs, arcs) & (taken <= put) & (put <= sizes.jobs);
+    if sound {} else {
+        return GetPlan::RefuseGet { number: DAMAGED };
+    }
+    let empty = taken == put;
+    if empty {
+        return GetPlan::Wait;
+    }
+    let job = cell(queue, taken);
+    let known = job < header(jobs, MADE);
+    if known {} else {
+        return GetPlan::RefuseGet { number: DAMAGED };
+    }
+    let unexecuted = job_word(jobs, job, LABEL) == UNEXECUTED;
+    if unexecuted {
+        GetPlan::Take {
+            job,
+            name: job_word(jobs, job, NAME),
+            cell: taken,
         }
     } else {
         GetPlan::RefuseGet { number: DAMAGED }
@@ -140,17 +140,18 @@ fn plan_queue(sizes: Sizes, jobs: &[u32], queue: &[u32]) -> GetPlan
 fn plan_admitted_get(
     sizes: Sizes,
     jobs: &[u32],
+    arcs: &[u32],
     queue: &[u32],
     workers: &[u32],
     worker: u32,
 ) -> GetPlan
-    ensures { λ r. ⌜ ((arcs buckets : List ℕ) → r ≡ planGet sizes (view (tables (now (jobs .entry)) arcs buckets (now (queue .entry)) (now (workers .entry)))) worker) ⌝ }
+    ensures { λ r. ⌜ ((buckets : List ℕ) → r ≡ planGet sizes (view (tables (now (jobs .entry)) (now (arcs .entry)) buckets (now (queue .entry)) (now (workers .entry)))) worker) ⌝ }
 {
     let idle = worker_word(workers, worker, PHASE) == IDLE;
     if idle {
         let free = worker_word(workers, worker, HELD) == NONE;
         if free {
-            plan_queue(sizes, jobs, queue)
+            plan_queue(sizes, jobs, arcs, queue)
         } else {
             GetPlan::RefuseGet {
                 number: ALREADY_HOLDING,
@@ -178,7 +179,7 @@ pub fn plan_get(
         if known {
             let sound = own_ok(sizes, jobs, arcs, workers, worker);
             if sound {
-                plan_admitted_get(sizes, jobs, queue, workers, worker)
+                plan_admitted_get(sizes, jobs, arcs, queue, workers, worker)
             } else {
                 GetPlan::RefuseGet { number: DAMAGED }
             }
@@ -194,7 +195,18 @@ pub fn plan_get(
     }
 }
 
+// The number that turns a post away where a counter is off its range, or 0.
+fn judge_counters(sizes: Sizes, jobs: &[u32], arcs: &[u32]) -> u32
+    ensures { λ r. ⌜ ((buckets queue workers : List ℕ) → r ≡ judgedCounters sizes (view (tables (now (jobs .entry)) (now (arcs .entry)) buckets queue workers))) ⌝ }
+{
+    let counted = counters_ok(sizes, jobs, arcs);
+    if counted { 0 } else { DAMAGED }
+}
+
 fn judge_admitted_add(
+    sizes: Sizes,
+    jobs: &[u32],
+    arcs: &[u32],
     workers: &[u32],
     worker: u32,
     name: u32,
@@ -203,12 +215,13 @@ fn judge_admitted_add(
     class: u32,
     grower: u32,
 ) -> u32
-    ensures { λ r. ⌜ ((jobs arcs buckets queue : List ℕ) → r ≡ judgedAdd (view (tables jobs arcs buckets queue (now (workers .entry)))) worker (record { name = name; count = count; names = names; class = class; grower = grower })) ⌝ }
+    ensures { λ r. ⌜ ((buckets queue : List ℕ) → r ≡ judgedAdd sizes (view (tables (now (jobs .entry)) (now (arcs .entry)) buckets queue (now (workers .entry)))) worker (record { name = name; count = count; names = names; class = class; grower = grower })) ⌝ }
 {
     let idle = worker_word(workers, worker, PHASE) == IDLE;
     if idle {
+        let counters = judge_counters(sizes, jobs, arcs);
         let wrong = arguments_wrong(name, names, count, class, grower);
-        if wrong { WRONG_ARGUMENTS } else { 0 }
+        if wrong { WRONG_ARGUMENTS } else { counters }
     } else {
         HALF_DONE
     }
@@ -229,7 +242,7 @@ pub fn judge_add(
     class: u32,
     grower: u32,
 ) -> u32
-    ensures { λ r. ⌜ r ≡ admitted sizes (lent (jobs .entry) (arcs .entry) (buckets .entry) (queue .entry) (workers .entry)) worker refusal (judgedAdd (view (lent (jobs .entry) (arcs .entry) (buckets .entry) (queue .entry) (workers .entry))) worker (record { name = name; count = count; names = names; class = class; grower = grower })) ⌝ }
+    ensures { λ r. ⌜ r ≡ admitted sizes (lent (jobs .entry) (arcs .entry) (buckets .entry) (queue .entry) (workers .entry)) worker refusal (judgedAdd sizes (view (lent (jobs .entry) (arcs .entry) (buckets .entry) (queue .entry) (workers .entry))) worker (record { name = name; count = count; names = names; class = class; grower = grower })) ⌝ }
 {
     let fit = sizes_fit(sizes, jobs, arcs, buckets, queue, workers);
     if fit {
@@ -237,7 +250,18 @@ pub fn judge_add(
         if known {
             let sound = own_ok(sizes, jobs, arcs, workers, worker);
             if sound {
-                judge_admitted_add(workers, worker, name, names, count, class, grower)
+                judge_admitted_add(
+                    sizes,
+                    jobs,
+                    arcs,
+                    workers,
+                    worker,
+                    name,
+                    names,
+                    count,
+                    class,
+                    grower,
+                )
             } else {
                 DAMAGED
             }
@@ -249,14 +273,30 @@ pub fn judge_add(
     }
 }
 
-fn judge_admitted_finish(jobs: &[u32], workers: &[u32], worker: u32, name: u32) -> u32
-    ensures { λ r. ⌜ ((arcs buckets queue : List ℕ) → r ≡ judgedFinish (view (tables (now (jobs .entry)) arcs buckets queue (now (workers .entry)))) worker name) ⌝ }
+// The held job's name is read only where there is one.
+fn judge_admitted_finish(
+    sizes: Sizes,
+    jobs: &[u32],
+    arcs: &[u32],
+    workers: &[u32],
+    worker: u32,
+    name: u32,
+) -> u32
+    ensures { λ r. ⌜ ((buckets queue : List ℕ) → r ≡ judgedFinish sizes (view (tables (now (jobs .entry)) (now (arcs .entry)) buckets queue (now (workers .entry)))) worker name) ⌝ }
 {
     let idle = worker_word(workers, worker, PHASE) == IDLE;
     if idle {
         let held = worker_word(workers, worker, HELD);
-        let holds = (held != NONE) & (job_word(jobs, held, NAME) == name);
-        if holds { 0 } else { NOT_HELD }
+        let none = held == NONE;
+        if none {
+            return NOT_HELD;
+        }
+        let holds = job_word(jobs, held, NAME) == name;
+        if holds {
+            judge_counters(sizes, jobs, arcs)
+        } else {
+            NOT_HELD
+        }
     } else {
         HALF_DONE
     }
@@ -273,7 +313,7 @@ pub fn judge_finish(
     worker: u32,
     name: u32,
 ) -> u32
-    ensures { λ r. ⌜ r ≡ admitted sizes (lent (jobs .entry) (arcs .entry) (buckets .entry) (queue .entry) (workers .entry)) worker refusal (judgedFinish (view (lent (jobs .entry) (arcs .entry) (buckets .entry) (queue .entry) (workers .entry))) worker name) ⌝ }
+    ensures { λ r. ⌜ r ≡ admitted sizes (lent (jobs .entry) (arcs .entry) (buckets .entry) (queue .entry) (workers .entry)) worker refusal (judgedFinish sizes (view (lent (jobs .entry) (arcs .entry) (buckets .entry) (queue .entry) (workers .entry))) worker name) ⌝ }
 {
     let fit = sizes_fit(sizes, jobs, arcs, buckets, queue, workers);
     if fit {
@@ -281,7 +321,7 @@ pub fn judge_finish(
         if known {
             let sound = own_ok(sizes, jobs, arcs, workers, worker);
             if sound {
-                judge_admitted_finish(jobs, workers, worker, name)
+                judge_admitted_finish(sizes, jobs, arcs, workers, worker, name)
             } else {
                 DAMAGED
             }

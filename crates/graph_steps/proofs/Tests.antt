@@ -2,9 +2,8 @@
 use mathlib.Core.Path.{_≡_, refl}
 use mathlib.Core.Bool.{Bool, true, false, _&&_}
 
--- the third of four tests
-pub third : (a b c d : Bool) → (a && b && c && d) ≡ true → c ≡ true
-third true true true d e = refl
-third true true false d e = e
-third true false c d e = cc
-third false b c d e = cc
+-- the second of three tests
+pub second : (a b c : Bool) → (a && b && c) ≡ true → b ≡ true
+second true true c e = refl
+second true false c e = e
+second false b c e = cc

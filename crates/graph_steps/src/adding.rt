@@ -5,7 +5,7 @@ ghost use mathlib.Core.Path.{_≡_};
 ghost use mathlib.Core.List.{List};
 ghost use Prim.Native.Nat.{ℕ};
 ghost use Rattle.words.specs.Layout.{tables, lent, view};
-ghost use Rattle.words.specs.Words.{planLookUp, planEntry, planEnter, planAppend, planLink, planSettle, planAdd, planLinks};
+ghost use Rattle.words.specs.Words.{planLookUp, planEnter, planAppend, planLink, planSettle, planAdd, planLinks};
 use super::queueing::less;
 use super::queueing::settle_queue;
 use bucket::bucket;
@@ -36,7 +36,7 @@ fn plan_look_up(place: u32, found: Found) -> Plan
 }
 
 // The sum of the arcs is formed in 64 bits, where it cannot wrap.
-fn plan_entry(
+fn plan_enter(
     sizes: Sizes,
     jobs: &[u32],
     arcs: &[u32],
@@ -45,7 +45,7 @@ fn plan_entry(
     count: u32,
     found: Found,
 ) -> Plan
-    ensures { λ r. ⌜ ((queue workers : List ℕ) → r ≡ planEntry sizes (view (tables (now (jobs .entry)) (now (arcs .entry)) (now (buckets .entry)) queue workers)) name count found) ⌝ }
+    ensures { λ r. ⌜ ((queue workers : List ℕ) → r ≡ planEnter sizes (view (tables (now (jobs .entry)) (now (arcs .entry)) (now (buckets .entry)) queue workers)) name count found) ⌝ }
 {
     match found {
         Found::At { job: _ } => Plan::Quit {
@@ -76,25 +76,6 @@ fn plan_entry(
     }
 }
 
-fn plan_enter(
-    sizes: Sizes,
-    jobs: &[u32],
-    arcs: &[u32],
-    buckets: &[u32],
-    name: u32,
-    count: u32,
-    found: Found,
-) -> Plan
-    ensures { λ r. ⌜ ((queue workers : List ℕ) → r ≡ planEnter sizes (view (tables (now (jobs .entry)) (now (arcs .entry)) (now (buckets .entry)) queue workers)) name count found) ⌝ }
-{
-    let sound = header(arcs, RESERVED) <= sizes.arcs;
-    if sound {
-        plan_entry(sizes, jobs, arcs, buckets, name, count, found)
-    } else {
-        Plan::Refuse { number: DAMAGED }
-    }
-}
-
 // The arc has 64 bits: the first reserved arc may be none, and the sum with a place then passes 32 bits.
 fn plan_append(
     sizes: Sizes,
@@ -110,7 +91,7 @@ fn plan_append(
     let reserved = header(arcs, RESERVED);
     let last = job_word(jobs, prerequisite, LAST);
     let kept = place_ok(last, reserved, sizes.arcs);
-    let sound = (job < made) & (reserved <= sizes.arcs) & (arc < (reserved as u64)) & kept;
+    let sound = (job < made) & (arc < (reserved as u64)) & kept;
     if sound {
         let arc = arc as u32;
         let first = last == NONE;
@@ -156,11 +137,16 @@ fn plan_link(sizes: Sizes, jobs: &[u32], arcs: &[u32], arc: u64, job: u32, found
     }
 }
 
+// The job's count is read only where it is one: a read of none would lie past the table.
 fn plan_settle(sizes: Sizes, jobs: &[u32], queue: &[u32], job: u32, tally: u32, listed: u32) -> Plan
     ensures { λ r. ⌜ ((arcs buckets workers : List ℕ) → r ≡ planSettle sizes (view (tables (now (jobs .entry)) arcs buckets (now (queue .entry)) workers)) job tally listed) ⌝ }
 {
+    let none = job == NONE;
+    if none {
+        return Plan::Refuse { number: DAMAGED };
+    }
     let count = job_word(jobs, job, COUNT);
-    let sound = (job != NONE) & (count <= MOST_NAMES) & (tally <= count);
+    let sound = (count <= MOST_NAMES) & (tally <= count);
     if sound {
         let left = less(count, tally);
         let settles = (left == 0) & ((0 < tally) | (listed == 0));

@@ -17,14 +17,18 @@ use graph_words::place_ok;
 use terms::Sizes;
 use words::Plan;
 
+// The job's words are read only where it is one: a read of none would lie past the table.
 pub fn plan_mark(sizes: Sizes, jobs: &[u32], arcs: &[u32], job: u32) -> Plan
     ensures { λ r. ⌜ ((buckets queue workers : List ℕ) → r ≡ planMark sizes (view (tables (now (jobs .entry)) (now (arcs .entry)) buckets queue workers)) job) ⌝ }
 {
-    let reserved = header(arcs, RESERVED);
+    let none = job == NONE;
+    if none {
+        return Plan::Refuse { number: DAMAGED };
+    }
     let label = job_word(jobs, job, LABEL);
     let first = job_word(jobs, job, FIRST);
-    let kept = place_ok(first, reserved, sizes.arcs);
-    let sound = (job != NONE) & (label == EXECUTING) & (reserved <= sizes.arcs) & kept;
+    let kept = place_ok(first, header(arcs, RESERVED), sizes.arcs);
+    let sound = (label == EXECUTING) & kept;
     if sound {
         Plan::Mark { job, first }
     } else {
@@ -32,22 +36,23 @@ pub fn plan_mark(sizes: Sizes, jobs: &[u32], arcs: &[u32], job: u32) -> Plan
     }
 }
 
+// The dependent's count is read only where its number is that of a job.
 pub fn plan_notify(sizes: Sizes, jobs: &[u32], arcs: &[u32], queue: &[u32], arc: u32) -> Plan
     ensures { λ r. ⌜ ((buckets workers : List ℕ) → r ≡ planNotify sizes (view (tables (now (jobs .entry)) (now (arcs .entry)) buckets (now (queue .entry)) workers)) arc) ⌝ }
 {
-    let made = header(jobs, MADE);
-    let reserved = header(arcs, RESERVED);
+    let none = arc == NONE;
+    if none {
+        return Plan::Refuse { number: DAMAGED };
+    }
     let job = arc_word(arcs, arc, DEPENDENT);
     let next = arc_word(arcs, arc, AFTER);
+    let known = job < header(jobs, MADE);
+    if known {} else {
+        return Plan::Refuse { number: DAMAGED };
+    }
     let count = job_word(jobs, job, COUNT);
-    let kept = place_ok(next, reserved, sizes.arcs);
-    let sound = (arc != NONE)
-        & (made <= sizes.jobs)
-        & (reserved <= sizes.arcs)
-        & (job < made)
-        & kept
-        & (1 <= count)
-        & (count <= MOST_NAMES);
+    let kept = place_ok(next, header(arcs, RESERVED), sizes.arcs);
+    let sound = kept & (1 <= count) & (count <= MOST_NAMES);
     if sound {
         let left = less(count, 1);
         let last = count == 1;

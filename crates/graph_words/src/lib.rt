@@ -10,7 +10,7 @@ ghost use lib.ListN.{length, getD, set};
 ghost use Rattle.terms.specs.Terms.{mostBits, withinLimits};
 ghost use Rattle.words.specs.Columns.{place, columns, put, header, putHeader};
 ghost use Rattle.words.specs.Layout.{jobShape, arcShape, bucketShape, queueShape, workerShape, NAMES, tables, lent, view, need, longEnough, sizesKept, roomFor, sizesFit};
-ghost use Rattle.words.specs.Words.{placeOk, ownOk};
+ghost use Rattle.words.specs.Words.{placeOk, countersOk, ownOk};
 
 pub mod layout;
 pub mod numbers;
@@ -237,6 +237,13 @@ pub fn place_ok(place: u32, counter: u32, size: u32) -> bool
     } else {
         (place < counter) & (place < size)
     }
+}
+
+// How many jobs were made and arcs reserved is within the sizes. A call tests it once, before what its step reads.
+pub fn counters_ok(sizes: Sizes, jobs: &[u32], arcs: &[u32]) -> bool
+    ensures { λ r. ⌜ ((buckets queue workers : List ℕ) → r ≡ countersOk sizes (view (tables (now (jobs .entry)) (now (arcs .entry)) buckets queue workers))) ⌝ }
+{
+    (header(jobs, MADE) <= sizes.jobs) & (header(arcs, RESERVED) <= sizes.arcs)
 }
 
 // The worker's own words are sound. The tests of its places are branches: what follows a call knows their outcome.

@@ -3,32 +3,37 @@ use mathlib.Core.Path.{_≡_, refl, sym, ap, _∙_, subst}
 use mathlib.Core.Logic.{_↔_}
 use mathlib.Core.Bool.{true}
 use mathlib.Core.List.{List, [], _∷_}
-use mathlib.Core.Option.{Option, none, some}
+use mathlib.Core.Option.{none}
 use Prim.Native.Nat.{ℕ, zero, suc, _+_, _-_, _≤_, _<_}
 use native.Mathlib.Omega.{arith}
 use lib.ListN.{length, getD}
 use Rattle.terms.specs.Base.{contains, occurrences}
 use Rattle.terms.specs.Terms.{Arguments, listed, labelNumber}
+use Rattle.terms.specs.Seen.{Same, JobSeen}
 use Rattle.terms.specs.Runs.{Item, get, Event, Outcome, after, events, entries}
 use Rattle.terms.specs.declared.Sizes.{Sizes}
 use Rattle.terms.specs.declared.Answer.{Answer}
 use Rattle.terms.specs.declared.Answer.the-variants.{Laid, NoneReady}
-use Rattle.words.specs.Layout.{Tables, view, HELD}
+use Rattle.words.specs.Layout.{Tables}
 use Rattle.words.specs.Words as words
+use Rattle.words.specs.Observed.{seen}
 use Rattle.rules.specs.Rules.{Graph, empty, job}
 use Rattle.rules.specs.Rules as rules
+use Rattle.rules.specs.Observed as rules-seen
 use Rattle.rules.specs.Sound.{Sound, Finished}
 use Rattle.reference.specs.Book.{Book, entry, remaining, Ready}
 use Rattle.reading.specs.Reading.{Reading, unread, readOn, reading, Quiet, acceptedAdds}
 use Rattle.story.specs.Story.{Story, start, Counted, Booked, Balanced, AllIdle, entryOf, entriesOf}
-use Rattle.demand.specs.Demand.{entriesInto, addOf, MarkedFinished, holdWord, JobShown, Shows, Demand}
-use Rattle.refinement.specs.Rep as rep
+use Rattle.demand.specs.Demand.{entriesInto, addOf, MarkedFinished, JobShown, Shows, Demand}
 use Rattle.refinement.specs.Rep.{Ghost, Stands}
 use Rattle.tables_rep.specs.Find.{found-there}
+use Rattle.tables_rep.specs.Queue.{waiting-queue}
 use Rattle.refines.specs.Items.{item}
+use Rattle.refines.specs.Seen.{shown}
+use Rattle.audit.specs.TurnedAway.{turned-away}
 use Rattle.bookkeeping.specs.Entries.{entries-length, listed-length}
 use Rattle.bookkeeping.specs.Settled.{same-entry, counts, waiting-ready, none-ready}
-use Rattle.history.specs.Onward.{entriesBy, onward, waiting-queue}
+use Rattle.story.specs.Onward.{entriesBy, onward}
 
 -- the theorems about every story by the rules are the section's parameters
 module _ (s : Sizes)
@@ -38,12 +43,13 @@ module _ (s : Sizes)
     (balanced : (g : Graph) (r : Reading) (e : ℕ → ℕ) → Story s g r e → Quiet r → AllIdle g × Balanced g) where
   -- ---- along the items: the same entries, the same events, and tables that stand for the graph
   pub record Along (t : Tables) (g : Graph) (is : List Item) : Type 0 where
-    pub entered : (j : ℕ) → entriesInto t is j ≡ entriesBy s g is j
+    pub entered : (j : ℕ) → entriesInto words.perform seen s t is j ≡ entriesBy s g is j
     pub told : events words.perform t is ≡ events (rules.perform s) g is
     pub ghost : Ghost
     pub stands : Stands s (after words.perform t is) (after (rules.perform s) g is) ghost
 
-  pub along : (t : Tables) (g : Graph) (G : Ghost) (r : Reading) (e : ℕ → ℕ) → Stands s t g G → Story s g r e → (is : List Item) → Along t g is
+  pub along : (t : Tables) (g : Graph) (G : Ghost) (r : Reading) (e : ℕ → ℕ) → Stands s t g G → Story s g r e
+      → (is : List Item) → Along t g is
   unfolding entries after events
   along t g G r e S story [] = record { entered = λ j. refl; told = refl; ghost = G; stands = S }
   along t g G r e S story (i ∷ is) =
@@ -90,7 +96,7 @@ module _ (s : Sizes)
     K : Booked s g r
     K = booked g r e story
 
-    entered : (j : ℕ) → entriesInto t items j ≡ e j
+    entered : (j : ℕ) → entriesInto words.perform seen s t items j ≡ e j
     entered j = omega (arith, walk .entered j)
 
     abbrev adds : List Arguments
@@ -100,46 +106,52 @@ module _ (s : Sizes)
     list-length : (j : ℕ) → j < length (g .jobs) → addOf adds j .count ≡ length (job g j .list)
     list-length j h = sym (listed-length (addOf adds j)) ∙ ap length (K .added j h .list)
 
-    marked : (name : ℕ) → Finished g name → MarkedFinished T adds name
+    -- what is seen in the words is what is seen in the rules' graph
+    does : Same s (seen T) (rules-seen.seen g)
+    does = shown (walk .stands) O
+
+    marked : (name : ℕ) → Finished g name → MarkedFinished (seen T) adds name
     marked name f =
         let at = found-there g name (f .job) (f .found) in
         record {
           job = f .job;
           there = omega (arith, at .0, K .adds);
           named = K .added (f .job) (at .0) .name ∙ at .1;
-          marked = walk .stands .rep .rows (f .job) (omega (arith, at .0, O .jobs)) .label ∙ ap labelNumber (f .finished);
+          marked = ap (λ (x : JobSeen). x .label) (does .jobs (f .job) (at .0)) ∙ ap labelNumber (f .finished);
         }
 
-    holds-word : (h : Option ℕ) → rep.holdWord h ≡ holdWord h
-    holds-word none = refl
-    holds-word (some j) = refl
-
-    shows : Quiet r → Shows s T (K .book)
+    shows : Quiet r → Shows s (seen T) (K .book)
     shows quiet =
         let both = balanced g r e story quiet in
         let B = both .1 in
         let n : length (K .book .jobs) ≡ length (g .jobs) = ap length (K .jobs) ∙ entries-length (g .jobs) in
-        let R = walk .stands in
         record {
-          made = R .rep .made ∙ sym n;
+          made = does .made ∙ sym n;
           jobs = λ j h.
               let there : j < length (g .jobs) = omega (arith, n) in
-              let row = R .rep .rows j (omega (arith, O .jobs)) in
+              let row = does .jobs j there in
               let same = same-entry K B j in
               record {
-                name = row .name ∙ sym (ap (λ x. x .name) same);
-                class = row .class ∙ sym (ap (λ x. x .class) same);
-                grower = row .grower ∙ sym (ap (λ x. x .grower) same);
-                label = row .label ∙ sym (ap (λ x. labelNumber (x .label)) same);
-                count = row .count ∙ counts K B j there;
+                name = ap (λ (x : JobSeen). x .name) row ∙ sym (ap (λ x. x .name) same);
+                class = ap (λ (x : JobSeen). x .class) row ∙ sym (ap (λ x. x .class) same);
+                grower = ap (λ (x : JobSeen). x .grower) row ∙ sym (ap (λ x. x .grower) same);
+                label = ap (λ (x : JobSeen). x .label) row ∙ sym (ap (λ x. labelNumber (x .label)) same);
+                count = ap (λ (x : JobSeen). x .count) row ∙ counts K B j there;
               };
-          waits = λ j. rw (waiting-queue R) (waiting-ready K B j);
-          holds = λ w h. R .calls w h .held ∙ holds-word (g .workers w .held) ∙ ap holdWord (sym (K .held w));
-          none-ready = λ w h z. rw (item s T g (walk .ghost) R O (get s w) .answer) (none-ready K B (both .0) w h z);
+          waits = λ j. rw (does .waiting) (waiting-ready K B j);
+          holds = λ w h. does .held w h ∙ sym (K .held w);
         }
 
-    pub holds : Demand s t items
+    none-ready-shown : Quiet r → (w : ℕ) → w < s .workers → K .book .held w ≡ none
+        → (words.perform T (get s w) .answer ≡ NoneReady) ↔ ((j : ℕ) → Ready (K .book) j → ⊥)
+    none-ready-shown quiet w h z =
+        let both = balanced g r e story quiet in
+        rw (item s T g (walk .ghost) (walk .stands) O (get s w) .answer) (none-ready K (both .1) (both .0) w h z)
+
+    pub holds : Demand words.perform seen s t items
     holds = record {
+      answers = walk .told;
+      does = does;
       once = λ j. rw (entered j) (C .once j);
       after-prerequisites = λ j. rw (told, entered j) (λ h.
           let there = C .there j h in
@@ -151,4 +163,6 @@ module _ (s : Sizes)
       book = K .book;
       follows = rw told (K .follows);
       shows = rw told shows;
+      none-ready = rw told none-ready-shown;
+      turns-away = λ i. rw (told, item s T g (walk .ghost) (walk .stands) O i .answer) (turned-away story i);
     }

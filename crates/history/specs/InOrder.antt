@@ -1,5 +1,6 @@
--- First in, first out: "A job with k jobs before it in the queue is handed out by the (k+1)th get that hands one out". By the rules: what was handed
--- out, followed by what waits, is what waited, followed by what entered. Assumes that every story's graph is sound.
+-- First in, first out: "A job with k jobs before it in the queue is handed out by the (k+1)th get that hands one out".
+-- By the rules: what was handed out, followed by what waits, is what waited, followed by what entered. Assumes that
+-- every story's graph is sound.
 use mathlib.Core.Path.{_≡_, refl, sym, ap, _∙_}
 use mathlib.Core.Bool.{Bool, true, false}
 use mathlib.Core.List.{List, [], _∷_, _++_, append-assoc, append-nil}
@@ -16,7 +17,10 @@ use Rattle.rules.specs.Sound.{Sound}
 use Rattle.reading.specs.Reading.{Reading}
 use Rattle.story.specs.Story.{Story, then}
 use Rattle.demand.specs.Demand.{orHanded, handedOut}
-use Rattle.bookkeeping.specs.Change.{Change, nothing, addWrong, addPosted, finishWrong, finishPosted, lookedUp, nameUnknown, nameThere, roomLacking, jobEntered, tallied, arcAppended, jobSettled, markedLast, markedGoing, arcNotified, lastNotified, getHolding, getNone, getHanded, workerOf}
+use Rattle.bookkeeping.specs.Change.{Change, nothing, addWrong, addPosted, finishWrong, finishPosted, lookedUp}
+use Rattle.bookkeeping.specs.Change.{nameUnknown, nameThere, roomLacking, jobEntered, tallied, arcAppended, jobSettled}
+use Rattle.bookkeeping.specs.Change.{markedLast, markedGoing, arcNotified, lastNotified, getHolding, getNone, getHanded}
+use Rattle.terms.specs.Runs.{workerOf}
 use Rattle.bookkeeping.specs.Changes.{changes}
 use Rattle.bookkeeping.specs.Paced.{paced}
 
@@ -51,11 +55,13 @@ handed-first (Handed j name) l = refl
 handed-first (Refused n i) l = refl
 
 -- the dependent of the k-th arc of p
-notified-queue : (g : Graph) (p k : ℕ) → let j = getD (job g p .dependents) k 0 in Moved [] (g .queue) (enqueue (eqb (job g j .count - 1) 0) (g .queue) j)
+notified-queue : (g : Graph) (p k : ℕ)
+    → let j = getD (job g p .dependents) k 0 in Moved [] (g .queue) (enqueue (eqb (job g j .count - 1) 0) (g .queue) j)
 notified-queue g p k = let j = getD (job g p .dependents) k 0 in queued (eqb (job g j .count - 1) 0) (g .queue) j
 
 -- each change
-moves : {s : Sizes} {g : Graph} {r : Reading} {w : ℕ} {x : Answer} {h : Graph} {q : Reading} → Change s g r w x h q → Moved (orHanded x []) (g .queue) (h .queue)
+moves : {s : Sizes} {g : Graph} {r : Reading} {w : ℕ} {x : Answer} {h : Graph} {q : Reading} → Change s g r w x h q
+    → Moved (orHanded x []) (g .queue) (h .queue)
 moves {g = g} nothing = kept (g .queue)
 moves {g = g} (addWrong a e) = kept (g .queue)
 moves {g = g} (addPosted a) = kept (g .queue)

@@ -1,4 +1,4 @@
-pub mod Onward
 pub mod Holds
 pub mod InOrder
 pub mod Theorem
+pub mod Lifted

@@ -1,4 +1,5 @@
--- The theorems, put together: what holds of every list of items from tables that were laid out, by any sizes. Assumes nothing.
+-- The theorems, put together: what holds of every list of items from tables that were laid out, by any sizes. Assumes
+-- nothing.
 use mathlib.Core.Path.{_≡_, refl, sym, ap, _∙_}
 use mathlib.Core.Bool.{Bool, true, false}
 use mathlib.Core.List.{List, _++_}
@@ -13,7 +14,7 @@ use Rattle.terms.specs.declared.Answer.{Answer}
 use Rattle.terms.specs.declared.Answer.the-variants.{Laid, Ended, Refused}
 use Rattle.words.specs.Layout.{Tables, roomFor, freshTables}
 use Rattle.words.specs.Words.{perform, layOut}
-use Rattle.words.specs.Observed.{waiting}
+use Rattle.words.specs.Observed.{waiting, seen}
 use Rattle.rules.specs.Rules.{Graph, empty, job, find, at}
 use Rattle.rules.specs.Rules as rules
 use Rattle.rules.specs.Sound.{Sound}
@@ -22,15 +23,15 @@ use Rattle.story.specs.Story.{Story, start, Counted, Booked, Balanced, AllIdle}
 use Rattle.demand.specs.Demand.{Demand, gives, handedOut}
 use Rattle.refinement.specs.Rep.{Ghost, Stands}
 use Rattle.tables_rep.specs.Fresh.{noGhost, fresh-stands}
+use Rattle.tables_rep.specs.Queue.{waiting-queue}
 use Rattle.refines.specs.Runs.{runs}
 use Rattle.refines.specs.Never.{words-never-damaged}
 use Rattle.bookkeeping.specs.Paced.{paced, all-idle}
 use Rattle.bookkeeping.specs.Booked.{booked}
-use Rattle.bookkeeping.specs.Steps.{add-steps, finish-steps}
 use Rattle.invariant.specs.Sound.{sound}
 use Rattle.invariant.specs.Counted.{counted}
 use Rattle.invariant.specs.Balanced.{balanced}
-use Rattle.history.specs.Onward.{onward, waiting-queue}
+use Rattle.story.specs.Onward.{onward}
 use Rattle.history.specs.Holds.{Along, along, holds}
 use Rattle.history.specs.InOrder.{Moved, in-order, kth}
 
@@ -60,7 +61,8 @@ module _ (s : Sizes) where
     unfolding layOut
     room = go (roomFor s t) laid
       where
-        go : (b : Bool) → pick {A = Outcome Tables} b (outcome Laid (freshTables s t)) (outcome (Refused wrongSizes 0) t) .answer ≡ Laid → b ≡ true
+        go : (b : Bool)
+            → pick {A = Outcome Tables} b (outcome Laid (freshTables s t)) (outcome (Refused wrongSizes 0) t) .answer ≡ Laid → b ≡ true
         go true e = refl
         go false e = let z : _≡_ {A = ℕ} 0 1 = cc in absurd (omega arith)
 
@@ -76,7 +78,7 @@ module _ (s : Sizes) where
     pub never-damaged : (items : List Item) → gives damaged (events perform T items) ≡ false
     never-damaged items = words-never-damaged s t room reached items
 
-    pub demand : (items : List Item) → Demand s T items
+    pub demand : (items : List Item) → Demand perform seen s T items
     demand items = holds s soundly countedly bookedly quietly T noGhost fresh items
 
     walked : (items : List Item) → Along s soundly countedly bookedly quietly T empty items
@@ -98,7 +100,8 @@ module _ (s : Sizes) where
     }
 
     -- first in, first out
-    pub in-turn : (items later : List Item) (k : ℕ) → k < length (handedOut (events perform (after perform T items) later))
+    pub in-turn : (items later : List Item) (k : ℕ)
+        → k < length (handedOut (events perform (after perform T items) later))
         → k < length (waiting (after perform T items))
         → getD (handedOut (events perform (after perform T items) later)) k 0 ≡ getD (waiting (after perform T items)) k 0
     in-turn items later k =
@@ -106,21 +109,3 @@ module _ (s : Sizes) where
         let story = onward s start items in
         let b = along s soundly countedly bookedly quietly (after perform T items) (after (rules.perform s) empty items) (a .ghost) _ _ (a .stands) story later in
         rw (b .told, waiting-queue (a .stands)) (λ h l. kth _ _ _ (in-order soundly story later) k h l)
-
-  -- ---- the steps of whole calls, by the rules
-  module _ (items : List Item) where
-    abbrev reachedGraph : Graph
-    reachedGraph = after (rules.perform s) empty items
-
-    abbrev reachedReading : Reading
-    reachedReading = reading (events (rules.perform s) empty items)
-
-    pub add-length : (q : Sizes) (w : ℕ) (a : Arguments) (k : ℕ) → reachedReading .pending w ≡ adding a k
-        → rules.perform s reachedGraph (step q w) .answer ≡ Ended
-        → suc k ≡ 2 * a .count + 2
-    add-length = add-steps soundly (onward s start items)
-
-    pub finish-length : (q : Sizes) (w name k p : ℕ) → reachedReading .pending w ≡ finishing name k → find reachedGraph name ≡ at p
-        → rules.perform s reachedGraph (step q w) .answer ≡ Ended
-        → suc k ≡ 1 + length (job reachedGraph p .dependents)
-    finish-length = finish-steps soundly (onward s start items)

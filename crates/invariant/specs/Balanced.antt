@@ -1,5 +1,6 @@
--- With no call half done, each job's count is how many of its listed names have jobs not finished, and the jobs in the queue are those that are
--- unexecuted with count 0 (document 01, "A job's remaining count", "ready, and waits"). Assumes nothing.
+-- With no call half done, each job's count is how many of its listed names have jobs not finished, and the jobs in the
+-- queue are those that are unexecuted with count 0 (document 01, "A job's remaining count", "ready, and waits").
+-- Assumes nothing.
 use mathlib.Core.Path.{_≡_, refl, sym, ap, _∙_}
 use mathlib.Core.Logic.{_≢_}
 use mathlib.Core.Bool.{Bool, true, false, _&&_, _||_}
@@ -19,7 +20,8 @@ use Rattle.rules.specs.Sound.{startedBy}
 use Rattle.reference.specs.Book.{unfinished, awaited, awaitedNames}
 use Rattle.reading.specs.Reading.{Reading}
 use Rattle.story.specs.Story.{Story, AllIdle, Balanced, entriesOf}
-use Rattle.invariant.specs.Base.{hit, hit-same, hit-other, occurrences-nil, occurrences-cons, sum, sum-at, sum-same, sum-zero}
+use Rattle.invariant.specs.Base.{hit, hit-same, hit-other, occurrences-nil, occurrences-cons, sum, sum-at}
+use Rattle.invariant.specs.Base.{sum-same, sum-zero}
 use Rattle.invariant.specs.State.{State, apart, tag}
 use Rattle.invariant.specs.Invariant.{Invariant, Below, unserved, startedBy-none, once}
 use Rattle.invariant.specs.Names.{at-injective, missing-not-at, sought}
@@ -58,7 +60,8 @@ waited label [] = 0
 waited label (p ∷ l) = live (label p) 1 + waited label l
 
 -- counted twice: by the list, and by the jobs
-by-jobs : (label : ℕ → Label) (n : ℕ) (l : List ℕ) → Below n l → sum n (λ p. live (label p) (occurrences p l)) ≡ waited label l
+by-jobs : (label : ℕ → Label) (n : ℕ) (l : List ℕ) → Below n l
+    → sum n (λ p. live (label p) (occurrences p l)) ≡ waited label l
 unfolding waited
 by-jobs label n [] b =
     sum-zero n (λ p. live (label p) (occurrences p [])) (λ p. rw (occurrences-nil p) (live-none (label p)))
@@ -82,12 +85,14 @@ distinct-rest : (x : Job) (l : List Job) (i : ℕ) → Distinct (x ∷ l) i → 
 unfolding seek
 distinct-rest x l i d = record { found = λ k h. go k (eqb (x .name) (getD l k noJob .name)) (d .found (suc k) (omega arith)) }
   where
-    go : (k : ℕ) (b : Bool) → pick b (at i) (seek (getD l k noJob .name) l (suc i)) ≡ at (i + suc k) → seek (getD l k noJob .name) l (suc i) ≡ at (suc i + k)
+    go : (k : ℕ) (b : Bool) → pick b (at i) (seek (getD l k noJob .name) l (suc i)) ≡ at (i + suc k)
+        → seek (getD l k noJob .name) l (suc i) ≡ at (suc i + k)
     go k true e = absurd (omega (arith, at-injective i (i + suc k) e))
     go k false e = e ∙ ap at (omega arith)
 
 -- the rest of the list has not the first job's name
-first-only : (x : Job) (l : List Job) (i : ℕ) → Distinct (x ∷ l) i → (o : Found) → seek (x .name) l (suc i) ≡ o → o ≡ missing
+first-only : (x : Job) (l : List Job) (i : ℕ) → Distinct (x ∷ l) i → (o : Found) → seek (x .name) l (suc i) ≡ o
+    → o ≡ missing
 unfolding seek
 first-only x l i d missing e = refl
 first-only x l i d (at p) e =
@@ -102,7 +107,8 @@ unfolding seek awaited entriesOf
 none-awaited name [] i e = refl
 none-awaited name (x ∷ l) i e = go (eqb (x .name) name) e (none-awaited name l (suc i))
   where
-    go : (b : Bool) → pick b (at i) (seek name l (suc i)) ≡ missing → (seek name l (suc i) ≡ missing → awaited name (entriesOf l) ≡ false)
+    go : (b : Bool) → pick b (at i) (seek name l (suc i)) ≡ missing
+        → (seek name l (suc i) ≡ missing → awaited name (entriesOf l) ≡ false)
         → (b && unfinished (x .label)) || awaited name (entriesOf l) ≡ false
     go true z later = absurd (missing-not-at i (sym z))
     go false z later = later z
@@ -112,7 +118,8 @@ label-live unexecuted b e = refl
 label-live executing b e = refl
 label-live finished b e = rw e refl
 
-found-awaited : (name : ℕ) (l : List Job) (i p : ℕ) → Distinct l i → seek name l i ≡ at p → pick (awaited name (entriesOf l)) 1 0 ≡ live (getD l (p - i) noJob .label) 1
+found-awaited : (name : ℕ) (l : List Job) (i p : ℕ) → Distinct l i → seek name l i ≡ at p
+    → pick (awaited name (entriesOf l)) 1 0 ≡ live (getD l (p - i) noJob .label) 1
 unfolding seek awaited entriesOf
 found-awaited name [] i p d e = absurd (missing-not-at p e)
 found-awaited name (x ∷ l) i p d e = go (eqb (x .name) name) refl e (found-awaited name l (suc i) p (distinct-rest x l i d))

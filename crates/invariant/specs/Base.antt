@@ -1,4 +1,5 @@
--- Maps changed at one place, occurrences in a list, and sums below a bound: the laws that the invariant rests on. Assumes nothing.
+-- Maps changed at one place, occurrences in a list, and sums below a bound: the laws that the invariant rests on.
+-- Assumes nothing.
 use mathlib.Core.Path.{_≡_, refl, sym, ap}
 use mathlib.Core.Logic.{_≢_}
 use mathlib.Core.List.{List, [], _∷_, _++_}
@@ -54,17 +55,20 @@ pub occurrences-snoc : (j : ℕ) (l : List ℕ) (x : ℕ) → occurrences j (l +
 occurrences-snoc j l x =
     omega (arith, occurrences-append j l (x ∷ []), occurrences-cons j x [], occurrences-nil j)
 
-pub occurrences-take : (j : ℕ) (l : List ℕ) (i : ℕ) → i < length l → occurrences j (take (suc i) l) ≡ occurrences j (take i l) + hit j (getD l i 0)
+pub occurrences-take : (j : ℕ) (l : List ℕ) (i : ℕ) → i < length l
+    → occurrences j (take (suc i) l) ≡ occurrences j (take i l) + hit j (getD l i 0)
 occurrences-take j l i h = rw (take-suc l i 0) (occurrences-snoc j (take i l) (getD l i 0))
 
 pub occurrences-take-le : (j : ℕ) (l : List ℕ) (i : ℕ) → occurrences j (take i l) ≤ occurrences j l
 occurrences-take-le j l i =
     omega (arith, occurrences-append j (take i l) (drop i l), ap (occurrences j) (take-append-drop i l))
 
-pub occurrences-drop : (j : ℕ) (l : List ℕ) (i : ℕ) → i < length l → occurrences j (drop i l) ≡ hit j (getD l i 0) + occurrences j (drop (suc i) l)
+pub occurrences-drop : (j : ℕ) (l : List ℕ) (i : ℕ) → i < length l
+    → occurrences j (drop i l) ≡ hit j (getD l i 0) + occurrences j (drop (suc i) l)
 occurrences-drop j l i h = rw (drop-cons l i 0) (occurrences-cons j (getD l i 0) (drop (suc i) l))
 
-pub occurrences-drop-snoc : (j : ℕ) (l : List ℕ) (i x : ℕ) → i ≤ length l → occurrences j (drop i (l ++ (x ∷ []))) ≡ occurrences j (drop i l) + hit j x
+pub occurrences-drop-snoc : (j : ℕ) (l : List ℕ) (i x : ℕ) → i ≤ length l
+    → occurrences j (drop i (l ++ (x ∷ []))) ≡ occurrences j (drop i l) + hit j x
 occurrences-drop-snoc j l i x h = rw (drop-append-le i l (x ∷ [])) (occurrences-snoc j (drop i l) x)
 
 pub occurrences-getD : (l : List ℕ) (i : ℕ) → i < length l → 0 < occurrences (getD l i 0) l
@@ -154,7 +158,8 @@ pub sum-hit : (n x : ℕ) → x < n → sum n (λ j. hit j x) ≡ 1
 sum-hit n x h =
     omega (arith, sum-at n (λ j. 0) (λ j. hit j x) x h (λ q e. hit-other q x e), sum-zero n (λ j. 0) (λ q. refl), hit-same x)
 
-pub sum-occurrences : (n : ℕ) (l : List ℕ) → ((j : ℕ) → 0 < occurrences j l → j < n) → sum n (λ j. occurrences j l) ≡ length l
+pub sum-occurrences : (n : ℕ) (l : List ℕ) → ((j : ℕ) → 0 < occurrences j l → j < n)
+    → sum n (λ j. occurrences j l) ≡ length l
 sum-occurrences n [] h = sum-zero n (λ j. occurrences j []) occurrences-nil
 sum-occurrences n (x ∷ l) h =
     omega (

@@ -1,4 +1,5 @@
--- Entering by the rules keeps step with the maps: the looked-up names give the prerequisites by number. Assumes nothing.
+-- Entering by the rules keeps step with the maps: the looked-up names give the prerequisites by number. Assumes
+-- nothing.
 use mathlib.Core.Path.{_≡_, refl, sym, ap, _∙_}
 use mathlib.Core.Logic.{_≢_}
 use mathlib.Core.Option.{some}

@@ -11,10 +11,13 @@ use lib.ListN.{length, getD}
 use Rattle.terms.specs.Base.{update, occurrences}
 use Rattle.terms.specs.Terms.{unexecuted, executing, finished}
 use Rattle.rules.specs.Sound.{startedBy}
-use Rattle.invariant.specs.Base.{update-same, update-other, update-at, hit, hit-same, hit-other, occurrences-cons, occurrences-drop, sum, sum-at}
+use Rattle.invariant.specs.Base.{update-same, update-other, update-at, hit, hit-same, hit-other, occurrences-cons}
+use Rattle.invariant.specs.Base.{occurrences-drop, sum, sum-at}
 use Rattle.invariant.specs.Own.{owns-frame, owns-take, owns-drop}
 use Rattle.invariant.specs.State.{apart, adding, finishing, tag, State, bit, hand, mark, serve, close}
-use Rattle.invariant.specs.Invariant.{Invariant, unserved, finishing-injective, finished-not-unexecuted, executing-not-unexecuted, executing-not-finished, startedBy-none, hitIf-same, hitIf-other, occurrences-enqueue, once}
+use Rattle.invariant.specs.Invariant.{Invariant, unserved, finishing-injective, finished-not-unexecuted}
+use Rattle.invariant.specs.Invariant.{executing-not-unexecuted, executing-not-finished, startedBy-none}
+use Rattle.invariant.specs.Invariant.{hitIf-same, hitIf-other, occurrences-enqueue, once}
 
 module _ (s : State) (I : Invariant s) where
   -- ---- handing out
@@ -199,7 +202,8 @@ module _ (s : State) (I : Invariant s) where
     }
 
   -- ---- ending
-  pub close-keeps : (w p : ℕ) → s .stage w ≡ finishing p → length (s .dependents p) ≤ s .served p → Invariant (close s w p)
+  pub close-keeps : (w p : ℕ) → s .stage w ≡ finishing p → length (s .dependents p) ≤ s .served p
+      → Invariant (close s w p)
   close-keeps w p f h = record {
     held-executing = I .held-executing;
     held-by = I .held-by;

@@ -1,5 +1,5 @@
--- The invariant of the graph as maps: linear equations, for all jobs. How many arcs wait for a job, when it has entered the queue, and who works on
--- what. And what follows at once. Assumes nothing.
+-- The invariant of the graph as maps: linear equations, for all jobs. How many arcs wait for a job, when it has entered
+-- the queue, and who works on what. And what follows at once. Assumes nothing.
 use mathlib.Core.Path.{_≡_, refl, ap}
 use mathlib.Core.Logic.{_≢_}
 use mathlib.Core.Bool.{Bool, true, false}
@@ -37,8 +37,10 @@ pub record Invariant (s : State) : Type 0 where
   pub served-none : (p : ℕ) → s .label p ≢ finished → s .served p ≡ 0
   pub served-within : (p : ℕ) → s .served p ≤ length (s .dependents p)
   -- what a job's count is made of
-  pub balance : (j : ℕ) → s .count j + s .linked j ≡ length (s .prerequisites j) + s .tally j + sum (s .size) (λ p. unserved s p j)
-  pub arcs : (p j : ℕ) → s .label p ≢ finished → unserved s p j ≡ occurrences p (take (s .linked j) (s .prerequisites j))
+  pub balance : (j : ℕ)
+      → s .count j + s .linked j ≡ length (s .prerequisites j) + s .tally j + sum (s .size) (λ p. unserved s p j)
+  pub arcs : (p j : ℕ) → s .label p ≢ finished
+      → unserved s p j ≡ occurrences p (take (s .linked j) (s .prerequisites j))
   pub arcs-within : (p j : ℕ) → unserved s p j ≤ occurrences p (s .prerequisites j)
   pub count-within : (j : ℕ) → s .count j ≤ length (s .prerequisites j)
   -- how far the adds are
@@ -87,7 +89,8 @@ pub hitIf-other : (b : Bool) (k j : ℕ) → k ≢ j → hitIf b k j ≡ 0
 hitIf-other true k j h = hit-other k j h
 hitIf-other false k j h = refl
 
-pub occurrences-enqueue : (b : Bool) (q : List ℕ) (j k : ℕ) → occurrences k (enqueue b q j) ≡ occurrences k q + hitIf b k j
+pub occurrences-enqueue : (b : Bool) (q : List ℕ) (j k : ℕ)
+    → occurrences k (enqueue b q j) ≡ occurrences k q + hitIf b k j
 occurrences-enqueue true q j k = occurrences-snoc k q j
 occurrences-enqueue false q j k = omega arith
 
@@ -116,7 +119,8 @@ module _ (s : State) (I : Invariant s) where
       entered-there p (omega (arith, ap startedBy (I .finisher-finished w p (I .finishers .to w p f)), I .queued p))
 
   -- of a job that has entered the queue nothing is left to wait for
-  pub all-finished : (j : ℕ) → 0 < s .entries j → (i : ℕ) → i < length (s .prerequisites j) → s .label (getD (s .prerequisites j) i 0) ≡ finished
+  pub all-finished : (j : ℕ) → 0 < s .entries j → (i : ℕ) → i < length (s .prerequisites j)
+      → s .label (getD (s .prerequisites j) i 0) ≡ finished
   all-finished j h i l =
       let p : ℕ = getD (s .prerequisites j) i 0 in
       elim (Label-discrete (s .label p) finished) [

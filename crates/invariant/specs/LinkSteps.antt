@@ -11,7 +11,8 @@ use lib.ListN.{length, getD, set, length-set, length-append}
 use Rattle.terms.specs.Base.{update, occurrences, contains}
 use Rattle.terms.specs.Terms.{finished, Arguments, listed}
 use Rattle.terms.specs.declared.Sizes.{Sizes}
-use Rattle.rules.specs.Rules.{Job, idle, linking, Graph, noJob, job, find, at, withCall, withDependent, withCount, linked, settles, settled, enqueue}
+use Rattle.rules.specs.Rules.{Job, idle, linking, Graph, noJob, job, find, at, withCall, withDependent, withCount}
+use Rattle.rules.specs.Rules.{linked, settles, settled, enqueue}
 use Rattle.reading.specs.Reading.{Pending, Reading, becomes, addEnded}
 use Rattle.invariant.specs.Base.{update-same, update-other, update-at, hit, hit-same, hit-other}
 use Rattle.invariant.specs.State.{apart, adding, State, bit, linkFinished, linkDependent, settle}
@@ -57,7 +58,8 @@ module _ (s : Sizes) (g : Graph) (r : Reading) (x : State) (K : Kept s g r x) (I
       next-pending : Pending.adding a (suc (a .count + 1 + i)) ≡ Pending.adding a (a .count + 1 + suc i)
       next-pending = ap (Pending.adding a) (omega arith)
 
-      pub linking-finished : job g place .label ≡ finished → Next s g x (withCall g w (linking a j (suc i) (suc t))) (becomes r w (Pending.adding a (suc (a .count + 1 + i))))
+      pub linking-finished : job g place .label ≡ finished
+          → Next s g x (withCall g w (linking a j (suc i) (suc t))) (becomes r w (Pending.adding a (suc (a .count + 1 + i))))
       linking-finished e = record {
         state = linkFinished x j;
         grown = λ k. omega arith;
@@ -95,7 +97,8 @@ module _ (s : Sizes) (g : Graph) (r : Reading) (x : State) (K : Kept s g r x) (I
         };
       }
 
-      pub linking-dependent : job g place .label ≢ finished → Next s g x (linked g w a j i t place) (becomes r w (Pending.adding a (suc (a .count + 1 + i))))
+      pub linking-dependent : job g place .label ≢ finished
+          → Next s g x (linked g w a j i t place) (becomes r w (Pending.adding a (suc (a .count + 1 + i))))
       linking-dependent e =
           let p : ℕ = place in
           let y : State = linkDependent x j p in
@@ -158,7 +161,8 @@ module _ (s : Sizes) (g : Graph) (r : Reading) (x : State) (K : Kept s g r x) (I
           }
 
     -- ---- settling
-    pub settling : a .count ≤ i → Next s g x (settled g w j t (a .count)) (becomes (addEnded r (a .name)) w Pending.idle)
+    pub settling : a .count ≤ i
+        → Next s g x (settled g w j t (a .count)) (becomes (addEnded r (a .name)) w Pending.idle)
     settling h =
         let b : Bool = settles (job g j .count - t) t (a .count) in
         let full : x .linked j ≡ length (x .prerequisites j) = omega (arith, own-link .place, long-list, I .linked-within j) in
@@ -209,7 +213,8 @@ module _ (s : Sizes) (g : Graph) (r : Reading) (x : State) (K : Kept s g r x) (I
           };
         }
       where
-        was-added : {l : List Job} → Extends (g .jobs) l → (name : ℕ) (c : Bool) → contains name (r .added) ≡ c → contains name (r .added ++ (a .name ∷ [])) ≡ true
+        was-added : {l : List Job} → Extends (g .jobs) l → (name : ℕ) (c : Bool) → contains name (r .added) ≡ c
+            → contains name (r .added ++ (a .name ∷ [])) ≡ true
             → AddEnded l (update (x .adder) j none) name
         was-added further name true p e =
             let o = K .added name p in

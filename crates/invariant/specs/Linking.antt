@@ -1,4 +1,5 @@
--- Linking and settling keep the invariant, and settling queues a job exactly when it waits for nothing. Assumes nothing.
+-- Linking and settling keep the invariant, and settling queues a job exactly when it waits for nothing. Assumes
+-- nothing.
 use mathlib.Core.Path.{_≡_, refl, sym, ap, _∙_}
 use mathlib.Core.Bool.{Bool, true, false, _&&_, _||_}
 use mathlib.Core.Logic.{_≢_}
@@ -16,13 +17,16 @@ use lib.Seq.{getD-append-seam}
 use Rattle.terms.specs.Base.{occurrences}
 use Rattle.terms.specs.Terms.{finished}
 use Rattle.rules.specs.Rules.{settles}
-use Rattle.invariant.specs.Base.{update-same, update-other, update-at, hit, hit-same, hit-other, occurrences-take, occurrences-take-le, occurrences-drop-snoc, sum-at}
+use Rattle.invariant.specs.Base.{update-same, update-other, update-at, hit, hit-same, hit-other, occurrences-take}
+use Rattle.invariant.specs.Base.{occurrences-take-le, occurrences-drop-snoc, sum-at}
 use Rattle.invariant.specs.Own.{owns-frame, owns-drop}
 use Rattle.invariant.specs.State.{apart, adding, finishing, tag, State, bit, linkFinished, linkDependent, settle}
-use Rattle.invariant.specs.Invariant.{Invariant, unserved, Below, adding-injective, hitIf-same, hitIf-other, occurrences-enqueue, adding-there}
+use Rattle.invariant.specs.Invariant.{Invariant, unserved, Below, adding-injective, hitIf-same, hitIf-other}
+use Rattle.invariant.specs.Invariant.{occurrences-enqueue, adding-there}
 
 -- one more number that is below
-below-snoc : (n : ℕ) (l : List ℕ) (x : ℕ) → Below n l → x < n → (i : ℕ) → i < length (l ++ (x ∷ [])) → getD (l ++ (x ∷ [])) i 0 < n
+below-snoc : (n : ℕ) (l : List ℕ) (x : ℕ) → Below n l → x < n → (i : ℕ) → i < length (l ++ (x ∷ []))
+    → getD (l ++ (x ∷ [])) i 0 < n
 below-snoc n l x b h i r = elim (ℕ-discrete i (length l)) [
   | yes e ↦ rw (e, getD-append-seam l x [] 0) h
   | no e ↦
@@ -36,10 +40,12 @@ module _ (s : State) (I : Invariant s) where
     abbrev place : ℕ
     place = getD (s .prerequisites j) (s .linked j) 0
 
-    reach-at : (p : ℕ) → occurrences p (take (s .linked j + hit j j) (s .prerequisites j)) ≡ occurrences p (take (s .linked j) (s .prerequisites j)) + hit p place
+    reach-at : (p : ℕ)
+        → occurrences p (take (s .linked j + hit j j) (s .prerequisites j)) ≡ occurrences p (take (s .linked j) (s .prerequisites j)) + hit p place
     reach-at p = rw (hit-same j, add-one (s .linked j)) (occurrences-take p (s .prerequisites j) (s .linked j) h)
 
-    reach-off : (p k : ℕ) → k ≢ j → occurrences p (take (s .linked k + hit k j) (s .prerequisites k)) ≡ occurrences p (take (s .linked k) (s .prerequisites k))
+    reach-off : (p k : ℕ) → k ≢ j
+        → occurrences p (take (s .linked k + hit k j) (s .prerequisites k)) ≡ occurrences p (take (s .linked k) (s .prerequisites k))
     reach-off p k e = rw (hit-other k j e, add-zero (s .linked k)) refl
 
     linked-further : (k : ℕ) → s .linked k + hit k j ≤ length (s .prerequisites k)
@@ -215,7 +221,8 @@ module _ (x : State) (I : Invariant x) (w j : ℕ) (f : x .stage w ≡ adding j)
   abbrev listing : ℕ
   listing = length (x .prerequisites j)
 
-  by-tests : (a : Bool) → eqb left 0 ≡ a → (b : Bool) → ltb 0 (x .tally j) ≡ b → (c : Bool) → eqb listing 0 ≡ c → x .entries j + bit (a && (b || c)) ≡ 1 - left
+  by-tests : (a : Bool) → eqb left 0 ≡ a → (b : Bool) → ltb 0 (x .tally j) ≡ b → (c : Bool) → eqb listing 0 ≡ c
+      → x .entries j + bit (a && (b || c)) ≡ 1 - left
   by-tests false p b q c r = let more : left ≢ 0 = eqb-false left 0 p in omega (arith, I .entry j)
   by-tests true p true q c r =
       omega (arith, I .entry j, I .balance j, I .gate-adding j w (I .adders .to w j f), eqb-true left 0 p, ltb-true 0 (x .tally j) q)

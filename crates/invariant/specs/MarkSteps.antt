@@ -15,7 +15,8 @@ use Rattle.rules.specs.Rules.{Job, idle, marking, notifying, Graph, noJob, job,
 use Rattle.reading.specs.Reading.{Pending, Reading, becomes, finishEnded}
 use Rattle.invariant.specs.Base.{update-same, update-other, hit, hit-same, occurrences-cons}
 use Rattle.invariant.specs.State.{apart, finishing, State, hand, mark, close}
-use Rattle.invariant.specs.Invariant.{Invariant, finished-not-unexecuted, executing-not-finished, entered-there, held-there}
+use Rattle.invariant.specs.Invariant.{Invariant, finished-not-unexecuted, executing-not-finished, entered-there}
+use Rattle.invariant.specs.Invariant.{held-there}
 use Rattle.invariant.specs.Finishing.{head-waits, hand-keeps, mark-keeps, close-keeps}
 use Rattle.invariant.specs.Names.{Extends, extends-set, contains-snoc}
 use Rattle.invariant.specs.Relation.{Kept, known-keeps, JobRel, FinishEnded, set-all}
@@ -33,7 +34,8 @@ module _ (s : Sizes) (g : Graph) (r : Reading) (x : State) (K : Kept s g r x) (I
     pub relabelled-length : length relabelled ≡ length (g .jobs)
     relabelled-length = length-set (g .jobs) j (withLabel (job g j) l)
 
-    pub relabelled-jobs : (k : ℕ) → JobRel relabelled (x .size) k (update (x .label) j l k) (x .count k) (x .dependents k) (x .prerequisites k) (getD relabelled k noJob)
+    pub relabelled-jobs : (k : ℕ)
+        → JobRel relabelled (x .size) k (update (x .label) j l k) (x .count k) (x .dependents k) (x .prerequisites k) (getD relabelled k noJob)
     relabelled-jobs = set-all (λ k u. JobRel relabelled (x .size) k (update (x .label) j l k) (x .count k) (x .dependents k) (x .prerequisites k) u)
         (g .jobs) j (withLabel (job g j) l) noJob there
         (let o = K .jobs j in record {
@@ -125,7 +127,8 @@ module _ (s : Sizes) (g : Graph) (r : Reading) (x : State) (K : Kept s g r x) (I
     another : (name : ℕ) (o : FinishEnded (g .jobs) (x .label) (x .finisher) name) → o .job ≢ p
     another name o z = executing-not-finished (cc (I .held-executing w p marked-held, o .finished))
 
-    pub marking-on : 0 < length (job g p .dependents) → Next s g x (marked g w p (notifying p 0)) (becomes r w (Pending.finishing (job g p .name) 1))
+    pub marking-on : 0 < length (job g p .dependents)
+        → Next s g x (marked g w p (notifying p 0)) (becomes r w (Pending.finishing (job g p .name) 1))
     marking-on h = record {
       state = mark x w p;
       invariant = mark-keeps x I w p marked-stage marked-held;
@@ -167,7 +170,8 @@ module _ (s : Sizes) (g : Graph) (r : Reading) (x : State) (K : Kept s g r x) (I
     abbrev ended-state : State
     ended-state = close (mark x w p) w p
 
-    was-finished : (name : ℕ) (c : Bool) → contains name (r .finished) ≡ c → contains name (r .finished ++ (job g p .name ∷ [])) ≡ true
+    was-finished : (name : ℕ) (c : Bool) → contains name (r .finished) ≡ c
+        → contains name (r .finished ++ (job g p .name ∷ [])) ≡ true
         → FinishEnded (relabelled p marked-there finished) (ended-state .label) (ended-state .finisher) name
     was-finished name true c b =
         let o = K .finished name c in
@@ -186,7 +190,8 @@ module _ (s : Sizes) (g : Graph) (r : Reading) (x : State) (K : Kept s g r x) (I
           ended = update-same (update (x .finisher) p (some w)) p none;
         }
 
-    pub marking-end : length (job g p .dependents) ≡ 0 → Next s g x (marked g w p idle) (becomes (finishEnded r (job g p .name)) w Pending.idle)
+    pub marking-end : length (job g p .dependents) ≡ 0
+        → Next s g x (marked g w p idle) (becomes (finishEnded r (job g p .name)) w Pending.idle)
     marking-end h = record {
       state = ended-state;
       grown = λ k. omega arith;

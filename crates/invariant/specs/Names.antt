@@ -1,4 +1,5 @@
--- The job of a name: a name that is found stays found, with the same number, when jobs are appended or changed in place. Assumes nothing.
+-- The job of a name: a name that is found stays found, with the same number, when jobs are appended or changed in
+-- place. Assumes nothing.
 use mathlib.Core.Path.{_≡_, refl, sym, ap, _∙_}
 use mathlib.Core.Logic.{_≢_}
 use mathlib.Core.Bool.{Bool, true, false, _||_}
@@ -32,7 +33,8 @@ unfolding seek
 sought name [] i p e = absurd (missing-not-at p e)
 sought name (x ∷ l) i p e = go (eqb (x .name) name) refl e (sought name l (suc i) p)
   where
-    go : (b : Bool) → eqb (x .name) name ≡ b → pick b (at i) (seek name l (suc i)) ≡ at p → (seek name l (suc i) ≡ at p → Sought name l (suc i) p) → Sought name (x ∷ l) i p
+    go : (b : Bool) → eqb (x .name) name ≡ b → pick b (at i) (seek name l (suc i)) ≡ at p
+        → (seek name l (suc i) ≡ at p → Sought name l (suc i) p) → Sought name (x ∷ l) i p
     go true t z later =
         let y : i ≡ p = at-injective i p z in
         let d : p - i ≡ 0 = omega arith in
@@ -50,20 +52,26 @@ unfolding seek
 seek-append name [] r i p e = absurd (missing-not-at p e)
 seek-append name (x ∷ l) r i p e = go (eqb (x .name) name) e (seek-append name l r (suc i) p)
   where
-    go : (b : Bool) → pick b (at i) (seek name l (suc i)) ≡ at p → (seek name l (suc i) ≡ at p → seek name (l ++ r) (suc i) ≡ at p) → pick b (at i) (seek name (l ++ r) (suc i)) ≡ at p
+    go : (b : Bool) → pick b (at i) (seek name l (suc i)) ≡ at p
+        → (seek name l (suc i) ≡ at p → seek name (l ++ r) (suc i) ≡ at p)
+        → pick b (at i) (seek name (l ++ r) (suc i)) ≡ at p
     go true z later = z
     go false z later = later z
 
-pub seek-new : (name : ℕ) (l : List Job) (x : Job) (i : ℕ) → x .name ≡ name → seek name l i ≡ missing → seek name (l ++ (x ∷ [])) i ≡ at (i + length l)
+pub seek-new : (name : ℕ) (l : List Job) (x : Job) (i : ℕ) → x .name ≡ name → seek name l i ≡ missing
+    → seek name (l ++ (x ∷ [])) i ≡ at (i + length l)
 unfolding seek
 seek-new name [] x i e z = rw (eq-eqb (x .name) name e) (ap at (omega arith))
 seek-new name (y ∷ l) x i e z = go (eqb (y .name) name) z (seek-new name l x (suc i) e)
   where
-    go : (b : Bool) → pick b (at i) (seek name l (suc i)) ≡ missing → (seek name l (suc i) ≡ missing → seek name (l ++ (x ∷ [])) (suc i) ≡ at (suc i + length l)) → pick b (at i) (seek name (l ++ (x ∷ [])) (suc i)) ≡ at (i + suc (length l))
+    go : (b : Bool) → pick b (at i) (seek name l (suc i)) ≡ missing
+        → (seek name l (suc i) ≡ missing → seek name (l ++ (x ∷ [])) (suc i) ≡ at (suc i + length l))
+        → pick b (at i) (seek name (l ++ (x ∷ [])) (suc i)) ≡ at (i + suc (length l))
     go true u later = absurd (missing-not-at i (sym u))
     go false u later = later u ∙ ap at (omega arith)
 
-pub seek-set : (name : ℕ) (l : List Job) (j : ℕ) (y : Job) (i : ℕ) → y .name ≡ getD l j noJob .name → seek name (set l j y) i ≡ seek name l i
+pub seek-set : (name : ℕ) (l : List Job) (j : ℕ) (y : Job) (i : ℕ) → y .name ≡ getD l j noJob .name
+    → seek name (set l j y) i ≡ seek name l i
 unfolding seek
 seek-set name [] j y i e = refl
 seek-set name (x ∷ l) zero y i e = rw e refl
@@ -85,7 +93,8 @@ extends-append l x = record {
   list = λ j h. ap (λ (y : Job). y .list) (List·getD-append l (x ∷ []) noJob j h);
 }
 
-pub extends-set : (l : List Job) (i : ℕ) (y : Job) → y .name ≡ getD l i noJob .name → y .list ≡ getD l i noJob .list → Extends l (set l i y)
+pub extends-set : (l : List Job) (i : ℕ) (y : Job) → y .name ≡ getD l i noJob .name → y .list ≡ getD l i noJob .list
+    → Extends l (set l i y)
 extends-set l i y e f = record {
   found = λ name p z. seek-set name l i y 0 e ∙ z;
   name = λ j h. elim (ℕ-discrete j i) [
@@ -99,7 +108,8 @@ extends-set l i y e f = record {
 }
 
 -- ---- what an add has looked up
-pub looking-keeps : (g h : Graph) → Extends (g .jobs) (h .jobs) → (a : Arguments) (i : ℕ) → Looking g a i → Looking h a i
+pub looking-keeps : (g h : Graph) → Extends (g .jobs) (h .jobs) → (a : Arguments) (i : ℕ) → Looking g a i
+    → Looking h a i
 looking-keeps g h x a i k = record {
   right = k .right;
   within = k .within;
@@ -112,7 +122,8 @@ pub record Numbers (g : Graph) (names : List ℕ) : Type 0 where
   pub same-length : length names ≡ length numbers
   pub found : (i : ℕ) → i < length names → find g (getD names i 0) ≡ at (getD numbers i 0)
 
-pub numbers-of : (g : Graph) (names : List ℕ) → ((i : ℕ) → i < length names → Named g (getD names i 0)) → Numbers g names
+pub numbers-of : (g : Graph) (names : List ℕ) → ((i : ℕ) → i < length names → Named g (getD names i 0))
+    → Numbers g names
 numbers-of g [] h = record { numbers = []; same-length = refl; found = λ i r. absurd (omega arith) }
 numbers-of g (x ∷ l) h =
     let first : Named g x = h 0 (omega arith) in

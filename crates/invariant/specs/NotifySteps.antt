@@ -95,13 +95,16 @@ module _ (s : Sizes) (g : Graph) (r : Reading) (x : State) (K : Kept s g r x) (I
           known = known-keeps later-extends (o .known);
         })
 
-    grown-by : (i : ℕ) → x .entries i + hitIf test i j ≡ x .entries i + (occurrences i (enqueue test (g .queue) j) - occurrences i (g .queue))
+    grown-by : (i : ℕ)
+        → x .entries i + hitIf test i j ≡ x .entries i + (occurrences i (enqueue test (g .queue) j) - occurrences i (g .queue))
     grown-by i = omega (arith, occurrences-enqueue test (g .queue) j i)
 
-    served-else : (v q : ℕ) → v ≢ w → x .stage v ≡ finishing q → x .served q ≡ update (x .served) p (suc (x .served p)) q
+    served-else : (v q : ℕ) → v ≢ w → x .stage v ≡ finishing q
+        → x .served q ≡ update (x .served) p (suc (x .served p)) q
     served-else v q z b = sym (update-other (x .served) p (suc (x .served p)) q (other-finish s g r x K I w p v q z own-finishing b))
 
-    pub notifying-on : suc k < length (job g p .dependents) → Next s g x (notified g w j (notifying p (suc k))) (becomes r w (Pending.finishing (job g p .name) (suc (suc k))))
+    pub notifying-on : suc k < length (job g p .dependents)
+        → Next s g x (notified g w j (notifying p (suc k))) (becomes r w (Pending.finishing (job g p .name) (suc (suc k))))
     notifying-on h = record {
       state = served-state;
       invariant = served-invariant;
@@ -138,7 +141,8 @@ module _ (s : Sizes) (g : Graph) (r : Reading) (x : State) (K : Kept s g r x) (I
       };
     }
 
-    last-finished : (name : ℕ) (c : Bool) → contains name (r .finished) ≡ c → contains name (r .finished ++ (job g p .name ∷ [])) ≡ true
+    last-finished : (name : ℕ) (c : Bool) → contains name (r .finished) ≡ c
+        → contains name (r .finished ++ (job g p .name ∷ [])) ≡ true
         → FinishEnded later (x .label) (update (x .finisher) p none) name
     last-finished name true c b =
         let o = K .finished name c in
@@ -160,7 +164,8 @@ module _ (s : Sizes) (g : Graph) (r : Reading) (x : State) (K : Kept s g r x) (I
           ended = update-same (x .finisher) p none;
         }
 
-    pub notifying-end : length (job g p .dependents) ≤ suc k → Next s g x (notified g w j idle) (becomes (finishEnded r (job g p .name)) w Pending.idle)
+    pub notifying-end : length (job g p .dependents) ≤ suc k
+        → Next s g x (notified g w j idle) (becomes (finishEnded r (job g p .name)) w Pending.idle)
     notifying-end h = record {
       state = close served-state w p;
       grown = grown-by;

@@ -1,4 +1,5 @@
--- Ownership: `own` is the inverse of the stages K j, one worker for each job. What a change of one worker's stage does to it. Assumes nothing.
+-- Ownership: `own` is the inverse of the stages K j, one worker for each job. What a change of one worker's stage does
+-- to it. Assumes nothing.
 use mathlib.Core.Path.{_≡_, _∙_}
 use mathlib.Core.Logic.{_≢_}
 use mathlib.Core.Option.{Option, none, some, Option·some-injective, Option·none-ne-some}
@@ -20,7 +21,8 @@ module _ {C : Type 0} where
       of = λ v j e. elim (ℕ-discrete v w) [ yes q ↦ absurd (m j (cc (O .of v j e))) | no q ↦ cc (update-other call w c v q, O .of v j e) ];
     }
 
-    pub owns-take : (j : ℕ) → ((a b : ℕ) → K a ≡ K b → a ≡ b) → ((i : ℕ) → call w ≢ K i) → ((v : ℕ) → own j ≢ some v) → Owns K (update call w (K j)) (update own j (some w))
+    pub owns-take : (j : ℕ) → ((a b : ℕ) → K a ≡ K b → a ≡ b) → ((i : ℕ) → call w ≢ K i) → ((v : ℕ) → own j ≢ some v)
+        → Owns K (update call w (K j)) (update own j (some w))
     owns-take j inj m n = record {
       to = λ v i e. elim (ℕ-discrete v w) [
         | yes q ↦ let h : i ≡ j = inj i j (cc (update-at call w (K j) v q)) in cc (update-at own j (some w) i h)
@@ -36,7 +38,8 @@ module _ {C : Type 0} where
       ];
     }
 
-    pub owns-drop : (j : ℕ) (c : C) → ((a b : ℕ) → K a ≡ K b → a ≡ b) → call w ≡ K j → ((i : ℕ) → c ≢ K i) → Owns K (update call w c) (update own j none)
+    pub owns-drop : (j : ℕ) (c : C) → ((a b : ℕ) → K a ≡ K b → a ≡ b) → call w ≡ K j → ((i : ℕ) → c ≢ K i)
+        → Owns K (update call w c) (update own j none)
     owns-drop j c inj f n = record {
       to = λ v i e. elim (ℕ-discrete v w) [
         | yes q ↦ absurd (n i (cc (update-at call w c v q)))

@@ -1,5 +1,5 @@
--- How the graph and its reading stand to the maps: what each job and each worker is there, and what follows when one of them changes.
--- Assumes nothing.
+-- How the graph and its reading stand to the maps: what each job and each worker is there, and what follows when one of
+-- them changes. Assumes nothing.
 use mathlib.Core.Path.{_≡_, refl, sym, _∙_}
 use mathlib.Core.Logic.{_≢_}
 use mathlib.Core.Bool.{true, false}
@@ -13,7 +13,8 @@ use lib.Seq.{getD-set-same, getD-set-other, getD-append-seam}
 use Rattle.terms.specs.Base.{contains}
 use Rattle.terms.specs.Terms.{Label, finished, Arguments, listed, argumentsWrong, mostNames}
 use Rattle.terms.specs.declared.Sizes.{Sizes}
-use Rattle.rules.specs.Rules.{Job, Call, idle, looking, linking, marking, notifying, Worker, Graph, noJob, job, at, seek}
+use Rattle.rules.specs.Rules.{Job, Call, idle, looking, linking, marking, notifying, Worker, Graph, noJob, job, at}
+use Rattle.rules.specs.Rules.{seek}
 use Rattle.rules.specs.Sound.{Looking}
 use Rattle.reading.specs.Reading.{Pending, Reading}
 use Rattle.story.specs.Story.{PacedCall}
@@ -29,7 +30,8 @@ pub record Known (l : List Job) (n k : ℕ) (numbers : List ℕ) (name : ℕ) (n
   pub short : length names ≤ mostNames
   pub found : (i : ℕ) → i < length names → seek (getD names i 0) l 0 ≡ at (getD numbers i 0)
 
-pub known-keeps : {l h : List Job} {n k : ℕ} {numbers : List ℕ} {name : ℕ} {names : List ℕ} → Extends l h → Known l n k numbers name names → Known h n k numbers name names
+pub known-keeps : {l h : List Job} {n k : ℕ} {numbers : List ℕ} {name : ℕ} {names : List ℕ} → Extends l h
+    → Known l n k numbers name names → Known h n k numbers name names
 known-keeps x o = record {
   named = λ r. x .found _ _ (o .named r);
   same-length = o .same-length;
@@ -106,7 +108,8 @@ module _ (g h : Graph) (s t : State) (x : Extends (g .jobs) (h .jobs)) (longer :
     left = omega (arith, r .left, same .dependents p);
   }
 
-  paced-keeps : (o : Option ℕ) (c : Call) (p : Pending) → ((j : ℕ) → o ≡ some j → j < length (g .jobs)) → CallRel g s c → PacedCall g o c p → PacedCall h o c p
+  paced-keeps : (o : Option ℕ) (c : Call) (p : Pending) → ((j : ℕ) → o ≡ some j → j < length (g .jobs)) → CallRel g s c
+      → PacedCall g o c p → PacedCall h o c p
   paced-keeps o idle p there r e = e
   paced-keeps o (looking a i) p there r e = e
   paced-keeps o (linking a j i u) p there r e = (e .0, e .1 ∙ sym (x .name j (r .there)))
@@ -114,7 +117,8 @@ module _ (g h : Graph) (s t : State) (x : Extends (g .jobs) (h .jobs)) (longer :
   paced-keeps (some j) marking p there r e = rw (x .name j (there j refl)) e
   paced-keeps o (notifying q k) p there r e = rw (x .name q (r .there)) e
 
-  pub worker-keeps : (p : Pending) (y : Worker) → ((j : ℕ) → y .held ≡ some j → j < length (g .jobs)) → WorkerRel g s v p y → WorkerRel h t v p y
+  pub worker-keeps : (p : Pending) (y : Worker) → ((j : ℕ) → y .held ≡ some j → j < length (g .jobs))
+      → WorkerRel g s v p y → WorkerRel h t v p y
   worker-keeps p y there o = record {
     held = o .held ∙ same .held;
     stage = sym (same .stage) ∙ o .stage;
@@ -154,11 +158,13 @@ pub record Reached (s : Sizes) (g : Graph) (r : Reading) (e : ℕ → ℕ) : Typ
   pub entries : (k : ℕ) → e k ≡ state .entries k
 
 -- ---- a list changed at one place, or longer by one
-pub set-all : {A : Type 0} (P : ℕ → A → Type 0) (l : List A) (j : ℕ) (x d : A) → j < length l → P j x → ((k : ℕ) → k ≢ j → P k (getD l k d))
+pub set-all : {A : Type 0} (P : ℕ → A → Type 0) (l : List A) (j : ℕ) (x d : A) → j < length l → P j x
+    → ((k : ℕ) → k ≢ j → P k (getD l k d))
     → (k : ℕ) → P k (getD (set l j x) k d)
 set-all P l j x d h a b k = elim (ℕ-discrete k j) [ yes e ↦ rw (e, getD-set-same l j x d h) a | no e ↦ rw (getD-set-other l j k x d e) (b k e) ]
 
-pub snoc-all : {A : Type 0} (P : ℕ → A → Type 0) (l : List A) (x d : A) → P (length l) x → ((k : ℕ) → k ≢ length l → P k (getD l k d))
+pub snoc-all : {A : Type 0} (P : ℕ → A → Type 0) (l : List A) (x d : A) → P (length l) x
+    → ((k : ℕ) → k ≢ length l → P k (getD l k d))
     → (k : ℕ) → P k (getD (l ++ (x ∷ [])) k d)
 snoc-all P l x d a b k = elim (ℕ-discrete k (length l)) [
   | yes e ↦ rw (e, getD-append-seam l x [] d) a

@@ -1,4 +1,5 @@
--- Every graph that a story reaches is sound: rooms, names, dependents, the queue, the holds and the calls (document 01, "Steps"). Assumes nothing.
+-- Every graph that a story reaches is sound: rooms, names, dependents, the queue, the holds and the calls (document 01,
+-- "Steps"). Assumes nothing.
 use mathlib.Core.Path.{_≡_, refl, sym, ap, _∙_}
 use mathlib.Core.Option.{Option, none, some, Option·some-injective}
 use mathlib.Core.List.{List, [], _∷_}
@@ -59,7 +60,8 @@ module _ (s : Sizes) (g : Graph) (r : Reading) (x : State) (K : Kept s g r x) (I
     room = omega (arith, all-entries, sum-gap (length (g .jobs)) (x .entries) (once x I) j h e);
   }
 
-  pub prerequisites-finished : (j : ℕ) → 0 < x .entries j → (i : ℕ) → i < length (job g j .list) → Finished g (getD (job g j .list) i 0)
+  pub prerequisites-finished : (j : ℕ) → 0 < x .entries j → (i : ℕ) → i < length (job g j .list)
+      → Finished g (getD (job g j .list) i 0)
   prerequisites-finished j h i l =
       let p : ℕ = getD (x .prerequisites j) i 0 in
       record {

@@ -1,5 +1,6 @@
--- The graph as total maps, with what the rules do not keep: the prerequisites by number, how far each call has come, and who works on what.
--- Only one call at a time works on a job, so that its registers stand with the job (document 01, "Steps"). Assumes nothing.
+-- The graph as total maps, with what the rules do not keep: the prerequisites by number, how far each call has come,
+-- and who works on what. Only one call at a time works on a job, so that its registers stand with the job (document 01,
+-- "Steps"). Assumes nothing.
 use mathlib.Core.Bool.{Bool, true, false}
 use mathlib.Core.Option.{Option, none, some}
 use mathlib.Core.List.{List, [], _∷_, _++_}
@@ -20,10 +21,11 @@ tag apart = 0
 tag (adding j) = 1
 tag (finishing p) = 2
 
--- size: how many jobs there are. prerequisites: the jobs of the listed names. linked: how many of them the add has linked or tallied.
--- tally: those found finished by the add that is under way. served: how many dependents the finish has notified. entries: into the queue.
--- gate: 1 while something else than its count keeps a job from the queue, that it is not there or that it lists nothing and is not settled.
--- adder, finisher: the worker whose add or finish works on the job. holder: the last worker that was handed the job.
+-- size: how many jobs there are. prerequisites: the jobs of the listed names. linked: how many of them the add has
+-- linked or tallied. tally: those found finished by the add that is under way. served: how many dependents the finish
+-- has notified. entries: into the queue. gate: 1 while something else than its count keeps a job from the queue, that
+-- it is not there or that it lists nothing and is not settled. adder, finisher: the worker whose add or finish works on
+-- the job. holder: the last worker that was handed the job.
 pub record State : Type 0 where
   pub size : ℕ
   pub label : ℕ → Label

@@ -10,11 +10,14 @@ use borrow.Author.Tests.{eqb-true, ltb-true, ltb-false, leb-false}
 use lib.Dec.{eqb, ltb, leb}
 use lib.ListN.{length, getD}
 use Rattle.terms.specs.Base.{pick}
-use Rattle.terms.specs.Terms.{Label, unexecuted, executing, finished, Arguments, listed, argumentsWrong, sameSizes, wrongSizes, noSuchWorker}
+use Rattle.terms.specs.Terms.{Label, unexecuted, executing, finished, Arguments, listed, argumentsWrong, sameSizes}
+use Rattle.terms.specs.Terms.{wrongSizes, noSuchWorker}
 use Rattle.terms.specs.Runs.{Item, postAdd, postFinish, step, get, Outcome, outcome}
 use Rattle.terms.specs.declared.Sizes.{Sizes}
 use Rattle.terms.specs.declared.Answer.the-variants.{Posted, Going, Ended, Refused}
-use Rattle.rules.specs.Rules.{Call, idle, looking, linking, marking, notifying, Graph, job, Found, at, missing, find, withCall, lookUp, entered, enter, linkTo, link, settled, markDependents, mark, notified, notify, stepCall, whenIdle, addPosted, finishPosted, takeNext, getJob, admitted, perform}
+use Rattle.rules.specs.Rules.{Call, idle, looking, linking, marking, notifying, Graph, job, Found, at, missing, find}
+use Rattle.rules.specs.Rules.{withCall, lookUp, entered, enter, linkTo, link, settled, markDependents, mark, notified}
+use Rattle.rules.specs.Rules.{notify, stepCall, whenIdle, addPosted, finishPosted, takeNext, getJob, admitted, perform}
 use Rattle.rules.specs.Sound.{Looking}
 use Rattle.reference.specs.Book as book
 use Rattle.reading.specs.Reading.{Pending, Reading, endsCall, noteAdd, noteFinish, noteGet, note}
@@ -27,7 +30,8 @@ use Rattle.invariant.specs.EnterSteps.{entering}
 use Rattle.invariant.specs.LinkSteps.{listed-found, linking-finished, linking-dependent, settling}
 use Rattle.invariant.specs.MarkSteps.{handing, marked-paced, marking-on, marking-end}
 use Rattle.invariant.specs.NotifySteps.{notify-paced, notifying-on, notifying-end}
-use Rattle.invariant.specs.Notes.{alike-decided, not-noted, noted-refusal, noted-add, noted-added, noted-finish, noted-finished}
+use Rattle.invariant.specs.Notes.{alike-decided, not-noted, noted-refusal, noted-add, noted-added, noted-finish}
+use Rattle.invariant.specs.Notes.{noted-finished}
 
 module _ (s : Sizes) (g : Graph) (r : Reading) (x : State) (K : Kept s g r x) (I : Invariant x) where
   -- what an item with the outcome o owes
@@ -85,7 +89,8 @@ module _ (s : Sizes) (g : Graph) (r : Reading) (x : State) (K : Kept s g r x) (I
       enters h (at j) e = refused-look 7 0 refl
       enters h missing e = go (leb (s .jobs) (length (g .jobs))) refl (ltb (s .arcs) (g .reserved + a .count)) refl
         where
-          go : (b : Bool) → leb (s .jobs) (length (g .jobs)) ≡ b → (c : Bool) → ltb (s .arcs) (g .reserved + a .count) ≡ c
+          go : (b : Bool) → leb (s .jobs) (length (g .jobs)) ≡ b → (c : Bool)
+              → ltb (s .arcs) (g .reserved + a .count) ≡ c
               → Made (step m w) (pick (b || c) (outcome (Refused 8 0) (withCall g w idle)) (outcome Going (entered g w a)))
           go true p c q = refused-look 8 0 refl
           go false p true q = refused-look 8 0 refl
@@ -99,7 +104,8 @@ module _ (s : Sizes) (g : Graph) (r : Reading) (x : State) (K : Kept s g r x) (I
       unfolding stepCall
       look-made = go (ltb i (a .count)) refl
         where
-          go : (b : Bool) → ltb i (a .count) ≡ b → Made (step m w) (pick b (lookUp g w a i (find g (getD (listed a) i 0))) (enter s g w a (find g (a .name))))
+          go : (b : Bool) → ltb i (a .count) ≡ b
+              → Made (step m w) (pick b (lookUp g w a i (find g (getD (listed a) i 0))) (enter s g w a (find g (a .name))))
           go true e = looked-up (ltb-true i (a .count) e) (find g (getD (listed a) i 0)) refl
           go false e = enters (ltb-false i (a .count) e) (find g (a .name)) refl
 
@@ -142,7 +148,8 @@ module _ (s : Sizes) (g : Graph) (r : Reading) (x : State) (K : Kept s g r x) (I
 
     -- ---- marking and notifying
     module _ (f : g .workers w .call ≡ marking) where
-      marks-dependents : (p : ℕ) → g .workers w .held ≡ some p → (l : List ℕ) → job g p .dependents ≡ l → Made (step m w) (markDependents g w p l)
+      marks-dependents : (p : ℕ) → g .workers w .held ≡ some p → (l : List ℕ) → job g p .dependents ≡ l
+          → Made (step m w) (markDependents g w p l)
       unfolding markDependents note
       marks-dependents p e [] d =
           retold (noted-finished r w (r .pending w) (job g p .name) 0 (marked-paced s g r x K I w p f e)) (marking-end s g r x K I w p f e (ap length d))
@@ -180,7 +187,8 @@ module _ (s : Sizes) (g : Graph) (r : Reading) (x : State) (K : Kept s g r x) (I
     steps (notifying p k) f = notifies p k f
 
     -- ---- posts and gets
-    when-idle : (i : Item) (o : Outcome Graph) → Made i (outcome (Refused 3 0) g) → (c : Call) → g .workers w .call ≡ c → (g .workers w .call ≡ idle → Made i o) → Made i (whenIdle g c o)
+    when-idle : (i : Item) (o : Outcome Graph) → Made i (outcome (Refused 3 0) g) → (c : Call) → g .workers w .call ≡ c
+        → (g .workers w .call ≡ idle → Made i o) → Made i (whenIdle g c o)
     unfolding whenIdle
     when-idle i o n idle f h = h f
     when-idle i o n (looking a q) f h = n
@@ -192,17 +200,20 @@ module _ (s : Sizes) (g : Graph) (r : Reading) (x : State) (K : Kept s g r x) (I
     unfolding addPosted note noteAdd
     adds a f = go (argumentsWrong a) refl
       where
-        go : (b : Bool) → argumentsWrong a ≡ b → Made (postAdd m w a) (pick b (outcome (Refused 5 0) g) (outcome Posted (withCall g w (looking a 0))))
+        go : (b : Bool) → argumentsWrong a ≡ b
+            → Made (postAdd m w a) (pick b (outcome (Refused 5 0) g) (outcome Posted (withCall g w (looking a 0))))
         go true e = refused-add a 5 0
         go false e = turned s g r x K I w (looking a 0) (Pending.adding a 0) (own-stage s g r x K I w idle f) refl
             (record { right = e; within = omega arith; found = λ q h. absurd (omega arith) }) refl
 
-    finishes : (name : ℕ) → g .workers w .call ≡ idle → (o : Option ℕ) → g .workers w .held ≡ o → Made (postFinish m w name) (finishPosted g w name o)
+    finishes : (name : ℕ) → g .workers w .call ≡ idle → (o : Option ℕ) → g .workers w .held ≡ o
+        → Made (postFinish m w name) (finishPosted g w name o)
     unfolding finishPosted note noteFinish
     finishes name f none e = refused-finish name 11 0
     finishes name f (some p) e = go (eqb (job g p .name) name) refl
       where
-        go : (b : Bool) → eqb (job g p .name) name ≡ b → Made (postFinish m w name) (pick b (outcome Posted (withCall g w marking)) (outcome (Refused 11 0) g))
+        go : (b : Bool) → eqb (job g p .name) name ≡ b
+            → Made (postFinish m w name) (pick b (outcome Posted (withCall g w marking)) (outcome (Refused 11 0) g))
         go true z = turned s g r x K I w marking (Pending.finishing name 0) (own-stage s g r x K I w idle f) refl tt
             (rw e (ap (λ (n : ℕ). Pending.finishing n 0) (sym (eqb-true (job g p .name) name z))))
         go false z = refused-finish name 11 0
@@ -210,18 +221,20 @@ module _ (s : Sizes) (g : Graph) (r : Reading) (x : State) (K : Kept s g r x) (I
     takes : g .workers w .call ≡ idle → (q : List ℕ) → g .queue ≡ q → Made (get m w) (takeNext g w q)
     unfolding takeNext note noteGet
     takes f [] e = retold (alike-decided true r (book.get w) book.noneReady) (stays s g r x K I)
-    takes f (j ∷ q) e = retold (alike-decided true r (book.get w) (book.handed j)) (handing s g r x K I w j q f e)
+    takes f (j ∷ q) e = retold (alike-decided true r (book.get w) (book.handed j (job g j .name))) (handing s g r x K I w j q f e)
 
     gets : g .workers w .call ≡ idle → (o : Option ℕ) → Made (get m w) (getJob g w o)
     unfolding getJob
     gets f none = takes f (g .queue) refl
     gets f (some j) = refused-get 10 0
 
-    admits : (i : Item) (o : Outcome Graph) → Made i (outcome (Refused 1 0) g) → Made i (outcome (Refused 2 0) g) → Made i o → Made i (admitted s m g w o)
+    admits : (i : Item) (o : Outcome Graph) → Made i (outcome (Refused 1 0) g) → Made i (outcome (Refused 2 0) g)
+        → Made i o → Made i (admitted s m g w o)
     unfolding admitted
     admits i o a b h = go (sameSizes m s) (ltb w (s .workers))
       where
-        go : (c d : Bool) → Made i (pick c (pick d o (outcome (Refused noSuchWorker 0) g)) (outcome (Refused wrongSizes 0) g))
+        go : (c d : Bool)
+            → Made i (pick c (pick d o (outcome (Refused noSuchWorker 0) g)) (outcome (Refused wrongSizes 0) g))
         go true true = h
         go true false = b
         go false d = a

@@ -1,4 +1,5 @@
--- What a step owes, what it leaves of the other workers, and the steps that change nothing but a worker's call. Assumes nothing.
+-- What a step owes, what it leaves of the other workers, and the steps that change nothing but a worker's call. Assumes
+-- nothing.
 use mathlib.Core.Path.{_≡_, refl, sym, ap, _∙_}
 use mathlib.Core.Logic.{_≢_}
 use mathlib.Core.Option.{Option·some-injective}
@@ -81,8 +82,10 @@ module _ (s : Sizes) (g : Graph) (r : Reading) (x : State) (K : Kept s g r x) (I
     other-finish p v i h f e z = h (Option·some-injective v w (cc (I .finishers .to w p f, I .finishers .to v i e)))
 
     -- the workers after a change of w's
-    pub workers-after : (h : Graph) (y : State) (p : Pending) (z : Worker) → Extends (g .jobs) (h .jobs) → length (g .jobs) ≤ length (h .jobs)
-        → WorkerRel h y w p z → ((v : ℕ) → v ≢ w → Same x y v) → (v : ℕ) → WorkerRel h y v (update (r .pending) w p v) (update (g .workers) w z v)
+    pub workers-after : (h : Graph) (y : State) (p : Pending) (z : Worker) → Extends (g .jobs) (h .jobs)
+        → length (g .jobs) ≤ length (h .jobs)
+        → WorkerRel h y w p z → ((v : ℕ) → v ≢ w → Same x y v) → (v : ℕ)
+        → WorkerRel h y v (update (r .pending) w p v) (update (g .workers) w z v)
     workers-after h y p z e l own same v = elim (ℕ-discrete v w) [
       | yes q ↦ rw (q, update-same (r .pending) w p, update-same (g .workers) w z) own
       | no q ↦ rw (update-other (r .pending) w p v q, update-other (g .workers) w z v q)

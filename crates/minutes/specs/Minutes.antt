@@ -9,7 +9,8 @@ use lib.ListN.{getD}
 abbrev pub classes : ℕ
 classes = 16
 
--- the minutes that a table has for a class. No class has 0 minutes, so the answer 0 says that the table has no such class.
+-- the minutes that a table has for a class. No class has 0 minutes, so the answer 0 says that the table has no such
+-- class.
 unfoldable pub minutesIn : List ℕ → ℕ → ℕ
 minutesIn table class = getD table class 0
 

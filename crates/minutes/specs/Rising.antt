@@ -1,6 +1,6 @@
--- The rising rule of a minutes table: one test over the whole table, which carries the rule to each entry of any table that passes it.
--- Follows document 01, "What shape each place takes": "rising rule computed once over the table and carried to each entry".
--- Assumes nothing.
+-- The rising rule of a minutes table: one test over the whole table, which carries the rule to each entry of any table
+-- that passes it. Follows document 01, "What shape each place takes": "rising rule computed once over the table and
+-- carried to each entry". Assumes nothing.
 use mathlib.Core.Bool.{Bool, true, _&&_, and-eq-true-iff}
 use mathlib.Core.List.{List, [], _∷_}
 use mathlib.Core.Path.{_≡_, refl}
@@ -16,7 +16,8 @@ use Rattle.minutes.specs.Minutes.{classes, minutesIn, fixedMinutes}
 abbrev pub mostMinutes : ℕ
 mostMinutes = 1440
 
--- the rule: minutes rise strictly from class to class, from 1 to a day's minutes, and there are none past the last class
+-- the rule: minutes rise strictly from class to class, from 1 to a day's minutes, and there are none past the last
+-- class
 pub record Rising (table : List ℕ) : Type 0 where
   pub rises : (i j : ℕ) → i < j → j < classes → minutesIn table i < minutesIn table j
   pub least : (class : ℕ) → class < classes → 1 ≤ minutesIn table class
@@ -50,20 +51,23 @@ first before entry rest passes =
     }
 
 -- the rule at each entry, by the test at the entries up to it
-above : (before : ℕ) (table : List ℕ) → risesAbove before table ≡ true → (i : ℕ) → i < length table → before < getD table i 0
+above : (before : ℕ) (table : List ℕ) → risesAbove before table ≡ true → (i : ℕ) → i < length table
+    → before < getD table i 0
 above before [] passes i h = absurd (not-suc-le-zero h)
 above before (entry ∷ rest) passes zero h = first before entry rest passes .above
 above before (entry ∷ rest) passes (suc i) h =
     let here : First before entry rest = first before entry rest passes in
     omega (arith, above entry rest (here .onward) i (le-of-suc-le-suc h))
 
-limit : (before : ℕ) (table : List ℕ) → risesAbove before table ≡ true → (i : ℕ) → i < length table → getD table i 0 ≤ mostMinutes
+limit : (before : ℕ) (table : List ℕ) → risesAbove before table ≡ true → (i : ℕ) → i < length table
+    → getD table i 0 ≤ mostMinutes
 limit before [] passes i h = absurd (not-suc-le-zero h)
 limit before (entry ∷ rest) passes zero h = first before entry rest passes .limit
 limit before (entry ∷ rest) passes (suc i) h =
     limit entry rest (first before entry rest passes .onward) i (le-of-suc-le-suc h)
 
-rises : (before : ℕ) (table : List ℕ) → risesAbove before table ≡ true → (i j : ℕ) → i < j → j < length table → getD table i 0 < getD table j 0
+rises : (before : ℕ) (table : List ℕ) → risesAbove before table ≡ true → (i j : ℕ) → i < j → j < length table
+    → getD table i 0 < getD table j 0
 rises before [] passes i j less h = absurd (not-suc-le-zero h)
 rises before (entry ∷ rest) passes i zero less h = absurd (not-suc-le-zero less)
 rises before (entry ∷ rest) passes zero (suc j) less h =

@@ -1,77 +1,210 @@
--- THE PROMISES. Every theorem that the three demands rest on, as far as they concern the graph, each with a one-line proof that names where it was
--- shown. (Those about job sheets stand in crate sheet_format, specs/Promises.antt.) To believe a statement, read the definitions that it names:
---   the words of the tables   words: specs/Layout.antt, specs/Words.antt      (what the code's contracts cite, for ALL tables)
---   the rules                 rules: specs/Rules.antt                         (Johnson's task graph, as corrected)
+-- THE PROMISES. Every theorem that the three demands rest on, as far as they concern the graph, each with a one-line
+-- proof that names where it was shown. (Those about job sheets stand in crate sheet_format, specs/Promises.antt.) To
+-- believe a statement, read the definitions that it names:
+--   the words of the tables   words: specs/Layout.antt, specs/Words.antt   (the code's contracts cite them, for ALL tables)
+--   what is seen in a state   terms: specs/Seen.antt; words, rules: specs/Observed.antt
+--   the rules                 rules: specs/Rules.antt                      (Johnson's task graph, as corrected)
 --   the plain book            reference: specs/Book.antt
---   whole calls               reading: specs/Reading.antt                     (read off items and answers alone)
---   demand 3                  demand: specs/Demand.antt
--- An item is a post, a step or a get, by any worker, with any sizes and arguments, right or wrong; `events` are the items with their answers.
--- Assumes nothing.
+--   whole calls               reading: specs/Reading.antt                  (read off items and answers alone)
+--   demand 3                  demand: specs/Demand.antt                    (of any machine; Wrong*.antt: those that fail it)
+--   how calls end             demand: specs/Ends.antt
+--   the board                 graph_board: specs/Board.antt, specs/Accounted.antt
+--   words needed, and rest    locality: specs/Parts.antt, specs/Refusals.antt
+-- An item is a post, a step or a get, by any worker, with any sizes and arguments, right or wrong; `events` are the
+-- items with their answers, and `after` is the state that they leave. "Laid out" means: `layOut s t` answered so,
+-- whatever the tables t held before. Assumes nothing.
 use mathlib.Core.Path.{_≡_}
-use mathlib.Core.Bool.{false}
-use mathlib.Core.List.{List}
-use Prim.Native.Nat.{ℕ, suc, _+_, _*_, _<_}
+use mathlib.Core.Logic.{_↔_, _≢_}
+use mathlib.Core.Bool.{true, false}
+use mathlib.Core.List.{List, []}
+use mathlib.Core.Option.{none}
+use Prim.Native.Nat.{ℕ, _+_, _^_, _≤_, _<_}
 use lib.ListN.{length, getD}
-use Rattle.terms.specs.Terms.{Arguments, damaged}
-use Rattle.terms.specs.Runs.{Item, step, after, events}
+use Rattle.bucket.specs.Bucket.{bucketOf}
+use Rattle.terms.specs.Base.{pick, occurrences}
+use Rattle.terms.specs.Terms.{Arguments, sameSizes, wrongSizes, damaged, mostNames, labelNumber, finished}
+use Rattle.terms.specs.Runs.{Item, step, get, sizesOf, workerOf, outcome, after, events}
+use Rattle.terms.specs.Seen.{Same, idle}
 use Rattle.terms.specs.declared.Sizes.{Sizes}
-use Rattle.terms.specs.declared.Answer.the-variants.{Laid, Ended}
-use Rattle.words.specs.Layout.{Tables}
-use Rattle.words.specs.Words.{perform, layOut}
-use Rattle.words.specs.Observed.{waiting}
-use Rattle.rules.specs.Rules.{empty, job, find, at}
+use Rattle.terms.specs.declared.Answer.the-variants.{Laid, NoneReady, Handed, Refused}
+use Rattle.words.specs.Layout.{Tables, view, workerShape, NAME, HELD, LIST-COUNT, NAMES, IDLE, bareWorker, roomFor}
+use Rattle.words.specs.Layout as words
+use Rattle.words.specs.Words.{putWorker, perform, layOut}
+use Rattle.words.specs.Observed.{waiting, chainFrom, newestFirst, seen}
+use Rattle.rules.specs.Rules.{empty}
 use Rattle.rules.specs.Rules as rules
-use Rattle.reading.specs.Reading.{reading, adding, finishing, acceptedAdds}
-use Rattle.demand.specs.Demand.{Demand, gives, handedOut}
+use Rattle.rules.specs.Observed as rules-seen
+use Rattle.reading.specs.Reading.{adding, finishing, Reading, reading, Quiet, acceptedAdds, acceptedFinishes}
+use Rattle.reading.specs.Reading as reading
+use Rattle.demand.specs.Demand.{Demand, HandedRightly, gives, handedOut}
+use Rattle.demand.specs.Ends.{AddStep, FinishOf}
 use Rattle.history.specs.Theorem as shown
-use Rattle.board_history.specs.Minutes.{Accounted, accounted}
+use Rattle.history.specs.Lifted as lifted
+use Rattle.locality.specs.Parts.{needed, rest, joined, lengths, laidOut}
+use Rattle.locality.specs.Plans.{quitsBy}
+use Rattle.locality.specs.Refusals.{idled, ends, wordsOf, holdAfter}
+use Rattle.locality.specs.Refusals as refusals
+use Rattle.locality.specs.Within as within
+use Rattle.locality.specs.Laying.{fresh}
+use Rattle.locality.specs.Laying as laying
+use Rattle.graph_board.specs.Board.{graphTotals}
+use Rattle.graph_board.specs.Accounted.{Accounted}
+use Rattle.board_history.specs.Minutes.{accounted}
 use Rattle.cases.specs.Cases.{Starred, every-row}
 
--- DEMAND 2. From tables that were laid out, whatever they held before, every item gets the answer that the rules of the corrected task graph give, at
--- any length of the list. For a grower's sheet: nothing in it, and no moment at which a worker runs, makes the tables do anything but the rules.
-pub the-words-do-what-the-rules-do : (s : Sizes) (t : Tables) → layOut s t .answer ≡ Laid → (items : List Item)
-    → events perform (layOut s t .state) items ≡ events (rules.perform s) empty items
-the-words-do-what-the-rules-do = shown.same-events
+-- ---- of every list of items from tables that were laid out, whatever they held before
+module _ (s : Sizes) (t : Tables) (laid : layOut s t .answer ≡ Laid) (items : List Item) where
+  -- the tables after the items, the items with their answers, and what is read off these
+  abbrev pub at-end : Tables
+  at-end = after perform (layOut s t .state) items
 
--- Number 9, damaged words, never comes from tables that only these calls wrote.
-pub number-9-never-comes : (s : Sizes) (t : Tables) → layOut s t .answer ≡ Laid → (items : List Item)
-    → gives damaged (events perform (layOut s t .state) items) ≡ false
-number-9-never-comes = shown.never-damaged
+  abbrev pub read : Reading
+  read = reading (events perform (layOut s t .state) items)
 
--- DEMAND 3, whole: no job enters the ready queue twice, none before each of its prerequisites is marked finished, each once its add and the finishes of
--- its prerequisites have ended; and with no call half done jobs, labels, counts, waiting jobs, holds and how each call ended are those of the plain
--- book. For the river ledger: no share is split from an unrouted reach, and none is worked twice.
-pub every-history-is-right : (s : Sizes) (t : Tables) → layOut s t .answer ≡ Laid → (items : List Item) → Demand s (layOut s t .state) items
-every-history-is-right = shown.demand
+  -- ---- the auditor's question: "could a sheet, or the moment at which a worker happens to run, bring a canal split
+  -- forward of the reach it rests on, or have it worked twice?" Each job is handed out at most once.
+  pub no-job-is-handed-out-twice : (j : ℕ)
+      → occurrences j (handedOut (events perform (layOut s t .state) items)) ≤ 1
+  no-job-is-handed-out-twice = lifted.once-handed s t laid items
 
--- First in, first out: after any items, a job with k jobs before it in the queue is the one that the (k+1)th get that hands one out hands out.
-pub first-in-first-out : (s : Sizes) (t : Tables) → layOut s t .answer ≡ Laid → (items later : List Item) (k : ℕ)
-    → k < length (handedOut (events perform (after perform (layOut s t .state) items) later))
-    → k < length (waiting (after perform (layOut s t .state) items))
-    → getD (handedOut (events perform (after perform (layOut s t .state) items) later)) k 0 ≡ getD (waiting (after perform (layOut s t .state) items)) k 0
-first-in-first-out = shown.in-turn
+  -- When it is, every prerequisite is marked finished.
+  pub none-is-handed-out-early : (q : Sizes) (w j name : ℕ) → perform at-end (get q w) .answer ≡ Handed j name
+      → HandedRightly (seen at-end) (acceptedAdds (read .calls)) j name
+  none-is-handed-out-early = lifted.rightly-handed s t laid items
 
--- An accepted add of d prerequisites takes exactly 2d + 2 steps: where its worker has had k steps answered and the next one ends it, that is step 2d + 2.
-pub an-add-takes-2d+2-steps : (s : Sizes) (items : List Item) (q : Sizes) (w : ℕ) (a : Arguments) (k : ℕ)
-    → reading (events (rules.perform s) empty items) .pending w ≡ adding a k
-    → rules.perform s (after (rules.perform s) empty items) (step q w) .answer ≡ Ended
-    → suc k ≡ 2 * a .count + 2
-an-add-takes-2d+2-steps = shown.add-length
+  -- At most one finish of each job is accepted.
+  pub no-job-is-finished-twice : (name : ℕ) → occurrences name (acceptedFinishes (read .calls)) ≤ 1
+  no-job-is-finished-twice = lifted.once-finished s t laid items
 
--- A finish takes 1 step more than its job has arcs.
-pub a-finish-takes-1-step-more-than-arcs : (s : Sizes) (items : List Item) (q : Sizes) (w name k p : ℕ)
-    → reading (events (rules.perform s) empty items) .pending w ≡ finishing name k
-    → find (after (rules.perform s) empty items) name ≡ at p
-    → rules.perform s (after (rules.perform s) empty items) (step q w) .answer ≡ Ended
-    → suc k ≡ 1 + length (job (after (rules.perform s) empty items) p .dependents)
-a-finish-takes-1-step-more-than-arcs = shown.finish-length
+  -- And none is forgotten: with no call half done, no hold and nothing waiting, every job that entered is finished.
+  pub what-is-drained-is-finished : Quiet read → ((w : ℕ) → w < s .workers → seen at-end .held w ≡ none)
+      → seen at-end .waiting ≡ []
+      → (j : ℕ) → j < seen at-end .made → seen at-end .job j .label ≡ labelNumber finished
+  what-is-drained-is-finished = lifted.drained s t laid items
 
--- The board: after any items it is served over the graph's own row, and its three sums are together the minutes of all jobs that ever entered, by any
--- table of minutes. For the river ledger: no minute is invented, and none is lost.
-pub the-board-accounts-for-every-job : (table : List ℕ) (s : Sizes) (t : Tables) → layOut s t .answer ≡ Laid → (items : List Item)
-    → Accounted table s (after perform (layOut s t .state) items .jobs) (acceptedAdds (reading (events perform (layOut s t .state) items) .calls))
-the-board-accounts-for-every-job = accounted
+  -- ---- DEMAND 3, whole: each item does and answers what the rules say; no job enters the ready queue twice, none
+  -- before each of its prerequisites is marked finished, each once its add and the finishes of its prerequisites have
+  -- ended; and with no call half done jobs, labels, counts, waiting jobs, holds and how each call ended are those of
+  -- the plain book.
+  pub every-history-is-right : Demand perform seen s (layOut s t .state) items
+  every-history-is-right = shown.demand s t laid items
 
--- The starred cases of document 01, "Checked by hand".
+  -- ---- DEMAND 2: every item gets the answer that the rules of the corrected task graph give,
+  pub the-words-do-what-the-rules-do : events perform (layOut s t .state) items ≡ events (rules.perform s) empty items
+  the-words-do-what-the-rules-do = shown.same-events s t laid items
+
+  -- and after every item the words show the rules' graph, a call half done or not: names, labels, counts, classes,
+  -- growers, arcs in order, the queue, holds and calls. (The list of items is any list, so this is said after each
+  -- single step.)
+  pub the-words-show-the-rules-graph : Same s (seen at-end) (rules-seen.seen (after (rules.perform s) empty items))
+  the-words-show-the-rules-graph = shown.demand s t laid items .does
+
+  -- Number 9, damaged words, never comes.
+  pub number-9-never-comes : gives damaged (events perform (layOut s t .state) items) ≡ false
+  number-9-never-comes = shown.never-damaged s t laid items
+
+  -- ---- calls end. An add takes exactly 2d + 2 steps unless a look-up or its entering step refuses it,
+  pub an-add-takes-2d+2-steps : (w : ℕ) (a : Arguments) (k : ℕ) → read .pending w ≡ adding a k
+      → AddStep a k (perform at-end (step s w) .answer)
+  an-add-takes-2d+2-steps = lifted.add-ends s t laid items
+
+  -- and a finish 1 step more than its job has arcs, counted along the words' own list.
+  pub a-finish-takes-1-step-more-than-arcs : (w name k : ℕ) → read .pending w ≡ finishing name k
+      → FinishOf (seen at-end) name k (perform at-end (step s w) .answer)
+  a-finish-takes-1-step-more-than-arcs = lifted.finish-ends s t laid items
+
+  -- ---- gets. "None ready" exactly if the sizes and the worker are right, the worker is idle and jobless and nothing
+  -- waits.
+  pub none-ready-exactly : (q : Sizes) (w : ℕ) → (perform at-end (get q w) .answer ≡ NoneReady)
+      ↔ ((sameSizes q s ≡ true) × (w < s .workers)
+      × (seen at-end .call w ≡ idle)
+      × (seen at-end .held w ≡ none)
+      × (seen at-end .waiting ≡ []))
+  none-ready-exactly = lifted.none-ready s t laid items
+
+  -- First in, first out: a job with k jobs before it in the queue is the one that the (k+1)th get that hands one out
+  -- hands out.
+  pub first-in-first-out : (later : List Item) (k : ℕ) → k < length (handedOut (events perform at-end later))
+      → k < length (waiting at-end)
+      → getD (handedOut (events perform at-end later)) k 0 ≡ getD (waiting at-end) k 0
+  first-in-first-out = shown.in-turn s t laid items
+
+  -- ---- the words of workers. "A call that ends puts the words of its call back": of a worker in no call all words but
+  -- the hold are as laid out,
+  pub an-idle-worker-is-fresh : (w : ℕ) → w < s .workers → read .pending w ≡ reading.idle → (k : ℕ)
+      → k < workerShape .width → k ≢ HELD
+      → view at-end .worker k w ≡ getD (bareWorker IDLE words.none) k 0
+  an-idle-worker-is-fresh = lifted.fresh-call s t laid items
+
+  -- and "names past the count are kept as 0".
+  pub names-past-the-count-are-0 : (w : ℕ) → w < s .workers → (q : ℕ) → view at-end .worker LIST-COUNT w ≤ q
+      → q < mostNames
+      → view at-end .worker (NAMES + q) w ≡ 0
+  names-past-the-count-are-0 = lifted.names-past s t laid items
+
+  -- ---- names and buckets. No two jobs have one name,
+  pub a-name-has-one-job : (i j : ℕ) → i < seen at-end .made → j < seen at-end .made
+      → seen at-end .job i .name ≡ seen at-end .job j .name → i ≡ j
+  a-name-has-one-job = lifted.one-of-a-name s t laid items
+
+  -- and a bucket's list holds exactly the jobs of its names, newest first.
+  pub a-bucket-holds-its-jobs : (k : ℕ) → k < 2 ^ s .bits
+      → chainFrom (view at-end .made) (view at-end) (view at-end .bucket 0 k)
+      ≡ newestFirst (λ j. bucketOf (view at-end .job NAME j) (s .bits)) k (view at-end .made)
+  a-bucket-holds-its-jobs = lifted.newest-first s t laid items
+
+  -- ---- the board: after any items it is served over the graph's own row, has the jobs and minutes of each label as
+  -- they stand there, and its three sums are together the minutes of all jobs that ever entered, by any table of
+  -- minutes. For the river ledger: no minute is invented, and none is lost.
+  pub the-board-accounts-for-every-job : (table : List ℕ)
+      → Accounted graphTotals table s (at-end .jobs) (acceptedAdds (read .calls))
+  the-board-accounts-for-every-job table = accounted table s t laid items
+
+-- ---- of ALL tables, damaged ones too, and every item
+module _ (t : Tables) (i : Item) where
+  -- A refusal changes nothing, but for 6, 7 and 8: "worker idle, nothing else changed".
+  pub a-refusal-changes-nothing : (n p : ℕ) → perform t i .answer ≡ Refused n p
+      → perform t i .state ≡ pick (quitsBy n) (idled t (workerOf i)) t
+  a-refusal-changes-nothing = refusals.refused t i
+
+  pub none-ready-changes-nothing : perform t i .answer ≡ NoneReady → perform t i .state ≡ t
+  none-ready-changes-nothing = refusals.none-ready t i
+
+  -- "A call that ends puts the words of its call back to these values": an answer that ends an add or a finish leaves
+  -- all 42 words of its worker fresh but the hold, and no other worker's words changed.
+  pub a-call-that-ends-is-put-back : ends (perform t i .answer) ≡ true
+      → (perform t i .state .workers
+      ≡ putWorker (t .workers) (workerOf i) (bareWorker IDLE (holdAfter (view t) (workerOf i))))
+      × (wordsOf (workerOf i) (perform t i .state) ≡ bareWorker IDLE (holdAfter (view t) (workerOf i)))
+  a-call-that-ends-is-put-back = refusals.ended t i
+
+  -- "words past a table's need are never touched": an item does to the tables what it does to the words that its sizes
+  -- need, and leaves the rest. So nothing past the need is looked at: tables that agree in the words needed give one
+  -- answer, and agree in them afterwards;
+  pub nothing-past-the-need-is-read : (u : Tables) → needed (sizesOf i) t ≡ needed (sizesOf i) u
+      → (perform t i .answer ≡ perform u i .answer)
+      × (needed (sizesOf i) (perform t i .state) ≡ needed (sizesOf i) (perform u i .state))
+  nothing-past-the-need-is-read u = within.not-read t u i
+
+  -- nothing past the need is changed, and no table's length.
+  pub nothing-past-the-need-is-changed : (rest (sizesOf i) (perform t i .state) ≡ rest (sizesOf i) t)
+      × (lengths (perform t i .state) ≡ lengths t)
+  nothing-past-the-need-is-changed = within.not-changed t i
+
+-- the same of a list of items, whatever sizes they bring, with the sizes that the tables keep
+pub a-list-keeps-to-the-need : (t : Tables) (items : List Item)
+    → (events perform t items ≡ events perform (needed (laidOut t) t) items)
+    × (after perform t items ≡ joined (after perform (needed (laidOut t) t) items) (rest (laidOut t) t))
+    × (rest (laidOut t) (after perform t items) ≡ rest (laidOut t) t)
+a-list-keeps-to-the-need = within.list-within
+
+-- Laying out succeeds exactly if the sizes lie in their limits and each table is long enough; then the words needed are
+-- a fresh graph, whatever they were, and the rest is as it was. Else it is refused by 1, and nothing is changed.
+pub laying-out-makes-a-fresh-graph : (s : Sizes) (t : Tables)
+    → layOut s t
+    ≡ pick (roomFor s t) (outcome Laid (joined (fresh s) (rest s t))) (outcome (Refused wrongSizes 0) t)
+laying-out-makes-a-fresh-graph = laying.laid-out
+
+-- ---- the starred cases of document 01, "Checked by hand".
 pub the-starred-cases-hold : Starred
 the-starred-cases-hold = every-row

@@ -1,10 +1,10 @@
--- The whole calls of a history, read off its items and their answers alone: per worker the posted call and how many of its steps were answered
--- ("Deciding steps", "The plain book"). Assumes nothing.
+-- The whole calls of a history, read off its items and their answers alone: per worker the posted call and how many of
+-- its steps were answered ("Deciding steps", "The plain book"). Assumes nothing.
 use mathlib.Core.Path.{_≡_}
-use mathlib.Core.Bool.{Bool, true, false, _&&_, not}
+use mathlib.Core.Bool.{Bool, true, false, _&&_, _||_, not}
 use mathlib.Core.List.{List, [], _∷_, _++_}
 use Prim.Native.Nat.{ℕ, zero, suc, _+_}
-use lib.Dec.{ltb, eqb}
+use lib.Dec.{ltb, leb, eqb}
 use Rattle.terms.specs.Base.{pick, update}
 use Rattle.terms.specs.Terms.{Arguments, damaged}
 use Rattle.terms.specs.Runs.{Item, postAdd, postFinish, step, get, Event}
@@ -49,33 +49,56 @@ abbrev pub finishEnded : Reading → ℕ → Reading
 finishEnded r name =
     record { pending = r .pending; calls = r .calls; added = r .added; finished = r .finished ++ (name ∷ []) }
 
+-- "for a refused call the step or post that refuses": a call that a number ends was not accepted, even where an earlier
+-- step had decided it so. What that step noted is withdrawn: the last add or finish of the worker.
+abbrev pub isCallOf : ℕ → Call → Bool
+isCallOf w (add v a) = eqb v w
+isCallOf w (finish v name) = eqb v w
+isCallOf w (Call.get v) = false
+
+unfoldable pub anyCallOf : ℕ → List book.Ended → Bool
+anyCallOf w [] = false
+anyCallOf w (x ∷ l) = isCallOf w (x .call) || anyCallOf w l
+
+unfoldable pub withoutLast : ℕ → List book.Ended → List book.Ended
+withoutLast w [] = []
+withoutLast w (x ∷ l) = pick (isCallOf w (x .call) && not (anyCallOf w l)) l (x ∷ withoutLast w l)
+
+abbrev pub withdrawnIf : Bool → Reading → ℕ → Reading
+withdrawnIf true r w =
+    record { pending = r .pending; calls = withoutLast w (r .calls); added = r .added; finished = r .finished }
+withdrawnIf false r w = r
+
 -- "refused by 1 to 4 … end no call", and neither does 9, which leaves the call half done
 abbrev pub endsCall : ℕ → Bool
 endsCall n = ltb 4 n && not (eqb n damaged)
 
--- ---- a step, by the call that its worker is in. Deciding: "entering for an accepted add", which is step d + 1,
--- "the mark for an accepted finish", which is step 1, "and for a refused call the step that refuses"
+-- ---- a step, by the call that its worker is in. Deciding: "entering for an accepted add", which is step d + 1, or the
+-- step that ends it where that comes earlier; "the mark for an accepted finish", which is step 1; "and for a refused
+-- call the step that refuses"
 unfoldable pub noteStep : Reading → ℕ → Pending → Answer → Reading
 noteStep r w (adding a k) Going = becomes (decidedIf (eqb k (a .count)) r (add w a) accepted) w (adding a (suc k))
-noteStep r w (adding a k) Ended = becomes (addEnded r (a .name)) w idle
+noteStep r w (adding a k) Ended = becomes (addEnded (decidedIf (leb k (a .count)) r (add w a) accepted) (a .name)) w idle
 noteStep r w (adding a k) (Refused n i) =
-    pick (endsCall n) (becomes (decided r (add w a) (refused n i)) w idle) r
+    pick (endsCall n) (becomes (decided (withdrawnIf (ltb (a .count) k) r w) (add w a) (refused n i)) w idle) r
 noteStep r w (finishing name k) Going =
     becomes (decidedIf (eqb k 0) r (finish w name) accepted) w (finishing name (suc k))
 noteStep r w (finishing name k) Ended =
     becomes (finishEnded (decidedIf (eqb k 0) r (finish w name) accepted) name) w idle
+noteStep r w (finishing name k) (Refused n i) =
+    pick (endsCall n) (becomes (decided (withdrawnIf (ltb 0 k) r w) (finish w name) (refused n i)) w idle) r
 noteStep r w idle x = r
 noteStep r w (adding a k) Laid = r
 noteStep r w (adding a k) Posted = r
 noteStep r w (adding a k) NoneReady = r
 noteStep r w (adding a k) (Handed j name) = r
-noteStep r w (finishing name k) (Refused n i) = r
 noteStep r w (finishing name k) Laid = r
 noteStep r w (finishing name k) Posted = r
 noteStep r w (finishing name k) NoneReady = r
 noteStep r w (finishing name k) (Handed j other) = r
 
--- ---- posts and gets: a post that is taken makes the call half done, one that refuses decides it; a get is decided as it is made
+-- ---- posts and gets: a post that is taken makes the call half done, one that refuses decides it; a get is decided as
+-- it is made
 unfoldable pub noteAdd : Reading → ℕ → Arguments → Answer → Reading
 noteAdd r w a Posted = becomes r w (adding a 0)
 noteAdd r w a (Refused n i) = decidedIf (endsCall n) r (add w a) (refused n i)
@@ -95,7 +118,7 @@ noteFinish r w name NoneReady = r
 noteFinish r w name (Handed j other) = r
 
 unfoldable pub noteGet : Reading → ℕ → Answer → Reading
-noteGet r w (Handed j name) = decided r (Call.get w) (handed j)
+noteGet r w (Handed j name) = decided r (Call.get w) (handed j name)
 noteGet r w NoneReady = decided r (Call.get w) noneReady
 noteGet r w (Refused n i) = decidedIf (endsCall n) r (Call.get w) (refused n i)
 noteGet r w Laid = r
@@ -125,7 +148,7 @@ Quiet r = (w : ℕ) → r .pending w ≡ idle
 abbrev pub orMore : End → Arguments → List Arguments → List Arguments
 orMore accepted a l = a ∷ l
 orMore noneReady a l = l
-orMore (handed j) a l = l
+orMore (handed j name) a l = l
 orMore (refused n i) a l = l
 
 unfoldable pub acceptedAdds : List book.Ended → List Arguments
@@ -136,3 +159,19 @@ acceptedAdds (x ∷ l) = more (x .call) (x .end) (acceptedAdds l)
     more (add w a) e rest = orMore e a rest
     more (Call.get w) e rest = rest
     more (finish w name) e rest = rest
+
+-- the names of the accepted finishes so far
+abbrev pub orFinished : End → ℕ → List ℕ → List ℕ
+orFinished accepted name l = name ∷ l
+orFinished noneReady name l = l
+orFinished (handed j other) name l = l
+orFinished (refused n i) name l = l
+
+unfoldable pub acceptedFinishes : List book.Ended → List ℕ
+acceptedFinishes [] = []
+acceptedFinishes (x ∷ l) = more (x .call) (x .end) (acceptedFinishes l)
+  where
+    more : Call → End → List ℕ → List ℕ
+    more (finish w name) e rest = orFinished e name rest
+    more (add w a) e rest = rest
+    more (Call.get w) e rest = rest

@@ -1,5 +1,5 @@
--- The reference model: document 01's plain book, which is fed whole calls, one after another. It keeps the jobs in order of entry and each worker's
--- hold; counts and readiness are worked out from the labels. Assumes nothing.
+-- The reference model: document 01's plain book, which is fed whole calls, one after another. It keeps the jobs in
+-- order of entry and each worker's hold; counts and readiness are worked out from the labels. Assumes nothing.
 use mathlib.Core.Path.{_≡_}
 use mathlib.Core.Bool.{Bool, true, false, _&&_, _||_, not}
 use mathlib.Core.List.{List, [], _∷_, _++_}
@@ -8,7 +8,8 @@ use Prim.Native.Nat.{ℕ, zero, suc, _+_, _<_}
 use lib.Dec.{ltb, leb, eqb}
 use lib.ListN.{length, getD, set}
 use Rattle.terms.specs.Base.{pick, update}
-use Rattle.terms.specs.Terms.{Label, unexecuted, executing, finished, Arguments, listed, argumentsWrong, wrongArguments, unknownName, namePresent, noRoom, alreadyHolding, notHeld}
+use Rattle.terms.specs.Terms.{Label, unexecuted, executing, finished, Arguments, listed, argumentsWrong, wrongArguments}
+use Rattle.terms.specs.Terms.{unknownName, namePresent, noRoom, alreadyHolding, notHeld}
 use Rattle.terms.specs.declared.Sizes.{Sizes}
 
 -- "the jobs in order of entry (name, list, class, grower, label)"
@@ -69,10 +70,11 @@ pub data Call : Type 0 where
   get : ℕ → Call
   finish : ℕ → ℕ → Call
 
+-- a job is handed out by its number and its name
 pub data End : Type 0 where
   accepted : End
   noneReady : End
-  handed : ℕ → End
+  handed : ℕ → ℕ → End
   refused : ℕ → ℕ → End
 
 -- the first place whose name no job has
@@ -108,11 +110,12 @@ unfoldable pub finishEnd : Book → ℕ → Option ℕ → End
 finishEnd b name none = refused notHeld 0
 finishEnd b name (some j) = pick (eqb (entry b j .name) name) accepted (refused notHeld 0)
 
--- "Get: 10 exactly if the worker holds a job. Else the answer is none ready, or a job ready in the book"
+-- "Get: 10 exactly if the worker holds a job. Else the answer is none ready, or a job ready in the book", under its own
+-- name
 pub data GetEnd (b : Book) : Option ℕ → End → Type 0 where
   holding : {j : ℕ} → GetEnd b (some j) (refused alreadyHolding 0)
   nothing : GetEnd b none noneReady
-  taken : (j : ℕ) → Ready b j → GetEnd b none (handed j)
+  taken : (j : ℕ) → Ready b j → GetEnd b none (handed j (entry b j .name))
 
 -- how the book has a call end
 abbrev pub Ends : Sizes → Book → Call → End → Type 0
@@ -134,16 +137,16 @@ finishedBy b w (some j) = record { jobs = labelled b j finished; held = update (
 unfoldable pub next : Book → Call → End → Book
 next b (add w a) accepted =
     record { jobs = b .jobs ++ (record { name = a .name; list = listed a; class = a .class; grower = a .grower; label = unexecuted } ∷ []); held = b .held }
-next b (get w) (handed j) = record { jobs = labelled b j executing; held = update (b .held) w (some j) }
+next b (get w) (handed j name) = record { jobs = labelled b j executing; held = update (b .held) w (some j) }
 next b (finish w name) accepted = finishedBy b w (b .held w)
 next b (add w a) noneReady = b
-next b (add w a) (handed j) = b
+next b (add w a) (handed j name) = b
 next b (add w a) (refused n p) = b
 next b (get w) accepted = b
 next b (get w) noneReady = b
 next b (get w) (refused n p) = b
 next b (finish w name) noneReady = b
-next b (finish w name) (handed j) = b
+next b (finish w name) (handed j other) = b
 next b (finish w name) (refused n p) = b
 
 -- a whole call with how it ended
@@ -154,4 +157,5 @@ pub record Ended : Type 0 where
 -- fed the calls one after another, the book has each end as it did, and is left as it is
 pub data Follows (s : Sizes) : Book → List Ended → Book → Type 0 where
   done : {b : Book} → Follows s b [] b
-  feed : {b c : Book} {e : Ended} {l : List Ended} → Ends s b (e .call) (e .end) → Follows s (next b (e .call) (e .end)) l c → Follows s b (e ∷ l) c
+  feed : {b c : Book} {e : Ended} {l : List Ended} → Ends s b (e .call) (e .end)
+      → Follows s (next b (e .call) (e .end)) l c → Follows s b (e ∷ l) c

@@ -9,10 +9,13 @@ use lib.Dec.{ltb, eqb}
 use lib.ListN.{length, getD}
 use Rattle.bucket.specs.Bucket.{bucketOf}
 use Rattle.terms.specs.Base.{pick, update}
-use Rattle.terms.specs.Terms.{labelNumber, Arguments, listed, withinLimits}
+use Rattle.terms.specs.Terms.{labelNumber, mostNames, Arguments, listed, withinLimits}
 use Rattle.terms.specs.declared.Sizes.{Sizes}
 use Rattle.words.specs.Columns.{Rows}
-use Rattle.words.specs.Layout.{jobShape, NAME, LABEL, COUNT, CLASS, GROWER, FIRST, LAST, NEXT, arcShape, DEPENDENT, AFTER, bucketShape, queueShape, workerShape, PHASE, HELD, OWN-NAME, LIST-COUNT, OWN-CLASS, OWN-GROWER, TALLY, PLACE, OWN-JOB, OWN-ARC, NAMES, IDLE, LOOKING, LINKING, MARKING, NOTIFYING, tables, view, sizesKept, Tables, View}
+use Rattle.words.specs.Layout.{jobShape, NAME, LABEL, COUNT, CLASS, GROWER, FIRST, LAST, NEXT, arcShape, DEPENDENT}
+use Rattle.words.specs.Layout.{AFTER, bucketShape, queueShape, workerShape, PHASE, HELD, OWN-NAME, LIST-COUNT}
+use Rattle.words.specs.Layout.{OWN-CLASS, OWN-GROWER, TALLY, PLACE, OWN-JOB, OWN-ARC, NAMES, IDLE, LOOKING, LINKING}
+use Rattle.words.specs.Layout.{MARKING, NOTIFYING, tables, view, sizesKept, Tables, View}
 use Rattle.words.specs.Layout as words
 use Rattle.words.specs.Words.{firstArc}
 use Rattle.rules.specs.Rules.{Job, Call, idle, looking, linking, marking, notifying, Worker, Graph, job}
@@ -24,8 +27,9 @@ Bucket next bucket k at zero = at ≡ words.none
 Bucket next bucket k at (suc n) =
     pick (eqb (bucket n) k) ((at ≡ n) × Bucket next bucket k (next n) n) (Bucket next bucket k at n)
 
--- ---- ghosts of the arcs: the arcs of each job's list, in order; of a linked arc the job whose list it is in, and its place there;
--- of a reserved arc the job that reserved it; of a job its first reserved arc, and how many of its names were linked
+-- ---- ghosts of the arcs: the arcs of each job's list, in order; of a linked arc the job whose list it is in, and its
+-- place there; of a reserved arc the job that reserved it; of a job its first reserved arc, and how many of its names
+-- were linked
 pub record Ghost : Type 0 where
   pub via : ℕ → List ℕ
   pub source : ℕ → ℕ
@@ -97,14 +101,15 @@ pub record TablesRep (s : Sizes) (v : View) (g : Graph) (G : Ghost) : Type 0 whe
   pub lengths : (p : ℕ) → length (G .via p) ≡ length (job g p .dependents)
   pub arcs : (p i : ℕ) → i < length (G .via p)
       → Linked (v .arc) G (g .reserved) p i (getD (G .via p) i words.none) (getD (G .via p) (suc i) words.none) (getD (job g p .dependents) i 0)
-  pub mine : (j i : ℕ) → j < length (g .jobs) → i < length (job g j .list) → (G .owner (G .base j + i) ≡ j) × (G .base j + i < g .reserved)
+  pub mine : (j i : ℕ) → j < length (g .jobs) → i < length (job g j .list)
+      → (G .owner (G .base j + i) ≡ j) × (G .base j + i < g .reserved)
 
 -- ---- a worker's words
 abbrev pub holdWord : Option ℕ → ℕ
 holdWord none = words.none
 holdWord (some j) = j
 
--- the words of an add
+-- the words of an add; the listed names end at the count, so that the names past it are kept as 0
 pub record AddWords (f : ℕ → ℕ → ℕ) (w : ℕ) (a : Arguments) (ph ta pl jo ar : ℕ) : Type 0 where
   pub phase : f PHASE w ≡ ph
   pub name : f OWN-NAME w ≡ a .name
@@ -115,7 +120,7 @@ pub record AddWords (f : ℕ → ℕ → ℕ) (w : ℕ) (a : Arguments) (ph ta p
   pub place : f PLACE w ≡ pl
   pub job : f OWN-JOB w ≡ jo
   pub arc : f OWN-ARC w ≡ ar
-  pub names : (q : ℕ) → q < a .count → f (NAMES + q) w ≡ getD (listed a) q 0
+  pub names : (q : ℕ) → q < mostNames → f (NAMES + q) w ≡ getD (listed a) q 0
 
 -- the words of a call with no arguments, of which arc is the next arc
 pub record BareWords (f : ℕ → ℕ → ℕ) (w ph ar : ℕ) : Type 0 where
@@ -128,6 +133,7 @@ pub record BareWords (f : ℕ → ℕ → ℕ) (w ph ar : ℕ) : Type 0 where
   pub place : f PLACE w ≡ 0
   pub job : f OWN-JOB w ≡ words.none
   pub arc : f OWN-ARC w ≡ ar
+  pub names : (q : ℕ) → q < mostNames → f (NAMES + q) w ≡ 0
 
 abbrev pub CallRep : (ℕ → ℕ → ℕ) → Ghost → ℕ → Call → Type 0
 CallRep f G w idle = BareWords f w IDLE words.none

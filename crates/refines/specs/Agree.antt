@@ -1,5 +1,6 @@
--- What it is for the words to do what the rules do, in one item; and the tests that come first: sizes, worker, own words, a call half done.
--- Follows document 01, "Turned-away calls" (numbers 1, 2, 3, 9). Assumes of the graph what the rules keep (`Sound`).
+-- What it is for the words to do what the rules do, in one item; and the tests that come first: sizes, worker, own
+-- words, a call half done. Follows document 01, "Turned-away calls" (numbers 1, 2, 3, 9). Assumes of the graph what the
+-- rules keep (`Sound`).
 use mathlib.Core.Path.{_≡_, refl, _∙_}
 use mathlib.Core.Logic.{_≢_}
 use mathlib.Core.Bool.{Bool, true, false}
@@ -37,7 +38,8 @@ module _ (s : Sizes) (t : Tables) (g : Graph) (G : Ghost) (S : Stands s t g G) (
   refused n = record { answer = refl; ghost = G; stands = S }
 
   -- a step of worker w, which becomes y
-  pub agrees : (w : ℕ) (r : Outcome Tables) (o : Outcome Graph) (H : Ghost) (y : Worker) → r .answer ≡ o .answer → TablesStand s (r .state) (o .state) H
+  pub agrees : (w : ℕ) (r : Outcome Tables) (o : Outcome Graph) (H : Ghost) (y : Worker) → r .answer ≡ o .answer
+      → TablesStand s (r .state) (o .state) H
       → o .state .workers ≡ update (g .workers) w y → Only (s .workers) (t .workers) (r .state .workers) w
       → ((u : ℕ) → u ≢ w → Same G H (g .workers u .call))
       → WorkerRep (view (r .state) .worker) H w y
@@ -63,13 +65,15 @@ module _ (s : Sizes) (t : Tables) (g : Graph) (G : Ghost) (S : Stands s t g G) (
     unfolding words.admitted rules.admitted
     admit r = go (sameSizes r s) refl
       where
-        go : (b : Bool) → sameSizes r s ≡ b → Agrees s (F (words.admitted r t w refuse (plan r))) (rules.admitted s r g w o)
+        go : (b : Bool) → sameSizes r s ≡ b
+            → Agrees s (F (words.admitted r t w refuse (plan r))) (rules.admitted s r g w o)
         go true e = let z = same-sizes r s e in rw z (admit-laid (rw z at e))
         go false e = rw (e, sizes-decide s t g G S r ∙ e, sizes) (refused wrongSizes)
 
   module _ (w : ℕ) (hw : w < s .workers) where
     -- ---- number 3
-    pub when-idle : {A : Type 0} (F : A → Outcome Tables) (x y : A) (o : Outcome Graph) → F y ≡ outcome (Refused halfDone 0) t
+    pub when-idle : {A : Type 0} (F : A → Outcome Tables) (x y : A) (o : Outcome Graph)
+        → F y ≡ outcome (Refused halfDone 0) t
         → (g .workers w .call ≡ idle → BareWords (view t .worker) w IDLE layout.none → Agrees s (F x) o)
         → Agrees s (F (pick (eqb (view t .worker PHASE w) IDLE) x y)) (whenIdle g (g .workers w .call) o)
     unfolding whenIdle

@@ -15,12 +15,16 @@ use Rattle.terms.specs.Runs.{outcome}
 use Rattle.terms.specs.declared.Sizes.{Sizes}
 use Rattle.terms.specs.declared.Answer.the-variants.{Going, Ended}
 use Rattle.words.specs.Columns.{columns, columns-put, stores, update-same}
-use Rattle.words.specs.Layout.{LABEL, workerShape, PHASE, HELD, OWN-ARC, IDLE, MARKING, NOTIFYING, bareWorker, view, Tables}
+use Rattle.words.specs.Layout.{LABEL, workerShape, PHASE, HELD, OWN-ARC, IDLE, MARKING, NOTIFYING, bareWorker, view}
+use Rattle.words.specs.Layout.{Tables}
 use Rattle.words.specs.Layout as layout
-use Rattle.words.specs.Words.{planPhase, planMark, planNotify, withCell, putField, arcsFrom, markedWorker, goingUnless, answerOf, applied}
+use Rattle.words.specs.Words.{planPhase, planMark, planNotify, withCell, putField, arcsFrom, markedWorker, goingUnless}
+use Rattle.words.specs.Words.{answerOf, applied}
+use Rattle.words.specs.Words.{planCall}
 use Rattle.words.specs.declared.Plan.{Plan}
 use Rattle.words.specs.declared.Plan.the-variants.{Mark, Notify, NotifyQueue}
-use Rattle.rules.specs.Rules.{Call, idle, marking, notifying, Worker, Graph, job, mark, markDependents, marked, notify, notified}
+use Rattle.rules.specs.Rules.{Call, idle, marking, notifying, Worker, Graph, job, mark, markDependents, marked, notify}
+use Rattle.rules.specs.Rules.{notified}
 use Rattle.rules.specs.Sound.{Sound, CallSound, Notifying, started}
 use Rattle.refinement.specs.Rep.{Ghost, TablesRep, BareWords, WorkerRep, Stands}
 use Rattle.tables_rep.specs.Arcs.{arc-dependent, arc-after, arc-some, arc-none, arc-ok}
@@ -29,7 +33,7 @@ use Rattle.tables_rep.specs.Queue.{with-cell}
 use Rattle.tables_rep.specs.Count.{notify-stands, notify-queue-stands}
 use Rattle.tables_rep.specs.Stand.{TablesStand}
 use Rattle.refines.specs.Workers.{Only, record-only, bare-fits, bare-held, bare-words, arc-words, mark-words}
-use Rattle.refines.specs.Own.{job-place}
+use Rattle.refines.specs.Own.{counters-ok, job-place}
 use Rattle.refines.specs.Agree.{Agrees, agrees, idle-only, idle-words}
 use Rattle.refines.specs.Step.{done, turned, unchanged, here, field}
 
@@ -44,7 +48,8 @@ module _ (s : Sizes) (t : Tables) (g : Graph) (G : Ghost) (S : Stands s t g G) (
   abbrev arc : ℕ → ℕ → ℕ
   arc p k = getD (G .via p) k layout.none
 
-  one : (m : List ℕ) → Only (s .workers) (t .workers) m w → (k x : ℕ) → ltb k (workerShape .width) ≡ true → Only (s .workers) (t .workers) (putField m w k x) w
+  one : (m : List ℕ) → Only (s .workers) (t .workers) m w → (k x : ℕ) → ltb k (workerShape .width) ≡ true
+      → Only (s .workers) (t .workers) (putField m w k x) w
   one = field s t g G S O w hw
 
   -- ---- the mark
@@ -59,29 +64,31 @@ module _ (s : Sizes) (t : Tables) (g : Graph) (G : Ghost) (S : Stands s t g G) (
     held-word = rw held at (S .calls w hw .held)
 
     plan-mark : planPhase s (view t) w ≡ Mark p (arc p 0)
-    unfolding planPhase planMark
+    unfolding planPhase planCall planMark
     plan-mark =
         let row = R .rows p (omega (arith, O .jobs, p-there)) in
         let label : view t .job LABEL p ≡ 1 = row .label ∙ ap labelNumber (O .held-executing w p held) in
         rw (
           B .phase,
+          counters-ok s t g G S O,
           held-word,
           label,
           row .first,
           R .reserved,
           job-place s t g G S O w hw p p-there,
-          le-leb (g .reserved) (s .arcs) (O .arcs),
           arc-ok s t g G S O p 0,
         )
 
     -- the words after the mark of a job with, and of one without, dependents
-    marked-only : (b : Bool) → eqb (arc p 0) layout.none ≡ b → Only (s .workers) (t .workers) (markedWorker (arc p 0) w (t .workers)) w
+    marked-only : (b : Bool) → eqb (arc p 0) layout.none ≡ b
+        → Only (s .workers) (t .workers) (markedWorker (arc p 0) w (t .workers)) w
     marked-only true e = rw e
         (record-only (s .workers) (t .workers) w (S .workers) hw (bareWorker IDLE layout.none) (bare-fits (s .workers) (t .workers) w (S .workers) hw IDLE layout.none))
     marked-only false e = rw e
         (one _ (one _ (one (t .workers) (here s t g G S O w hw) PHASE NOTIFYING refl) HELD layout.none refl) OWN-ARC (arc p 0) refl)
 
-    mark-agrees : (b : Bool) → eqb (arc p 0) layout.none ≡ b → (c : Call) → WorkerRep (columns workerShape (markedWorker (arc p 0) w (t .workers))) G w (freed c)
+    mark-agrees : (b : Bool) → eqb (arc p 0) layout.none ≡ b → (c : Call)
+        → WorkerRep (columns workerShape (markedWorker (arc p 0) w (t .workers))) G w (freed c)
         → Agrees s (done (Mark p (arc p 0)) t w) (outcome (goingUnless b) (marked g w p c))
     unfolding applied
     mark-agrees b e c r =
@@ -92,7 +99,8 @@ module _ (s : Sizes) (t : Tables) (g : Graph) (G : Ghost) (S : Stands s t g G) (
         (unchanged g G w)
         r
 
-    dependents : (l : List ℕ) → job g p .dependents ≡ l → Agrees s (done (Mark p (arc p 0)) t w) (markDependents g w p l)
+    dependents : (l : List ℕ) → job g p .dependents ≡ l
+        → Agrees s (done (Mark p (arc p 0)) t w) (markDependents g w p l)
     unfolding markDependents
     dependents [] e =
         let z : eqb (arc p 0) layout.none ≡ true = arc-none s t g G S O p 0 ∙ le-leb (length (job g p .dependents)) 0 (omega (arith, ap length e)) in
@@ -106,7 +114,8 @@ module _ (s : Sizes) (t : Tables) (g : Graph) (G : Ghost) (S : Stands s t g G) (
         mark-agrees false z (notifying p 0) (rw z (simp (stores, columns-put workerShape (s .workers), S .workers, hw)
         (record { held = update-same (f HELD) w layout.none; call = mark-words f w MARKING layout.none B (arc p 0) })))
 
-  pub marking-agrees : (h : Option ℕ) → g .workers w .held ≡ h → CallSound g h marking → BareWords f w MARKING layout.none
+  pub marking-agrees : (h : Option ℕ) → g .workers w .held ≡ h → CallSound g h marking
+      → BareWords f w MARKING layout.none
       → Agrees s (done (planPhase s (view t) w) t w) (mark g w h)
   unfolding mark
   marking-agrees none e o B = absurd o
@@ -131,11 +140,13 @@ module _ (s : Sizes) (t : Tables) (g : Graph) (G : Ghost) (S : Stands s t g G) (
     next true = idle
     next false = notifying p (suc k)
 
-    next-only : (b : Bool) → eqb x layout.none ≡ b → Only (s .workers) (t .workers) (arcsFrom x (view t) w (t .workers)) w
+    next-only : (b : Bool) → eqb x layout.none ≡ b
+        → Only (s .workers) (t .workers) (arcsFrom x (view t) w (t .workers)) w
     next-only true e = rw e (idle-only s t g G S O w hw)
     next-only false e = rw e (one (t .workers) (here s t g G S O w hw) OWN-ARC x refl)
 
-    next-words : (b : Bool) → eqb x layout.none ≡ b → WorkerRep (columns workerShape (arcsFrom x (view t) w (t .workers))) G w (turned g w (next b))
+    next-words : (b : Bool) → eqb x layout.none ≡ b
+        → WorkerRep (columns workerShape (arcsFrom x (view t) w (t .workers))) G w (turned g w (next b))
     next-words true e = rw e (idle-words s t g G S O w hw G)
     next-words false e = rw (e, columns-put workerShape (s .workers) (t .workers) w OWN-ARC x refl (S .workers) hw)
         (record { held = S .calls w hw .held; call = arc-words f w NOTIFYING (arc p k) B x })
@@ -145,7 +156,8 @@ module _ (s : Sizes) (t : Tables) (g : Graph) (G : Ghost) (S : Stands s t g G) (
     ends true e = arc-none s t g G S O p (suc k) ∙ lt-leb (length (job g p .dependents)) (suc k) (ltb-true (suc k) (length (job g p .dependents)) e)
     ends false e = arc-none s t g G S O p (suc k) ∙ le-leb (length (job g p .dependents)) (suc k) (ltb-false (suc k) (length (job g p .dependents)) e)
 
-    step-agrees : (q : Plan) (b : Bool) → eqb x layout.none ≡ b → applied q t w .workers ≡ arcsFrom x (view t) w (t .workers)
+    step-agrees : (q : Plan) (b : Bool) → eqb x layout.none ≡ b
+        → applied q t w .workers ≡ arcsFrom x (view t) w (t .workers)
         → answerOf q ≡ goingUnless (eqb x layout.none) → TablesStand s (applied q t w) (notified g w j (next b)) G
         → Agrees s (done q t w) (outcome (goingUnless b) (notified g w j (next b)))
     step-agrees q b e l a T =
@@ -171,10 +183,11 @@ module _ (s : Sizes) (t : Tables) (g : Graph) (G : Ghost) (S : Stands s t g G) (
         (notify-stands s t g G S O w j x (next b) j-there (ne-eqb c 0 (omega (arith, o .counted))))
 
     plan-notify : planPhase s (view t) w ≡ pick (eqb (job g j .count) 1) (withCell s (view t) (NotifyQueue j c x)) (Notify j c x)
-    unfolding planPhase planNotify
+    unfolding planPhase planCall planNotify
     plan-notify =
         rw (
           B .phase,
+          counters-ok s t g G S O,
           B .arc,
           R .made,
           R .reserved,
@@ -182,8 +195,6 @@ module _ (s : Sizes) (t : Tables) (g : Graph) (G : Ghost) (S : Stands s t g G) (
           arc-dependent s t g G S O p k (o .within),
           arc-after s t g G S O p k (o .within),
           R .rows j (omega (arith, O .jobs, j-there)) .count,
-          le-leb (length (g .jobs)) (s .jobs) (O .jobs),
-          le-leb (g .reserved) (s .arcs) (O .arcs),
           lt-ltb j (length (g .jobs)) j-there,
           arc-ok s t g G S O p (suc k),
           le-leb 1 (job g j .count) (o .counted),

@@ -12,12 +12,14 @@ use Rattle.terms.specs.Base.{update}
 use Rattle.terms.specs.Terms.{Arguments}
 use Rattle.terms.specs.declared.Sizes.{Sizes}
 use Rattle.words.specs.Columns.{update-at, update-other}
-use Rattle.words.specs.Layout.{PHASE, HELD, OWN-NAME, LIST-COUNT, OWN-CLASS, OWN-GROWER, TALLY, PLACE, OWN-JOB, OWN-ARC, NAMES, view, Tables}
+use Rattle.words.specs.Layout.{PHASE, HELD, OWN-NAME, LIST-COUNT, OWN-CLASS, OWN-GROWER, TALLY, PLACE, OWN-JOB, OWN-ARC}
+use Rattle.words.specs.Layout.{NAMES, view, Tables}
 use Rattle.words.specs.Layout as words
 use Rattle.words.specs.Words.{firstArc}
 use Rattle.rules.specs.Rules.{Call, idle, looking, linking, marking, notifying, Worker, Graph, job}
 use Rattle.rules.specs.Sound.{CallSound}
-use Rattle.refinement.specs.Rep.{Ghost, enterGhost, tallyGhost, linkGhost, AddWords, BareWords, CallRep, WorkerRep, Stands}
+use Rattle.refinement.specs.Rep.{Ghost, enterGhost, tallyGhost, linkGhost, AddWords, BareWords, CallRep, WorkerRep}
+use Rattle.refinement.specs.Rep.{Stands}
 use Rattle.tables_rep.specs.Stand.{TablesStand, stands-whole}
 use Rattle.refines.specs.Workers.{Only}
 
@@ -37,7 +39,8 @@ same-ghost G marking = tt
 same-ghost G (notifying p k) = refl
 
 -- entering speaks of a job that no call speaks of yet
-pub enter-same : (g : Graph) (h : Option ℕ) (G : Ghost) (x : ℕ) (c : Call) → CallSound g h c → Same G (enterGhost G (length (g .jobs)) x) c
+pub enter-same : (g : Graph) (h : Option ℕ) (G : Ghost) (x : ℕ) (c : Call) → CallSound g h c
+    → Same G (enterGhost G (length (g .jobs)) x) c
 enter-same g h G x idle o = tt
 enter-same g h G x (looking a i) o = tt
 enter-same g h G x (linking a j i t) o =
@@ -48,7 +51,8 @@ enter-same g (some p) G x marking o = tt
 enter-same g h G x (notifying p k) o = refl
 
 -- a link speaks of its own job, on which no other add works, and of the arcs of a job that is not finished
-pub link-same : (G : Ghost) (j p x : ℕ) (c : Call) → ((a : Arguments) (i t : ℕ) → c ≢ linking a j i t) → ((k : ℕ) → c ≢ notifying p k)
+pub link-same : (G : Ghost) (j p x : ℕ) (c : Call) → ((a : Arguments) (i t : ℕ) → c ≢ linking a j i t)
+    → ((k : ℕ) → c ≢ notifying p k)
     → Same G (linkGhost G j p x) c
 link-same G j p x idle o n = tt
 link-same G j p x (looking a i) o n = tt
@@ -57,7 +61,8 @@ link-same G j p x (linking a k i t) o n =
 link-same G j p x marking o n = tt
 link-same G j p x (notifying q k) o n = update-other (G .via) p (G .via p ++ (x ∷ [])) q (λ z. n k (ap (λ y. notifying y k) z))
 
-pub tally-same : (G : Ghost) (j : ℕ) (c : Call) → ((a : Arguments) (i t : ℕ) → c ≢ linking a j i t) → Same G (tallyGhost G j) c
+pub tally-same : (G : Ghost) (j : ℕ) (c : Call) → ((a : Arguments) (i t : ℕ) → c ≢ linking a j i t)
+    → Same G (tallyGhost G j) c
 tally-same G j idle o = tt
 tally-same G j (looking a i) o = tt
 tally-same G j (linking a k i t) o =
@@ -92,6 +97,7 @@ module _ (f h : ℕ → ℕ → ℕ) (w : ℕ) (e : (q : ℕ) → h q w ≡ f q 
     place = e PLACE ∙ B .place;
     job = e OWN-JOB ∙ B .job;
     arc = e OWN-ARC ∙ B .arc;
+    names = λ q b. e (NAMES + q) ∙ B .names q b;
   }
 
   call-frame : (G H : Ghost) (c : Call) → Same G H c → CallRep f G w c → CallRep h H w c
@@ -103,7 +109,8 @@ module _ (f h : ℕ → ℕ → ℕ) (w : ℕ) (e : (q : ℕ) → h q w ≡ f q 
   call-frame G H (notifying p k) o r = rw o (bare-frame words.NOTIFYING (getD (G .via p) k words.none) r)
 
 -- ---- the relation after a step of worker w, which becomes y
-pub whole : (s : Sizes) (t : Tables) (g : Graph) (G : Ghost) → Stands s t g G → (w : ℕ) (t′ : Tables) (g′ : Graph) (H : Ghost) (y : Worker)
+pub whole : (s : Sizes) (t : Tables) (g : Graph) (G : Ghost) → Stands s t g G
+    → (w : ℕ) (t′ : Tables) (g′ : Graph) (H : Ghost) (y : Worker)
     → TablesStand s t′ g′ H → g′ .workers ≡ update (g .workers) w y → Only (s .workers) (t .workers) (t′ .workers) w
     → ((u : ℕ) → u ≢ w → Same G H (g .workers u .call))
     → WorkerRep (view t′ .worker) H w y

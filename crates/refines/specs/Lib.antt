@@ -10,3 +10,5 @@ pub mod Post
 pub mod Items
 pub mod Runs
 pub mod Never
+pub mod Seen
+pub mod Reset

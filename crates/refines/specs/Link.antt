@@ -1,5 +1,5 @@
--- The steps of an add whose job is there: linking a listed name, and settling. The plan that the words make is the step of the rules.
--- Follows document 01, "Steps": link and settle. Assumes of the graph what the rules keep (`Sound`).
+-- The steps of an add whose job is there: linking a listed name, and settling. The plan that the words make is the step
+-- of the rules. Follows document 01, "Steps": link and settle. Assumes of the graph what the rules keep (`Sound`).
 use mathlib.Core.Path.{_≡_, refl, sym, ap, _∙_}
 use mathlib.Core.Logic.{_≢_}
 use mathlib.Core.Bool.{Bool, true, false}
@@ -15,10 +15,13 @@ use Rattle.terms.specs.declared.Sizes.{Sizes}
 use Rattle.terms.specs.declared.Answer.the-variants.{Going, Ended}
 use Rattle.words.specs.Columns.{columns-put, stores, update-same}
 use Rattle.words.specs.Layout.{LABEL, workerShape, TALLY, PLACE, NAMES, LINKING, view, Tables}
-use Rattle.words.specs.Words.{findOf, planPhase, planLinks, planLink, planAppend, planSettle, withCell, firstArc, applied}
+use Rattle.words.specs.Words.{findOf, planPhase, planLinks, planLink, planAppend, planSettle, withCell, firstArc}
+use Rattle.words.specs.Words.{applied}
+use Rattle.words.specs.Words.{planCall}
 use Rattle.words.specs.declared.Plan.the-variants.{Tally, Settle, SettleQueue}
 use Rattle.words.specs.declared.Found.the-variants.{At}
-use Rattle.rules.specs.Rules.{Call, idle, linking, notifying, Graph, job, at, find, withCall, linked, linkTo, link, settles, settled, stepCall}
+use Rattle.rules.specs.Rules.{Call, idle, linking, notifying, Graph, job, at, find, withCall, linked, linkTo, link}
+use Rattle.rules.specs.Rules.{settles, settled, stepCall}
 use Rattle.rules.specs.Sound.{Sound, CallSound, Linking, started}
 use Rattle.refinement.specs.Rep.{Ghost, tallyGhost, linkGhost, TablesRep, CallRep, Stands}
 use Rattle.tables_rep.specs.Lists.{length-prefix}
@@ -29,7 +32,7 @@ use Rattle.tables_rep.specs.Queue.{with-cell}
 use Rattle.tables_rep.specs.Count.{settle-stands, settle-queue-stands}
 use Rattle.refines.specs.Workers.{next-words, tally-words}
 use Rattle.refines.specs.Frames.{link-same, tally-same}
-use Rattle.refines.specs.Own.{job-place}
+use Rattle.refines.specs.Own.{fitting, counters-ok, job-place}
 use Rattle.refines.specs.Agree.{Agrees, agrees, idle-only, idle-words}
 use Rattle.refines.specs.Step.{done, turned, unchanged, field, next-only}
 
@@ -126,7 +129,8 @@ module _ (s : Sizes) (t : Tables) (g : Graph) (G : Ghost) (S : Stands s t g G) (
     unfolding link
     link-agrees =
         let n = o .found i h in
-        rw (next-arc, C .0 .names i h, find-agrees s t g G S O (getD (listed a) i 0), n .found)
+        let b : i < mostNames = omega (arith, fitting a (o .right) .count) in
+        rw (next-arc, C .0 .names i b, find-agrees s t g G S O (getD (listed a) i 0), n .found)
         (link-to (n .job) (found-there g (getD (listed a) i 0) (n .job) (n .found) .0) (job g (n .job) .label) refl)
 
   -- ---- settling
@@ -168,8 +172,9 @@ module _ (s : Sizes) (t : Tables) (g : Graph) (G : Ghost) (S : Stands s t g G) (
       ≡ pick (ltb i (a .count))
       (planLink s (view t) (firstArc (a .count) (G .base j) + i) j (findOf s (view t) (f (NAMES + i) w)))
       (planSettle s (view t) j u (a .count))
-  unfolding planPhase planLinks
-  plan = rw (C .0 .phase, C .0 .place, C .0 .count, C .0 .job, C .0 .arc, C .0 .tally)
+  unfolding planPhase planCall planLinks
+  plan =
+      rw (C .0 .phase, counters-ok s t g G S O, C .0 .place, C .0 .count, C .0 .job, C .0 .arc, C .0 .tally)
 
   pub linking-agrees : Agrees s (done (planPhase s (view t) w) t w) (stepCall s g w (linking a j i u))
   unfolding stepCall

@@ -1,36 +1,39 @@
--- The steps of an add before its job is there: looking up a listed name, and entering. The plan that the words make is the step of the rules.
--- Follows document 01, "Steps": look-up and enter (numbers 6, 7, 8). Assumes of the graph what the rules keep (`Sound`).
+-- The steps of an add before its job is there: looking up a listed name, and entering. The plan that the words make is
+-- the step of the rules. Follows document 01, "Steps": look-up and enter (numbers 6, 7, 8). Assumes of the graph what
+-- the rules keep (`Sound`).
 use mathlib.Core.Path.{_≡_, refl}
 use mathlib.Core.Bool.{Bool, true, false, _||_}
 use Prim.Native.Nat.{ℕ, suc, _+_, _≤_, _<_}
+use native.Mathlib.Omega.{arith}
 use lib.Dec.{ltb, leb}
 use lib.ListN.{length, getD}
-use borrow.Author.Tests.{le-leb, ltb-true, ltb-false, leb-false}
+use borrow.Author.Tests.{ltb-true, ltb-false, leb-false}
 use Rattle.bucket.specs.Bucket.{bucketOf}
 use Rattle.terms.specs.Base.{pick}
-use Rattle.terms.specs.Terms.{Arguments, listed, unknownName, namePresent, noRoom}
+use Rattle.terms.specs.Terms.{mostNames, Arguments, listed, unknownName, namePresent, noRoom}
 use Rattle.terms.specs.Runs.{outcome}
 use Rattle.terms.specs.declared.Sizes.{Sizes}
 use Rattle.terms.specs.declared.Answer.the-variants.{Going, Refused}
 use Rattle.words.specs.Columns.{columns-put, stores, update-same}
 use Rattle.words.specs.Layout.{none, workerShape, PHASE, PLACE, OWN-JOB, OWN-ARC, NAMES, LOOKING, LINKING, view, Tables}
-use Rattle.words.specs.Words.{findOf, planPhase, planAdd, planLookUp, planEnter, planEntry, enteredWorker, applied}
+use Rattle.words.specs.Words.{findOf, planPhase, planCall, planAdd, planLookUp, planEnter, enteredWorker, applied}
 use Rattle.words.specs.declared.Plan.{Plan}
 use Rattle.words.specs.declared.Plan.the-variants.{Quit, Pass, Enter}
-use Rattle.rules.specs.Rules.{idle, looking, linking, Graph, Found, at, missing, find, withCall, lookUp, entered, enter, stepCall}
-use Rattle.rules.specs.Sound.{Sound}
+use Rattle.rules.specs.Rules.{idle, looking, linking, Graph, Found, at, missing, find, withCall, lookUp, entered, enter}
+use Rattle.rules.specs.Rules.{stepCall}
+use Rattle.rules.specs.Sound.{Sound, Looking}
 use Rattle.refinement.specs.Rep.{Ghost, enterGhost, TablesRep, AddWords, Stands}
 use Rattle.tables_rep.specs.Find.{asFound, find-agrees}
 use Rattle.tables_rep.specs.Keep.{pass-stands}
 use Rattle.tables_rep.specs.Enter.{enter-stands}
 use Rattle.refines.specs.Workers.{Only, next-words, enter-words}
 use Rattle.refines.specs.Frames.{enter-same}
-use Rattle.refines.specs.Own.{neither}
+use Rattle.refines.specs.Own.{neither, fitting, counters-ok}
 use Rattle.refines.specs.Agree.{Agrees, agrees}
 use Rattle.refines.specs.Step.{done, turned, unchanged, here, field, next-only, quit-agrees}
 
 module _ (s : Sizes) (t : Tables) (g : Graph) (G : Ghost) (S : Stands s t g G) (O : Sound s g) (w : ℕ) (hw : w < s .workers)
-    (a : Arguments) (i : ℕ) (A : AddWords (view t .worker) w a LOOKING 0 i none none) where
+    (a : Arguments) (i : ℕ) (o : Looking g a i) (A : AddWords (view t .worker) w a LOOKING 0 i none none) where
   abbrev R : TablesRep s (view t) g G
   R = S .rep
 
@@ -69,7 +72,8 @@ module _ (s : Sizes) (t : Tables) (g : Graph) (G : Ghost) (S : Stands s t g G) (
       let one = field s t g G S O w hw in
       one _ (one _ (one _ (one (t .workers) (here s t g G S O w hw) PHASE LINKING refl) PLACE 0 refl) OWN-JOB n refl) OWN-ARC _ refl
 
-  enter-agrees : n < s .jobs → g .reserved + a .count ≤ s .arcs → Agrees s (done enterPlan t w) (outcome Going (entered g w a))
+  enter-agrees : n < s .jobs → g .reserved + a .count ≤ s .arcs
+      → Agrees s (done enterPlan t w) (outcome Going (entered g w a))
   unfolding applied
   enter-agrees x y =
       agrees s t g G S O w (done enterPlan t w) (outcome Going (entered g w a)) (enterGhost G n (g .reserved)) (turned g w (linking a n 0 0)) refl
@@ -86,7 +90,8 @@ module _ (s : Sizes) (t : Tables) (g : Graph) (G : Ghost) (S : Stands s t g G) (
         );
       }))
 
-  room : (b : Bool) → (leb (s .jobs) n || ltb (s .arcs) (g .reserved + a .count)) ≡ b → Agrees s (done (pick b (Quit noRoom 0) enterPlan) t w)
+  room : (b : Bool) → (leb (s .jobs) n || ltb (s .arcs) (g .reserved + a .count)) ≡ b
+      → Agrees s (done (pick b (Quit noRoom 0) enterPlan) t w)
       (pick b (outcome (Refused noRoom 0) (withCall g w idle)) (outcome Going (entered g w a)))
   room true e = quits noRoom 0
   room false e =
@@ -94,15 +99,15 @@ module _ (s : Sizes) (t : Tables) (g : Graph) (G : Ghost) (S : Stands s t g G) (
       enter-agrees (leb-false (s .jobs) n (z .0)) (ltb-false (s .arcs) (g .reserved + a .count) (z .1))
 
   entry : (x : Found) → Agrees s (done (planEnter s (view t) (a .name) (a .count) (asFound x)) t w) (enter s g w a x)
-  unfolding planEnter planEntry enter
-  entry (at j) = rw (R .reserved, le-leb (g .reserved) (s .arcs) (O .arcs)) (quits namePresent 0)
-  entry missing = rw (R .made, R .reserved, le-leb (g .reserved) (s .arcs) (O .arcs)) (room _ refl)
+  unfolding planEnter enter
+  entry (at j) = quits namePresent 0
+  entry missing = rw (R .made, R .reserved) (room _ refl)
 
   -- ---- the step
   plan : planPhase s (view t) w
       ≡ pick (ltb i (a .count)) (planLookUp i (findOf s (view t) (f (NAMES + i) w))) (planEnter s (view t) (a .name) (a .count) (findOf s (view t) (a .name)))
-  unfolding planPhase planAdd
-  plan = rw (A .phase, A .place, A .count, A .name)
+  unfolding planPhase planCall planAdd
+  plan = rw (A .phase, counters-ok s t g G S O, A .place, A .count, A .name)
 
   pub looking-agrees : Agrees s (done (planPhase s (view t) w) t w) (stepCall s g w (looking a i))
   unfolding stepCall
@@ -112,5 +117,7 @@ module _ (s : Sizes) (t : Tables) (g : Graph) (G : Ghost) (S : Stands s t g G) (
           → Agrees s
           (done (pick b (planLookUp i (findOf s (view t) (f (NAMES + i) w))) (planEnter s (view t) (a .name) (a .count) (findOf s (view t) (a .name)))) t w)
           (pick b (lookUp g w a i (find g (getD (listed a) i 0))) (enter s g w a (find g (a .name))))
-      go true e = rw (A .names i (ltb-true i (a .count) e), find-agrees s t g G S O (getD (listed a) i 0)) (look-up (find g (getD (listed a) i 0)))
+      go true e =
+          let b : i < mostNames = omega (arith, ltb-true i (a .count) e, fitting a (o .right) .count) in
+          rw (A .names i b, find-agrees s t g G S O (getD (listed a) i 0)) (look-up (find g (getD (listed a) i 0)))
       go false e = rw (find-agrees s t g G S O (a .name)) (entry (find g (a .name)))

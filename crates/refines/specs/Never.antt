@@ -1,5 +1,5 @@
--- Number 9 never comes: no item of a graph that the rules keep is refused as damaged.
--- Follows document 01, "Turned-away calls" (number 9). Assumes of every graph that the rules reach what they keep (`Sound`).
+-- Number 9 never comes: no item of a graph that the rules keep is refused as damaged. Follows document 01, "Turned-away
+-- calls" (number 9). Assumes of every graph that the rules reach what they keep (`Sound`).
 use mathlib.Core.Path.{_≡_, refl}
 use mathlib.Core.Bool.{Bool, true, false, _||_}
 use mathlib.Core.List.{List, [], _∷_}
@@ -9,14 +9,17 @@ use lib.Dec.{ltb, leb, eqb}
 use lib.ListN.{length, getD}
 use borrow.Author.Tests.{ltb-true}
 use Rattle.terms.specs.Base.{pick}
-use Rattle.terms.specs.Terms.{Label, unexecuted, executing, finished, Arguments, listed, argumentsWrong, sameSizes, damaged}
+use Rattle.terms.specs.Terms.{Label, unexecuted, executing, finished, Arguments, listed, argumentsWrong, sameSizes}
+use Rattle.terms.specs.Terms.{damaged}
 use Rattle.terms.specs.Runs.{Item, postAdd, postFinish, step, get, Outcome, outcome, after, events}
 use Rattle.terms.specs.declared.Sizes.{Sizes}
 use Rattle.terms.specs.declared.Answer.the-variants.{Ended}
 use Rattle.words.specs.Layout.{roomFor, Tables}
 use Rattle.words.specs.Words.{layOut}
 use Rattle.words.specs.Words as words
-use Rattle.rules.specs.Rules.{empty, Call, idle, looking, linking, marking, notifying, Graph, Found, at, missing, job, find, lookUp, enter, linkTo, link, settled, mark, markDependents, notify, stepCall, whenIdle, addPosted, finishPosted, takeNext, getJob, admitted, perform}
+use Rattle.rules.specs.Rules.{empty, Call, idle, looking, linking, marking, notifying, Graph, Found, at, missing, job}
+use Rattle.rules.specs.Rules.{find, lookUp, enter, linkTo, link, settled, mark, markDependents, notify, stepCall}
+use Rattle.rules.specs.Rules.{whenIdle, addPosted, finishPosted, takeNext, getJob, admitted, perform}
 use Rattle.rules.specs.Sound.{Sound, CallSound, Linking}
 use Rattle.refines.specs.Runs.{runs}
 use Rattle.demand.specs.Demand.{isNumber, gives}
@@ -114,7 +117,8 @@ item-fine s g O (postFinish r w name) =
 item-fine s g O (step r w) = admit-fine s g w r _ (step-fine s g w (g .workers w .call) (O .calls w))
 item-fine s g O (get r w) = admit-fine s g w r _ (idle-fine s g w (g .workers w .call) _ (get-fine s g w (g .workers w .held)))
 
-pub never-damaged : (s : Sizes) (items : List Item) (g : Graph) → ((more : List Item) → Sound s (after (perform s) g more))
+pub never-damaged : (s : Sizes) (items : List Item) (g : Graph)
+    → ((more : List Item) → Sound s (after (perform s) g more))
     → gives damaged (events (perform s) g items) ≡ false
 unfolding after events gives
 never-damaged s [] g sound = refl
@@ -122,7 +126,8 @@ never-damaged s (i ∷ items) g sound =
     rw (item-fine s g (sound []) i, never-damaged s items (perform s g i .state) (λ more. sound (i ∷ more)))
 
 -- on the words, from tables laid out
-pub words-never-damaged : (s : Sizes) (t : Tables) → roomFor s t ≡ true → ((more : List Item) → Sound s (after (perform s) empty more))
+pub words-never-damaged : (s : Sizes) (t : Tables) → roomFor s t ≡ true
+    → ((more : List Item) → Sound s (after (perform s) empty more))
     → (items : List Item)
     → gives damaged (events words.perform (layOut s t .state) items) ≡ false
 words-never-damaged s t e sound items = rw (runs s t e sound items .same-events) (never-damaged s items empty sound)

@@ -1,5 +1,6 @@
--- The tests that come before a call's own: the sizes are the ones laid out exactly if the rules say so, and a worker's own words are never damaged.
--- Follows document 01, "Turned-away calls" (order: 1, 2, 9 for the worker's own words). Assumes of the graph what the rules keep (`Sound`).
+-- The tests that come before a call's own: the sizes are the ones laid out exactly if the rules say so, and neither a
+-- worker's own words nor the counters are ever damaged. Follows document 01, "Turned-away calls" (order: 1, 2, 9 for
+-- the worker's own words). Assumes of the graph what the rules keep (`Sound`).
 use mathlib.Core.Path.{_≡_, refl, sym, ap, _∙_}
 use mathlib.Core.Bool.{Bool, true, false, _&&_, _||_}
 use mathlib.Core.Option.{Option, none, some}
@@ -13,9 +14,11 @@ use Rattle.terms.specs.Base.{pick, contains, repeats}
 use Rattle.terms.specs.Terms.{mostNames, mostClass, mostGrower, Arguments, listed, argumentsWrong, sameSizes}
 use Rattle.terms.specs.declared.Sizes.{Sizes}
 use Rattle.words.specs.Columns.{rows, header}
-use Rattle.words.specs.Layout.{need, jobShape, arcShape, bucketShape, queueShape, workerShape, JOBS, ARCS, BITS, WORKERS, HELD, IDLE, LOOKING, LINKING, MARKING, NOTIFYING, view, longEnough, sizesKept, roomFor, sizesFit, Tables}
+use Rattle.words.specs.Layout.{need, jobShape, arcShape, bucketShape, queueShape, workerShape, JOBS, ARCS, BITS}
+use Rattle.words.specs.Layout.{WORKERS, HELD, IDLE, LOOKING, LINKING, MARKING, NOTIFYING, view, longEnough, sizesKept}
+use Rattle.words.specs.Layout.{roomFor, sizesFit, Tables}
 use Rattle.words.specs.Layout as words
-use Rattle.words.specs.Words.{placeOk, firstArc, ownOk}
+use Rattle.words.specs.Words.{placeOk, countersOk, firstArc, ownOk}
 use Rattle.rules.specs.Rules.{Call, idle, looking, linking, marking, notifying, Graph, job}
 use Rattle.rules.specs.Sound.{Sound, CallSound, Linking}
 use Rattle.refinement.specs.Rep.{Ghost, TablesRep, holdWord, AddWords, BareWords, CallRep, Stands}
@@ -137,6 +140,16 @@ module _ (s : Sizes) (t : Tables) (g : Graph) (G : Ghost) (S : Stands s t g G) w
       go true e = rw e (rw (same-sizes r s e) sizes-fit)
       go false e = rw e (sizes-other r e)
 
+  -- ---- number 9, for the counters
+  pub counters-ok : Sound s g → countersOk s (view t) ≡ true
+  counters-ok O =
+      rw (
+        S .rep .made,
+        S .rep .reserved,
+        le-leb (length (g .jobs)) (s .jobs) (O .jobs),
+        le-leb (g .reserved) (s .arcs) (O .arcs),
+      )
+
   -- ---- number 9, for the worker's own words
   module _ (O : Sound s g) (w : ℕ) (hw : w < s .workers) where
     abbrev R : TablesRep s (view t) g G
@@ -171,13 +184,16 @@ module _ (s : Sizes) (t : Tables) (g : Graph) (G : Ghost) (S : Stands s t g G) w
           lt-ltb (G .base j) (s .arcs) (omega (arith, O .arcs)),
         )
 
-    own-bare : (ph ar : ℕ) → leb ph NOTIFYING ≡ true → BareWords f w ph ar → placeOk ar (g .reserved) (s .arcs) ≡ true → ownOk s (view t) w ≡ true
+    own-bare : (ph ar : ℕ) → leb ph NOTIFYING ≡ true → BareWords f w ph ar → placeOk ar (g .reserved) (s .arcs) ≡ true
+        → ownOk s (view t) w ≡ true
     unfolding ownOk
     own-bare ph ar b B h =
         rw (R .made, R .reserved, B .phase, B .count, B .class, B .grower, B .tally, B .place, B .job, B .arc, b, hold-ok, h)
 
-    own-add : (a : Arguments) (ph ta pl jo ar : ℕ) → leb ph NOTIFYING ≡ true → AddWords f w a ph ta pl jo ar → argumentsWrong a ≡ false
-        → ta ≤ a .count → pl ≤ a .count → placeOk jo (length (g .jobs)) (s .jobs) ≡ true → placeOk ar (g .reserved) (s .arcs) ≡ true
+    own-add : (a : Arguments) (ph ta pl jo ar : ℕ) → leb ph NOTIFYING ≡ true → AddWords f w a ph ta pl jo ar
+        → argumentsWrong a ≡ false
+        → ta ≤ a .count → pl ≤ a .count → placeOk jo (length (g .jobs)) (s .jobs) ≡ true
+        → placeOk ar (g .reserved) (s .arcs) ≡ true
         → ownOk s (view t) w ≡ true
     unfolding ownOk
     own-add a ph ta pl jo ar b A right x y j k =

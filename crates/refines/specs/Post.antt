@@ -1,5 +1,5 @@
--- The posts and the get of an idle worker: the words judge and store what the rules say.
--- Follows document 01, "Steps": post, get; "Turned-away calls" (numbers 5, 10, 11). Assumes of the graph what the rules keep (`Sound`).
+-- The posts and the get of an idle worker: the words judge and store what the rules say. Follows document 01, "Steps":
+-- post, get; "Turned-away calls" (numbers 5, 10, 11). Assumes of the graph what the rules keep (`Sound`).
 use mathlib.Core.Path.{_≡_, refl, sym, ap, _∙_}
 use mathlib.Core.Bool.{Bool, true, false}
 use mathlib.Core.List.{List, [], _∷_}
@@ -18,16 +18,19 @@ use Rattle.words.specs.Columns.{columns, columns-put, update-same}
 use Rattle.words.specs.Layout.{LABEL, workerShape, HELD, IDLE, MARKING, bareWorker, tables, view, Tables}
 use Rattle.words.specs.Layout as layout
 use Rattle.words.specs.Words.{putWorker, planTake, planQueue, answerGet, appliedGet, holdsName, addingWorker, posted}
+use Rattle.words.specs.Words.{judgedCounters}
 use Rattle.words.specs.declared.GetPlan.{GetPlan}
 use Rattle.words.specs.declared.GetPlan.the-variants.{RefuseGet, Wait, Take}
-use Rattle.rules.specs.Rules.{Call, idle, looking, marking, Graph, job, withCall, addPosted, finishPosted, handedOut, takeNext, getJob}
+use Rattle.rules.specs.Rules.{Call, idle, looking, marking, Graph, job, withCall, addPosted, finishPosted, handedOut}
+use Rattle.rules.specs.Rules.{takeNext, getJob}
 use Rattle.rules.specs.Sound.{Sound, started}
 use Rattle.refinement.specs.Rep.{Ghost, TablesRep, holdWord, BareWords, WorkerRep, Stands}
 use Rattle.tables_rep.specs.Stand.{tables-part, frame}
 use Rattle.tables_rep.specs.Labels.{get-stands}
 use Rattle.tables_rep.specs.Queue.{put-there, queue-end, next-cell, next-job}
-use Rattle.refines.specs.Workers.{record-only, bare-fits, bare-held, bare-words, adding-fits, adding-held, adding-words, held-words}
-use Rattle.refines.specs.Own.{fitting, job-place}
+use Rattle.refines.specs.Workers.{record-only, bare-fits, bare-held, bare-words, adding-fits, adding-held}
+use Rattle.refines.specs.Workers.{adding-words, held-words}
+use Rattle.refines.specs.Own.{counters-ok, job-place}
 use Rattle.refines.specs.Agree.{Agrees, refused, agrees}
 use Rattle.refines.specs.Step.{turned, unchanged, here, field}
 
@@ -44,7 +47,8 @@ module _ (s : Sizes) (t : Tables) (g : Graph) (G : Ghost) (S : Stands s t g G) (
   f = view t .worker
 
   -- ---- a call posted: a whole record r, of the call c
-  post-agrees : (r : List ℕ) (c : Call) → length r ≤ workerShape .width → WorkerRep (columns workerShape (putWorker (t .workers) w r)) G w (turned g w c)
+  post-agrees : (r : List ℕ) (c : Call) → length r ≤ workerShape .width
+      → WorkerRep (columns workerShape (putWorker (t .workers) w r)) G w (turned g w c)
       → Agrees s (outcome Posted (tables (t .jobs) (t .arcs) (t .buckets) (t .queue) (putWorker (t .workers) w r))) (outcome Posted (withCall g w c))
   post-agrees r c b own =
       agrees s t g G S O w (outcome Posted (tables (t .jobs) (t .arcs) (t .buckets) (t .queue) (putWorker (t .workers) w r))) (outcome Posted (withCall g w c)) G (turned g w c) refl
@@ -54,17 +58,25 @@ module _ (s : Sizes) (t : Tables) (g : Graph) (G : Ghost) (S : Stands s t g G) (
       (unchanged g G w)
       own
 
-  pub add-agrees : (a : Arguments) → Agrees s (posted (pick (argumentsWrong a) wrongArguments 0) t w (addingWorker (f HELD w) a)) (addPosted g w a)
+  -- the counters pass
+  judged : judgedCounters s (view t) ≡ 0
+  judged = rw (counters-ok s t g G S O)
+
+  pub add-agrees : (a : Arguments)
+      → Agrees s
+      (posted (pick (argumentsWrong a) wrongArguments (judgedCounters s (view t))) t w (addingWorker (f HELD w) a))
+      (addPosted g w a)
   unfolding posted addPosted
-  add-agrees a = go (argumentsWrong a) refl
+  add-agrees a = rw judged (go (argumentsWrong a))
     where
-      go : (b : Bool) → argumentsWrong a ≡ b → Agrees s (posted (pick b wrongArguments 0) t w (addingWorker (f HELD w) a))
+      go : (b : Bool) → Agrees s (posted (pick b wrongArguments 0) t w (addingWorker (f HELD w) a))
           (pick b (outcome (Refused wrongArguments 0) g) (outcome Posted (withCall g w (looking a 0))))
-      go true e = refused s t g G S O wrongArguments
-      go false e = post-agrees (addingWorker (f HELD w) a) (looking a 0) (adding-fits (s .workers) (t .workers) w (S .workers) hw (f HELD w) a)
+      go true = refused s t g G S O wrongArguments
+      go false = post-agrees (addingWorker (f HELD w) a) (looking a 0)
+          (adding-fits (s .workers) (t .workers) w (S .workers) hw (f HELD w) a)
           (record {
             held = adding-held (s .workers) (t .workers) w (S .workers) hw (f HELD w) a ∙ S .calls w hw .held;
-            call = adding-words (s .workers) (t .workers) w (S .workers) hw (f HELD w) a (fitting a e .count);
+            call = adding-words (s .workers) (t .workers) w (S .workers) hw (f HELD w) a;
           })
 
   -- ---- the post of a finish
@@ -89,8 +101,12 @@ module _ (s : Sizes) (t : Tables) (g : Graph) (G : Ghost) (S : Stands s t g G) (
       go false = refused s t g G S O notHeld
 
   pub finish-agrees : (name : ℕ)
-      → Agrees s (posted (pick (holdsName (view t) w name) 0 notHeld) t w (bareWorker MARKING (f HELD w))) (finishPosted g w name (g .workers w .held))
-  finish-agrees name = finish-word name (S .calls w hw .held) (g .workers w .held) refl
+      → Agrees s
+      (posted (pick (holdsName (view t) w name) (judgedCounters s (view t)) notHeld) t w
+      (bareWorker MARKING (f HELD w)))
+      (finishPosted g w name (g .workers w .held))
+  unfolding posted
+  finish-agrees name = rw judged (finish-word name (S .calls w hw .held) (g .workers w .held) refl)
 
   -- ---- the get
   abbrev taken : ℕ
@@ -115,6 +131,7 @@ module _ (s : Sizes) (t : Tables) (g : Graph) (G : Ghost) (S : Stands s t g G) (
       let row = R .rows j (omega (arith, O .jobs, n .0)) in
       let label : view t .job LABEL j ≡ 0 = row .label ∙ ap labelNumber (n .1) in
       rw (
+        counters-ok s t g G S O,
         put-there s t g G S O,
         R .taken,
         queue-end s t g G S O,
@@ -124,7 +141,6 @@ module _ (s : Sizes) (t : Tables) (g : Graph) (G : Ghost) (S : Stands s t g G) (
         label,
         row .name,
         R .made,
-        le-leb (length (g .jobs)) (s .jobs) (O .jobs),
         lt-ltb j (length (g .jobs)) (n .0),
       )
 
@@ -136,6 +152,7 @@ module _ (s : Sizes) (t : Tables) (g : Graph) (G : Ghost) (S : Stands s t g G) (
   unfolding planQueue takeNext
   queue-agrees [] e =
       rw (
+        counters-ok s t g G S O,
         put-there s t g G S O,
         R .taken,
         queue-end s t g G S O,

@@ -1,5 +1,5 @@
--- What the steps share: what a plan does, the worker that steps, and a call that quits.
--- Follows document 01, "Steps" and "Turned-away calls" (numbers 6, 7, 8). Assumes of the graph what the rules keep (`Sound`).
+-- What the steps share: what a plan does, the worker that steps, and a call that quits. Follows document 01, "Steps"
+-- and "Turned-away calls" (numbers 6, 7, 8). Assumes of the graph what the rules keep (`Sound`).
 use mathlib.Core.Path.{_≡_, refl}
 use mathlib.Core.Logic.{_≢_}
 use mathlib.Core.Bool.{true}
@@ -38,7 +38,8 @@ module _ (s : Sizes) (t : Tables) (g : Graph) (G : Ghost) (S : Stands s t g G) (
   pub here : Only (s .workers) (t .workers) (t .workers) w
   here = same-only (s .workers) (t .workers) w (S .workers) hw
 
-  pub field : (m : List ℕ) → Only (s .workers) (t .workers) m w → (k x : ℕ) → ltb k (workerShape .width) ≡ true → Only (s .workers) (t .workers) (putField m w k x) w
+  pub field : (m : List ℕ) → Only (s .workers) (t .workers) m w → (k x : ℕ) → ltb k (workerShape .width) ≡ true
+      → Only (s .workers) (t .workers) (putField m w k x) w
   field = field-only (s .workers) (t .workers) w (S .workers) hw
 
   pub next-only : Only (s .workers) (t .workers) (nextPlace (view t) w (t .workers)) w

@@ -1,5 +1,5 @@
--- The workers' words: what the stores of a call leave of the words of its own worker, and that they leave those of every other worker.
--- Follows document 01, "Tables and their measures". Assumes nothing.
+-- The workers' words: what the stores of a call leave of the words of its own worker, and that they leave those of
+-- every other worker. Follows document 01, "Tables and their measures". Assumes nothing.
 use mathlib.Core.Path.{_≡_, refl, sym, ap, _∙_}
 use mathlib.Core.Logic.{_≢_}
 use mathlib.Core.Bool.{true}
@@ -13,11 +13,12 @@ use borrow.Author.Tests.{eq-eqb, ne-eqb, ltb-true}
 use Rattle.terms.specs.Base.{prefix}
 use Rattle.terms.specs.Terms.{mostNames, Arguments, listed}
 use Rattle.words.specs.Columns.{Rows, columns, columns-put, rows-put, store, update-same, update-other}
-use Rattle.words.specs.Layout.{none, workerShape, PHASE, HELD, TALLY, PLACE, OWN-JOB, OWN-ARC, NAMES, LOOKING, LINKING, NOTIFYING, LIST-COUNT, bareWorker}
+use Rattle.words.specs.Layout.{none, workerShape, PHASE, HELD, TALLY, PLACE, OWN-JOB, OWN-ARC, NAMES, LOOKING, LINKING}
+use Rattle.words.specs.Layout.{NOTIFYING, LIST-COUNT, bareWorker}
 use Rattle.words.specs.Words.{putField, putWorker, addingWorker, firstArc}
 use Rattle.refinement.specs.Rep.{AddWords, BareWords}
 use Rattle.tables_rep.specs.Records.{record-at, record-off, rows-sets}
-use Rattle.tables_rep.specs.Lists.{length-prefix}
+use Rattle.tables_rep.specs.Lists.{bare-name, length-prefix}
 
 -- ---- one field stored
 store-off : (f : ℕ → ℕ → ℕ) (i k x q u : ℕ) → u ≢ i → store f i k x q u ≡ f q u
@@ -52,7 +53,8 @@ module _ (P : ℕ) (l : List ℕ) (w : ℕ) (long : Rows workerShape P l) (hw : 
       → columns workerShape (putField m w k x) ≡ store (columns workerShape m) w k x
   fields m o k x e = columns-put workerShape P m w k x e (o .long) hw
 
-  pub field-only : (m : List ℕ) → Only P l m w → (k x : ℕ) → ltb k (workerShape .width) ≡ true → Only P l (putField m w k x) w
+  pub field-only : (m : List ℕ) → Only P l m w → (k x : ℕ) → ltb k (workerShape .width) ≡ true
+      → Only P l (putField m w k x) w
   field-only m o k x e = record {
     long = rows-put workerShape P m w k x ∙ o .long;
     others = λ q u n. ap (λ f. f q u) (fields m o k x e) ∙ store-off (columns workerShape m) w k x q u n ∙ o .others q u n;
@@ -68,7 +70,8 @@ module _ (P : ℕ) (l : List ℕ) (w : ℕ) (long : Rows workerShape P l) (hw : 
   pub bare-fits : (ph held : ℕ) → length (bareWorker ph held) ≤ workerShape .width
   bare-fits ph held = omega (arith, length-replicate {A = ℕ} mostNames 0)
 
-  bare-at : (ph held q : ℕ) → q < workerShape .width → columns workerShape (putWorker l w (bareWorker ph held)) q w ≡ getD (bareWorker ph held) q 0
+  bare-at : (ph held q : ℕ) → q < workerShape .width
+      → columns workerShape (putWorker l w (bareWorker ph held)) q w ≡ getD (bareWorker ph held) q 0
   bare-at ph held q b =
       record-at workerShape P l w (bareWorker ph held) (bare-fits ph held) long hw q (omega (arith, length-replicate {A = ℕ} mostNames 0))
 
@@ -86,6 +89,7 @@ module _ (P : ℕ) (l : List ℕ) (w : ℕ) (long : Rows workerShape P l) (hw : 
     place = bare-at ph held 7 (omega arith);
     job = bare-at ph held 8 (omega arith);
     arc = bare-at ph held 9 (omega arith);
+    names = λ q b. bare-at ph held (NAMES + q) (omega arith) ∙ bare-name ph held q b;
   }
 
   -- a whole record of an add that was posted
@@ -100,13 +104,14 @@ module _ (P : ℕ) (l : List ℕ) (w : ℕ) (long : Rows workerShape P l) (hw : 
   pub adding-held : (held : ℕ) (a : Arguments) → columns workerShape (putWorker l w (addingWorker held a)) HELD w ≡ held
   adding-held held a = adding-at held a 1 (omega arith)
 
-  name-at : (held : ℕ) (a : Arguments) (q : ℕ) → getD (addingWorker held a) (NAMES + q) 0 ≡ getD (prefix mostNames (listed a)) q 0
+  name-at : (held : ℕ) (a : Arguments) (q : ℕ)
+      → getD (addingWorker held a) (NAMES + q) 0 ≡ getD (prefix mostNames (listed a)) q 0
   name-at held a q =
       ap (λ k. getD (addingWorker held a) k 0) {x = NAMES + q} {y = suc (suc (suc (suc (suc (suc (suc (suc (suc (suc q)))))))))} (omega arith)
 
-  pub adding-words : (held : ℕ) (a : Arguments) → a .count ≤ mostNames
+  pub adding-words : (held : ℕ) (a : Arguments)
       → AddWords (columns workerShape (putWorker l w (addingWorker held a))) w a LOOKING 0 0 none none
-  adding-words held a few = record {
+  adding-words held a = record {
     phase = adding-at held a 0 (omega arith);
     name = adding-at held a 2 (omega arith);
     count = adding-at held a 3 (omega arith);
@@ -116,7 +121,8 @@ module _ (P : ℕ) (l : List ℕ) (w : ℕ) (long : Rows workerShape P l) (hw : 
     place = adding-at held a 7 (omega arith);
     job = adding-at held a 8 (omega arith);
     arc = adding-at held a 9 (omega arith);
-    names = λ q h. adding-at held a (NAMES + q) (omega arith) ∙ name-at held a q ∙ getD-prefix mostNames (listed a) q (omega arith);
+    names = λ q h.
+        adding-at held a (NAMES + q) (omega arith) ∙ name-at held a q ∙ getD-prefix mostNames (listed a) q h;
   }
 
 -- ---- the fields that the steps of an add store
@@ -124,7 +130,7 @@ module _ (f : ℕ → ℕ → ℕ) (w : ℕ) (a : Arguments) (ph ta pl jo ar : �
   abbrev pub nextWords : ℕ → ℕ → ℕ
   nextWords = store f w PLACE (f PLACE w + 1)
 
-  next-names : (q : ℕ) → q < a .count → nextWords (NAMES + q) w ≡ getD (listed a) q 0
+  next-names : (q : ℕ) → q < mostNames → nextWords (NAMES + q) w ≡ getD (listed a) q 0
   next-names q h = store-names f w PLACE (f PLACE w + 1) q w refl ∙ A .names q h
 
   next-place : nextWords PLACE w ≡ suc pl
@@ -200,6 +206,7 @@ module _ (f : ℕ → ℕ → ℕ) (w ph ar : ℕ) (B : BareWords f w ph ar) whe
     place = B .place;
     job = B .job;
     arc = update-same (f OWN-ARC) w x;
+    names = λ q h. store-names f w OWN-ARC x q w refl ∙ B .names q h;
   }
 
   pub mark-words : (x : ℕ) → BareWords (store (store (store f w PHASE NOTIFYING) w HELD none) w OWN-ARC x) w NOTIFYING x
@@ -213,6 +220,11 @@ module _ (f : ℕ → ℕ → ℕ) (w ph ar : ℕ) (B : BareWords f w ph ar) whe
     place = B .place;
     job = B .job;
     arc = update-same (f OWN-ARC) w x;
+    names = λ q h.
+        store-names (store (store f w PHASE NOTIFYING) w HELD none) w OWN-ARC x q w refl
+        ∙ store-names (store f w PHASE NOTIFYING) w HELD none q w refl
+        ∙ store-names f w PHASE NOTIFYING q w refl
+        ∙ B .names q h;
   }
 
   pub held-words : (x : ℕ) → BareWords (store f w HELD x) w ph ar
@@ -226,4 +238,5 @@ module _ (f : ℕ → ℕ → ℕ) (w ph ar : ℕ) (B : BareWords f w ph ar) whe
     place = B .place;
     job = B .job;
     arc = B .arc;
+    names = λ q h. store-names f w HELD x q w refl ∙ B .names q h;
   }

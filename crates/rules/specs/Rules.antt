@@ -1,5 +1,5 @@
--- The rules of Johnson's dynamic task graph, as corrected in document 01 ("Steps", "Turned-away calls"): jobs with their dependents, a queue,
--- and workers with the call that each is in. No words, no damage. Assumes nothing.
+-- The rules of Johnson's dynamic task graph, as corrected in document 01 ("Steps", "Turned-away calls"): jobs with
+-- their dependents, a queue, and workers with the call that each is in. No words, no damage. Assumes nothing.
 use mathlib.Core.Bool.{Bool, true, false, _&&_, _||_}
 use mathlib.Core.List.{List, [], _∷_, _++_}
 use mathlib.Core.Option.{Option, none, some}
@@ -7,7 +7,9 @@ use Prim.Native.Nat.{ℕ, zero, suc, _+_, _-_}
 use lib.Dec.{ltb, leb, eqb}
 use lib.ListN.{length, getD, set}
 use Rattle.terms.specs.Base.{pick, update}
-use Rattle.terms.specs.Terms.{Label, unexecuted, executing, finished, Arguments, listed, argumentsWrong, sameSizes, wrongSizes, noSuchWorker, halfDone, nothingToStep, wrongArguments, unknownName, namePresent, noRoom, damaged, alreadyHolding, notHeld}
+use Rattle.terms.specs.Terms.{Label, unexecuted, executing, finished, Arguments, listed, argumentsWrong, sameSizes}
+use Rattle.terms.specs.Terms.{wrongSizes, noSuchWorker, halfDone, nothingToStep, wrongArguments, unknownName}
+use Rattle.terms.specs.Terms.{namePresent, noRoom, damaged, alreadyHolding, notHeld}
 use Rattle.terms.specs.Runs.{Item, postAdd, postFinish, step, get, Outcome, outcome}
 use Rattle.terms.specs.declared.Sizes.{Sizes}
 use Rattle.terms.specs.declared.Answer.{Answer}
@@ -24,8 +26,9 @@ pub record Job : Type 0 where
   pub list : List ℕ
   pub dependents : List ℕ
 
--- the call half done: an add looking up its i-th listed name, or (all looked up) about to enter; an add whose job j entered, linking its i-th name,
--- with t finished prerequisites tallied, or (all linked) about to settle; a finish about to mark; a finish of job p that has notified k dependents
+-- the call half done: an add looking up its i-th listed name, or (all looked up) about to enter; an add whose job j
+-- entered, linking its i-th name, with t finished prerequisites tallied, or (all linked) about to settle; a finish
+-- about to mark; a finish of job p that has notified k dependents
 pub data Call : Type 0 where
   idle : Call
   looking : Arguments → ℕ → Call
@@ -127,7 +130,8 @@ unfoldable pub link : Graph → ℕ → Arguments → ℕ → ℕ → ℕ → Fo
 link g w a j i t (at p) = linkTo g w a j i t p (job g p .label)
 link g w a j i t missing = outcome (Refused damaged 0) g
 
--- settling: "the remaining count falls by the tally, and the job enters the queue if the count is then 0 and either the tally is above 0 or d is 0"
+-- settling: "the remaining count falls by the tally, and the job enters the queue if the count is then 0 and either the
+-- tally is above 0 or d is 0"
 abbrev pub settles : ℕ → ℕ → ℕ → Bool
 settles count t d = eqb count 0 && (ltb 0 t || eqb d 0)
 

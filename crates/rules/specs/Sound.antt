@@ -1,5 +1,5 @@
--- What holds of every graph that the rules reach from the empty one, as far as the tables of words and the reference model rest on it.
--- The statements alone; they are shown elsewhere. Assumes nothing.
+-- What holds of every graph that the rules reach from the empty one, as far as the tables of words and the reference
+-- model rest on it. The statements alone; they are shown elsewhere. Assumes nothing.
 use mathlib.Core.Path.{_≡_}
 use mathlib.Core.Bool.{Bool, true, false}
 use mathlib.Core.List.{List, [], _∷_}
@@ -9,7 +9,8 @@ use lib.ListN.{length, getD}
 use Rattle.terms.specs.Base.{occurrences}
 use Rattle.terms.specs.Terms.{Label, unexecuted, executing, finished, mostNames, Arguments, listed, argumentsWrong}
 use Rattle.terms.specs.declared.Sizes.{Sizes}
-use Rattle.rules.specs.Rules.{Job, Call, idle, looking, linking, marking, notifying, Worker, Graph, job, find, at, settles}
+use Rattle.rules.specs.Rules.{Job, Call, idle, looking, linking, marking, notifying, Worker, Graph, job, find, at}
+use Rattle.rules.specs.Rules.{settles}
 
 -- the jobs that were handed out
 abbrev pub startedBy : Label → ℕ
@@ -77,11 +78,13 @@ pub record Sound (s : Sizes) (g : Graph) : Type 0 where
   pub queue-there : (j : ℕ) → 0 < occurrences j (g .queue) → j < length (g .jobs)
   pub queue-unexecuted : (j : ℕ) → 0 < occurrences j (g .queue) → job g j .label ≡ unexecuted
   pub queue-once : (j : ℕ) → occurrences j (g .queue) ≤ 1
-  pub queue-ready : (j : ℕ) → 0 < occurrences j (g .queue) → (i : ℕ) → i < length (job g j .list) → Finished g (getD (job g j .list) i 0)
+  pub queue-ready : (j : ℕ) → 0 < occurrences j (g .queue) → (i : ℕ) → i < length (job g j .list)
+      → Finished g (getD (job g j .list) i 0)
   pub queue-room : started (g .jobs) + length (g .queue) ≤ length (g .jobs)
   pub held-there : (w j : ℕ) → g .workers w .held ≡ some j → j < length (g .jobs)
   pub held-executing : (w j : ℕ) → g .workers w .held ≡ some j → job g j .label ≡ executing
   pub held-once : (v w j : ℕ) → g .workers v .held ≡ some j → g .workers w .held ≡ some j → v ≡ w
   pub calls : (w : ℕ) → CallSound g (g .workers w .held) (g .workers w .call)
   -- one add at a time works on a job
-  pub alone : (v w j i t k u : ℕ) (a b : Arguments) → g .workers v .call ≡ linking a j i t → g .workers w .call ≡ linking b j k u → v ≡ w
+  pub alone : (v w j i t k u : ℕ) (a b : Arguments) → g .workers v .call ≡ linking a j i t
+      → g .workers w .call ≡ linking b j k u → v ≡ w

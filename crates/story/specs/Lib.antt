@@ -1,1 +1,2 @@
 pub mod Story
+pub mod Onward

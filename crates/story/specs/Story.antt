@@ -1,5 +1,6 @@
--- The claims of demand 3 by the rules: a story is a graph that a list of items reached, with what was read off items and answers and with the entries
--- of each job into the queue. The statements alone; they are shown elsewhere. Assumes nothing.
+-- The claims of demand 3 by the rules: a story is a graph that a list of items reached, with what was read off items
+-- and answers and with the entries of each job into the queue. The statements alone; they are shown elsewhere. Assumes
+-- nothing.
 use mathlib.Core.Path.{_≡_}
 use mathlib.Core.Logic.{_↔_}
 use mathlib.Core.Bool.{Bool, true, false}
@@ -26,7 +27,8 @@ pub data Story (s : Sizes) : Graph → Reading → (ℕ → ℕ) → Type 0 wher
 pub record Counted (g : Graph) (r : Reading) (e : ℕ → ℕ) : Type 0 where
   pub once : (j : ℕ) → e j ≤ 1
   pub there : (j : ℕ) → 0 < e j → j < length (g .jobs)
-  pub after-prerequisites : (j : ℕ) → 0 < e j → (i : ℕ) → i < length (job g j .list) → Finished g (getD (job g j .list) i 0)
+  pub after-prerequisites : (j : ℕ) → 0 < e j → (i : ℕ) → i < length (job g j .list)
+      → Finished g (getD (job g j .list) i 0)
   pub when-ended : (j : ℕ) → j < length (g .jobs) → contains (job g j .name) (r .added) ≡ true
       → ((i : ℕ) → i < length (job g j .list) → contains (getD (job g j .list) i 0) (r .finished) ≡ true)
       → e j ≡ 1
@@ -68,7 +70,8 @@ pub record Free (g : Graph) (j : ℕ) : Type 0 where
   pub unexecuted : job g j .label ≡ unexecuted
   pub none-left : job g j .count ≡ 0
 
--- a job's count is how many of its listed names have jobs not finished, and the jobs in the queue are those that wait for nothing
+-- a job's count is how many of its listed names have jobs not finished, and the jobs in the queue are those that wait
+-- for nothing
 pub record Balanced (g : Graph) : Type 0 where
   pub counts : (j : ℕ) → j < length (g .jobs) → job g j .count ≡ awaitedNames (entriesOf (g .jobs)) (job g j .list)
   pub waits : (j : ℕ) → (0 < occurrences j (g .queue)) ↔ Free g j

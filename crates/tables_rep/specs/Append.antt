@@ -1,5 +1,6 @@
--- A link that appends an arc, over the words: the plan is one of the two that append, and its stores stand for the graph with the new dependent.
--- Follows document 01, "Steps": "any other gets the arc appended to its list". Assumes nothing.
+-- A link that appends an arc, over the words: the plan is one of the two that append, and its stores stand for the
+-- graph with the new dependent. Follows document 01, "Steps": "any other gets the arc appended to its list". Assumes
+-- nothing.
 use mathlib.Core.Path.{_≡_, refl, _∙_}
 use mathlib.Core.Bool.{Bool, true, false}
 use Prim.Native.Nat.{ℕ, _+_, _-_, _<_}
@@ -7,7 +8,7 @@ use native.Mathlib.Omega.{arith}
 use native.Mathlib.Decide.{decLt}
 use lib.Dec.{eqb}
 use lib.ListN.{length, getD, List·getD-eq-default}
-use borrow.Author.Tests.{eq-eqb, ne-eqb, lt-ltb, le-leb}
+use borrow.Author.Tests.{eq-eqb, ne-eqb, lt-ltb}
 use Rattle.terms.specs.Base.{pick}
 use Rattle.terms.specs.Terms.{Arguments}
 use Rattle.terms.specs.declared.Sizes.{Sizes}
@@ -54,7 +55,6 @@ module _ (s : Sizes) (t : Tables) (g : Graph) (G : Ghost) (S : Stands s t g G) (
         R .made,
         R .reserved,
         lt-ltb j (length (g .jobs)) hj,
-        le-leb (g .reserved) (s .arcs) (O .arcs),
         lt-ltb (next j) (g .reserved) (reserved-next j hj hi),
         arc-ok s t g G S O p (length (G .via p) - 1),
       )
@@ -66,7 +66,8 @@ module _ (s : Sizes) (t : Tables) (g : Graph) (G : Ghost) (S : Stands s t g G) (
     x-fits : next j < s .arcs
     x-fits = omega (arith, reserved-next j hj hi, O .arcs)
 
-    pub link-first-stands : length (G .via p) ≡ 0 → TablesStand s (applied (LinkFirst p (next j) j) t w) (linked g w a j i u p) (linkGhost G j p (next j))
+    pub link-first-stands : length (G .via p) ≡ 0
+        → TablesStand s (applied (LinkFirst p (next j) j) t w) (linked g w a j i u p) (linkGhost G j p (next j))
     unfolding applied
     link-first-stands z =
         let b = p-fits in

@@ -1,21 +1,56 @@
 -- The arcs of a job's list, as words: each is in use, holds its dependent and the next arc; past the end there is none.
--- Follows document 01, "Tables and their measures" (the arcs table) and "Turned-away calls" (number 9: a place neither none nor in use). Assumes nothing.
-use mathlib.Core.Path.{_≡_, sym, _∙_}
+-- They are no more than the arcs reserved, so that as many steps along the list come to its end. Follows document 01,
+-- "Tables and their measures" (the arcs table) and "Turned-away calls" (number 9: a place neither none nor in use).
+-- Assumes nothing.
+use mathlib.Core.Path.{_≡_, sym, ap, _∙_}
 use mathlib.Core.Logic.{_≢_}
 use mathlib.Core.Bool.{true}
-use Prim.Native.Nat.{ℕ, suc, _≤_, _<_}
+use Prim.Native.Nat.{ℕ, zero, suc, _+_, _≤_, _<_}
 use native.Mathlib.Omega.{arith}
-use native.Mathlib.Decide.{decLt}
+use native.Mathlib.Decide.{ℕ-discrete, decLt}
 use lib.Dec.{leb, eqb}
-use lib.ListN.{length, getD, List·getD-eq-default}
+use lib.ListN.{length, getD, drop, drop-of-length-le, List·getD-eq-default}
+use lib.Seq.{drop-cons}
 use borrow.Author.Tests.{eq-eqb, ne-eqb, lt-ltb, le-leb, lt-leb}
+use Rattle.terms.specs.Base.{pick, update}
 use Rattle.terms.specs.declared.Sizes.{Sizes}
+use Rattle.words.specs.Columns.{update-same, update-other}
 use Rattle.words.specs.Layout.{none, DEPENDENT, AFTER, view, Tables}
 use Rattle.words.specs.Words.{placeOk}
+use Rattle.words.specs.Observed.{dependentsFrom, arcsFrom}
 use Rattle.rules.specs.Rules.{Graph, job}
 use Rattle.rules.specs.Sound.{Sound}
 use Rattle.refinement.specs.Rep.{Ghost, Linked, TablesRep, Stands}
 use Rattle.tables_rep.specs.Stand.{limits-of}
+
+-- ---- f takes the numbers below n to numbers below m, and r takes those back: then n is at most m. By induction:
+-- the last number is left out, and the one that f takes to the greatest place gets the last one's place
+pub no-more : (m n : ℕ) (f r : ℕ → ℕ) → ((i : ℕ) → i < n → (f i < m) × (r (f i) ≡ i)) → n ≤ m
+no-more m zero f r h = omega arith
+no-more zero (suc n) f r h = absurd (omega (arith, h 0 (omega arith) .0))
+no-more (suc m) (suc n) f r h =
+    omega (arith, no-more m n (λ i. pick (eqb (f i) m) (f n) (f i)) (update r (f n) (r m)) fewer)
+  where
+    last : (f n < suc m) × (r (f n) ≡ n)
+    last = h n (omega arith)
+
+    fewer : (i : ℕ) → i < n
+        → (pick (eqb (f i) m) (f n) (f i) < m) × (update r (f n) (r m) (pick (eqb (f i) m) (f n) (f i)) ≡ i)
+    fewer i b =
+        let one = h i (omega arith) in
+        let apart : f i ≢ f n = λ z. omega (arith, one .1, last .1, ap r z) in elim (ℕ-discrete (f i) m) [
+          | yes e ↦ rw (eq-eqb (f i) m e) (omega (arith, last .0), update-same r (f n) (r m) ∙ ap r (sym e) ∙ one .1)
+          | no e ↦ rw (ne-eqb (f i) m e) (omega (arith, one .0), update-other r (f n) (r m) (f i) apart ∙ one .1)
+        ]
+
+-- a job's list has no more arcs than were reserved
+pub few-arcs : {s : Sizes} {t : Tables} {g : Graph} {G : Ghost} → Stands s t g G
+    → (p : ℕ) → length (job g p .dependents) ≤ g .reserved
+few-arcs {s} {t} {g} {G} S p =
+    let R = S .rep in
+    let few = no-more (g .reserved) (length (G .via p)) (λ i. getD (G .via p) i none) (G .rank)
+    (λ i h. (R .arcs p i h .below, R .arcs p i h .rank)) in
+    omega (arith, R .lengths p)
 
 module _ (s : Sizes) (t : Tables) (g : Graph) (G : Ghost) (S : Stands s t g G) (O : Sound s g) where
   abbrev R : TablesRep s (view t) g G
@@ -62,3 +97,24 @@ module _ (s : Sizes) (t : Tables) (g : Graph) (G : Ghost) (S : Stands s t g G) (
         )
     | no h ↦ rw (past p k (omega arith))
   ]
+
+  -- ---- the dependents along the list from its k-th arc on, followed often enough
+  along : (n p k : ℕ) → length (job g p .dependents) ≤ k + n
+      → dependentsFrom n (view t) (getD (G .via p) k none) ≡ drop k (job g p .dependents)
+  unfolding dependentsFrom
+  along zero p k h = sym (drop-of-length-le (job g p .dependents) {i = k} (omega arith))
+  along (suc n) p k h = elim (decLt k (length (job g p .dependents))) [
+    | yes b ↦
+        rw (
+          ne-eqb (arc p k) none (arc-some p k b),
+          arc-dependent p k b,
+          arc-after p k b,
+          along n p (suc k) (omega arith),
+          drop-cons (job g p .dependents) k 0 b,
+        )
+    | no b ↦
+        rw (past p k (omega arith), drop-of-length-le (job g p .dependents) {i = k} (omega arith))
+  ]
+
+  pub arcs-seen : (p k : ℕ) → arcsFrom (view t) (getD (G .via p) k none) ≡ drop k (job g p .dependents)
+  arcs-seen p k = along (view t .reserved) p k (omega (arith, R .reserved, few-arcs S p))

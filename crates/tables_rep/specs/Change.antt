@@ -1,6 +1,6 @@
--- One job changed, but not its name, its list and its dependents: the tables stand for the graph after, whatever happens to the queue.
--- Also the number of jobs that were started, and the stores of the jobs table that keep the sizes laid out.
--- Follows document 01, "Tables and their measures". Assumes nothing.
+-- One job changed, but not its name, its list and its dependents: the tables stand for the graph after, whatever
+-- happens to the queue. Also the number of jobs that were started, and the stores of the jobs table that keep the sizes
+-- laid out. Follows document 01, "Tables and their measures". Assumes nothing.
 use mathlib.Core.Path.{_≡_, refl, sym, ap, _∙_}
 use mathlib.Core.Logic.{_≢_}
 use mathlib.Core.List.{List, [], _∷_, _++_}
@@ -37,7 +37,8 @@ started-append (x ∷ l) y = omega (arith, started-append l y)
 module _ (s : Sizes) (v : View) (g : Graph) (G : Ghost) (R : TablesRep s v g G) (j : ℕ) (hj : j < length (g .jobs)) (y : Job)
     (lists : y .list ≡ job g j .list) (dependents : y .dependents ≡ job g j .dependents)
     (f c : ℕ → ℕ → ℕ) (names : f NAME ≡ v .job NAME) (nexts : f NEXT ≡ v .job NEXT) (taken put : ℕ) (q : List ℕ) (r : ℕ → ℕ → ℕ) (h : ℕ → Worker) where
-  all : (P : ℕ → Job → Type 0) → P j y → ((k : ℕ) → k ≢ j → P k (job g k)) → (k : ℕ) → P k (getD (set (g .jobs) j y) k noJob)
+  all : (P : ℕ → Job → Type 0) → P j y → ((k : ℕ) → k ≢ j → P k (job g k)) → (k : ℕ)
+      → P k (getD (set (g .jobs) j y) k noJob)
   all P = set-all P (g .jobs) j y noJob hj
 
   count : length (set (g .jobs) j y) ≡ length (g .jobs)

@@ -9,7 +9,8 @@ use native.Mathlib.Omega.{arith}
 use lib.Dec.{eqb}
 use lib.ListN.{length, set, length-append}
 use Rattle.terms.specs.declared.Sizes.{Sizes}
-use Rattle.words.specs.Columns.{update-same, update-other, columns, columns-put, put, store, header-putHeader, rows-put, stores}
+use Rattle.words.specs.Columns.{update-same, update-other, columns, columns-put, put, store, header-putHeader, rows-put}
+use Rattle.words.specs.Columns.{stores}
 use Rattle.words.specs.Layout.{jobShape, COUNT, queueShape, workerShape, tables, view, Tables, View}
 use Rattle.words.specs.Words.{applied, putCount, putCell}
 use Rattle.words.specs.declared.Plan.the-variants.{Settle, SettleQueue, Notify, NotifyQueue}
@@ -125,7 +126,8 @@ module _ (s : Sizes) (t : Tables) (g : Graph) (G : Ghost) (S : Stands s t g G) (
   unfolding applied
   settle-stands w j u d hj e = rw e (count-stands j hj (job g j .count - u) _ _)
 
-  pub settle-queue-stands : (w j u d : ℕ) → j < length (g .jobs) → settles (job g j .count - u) u d ≡ true → MayQueue g j
+  pub settle-queue-stands : (w j u d : ℕ) → j < length (g .jobs) → settles (job g j .count - u) u d ≡ true
+      → MayQueue g j
       → TablesStand s (applied (SettleQueue j (job g j .count - u) (started (g .jobs) + length (g .queue))) t w) (settled g w j u d) G
   unfolding applied
   settle-queue-stands w j u d hj e M = rw e (queue-stands j hj M (job g j .count - u) _ _)
@@ -135,7 +137,8 @@ module _ (s : Sizes) (t : Tables) (g : Graph) (G : Ghost) (S : Stands s t g G) (
   unfolding applied
   notify-stands w j x c hj e = rw e (count-stands j hj (job g j .count - 1) _ _)
 
-  pub notify-queue-stands : (w j x : ℕ) (c : Call) → j < length (g .jobs) → eqb (job g j .count - 1) 0 ≡ true → MayQueue g j
+  pub notify-queue-stands : (w j x : ℕ) (c : Call) → j < length (g .jobs) → eqb (job g j .count - 1) 0 ≡ true
+      → MayQueue g j
       → TablesStand s (applied (NotifyQueue j (job g j .count - 1) x (started (g .jobs) + length (g .queue))) t w) (notified g w j c) G
   unfolding applied
   notify-queue-stands w j x c hj e M = rw e (queue-stands j hj M (job g j .count - 1) _ _)

@@ -1,5 +1,6 @@
 -- Entering: the new job's words stand for the new job, it is the newest of its bucket, and its arcs are reserved.
--- Follows document 01, "Steps": entering "makes the job with remaining count d, and reserves the next d arcs". Assumes nothing.
+-- Follows document 01, "Steps": entering "makes the job with remaining count d, and reserves the next d arcs". Assumes
+-- nothing.
 use mathlib.Core.Path.{_≡_, refl, sym, ap, _∙_}
 use mathlib.Core.Logic.{_≢_}
 use mathlib.Core.Bool.{Bool, true, false}
@@ -16,8 +17,10 @@ use Rattle.bucket.specs.Laws.{below}
 use Rattle.terms.specs.Base.{pick}
 use Rattle.terms.specs.Terms.{Arguments}
 use Rattle.terms.specs.declared.Sizes.{Sizes}
-use Rattle.words.specs.Columns.{update-same, update-at, update-other, place, Rows, columns, columns-put, put, store, putHeader, header-putHeader, rows-putHeader, stores}
-use Rattle.words.specs.Layout.{none, jobShape, JOBS, ARCS, BITS, WORKERS, MADE, NAME, LABEL, COUNT, CLASS, GROWER, FIRST, LAST, NEXT, arcShape, bucketShape, LIST-COUNT, view, sizesKept, Tables, View}
+use Rattle.words.specs.Columns.{update-same, update-at, update-other, place, Rows, columns, columns-put, put, store}
+use Rattle.words.specs.Columns.{putHeader, header-putHeader, rows-putHeader, stores}
+use Rattle.words.specs.Layout.{none, jobShape, JOBS, ARCS, BITS, WORKERS, MADE, NAME, LABEL, COUNT, CLASS, GROWER}
+use Rattle.words.specs.Layout.{FIRST, LAST, NEXT, arcShape, bucketShape, LIST-COUNT, view, sizesKept, Tables, View}
 use Rattle.words.specs.Words.{applied, enteredJob}
 use Rattle.words.specs.declared.Plan.the-variants.{Enter}
 use Rattle.rules.specs.Rules.{Job, Graph, noJob, job, newJob, entered}
@@ -129,7 +132,8 @@ module _ (s : Sizes) (v : View) (g : Graph) (G : Ghost) (R : TablesRep s v g G) 
   chains k b false e =
       was k b (heads 0 k) (update-other (v .bucket 0) (bucket (a .name)) n k (λ z. eqb-false (bucket (a .name)) k e (sym z)))
 
-  spent : (b : ℕ) → b < g .reserved → b < G .base (G .owner b) + G .linked (G .owner b) → b < H .base (H .owner b) + H .linked (H .owner b)
+  spent : (b : ℕ) → b < g .reserved → b < G .base (G .owner b) + G .linked (G .owner b)
+      → b < H .base (H .owner b) + H .linked (H .owner b)
   spent b c e = rw (lt-ltb b (g .reserved) c) (elim (ℕ-discrete (G .owner b) n) [
     | yes z ↦ omega (arith, update-at (G .base) n (g .reserved) (G .owner b) z)
     | no z ↦ rw (update-other (G .base) n (g .reserved) (G .owner b) z, update-other (G .linked) n 0 (G .owner b) z) e
@@ -150,7 +154,8 @@ module _ (s : Sizes) (v : View) (g : Graph) (G : Ghost) (R : TablesRep s v g G) 
       })
       p
 
-  mine : (j i : ℕ) → j < suc n → i < length (job (entered g w a) j .list) → (H .owner (H .base j + i) ≡ j) × (H .base j + i < g .reserved + a .count)
+  mine : (j i : ℕ) → j < suc n → i < length (job (entered g w a) j .list)
+      → (H .owner (H .base j + i) ≡ j) × (H .base j + i < g .reserved + a .count)
   mine j i = all (λ k y. k < suc n → i < length (y .list) → (H .owner (H .base k + i) ≡ k) × (H .base k + i < g .reserved + a .count))
       (λ b c. rw (update-same (G .base) n (g .reserved), le-ltb (g .reserved + i) (g .reserved) (omega arith))
       (refl, omega (arith, length-prefix (a .count) (a .names))))

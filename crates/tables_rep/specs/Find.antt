@@ -1,5 +1,5 @@
--- The job of a name: the walk along a bucket finds what the search of the rules finds, and is never damaged.
--- Follows document 01, "Tables and their measures" (a job stands at the head of its bucket) and "Steps". Assumes nothing.
+-- The job of a name: the walk along a bucket finds what the search of the rules finds, and is never damaged. Follows
+-- document 01, "Tables and their measures" (a job stands at the head of its bucket) and "Steps". Assumes nothing.
 use mathlib.Core.Path.{_≡_, refl, sym, ap, _∙_}
 use mathlib.Core.Logic.{_≢_}
 use mathlib.Core.Bool.{Bool, true, false}
@@ -9,7 +9,7 @@ use native.Mathlib.Omega.{arith}
 use native.Mathlib.Decide.{ℕ-discrete}
 use lib.Dec.{eqb}
 use lib.ListN.{length, getD}
-use borrow.Author.Tests.{eq-eqb, ne-eqb, lt-ltb, le-leb, eqb-true, eqb-false}
+use borrow.Author.Tests.{eq-eqb, ne-eqb, lt-ltb, eqb-true, eqb-false}
 use Rattle.bucket.specs.Bucket.{bucketOf}
 use Rattle.bucket.specs.Laws.{below}
 use Rattle.terms.specs.Base.{pick}
@@ -64,13 +64,16 @@ module _ (f : ℕ → ℕ → ℕ) (bucket : ℕ → ℕ) (made name : ℕ) (sma
   past : (n : ℕ) → Past (suc n) → f NAME n ≢ name → Past n
   past n o e j a b = elim (ℕ-discrete j n) [ yes z ↦ rw z e | no z ↦ o j (omega arith) b ]
 
-  one : (n k from : ℕ) → n < made → Past (suc n) → Walks n k → Walks n (suc k) → (t : Bool) → eqb (bucket (f NAME n)) (bucket name) ≡ t
-      → pick t ((from ≡ n) × Chain (f NEXT n) n) (Chain from n) → Finds (f NAME) made name (walk (suc k) f made name from)
+  one : (n k from : ℕ) → n < made → Past (suc n) → Walks n k → Walks n (suc k) → (t : Bool)
+      → eqb (bucket (f NAME n)) (bucket name) ≡ t
+      → pick t ((from ≡ n) × Chain (f NEXT n) n) (Chain from n)
+      → Finds (f NAME) made name (walk (suc k) f made name from)
   unfolding walk
   one n k from h o w x true e c =
       rw (c .0, ne-eqb n none (omega arith), lt-ltb n made h) (named (eqb (f NAME n) name) refl)
     where
-      named : (t : Bool) → eqb (f NAME n) name ≡ t → Finds (f NAME) made name (pick t (At n) (walk k f made name (f NEXT n)))
+      named : (t : Bool) → eqb (f NAME n) name ≡ t
+          → Finds (f NAME) made name (pick t (At n) (walk k f made name (f NEXT n)))
       named true z = (h, eqb-true (f NAME n) name z)
       named false z = w (f NEXT n) (c .1) (past n o (eqb-false (f NAME n) name z))
   one n k from h o w x false e c = x from c (past n o (λ z. eqb-false (bucket (f NAME n)) (bucket name) e (ap bucket z)))
@@ -126,7 +129,8 @@ module _ (s : Sizes) (t : Tables) (g : Graph) (G : Ghost) (S : Stands s t g G) (
   R = S .rep
 
   -- a fact of the rules' names is one of the words' names
-  by-words : (name : ℕ) (x : Found) → Finds (view t .job NAME) (length (g .jobs)) name x → Finds (λ j. job g j .name) (length (g .jobs)) name x
+  by-words : (name : ℕ) (x : Found) → Finds (view t .job NAME) (length (g .jobs)) name x
+      → Finds (λ j. job g j .name) (length (g .jobs)) name x
   by-words name (At j) h = (h .0, sym (R .rows j (omega (arith, O .jobs, h .0)) .name) ∙ h .1)
   by-words name Missing h = λ j b e. h j b (R .rows j (omega (arith, O .jobs)) .name ∙ e)
   by-words name Damaged h = h
@@ -134,7 +138,7 @@ module _ (s : Sizes) (t : Tables) (g : Graph) (G : Ghost) (S : Stands s t g G) (
   pub find-agrees : (name : ℕ) → findOf s (view t) name ≡ asFound (find g name)
   unfolding findOf
   find-agrees name =
-      rw (R .made, le-leb (length (g .jobs)) (s .jobs) (O .jobs))
+      rw (R .made)
       (finds-one (λ j. job g j .name) (length (g .jobs)) name (O .names) _ _
       (by-words name (walk (length (g .jobs)) (view t .job) (length (g .jobs)) name (view t .bucket 0 (bucketOf name (s .bits))))
       (walks (view t .job) (λ z. bucketOf z (s .bits)) (length (g .jobs)) name (omega (arith, O .jobs, limits-of s (S .limits) .jobs))

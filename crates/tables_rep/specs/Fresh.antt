@@ -1,9 +1,9 @@
--- Laying out: the fresh tables stand for the graph with no jobs, for every content that the tables had before.
--- Follows document 01: "no jobs, all workers idle and holding nothing, unused words 0, every place none". Assumes nothing.
+-- Laying out: the fresh tables stand for the graph with no jobs, for every content that the tables had before. Follows
+-- document 01: "no jobs, all workers idle and holding nothing, unused words 0, every place none". Assumes nothing.
 use mathlib.Core.Path.{_≡_, refl, _∙_}
 use mathlib.Core.Bool.{Bool, true, _&&_}
 use mathlib.Core.List.{List, [], _∷_}
-use Prim.Native.Nat.{ℕ, _^_, _<_}
+use Prim.Native.Nat.{ℕ, _+_, _^_, _<_}
 use native.Mathlib.Omega.{arith}
 use lib.Dec.{leb}
 use lib.ListN.{length, getD}
@@ -14,11 +14,16 @@ use Rattle.terms.specs.declared.Sizes.{Sizes}
 use Rattle.words.specs.Columns.{rows, Rows, columns, header}
 use mathlib.Core.Option.{none}
 use Rattle.words.specs.Layout as words
-use Rattle.words.specs.Layout.{jobShape, JOBS, ARCS, BITS, WORKERS, MADE, NAME, LABEL, COUNT, CLASS, GROWER, FIRST, LAST, arcShape, RESERVED, bucketShape, queueShape, TAKEN, PUT, workerShape, PHASE, HELD, OWN-NAME, LIST-COUNT, OWN-CLASS, OWN-GROWER, TALLY, PLACE, OWN-JOB, OWN-ARC, IDLE, need, longEnough, sizesKept, roomFor, freshJob, freshArc, bareWorker, freshJobs, freshArcs, freshBuckets, freshQueue, freshWorkers, freshTables, tables, view, Tables}
+use Rattle.words.specs.Layout.{jobShape, JOBS, ARCS, BITS, WORKERS, MADE, NAME, LABEL, COUNT, CLASS, GROWER, FIRST}
+use Rattle.words.specs.Layout.{LAST, arcShape, RESERVED, bucketShape, queueShape, TAKEN, PUT, workerShape, PHASE, HELD}
+use Rattle.words.specs.Layout.{OWN-NAME, LIST-COUNT, OWN-CLASS, OWN-GROWER, TALLY, PLACE, OWN-JOB, OWN-ARC, IDLE, need}
+use Rattle.words.specs.Layout.{longEnough, sizesKept, roomFor, freshJob, freshArc, bareWorker, freshJobs, freshArcs}
+use Rattle.words.specs.Layout.{freshBuckets, freshQueue, freshWorkers, freshTables, tables, view, Tables}
+use Rattle.words.specs.Layout.{NAMES}
 use Rattle.rules.specs.Rules.{idle, noJob, empty}
 use Rattle.rules.specs.Sound.{started}
 use Rattle.refinement.specs.Rep.{Ghost, Row, TablesRep, WorkerRep, Stands}
-use Rattle.tables_rep.specs.Lists.{repeated-one}
+use Rattle.tables_rep.specs.Lists.{repeated-one, bare-name}
 use Rattle.tables_rep.specs.Records.{rows-sets, laid-at, laid-header}
 use Rattle.tables_rep.specs.Stand.{both}
 
@@ -129,7 +134,8 @@ module _ (s : Sizes) (t : Tables) (L : Long s t) where
     last = job-word j LAST h (omega arith);
   }
 
-  idle-worker : (w : ℕ) → w < s .workers → WorkerRep (columns workerShape W) noGhost w (record { held = none; call = idle })
+  idle-worker : (w : ℕ) → w < s .workers
+      → WorkerRep (columns workerShape W) noGhost w (record { held = none; call = idle })
   idle-worker w h = record {
     held = worker-word w HELD h (omega arith);
     call = record {
@@ -142,6 +148,7 @@ module _ (s : Sizes) (t : Tables) (L : Long s t) where
       place = worker-word w PLACE h (omega arith);
       job = worker-word w OWN-JOB h (omega arith);
       arc = worker-word w OWN-ARC h (omega arith);
+      names = λ q b. worker-word w (NAMES + q) h (omega arith) ∙ bare-name IDLE words.none q b;
     };
   }
 

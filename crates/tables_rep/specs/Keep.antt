@@ -1,5 +1,5 @@
--- The plans that store in the workers' table alone: a call that quits, a name looked up, a finished prerequisite tallied.
--- Follows document 01, "Steps": look-up and link. Assumes nothing.
+-- The plans that store in the workers' table alone: a call that quits, a name looked up, a finished prerequisite
+-- tallied. Follows document 01, "Steps": look-up and link. Assumes nothing.
 use mathlib.Core.Path.{ap}
 use Prim.Native.Nat.{ℕ, _+_, _<_}
 use native.Mathlib.Omega.{arith}
@@ -23,7 +23,8 @@ spent-more G j a h = elim (ℕ-discrete (G .owner a) j) [
   | no z ↦ rw (update-other (G .linked) j (G .linked j + 1) (G .owner a) z) h
 ]
 
-tally-rep : (s : Sizes) (v : View) (g : Graph) (G : Ghost) (j : ℕ) → TablesRep s v g G → TablesRep s v g (tallyGhost G j)
+tally-rep : (s : Sizes) (v : View) (g : Graph) (G : Ghost) (j : ℕ) → TablesRep s v g G
+    → TablesRep s v g (tallyGhost G j)
 tally-rep s v g G j R = record {
   made = R .made;
   reserved = R .reserved;

@@ -12,3 +12,4 @@ pub mod Link
 pub mod Append
 pub mod Count
 pub mod Labels
+pub mod Chains

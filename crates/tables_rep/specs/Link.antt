@@ -1,5 +1,5 @@
--- A link that appends an arc, over the maps: the arc goes to the end of the prerequisite's list, which was empty or had a last arc.
--- Follows document 01, "Steps": "any other gets the arc appended to its list". Assumes nothing.
+-- A link that appends an arc, over the maps: the arc goes to the end of the prerequisite's list, which was empty or had
+-- a last arc. Follows document 01, "Steps": "any other gets the arc appended to its list". Assumes nothing.
 use mathlib.Core.Path.{_≡_, refl, sym, ap, _∙_}
 use mathlib.Core.Logic.{_≢_}
 use mathlib.Core.List.{List, [], _∷_, _++_}
@@ -78,7 +78,8 @@ module _ (s : Sizes) (v : View) (g : Graph) (G : Ghost) (R : TablesRep s v g G) 
       (ends : a DEPENDENT ≡ update (v .arc DEPENDENT) x j) (last : a AFTER x ≡ none)
       (afters : (q i : ℕ) → i < length (G .via q) → a AFTER (getD (G .via q) i none) ≡ getD (H .via q) (suc i) none) where
     -- the words of a job z, whatever its dependents d
-    row : (q : ℕ) (z : Job) (d : List ℕ) → q < s .jobs → Row (v .job) q (G .via q) z → f LAST q ≡ getD (H .via q) (length (H .via q) - 1) none
+    row : (q : ℕ) (z : Job) (d : List ℕ) → q < s .jobs → Row (v .job) q (G .via q) z
+        → f LAST q ≡ getD (H .via q) (length (H .via q) - 1) none
         → Row f q (H .via q) (record { name = z .name; label = z .label; count = z .count; class = z .class; grower = z .grower; list = z .list; dependents = d })
     row q z d b o e = record {
       name = ap (λ c. c q) names ∙ o .name;
@@ -124,7 +125,8 @@ module _ (s : Sizes) (v : View) (g : Graph) (G : Ghost) (R : TablesRep s v g G) 
       spent = rw (x-owner, update-same (G .linked) j (G .linked j + 1)) (omega arith);
     }
 
-    at-p : (i : ℕ) → i < length l' → Linked a H (g .reserved) p i (getD l' i none) (getD l' (suc i) none) (getD (y .dependents) i 0)
+    at-p : (i : ℕ) → i < length l'
+        → Linked a H (g .reserved) p i (getD l' i none) (getD l' (suc i) none) (getD (y .dependents) i 0)
     at-p i b = elim (decLt i (length l)) [
       | yes z ↦
           rw (List·getD-append l (x ∷ []) none i z, List·getD-append dependents (j ∷ []) 0 i (omega (arith, R .lengths p)))

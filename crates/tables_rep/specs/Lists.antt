@@ -1,16 +1,19 @@
 -- Lists changed at one place, at their end, or by a run of stores: what stands at each place after.
 -- Follows document 01, "Tables and their measures", for tables as lists of words. Assumes nothing.
-use mathlib.Core.Path.{_≡_, refl, ap, _∙_}
+use mathlib.Core.Path.{_≡_, refl, sym, ap, _∙_}
 use mathlib.Core.Logic.{_≢_}
 use mathlib.Core.List.{List, [], _∷_, _++_}
 use Prim.Native.Nat.{ℕ, zero, suc, _+_, _*_, _≤_, _<_}
 use native.Mathlib.Omega.{arith}
 use native.Mathlib.Decide.{ℕ-discrete, decLt}
-use native.Mathlib.Nat.{mul-suc}
+use native.Mathlib.Nat.{add-zero, mul-suc}
 use lib.ListN.{length, getD, set, replicate, length-set, length-append, List·getD-append, List·getD-eq-default}
+use lib.ListN.{getD-replicate}
 use lib.Seq.{getD-set-same, getD-set-other, getD-append-seam, sets}
 use Rattle.terms.specs.Base.{prefix}
-use Rattle.words.specs.Layout.{repeated}
+use Rattle.terms.specs.Terms.{mostNames}
+use Rattle.words.specs.Layout.{none, NAMES, bareWorker, repeated}
+use Rattle.words.specs.Observed.{cells}
 
 -- ---- a fact of all places after a change: of the changed place, and of the others
 pub set-all : {A : Type 0} (P : ℕ → A → Type 0) (l : List A) (j : ℕ) (x d : A) → j < length l → P j x
@@ -53,6 +56,17 @@ sets-at (x ∷ r) l i (suc q) h b =
     ap (λ k. getD (sets (set l i x) (suc i) r) k 0) {x = i + suc q} {y = suc i + q} (omega arith)
     ∙ sets-at r (set l i x) (suc i) q (omega arith) (omega (arith, length-set l i x))
 
+-- ---- the cells are the list that they hold
+pub cells-list : (f : ℕ → ℕ) (i : ℕ) (q : List ℕ) → ((k : ℕ) → k < length q → f (i + k) ≡ getD q k 0)
+    → cells f i (length q) ≡ q
+unfolding cells
+cells-list f i [] h = refl
+cells-list f i (x ∷ q) h =
+    let here : f i ≡ x = ap f (sym (add-zero i)) ∙ h 0 (omega arith) in
+    let rest : cells f (suc i) (length q) ≡ q =
+    cells-list f (suc i) q (λ k l. let e : suc i + k ≡ i + suc k = omega arith in ap f e ∙ h (suc k) (omega arith)) in
+    rw (here, rest)
+
 -- ---- a list repeated
 pub getD-past : (l k : List ℕ) (m : ℕ) → getD (l ++ k) (length l + m) 0 ≡ getD k m 0
 getD-past [] k m = ap (λ z. getD k z 0) {x = 0 + m} {y = m} (omega arith)
@@ -64,7 +78,8 @@ unfolding repeated
 length-repeated zero r = omega arith
 length-repeated (suc n) r = omega (arith, length-append r (repeated n r), length-repeated n r, mul-suc (length r) n)
 
-pub getD-repeated : (n : ℕ) (r : List ℕ) (i q : ℕ) → i < n → q < length r → getD (repeated n r) (length r * i + q) 0 ≡ getD r q 0
+pub getD-repeated : (n : ℕ) (r : List ℕ) (i q : ℕ) → i < n → q < length r
+    → getD (repeated n r) (length r * i + q) 0 ≡ getD r q 0
 unfolding repeated
 getD-repeated zero r i q h b = absurd (omega arith)
 getD-repeated (suc n) r zero q h b =
@@ -78,6 +93,12 @@ pub repeated-one : (n x : ℕ) → replicate n x ≡ repeated n (x ∷ [])
 unfolding repeated
 repeated-one zero x = refl
 repeated-one (suc n) x = ap {B = List ℕ} (λ l. x ∷ l) (repeated-one n x)
+
+-- ---- the names of a call that has no arguments are 0
+pub bare-name : (phase held q : ℕ) → q < mostNames → getD (bareWorker phase held) (NAMES + q) 0 ≡ 0
+bare-name phase held q h =
+    getD-past (phase ∷ held ∷ 0 ∷ 0 ∷ 0 ∷ 0 ∷ 0 ∷ 0 ∷ none ∷ none ∷ []) (replicate mostNames 0) q
+    ∙ getD-replicate mostNames q 0 0 h
 
 -- ---- the first n of a list are n
 pub length-prefix : (n : ℕ) (l : List ℕ) → length (prefix n l) ≡ n

@@ -37,7 +37,8 @@ module _ (s : Shape) (R : ℕ) (l : List ℕ) (i : ℕ) (r : List ℕ) (fits : l
   unfolding columns
   record-off q j n = go (ltb q (s .width)) refl
     where
-      go : (b : Bool) → ltb q (s .width) ≡ b → pick b (getD (sets l (place s i 0) r) (place s j q) 0) 0 ≡ pick b (getD l (place s j q) 0) 0
+      go : (b : Bool) → ltb q (s .width) ≡ b
+          → pick b (getD (sets l (place s i 0) r) (place s j q) 0) 0 ≡ pick b (getD l (place s j q) 0) 0
       go false e = refl
       go true e = let h = ltb-true q (s .width) e in elim (decLt j i) [
         | yes z ↦ sets-off r l (place s i 0) (place s j q) (λ y. absurd (omega (arith, before s j i z)))

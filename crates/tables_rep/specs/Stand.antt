@@ -10,7 +10,8 @@ use borrow.Author.Tests.{leb-true}
 use Rattle.terms.specs.Terms.{withinLimits, mostJobs, mostArcs, mostBits, mostWorkers}
 use Rattle.terms.specs.declared.Sizes.{Sizes}
 use Rattle.words.specs.Columns.{Rows}
-use Rattle.words.specs.Layout.{jobShape, arcShape, bucketShape, queueShape, workerShape, tables, view, sizesKept, Tables, View}
+use Rattle.words.specs.Layout.{jobShape, arcShape, bucketShape, queueShape, workerShape, tables, view, sizesKept}
+use Rattle.words.specs.Layout.{Tables, View}
 use Rattle.rules.specs.Rules.{Worker, Graph}
 use Rattle.refinement.specs.Rep.{Ghost, TablesRep, WorkerRep, Stands}
 

@@ -1,4 +1,5 @@
 pub mod Base
 pub mod Terms
+pub mod Seen
 pub mod Runs
 pub mod Starred

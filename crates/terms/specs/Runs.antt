@@ -6,12 +6,25 @@ use Rattle.terms.specs.Terms.{Arguments}
 use Rattle.terms.specs.declared.Sizes.{Sizes}
 use Rattle.terms.specs.declared.Answer.{Answer}
 
--- an item of demand 3's list: a post of an add or a finish, a step or a get, with the sizes and the worker that it brings
+-- an item of demand 3's list: a post of an add or a finish, a step or a get, with the sizes and the worker that it
+-- brings
 pub data Item : Type 0 where
   postAdd : Sizes → ℕ → Arguments → Item
   postFinish : Sizes → ℕ → ℕ → Item
   step : Sizes → ℕ → Item
   get : Sizes → ℕ → Item
+
+abbrev pub sizesOf : Item → Sizes
+sizesOf (postAdd s w a) = s
+sizesOf (postFinish s w name) = s
+sizesOf (step s w) = s
+sizesOf (get s w) = s
+
+abbrev pub workerOf : Item → ℕ
+workerOf (postAdd s w a) = w
+workerOf (postFinish s w name) = w
+workerOf (step s w) = w
+workerOf (get s w) = w
 
 -- what an item answers, and the state that it leaves
 pub record Outcome (S : Type 0) : Type 0 where
@@ -37,8 +50,8 @@ module _ {S : Type 0} (perform : S → Item → Outcome S) where
   events s [] = []
   events s (i ∷ is) = record { item = i; answer = perform s i .answer } ∷ events (perform s i .state) is
 
-  -- "Its count of entries is the sum, over the items of the list, of how many more places it has [in the queue] just after the item than just before
-  -- (nought if not more)"
+  -- "Its count of entries is the sum, over the items of the list, of how many more places it has [in the queue] just
+  -- after the item than just before (nought if not more)"
   unfoldable pub entries : (S → List ℕ) → S → List Item → ℕ → ℕ
   entries queue s [] j = 0
   entries queue s (i ∷ is) j =

@@ -1,4 +1,5 @@
--- The terms of document 01 that every level shares: limits, refusals, labels, and the arguments of an add. Assumes nothing.
+-- The terms of document 01 that every level shares: limits, refusals, labels, and the arguments of an add. Assumes
+-- nothing.
 use mathlib.Core.Bool.{Bool, true, false, _&&_, _||_}
 use mathlib.Core.List.{List, [], _∷_}
 use Prim.Native.Nat.{ℕ}

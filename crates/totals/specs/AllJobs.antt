@@ -9,7 +9,8 @@ use borrow.Author.Tests.{leb-true}
 use lib.Dec.{leb, ltb}
 use lib.ListN.{length}
 use Rattle.totals.specs.declared.JobRecord.{JobRecord}
-use Rattle.totals.specs.Board.{unexecuted, executing, finished, mostRecords, served, sumOver, under, oneJob, itsMinutes, minutesOfAll, wellFormed, allWellFormed, counted, totalsOf}
+use Rattle.totals.specs.Board.{unexecuted, executing, finished, mostRecords, served, sumOver, under, oneJob}
+use Rattle.totals.specs.Board.{itsMinutes, minutesOfAll, wellFormed, allWellFormed, counted, totalsOf}
 
 -- the three entries of the totals, together
 abbrev pub together : List ℕ → ℕ
@@ -42,12 +43,14 @@ unfolding sumOver
 one-each [] = refl
 one-each (r ∷ rows) = omega (arith, one-each rows)
 
--- of a board that is served, the three counts are together the number of its records, and the three sums the minutes of them all
+-- of a board that is served, the three counts are together the number of its records, and the three sums the minutes of
+-- them all
 pub all-jobs : (table : List ℕ) (rows : List JobRecord) → totalsOf table rows .number ≡ served → AllJobs table rows
 unfolding totalsOf counted
 all-jobs table rows is-served = cases (ltb mostRecords (length rows)) (allWellFormed rows) refl refl
   where
-    cases : (many formed : Bool) → ltb mostRecords (length rows) ≡ many → allWellFormed rows ≡ formed → AllJobs table rows
+    cases : (many formed : Bool) → ltb mostRecords (length rows) ≡ many → allWellFormed rows ≡ formed
+        → AllJobs table rows
     cases true formed h k = let wrong : _≡_ {A = ℕ} 0 1 = cc in absurd (omega arith)
     cases false false h k = let wrong : _≡_ {A = ℕ} 0 1 = cc in absurd (omega arith)
     cases false true h k = record {

@@ -1,6 +1,6 @@
--- The board of totals: how many jobs stand under each label, and the sum of their minutes. Document 01, "The board and the
--- day list", with numbers 1 and 9 of "Turned-away calls". The minutes by class are a table that the definitions take.
--- Assumes nothing.
+-- The board of totals: how many jobs stand under each label, and the sum of their minutes. Document 01, "The board and
+-- the day list", with numbers 1 and 9 of "Turned-away calls". The minutes by class are a table that the definitions
+-- take. Assumes nothing.
 use mathlib.Core.Bool.{Bool, true, false, _&&_}
 use mathlib.Core.List.{List, [], _∷_}
 use Prim.Native.Nat.{ℕ, zero, suc, _+_, _*_, _%_}
@@ -103,8 +103,8 @@ unfoldable pub recordsFrom : (ℕ → JobRecord) → ℕ → ℕ → List JobRec
 recordsFrom f i zero = []
 recordsFrom f i (suc n) = f i ∷ recordsFrom f (suc i) n
 
--- record i of a table of words whose records of `width` words follow the first `head`: its label and class stand at the same places of
--- every record, and past the table's end stands 0
+-- record i of a table of words whose records of `width` words follow the first `head`: its label and class stand at
+-- the same places of every record. The 0 past the table's end is never met: `totalsOfTable` looks at the length first.
 abbrev pub recordAt : (head width label class : ℕ) → List ℕ → ℕ → JobRecord
 recordAt head width label class words i =
     record { label = getD words (head + width * i + label) 0; class = getD words (head + width * i + class) 0 }
@@ -112,6 +112,19 @@ recordAt head width label class words i =
 -- a row that stands in such a table
 abbrev pub rowsOfTable : (head width label class : ℕ) → List ℕ → ℕ → List JobRecord
 rowsOfTable head width label class words count = recordsFrom (recordAt head width label class words) 0 count
+
+-- `count` records stand in the table, and the places of label and class lie inside a record
+abbrev pub standsInTable : (head width label class : ℕ) → List ℕ → ℕ → Bool
+standsInTable head width label class words count =
+    ltb label width && (ltb class width && leb (head + width * count) (length words))
+
+-- number 1: "a table shorter than its counters and records need". A place outside the record gives number 1 as well:
+-- such a word belongs to another record or to none, so there is no row.
+unfoldable pub totalsOfTable : List ℕ → (head width label class : ℕ) → List ℕ → ℕ → Totals
+totalsOfTable table head width label class words count =
+    pick (standsInTable head width label class words count)
+    (totalsOf table (rowsOfTable head width label class words count))
+    (refused offLimits)
 
 -- an odd number of words is no row of records: number 1
 unfoldable pub totalsOfWords : List ℕ → List ℕ → Totals

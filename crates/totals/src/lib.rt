@@ -1,9 +1,8 @@
 // The board of totals: how many jobs stand under each label, and the sum of their minutes.
 // Document 01, "The board and the day list"; specs/Board.antt has the definitions. Assumes nothing.
 ghost use mathlib.Core.Path.{_≡_};
-ghost use lib.ListN.{getD};
 ghost use Rattle.minutes.specs.Minutes.{fixedMinutes};
-ghost use Rattle.totals.specs.Board.{totalsOf, totalsOfWords, rowsOfTable, refused};
+ghost use Rattle.totals.specs.Board.{totalsOf, totalsOfWords, totalsOfTable, refused};
 ghost use Rattle.totals.specs.Step.{withRecord, Room};
 
 // A row is served, or refused by a number of document 01, "Turned-away calls".
@@ -67,15 +66,8 @@ fn with_record(t: Totals, label: u32, class: u32) -> Totals
     next
 }
 
-// A word of a table; 0 past its end.
-fn word(words: &[u32], i: usize) -> u32
-    ensures { λ r. ⌜ r ≡ getD (now (words .entry)) i 0 ⌝ }
-{
-    if i < words.len() { words[i] } else { 0 }
-}
-
-// The board on a table of words: `count` records of `width` words follow the first `head`, and words `label` and `class` of a
-// record are its label and class.
+// The board on a table of words: `count` records of `width` words follow the first `head`, and words `label` and
+// `class` of a record are its label and class. A shorter table is refused, and so is a place outside the record.
 pub fn of_table(
     words: &[u32],
     head: u32,
@@ -84,9 +76,19 @@ pub fn of_table(
     class: u32,
     count: usize,
 ) -> Totals
-    ensures { λ r. ⌜ r ≡ totalsOf fixedMinutes (rowsOfTable head width label class (now (words .entry)) count) ⌝ }
+    ensures { λ r. ⌜ r ≡ totalsOfTable fixedMinutes head width label class (now (words .entry)) count ⌝ }
 {
+    // First, so that the sum below fits its 64 bits.
     if MOST_RECORDS < count {
+        return blank(OFF_LIMITS);
+    }
+    if words.len() < (head as usize) + (width as usize) * count {
+        return blank(OFF_LIMITS);
+    }
+    if width <= label {
+        return blank(OFF_LIMITS);
+    }
+    if width <= class {
         return blank(OFF_LIMITS);
     }
     let mut t = blank(SERVED);
@@ -95,8 +97,8 @@ pub fn of_table(
         let at = (head as usize) + (width as usize) * i;
         t = with_record(
             t,
-            word(words, at + (label as usize)),
-            word(words, at + (class as usize)),
+            words[at + (label as usize)],
+            words[at + (class as usize)],
         );
         i += 1;
     }

@@ -1,4 +1,5 @@
--- Tables of words: a header, then records of one width. A table is read as its columns, and ONE law says what a store does to them. Assumes nothing.
+-- Tables of words: a header, then records of one width. A table is read as its columns, and ONE law says what a store
+-- does to them. Assumes nothing.
 use mathlib.Core.Path.{_≡_, refl, sym, ap, _∙_, fun-ext}
 use mathlib.Core.Logic.{_≢_}
 use mathlib.Core.Bool.{Bool, true, false}
@@ -42,7 +43,8 @@ rows s R l = leb (s .head + s .width * R) (length l)
 abbrev pub Rows : Shape → ℕ → List ℕ → Type 0
 Rows s R l = rows s R l ≡ true
 
--- column k, and a store in it. A column past the width is 0 everywhere, so that the law below holds of all columns at once
+-- column k, and a store in it. A column past the width is 0 everywhere, so that the law below holds of all columns at
+-- once
 unfoldable pub columns : Shape → List ℕ → ℕ → ℕ → ℕ
 columns s l k i = pick (ltb k (s .width)) (getD l (place s i k) 0) 0
 
@@ -110,7 +112,8 @@ columns-put s R l i k v e r h = fun-ext (λ q. fun-ext (λ j. go q j (ltb q (s .
     go q j false x false y = refl
 
 -- a store in the header leaves the columns, and a store in a column the header
-pub columns-putHeader : (s : Shape) (l : List ℕ) (k v : ℕ) → ltb k (s .head) ≡ true → columns s (putHeader l k v) ≡ columns s l
+pub columns-putHeader : (s : Shape) (l : List ℕ) (k v : ℕ) → ltb k (s .head) ≡ true
+    → columns s (putHeader l k v) ≡ columns s l
 unfolding columns putHeader
 columns-putHeader s l k v e = fun-ext (λ q. fun-ext (λ j.
     ap (λ x. pick (ltb q (s .width)) x 0) (getD-set-other l k (place s j q) v 0 (omega (arith, ltb-true k (s .head) e)))))
@@ -119,7 +122,8 @@ pub header-put : (s : Shape) (l : List ℕ) (i k v q : ℕ) → ltb q (s .head) 
 unfolding put header
 header-put s l i k v q e = getD-set-other l (place s i k) q v 0 (omega (arith, ltb-true q (s .head) e))
 
-pub header-putHeader : (s : Shape) (R : ℕ) (l : List ℕ) (k v : ℕ) → ltb k (s .head) ≡ true → Rows s R l → header (putHeader l k v) k ≡ v
+pub header-putHeader : (s : Shape) (R : ℕ) (l : List ℕ) (k v : ℕ) → ltb k (s .head) ≡ true → Rows s R l
+    → header (putHeader l k v) k ≡ v
 unfolding putHeader header rows
 header-putHeader s R l k v e r = getD-set-same l k v 0 (omega (arith, ltb-true k (s .head) e, leb-true (s .head + s .width * R) (length l) r))
 
@@ -127,5 +131,6 @@ pub header-other : (l : List ℕ) (k v q : ℕ) → eqb q k ≡ false → header
 unfolding putHeader header
 header-other l k v q e = getD-set-other l k q v 0 (eqb-false q k e)
 
--- what carries the header, the columns and the length through stores: with `columns-put SHAPE R`, `header-putHeader SHAPE R` and the facts at hand, `simp`'s list
+-- what carries the header, the columns and the length through stores: with `columns-put SHAPE R`, `header-putHeader
+-- SHAPE R` and the facts at hand, `simp`'s list
 pub ruleset stores = (columns-putHeader, header-put, header-other, rows-put, rows-putHeader)

@@ -1,4 +1,5 @@
--- The five tables as words ("Tables and their measures"): their counters, their records, the fields of a record, and a fresh graph. Assumes nothing.
+-- The five tables as words ("Tables and their measures"): their counters, their records, the fields of a record, and a
+-- fresh graph. Assumes nothing.
 use mathlib.Core.Bool.{Bool, true, false, _&&_, _||_}
 use mathlib.Core.List.{List, [], _∷_, _++_}
 use Prim.Native.Nat.{ℕ, zero, suc, _+_, _*_, _^_}
@@ -124,7 +125,8 @@ OWN-ARC = 9
 abbrev pub NAMES : ℕ
 NAMES = 10
 
--- the phases: an add that looks up (or enters) and one that links (or settles), a finish that marks and one that notifies
+-- the phases: an add that looks up (or enters) and one that links (or settles), a finish that marks and one that
+-- notifies
 abbrev pub IDLE : ℕ
 IDLE = 0
 

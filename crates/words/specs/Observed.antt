@@ -1,7 +1,16 @@
--- What is read off the words of the tables besides their fields: the queue ("A job waits while it has a place in the queue"). Assumes nothing.
+-- What is seen in the words of the tables: the queue ("A job waits while it has a place in the queue"), each job with
+-- its own list of arcs, the holds and the calls half done. Assumes nothing.
+use mathlib.Core.Bool.{Bool, true, false}
 use mathlib.Core.List.{List, [], _∷_}
-use Prim.Native.Nat.{ℕ, zero, suc, _-_}
-use Rattle.words.specs.Layout.{Tables, view}
+use mathlib.Core.Option.{Option, some}
+use mathlib.Core.Option as option
+use Prim.Native.Nat.{ℕ, zero, suc, _+_, _-_}
+use lib.Dec.{eqb}
+use Rattle.terms.specs.Base.{pick}
+use Rattle.terms.specs.Seen.{Request, CallSeen, idle, looking, linking, marking, notifying, JobSeen, Seen}
+use Rattle.words.specs.Layout.{none, NAME, LABEL, COUNT, CLASS, GROWER, FIRST, NEXT, DEPENDENT, AFTER, PHASE}
+use Rattle.words.specs.Layout.{HELD, OWN-NAME, LIST-COUNT, OWN-CLASS, OWN-GROWER, TALLY, PLACE, OWN-JOB, OWN-ARC}
+use Rattle.words.specs.Layout.{NAMES, IDLE, LOOKING, LINKING, MARKING, Tables, View, view}
 
 -- n cells from the i-th on
 unfoldable pub cells : (ℕ → ℕ) → ℕ → ℕ → List ℕ
@@ -11,3 +20,63 @@ cells f i (suc n) = f i ∷ cells f (suc i) n
 -- the jobs that wait: the cells from the next to be taken to the last put
 abbrev pub waiting : Tables → List ℕ
 waiting t = cells (view t .cell 0) (view t .taken) (view t .put - view t .taken)
+
+-- the dependents along a list of arcs from the arc x on, which are at most n
+unfoldable pub dependentsFrom : ℕ → View → ℕ → List ℕ
+dependentsFrom zero v x = []
+dependentsFrom (suc n) v x = pick (eqb x none) [] (v .arc DEPENDENT x ∷ dependentsFrom n v (v .arc AFTER x))
+
+-- no list has more arcs than were reserved
+abbrev pub arcsFrom : View → ℕ → List ℕ
+arcsFrom v x = dependentsFrom (v .reserved) v x
+
+-- the jobs of a bucket along its list from the job j on, which are at most n
+unfoldable pub chainFrom : ℕ → View → ℕ → List ℕ
+chainFrom zero v j = []
+chainFrom (suc n) v j = pick (eqb j none) [] (j ∷ chainFrom n v (v .job NEXT j))
+
+-- "at the head of its bucket": of the first n jobs those of the bucket k, newest first
+unfoldable pub newestFirst : (ℕ → ℕ) → ℕ → ℕ → List ℕ
+newestFirst bucket k zero = []
+newestFirst bucket k (suc n) = pick (eqb (bucket n) k) (n ∷ newestFirst bucket k n) (newestFirst bucket k n)
+
+abbrev pub jobSeen : View → ℕ → JobSeen
+jobSeen v j = record {
+  name = v .job NAME j;
+  label = v .job LABEL j;
+  count = v .job COUNT j;
+  class = v .job CLASS j;
+  grower = v .job GROWER j;
+  arcs = arcsFrom v (v .job FIRST j);
+}
+
+-- a place, or none
+abbrev pub placeSeen : ℕ → Option ℕ
+placeSeen p = pick (eqb p none) option.none (some p)
+
+-- the call that a worker is in
+abbrev pub requestSeen : View → ℕ → Request
+requestSeen v w = record {
+  name = v .worker OWN-NAME w;
+  list = cells (λ q. v .worker (NAMES + q) w) 0 (v .worker LIST-COUNT w);
+  class = v .worker OWN-CLASS w;
+  grower = v .worker OWN-GROWER w;
+}
+
+unfoldable pub callSeen : View → ℕ → CallSeen
+callSeen v w =
+    pick (eqb (v .worker PHASE w) IDLE) idle
+    (pick (eqb (v .worker PHASE w) LOOKING) (looking (requestSeen v w) (v .worker PLACE w))
+    (pick (eqb (v .worker PHASE w) LINKING)
+    (linking (requestSeen v w) (v .worker OWN-JOB w) (v .worker PLACE w) (v .worker TALLY w))
+    (pick (eqb (v .worker PHASE w) MARKING) marking (notifying (arcsFrom v (v .worker OWN-ARC w))))))
+
+abbrev pub seen : Tables → Seen
+seen t = record {
+  made = view t .made;
+  reserved = view t .reserved;
+  job = jobSeen (view t);
+  waiting = waiting t;
+  held = λ w. placeSeen (view t .worker HELD w);
+  call = callSeen (view t);
+}

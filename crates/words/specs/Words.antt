@@ -1,5 +1,6 @@
--- Every call and step over the words of the tables, for ALL tables and arguments: the order of the tests, every number, what is left behind
--- ("Steps", "Turned-away calls"). A call plans by reading, and stores only where nothing is left to refuse. Assumes nothing.
+-- Every call and step over the words of the tables, for ALL tables and arguments: the order of the tests, every number,
+-- what is left behind ("Steps", "Turned-away calls"). A call plans by reading, and stores only where nothing is left to
+-- refuse. Assumes nothing.
 use mathlib.Core.Bool.{Bool, true, false, _&&_, _||_, not}
 use mathlib.Core.List.{List, [], _∷_, _++_}
 use Prim.Native.Nat.{ℕ, zero, suc, _+_, _*_, _-_}
@@ -8,17 +9,24 @@ use lib.ListN.{length, getD}
 use lib.Seq.{sets}
 use Rattle.bucket.specs.Bucket.{bucketOf}
 use Rattle.terms.specs.Base.{pick, prefix}
-use Rattle.terms.specs.Terms.{mostNames, mostClass, mostGrower, Arguments, listed, argumentsWrong, wrongSizes, noSuchWorker, halfDone, nothingToStep, wrongArguments, unknownName, namePresent, noRoom, damaged, alreadyHolding, notHeld}
+use Rattle.terms.specs.Terms.{mostNames, mostClass, mostGrower, Arguments, listed, argumentsWrong, wrongSizes}
+use Rattle.terms.specs.Terms.{noSuchWorker, halfDone, nothingToStep, wrongArguments, unknownName, namePresent, noRoom}
+use Rattle.terms.specs.Terms.{damaged, alreadyHolding, notHeld}
 use Rattle.terms.specs.Runs.{Item, postAdd, postFinish, step, get, Outcome, outcome}
 use Rattle.terms.specs.declared.Sizes.{Sizes}
 use Rattle.terms.specs.declared.Answer.{Answer}
 use Rattle.terms.specs.declared.Answer.the-variants.{Laid, Posted, Going, Ended, NoneReady, Handed, Refused}
 use Rattle.words.specs.Columns.{place, put, putHeader}
-use Rattle.words.specs.Layout.{none, jobShape, MADE, NAME, LABEL, COUNT, FIRST, LAST, NEXT, arcShape, RESERVED, DEPENDENT, AFTER, bucketShape, queueShape, TAKEN, PUT, workerShape, PHASE, HELD, OWN-NAME, LIST-COUNT, OWN-CLASS, OWN-GROWER, TALLY, PLACE, OWN-JOB, OWN-ARC, NAMES, IDLE, LOOKING, LINKING, MARKING, NOTIFYING, tables, view, roomFor, sizesFit, bareWorker, freshTables, Tables, View}
+use Rattle.words.specs.Layout.{none, jobShape, MADE, NAME, LABEL, COUNT, FIRST, LAST, NEXT, arcShape, RESERVED}
+use Rattle.words.specs.Layout.{DEPENDENT, AFTER, bucketShape, queueShape, TAKEN, PUT, workerShape, PHASE, HELD}
+use Rattle.words.specs.Layout.{OWN-NAME, LIST-COUNT, OWN-CLASS, OWN-GROWER, TALLY, PLACE, OWN-JOB, OWN-ARC, NAMES}
+use Rattle.words.specs.Layout.{IDLE, LOOKING, LINKING, MARKING, NOTIFYING, tables, view, roomFor, sizesFit}
+use Rattle.words.specs.Layout.{bareWorker, freshTables, Tables, View}
 use Rattle.words.specs.declared.Found.{Found}
 use Rattle.words.specs.declared.Found.the-variants.{At, Missing, Damaged}
 use Rattle.words.specs.declared.Plan.{Plan}
-use Rattle.words.specs.declared.Plan.the-variants.{Refuse, Quit, Pass, Enter, Tally, LinkFirst, LinkAfter, Settle, SettleQueue, Mark, Notify, NotifyQueue}
+use Rattle.words.specs.declared.Plan.the-variants.{Refuse, Quit, Pass, Enter, Tally, LinkFirst, LinkAfter, Settle}
+use Rattle.words.specs.declared.Plan.the-variants.{SettleQueue, Mark, Notify, NotifyQueue}
 use Rattle.words.specs.declared.GetPlan.{GetPlan}
 use Rattle.words.specs.declared.GetPlan.the-variants.{RefuseGet, Wait, Take}
 
@@ -32,6 +40,12 @@ placeOk p counter size = eqb p none || inUse p counter size
 
 abbrev pub isPlace : ℕ → Bool
 isPlace p = not (eqb p none)
+
+-- "counter": every call with a worker reads how many jobs were made and arcs reserved, against which the worker's
+-- places are judged. Off their range, at most R and at most A, they are 9 where the words that the step reads have
+-- their turn: after 3, 4, 5, 10 and 11
+abbrev pub countersOk : Sizes → View → Bool
+countersOk s v = leb (v .made) (s .jobs) && leb (v .reserved) (s .arcs)
 
 -- the worker's own words, whatever its phase
 unfoldable pub ownOk : Sizes → View → ℕ → Bool
@@ -53,10 +67,7 @@ walk (suc k) f made name at =
     (pick (ltb at made) (pick (eqb (f NAME at) name) (At at) (walk k f made name (f NEXT at))) Damaged)
 
 unfoldable pub findOf : Sizes → View → ℕ → Found
-findOf s v name =
-    pick (leb (v .made) (s .jobs))
-    (walk (v .made) (v .job) (v .made) name (v .bucket 0 (bucketOf name (s .bits))))
-    Damaged
+findOf s v name = walk (v .made) (v .job) (v .made) name (v .bucket 0 (bucketOf name (s .bits)))
 
 -- ---- the plans of a step
 -- a look-up
@@ -66,20 +77,17 @@ planLookUp i Missing = Quit unknownName i
 planLookUp i Damaged = Refuse damaged
 
 -- entering: 9 for the words it reads, then 7 before 8
-unfoldable pub planEntry : Sizes → View → ℕ → ℕ → Found → Plan
-planEntry s v name d (At j) = Quit namePresent 0
-planEntry s v name d Missing =
+unfoldable pub planEnter : Sizes → View → ℕ → ℕ → Found → Plan
+planEnter s v name d (At j) = Quit namePresent 0
+planEnter s v name d Missing =
     pick (leb (s .jobs) (v .made) || ltb (s .arcs) (v .reserved + d)) (Quit noRoom 0)
     (Enter (v .made) (bucketOf name (s .bits)) (v .bucket 0 (bucketOf name (s .bits))) (v .reserved))
-planEntry s v name d Damaged = Refuse damaged
-
-unfoldable pub planEnter : Sizes → View → ℕ → ℕ → Found → Plan
-planEnter s v name d found = pick (leb (v .reserved) (s .arcs)) (planEntry s v name d found) (Refuse damaged)
+planEnter s v name d Damaged = Refuse damaged
 
 -- a link that appends the arc x of the add's job j to the list of p
 unfoldable pub planAppend : Sizes → View → ℕ → ℕ → ℕ → Plan
 planAppend s v p x j =
-    pick (ltb j (v .made) && leb (v .reserved) (s .arcs) && ltb x (v .reserved) && placeOk (v .job LAST p) (v .reserved) (s .arcs))
+    pick (ltb j (v .made) && ltb x (v .reserved) && placeOk (v .job LAST p) (v .reserved) (s .arcs))
     (pick (eqb (v .job LAST p) none) (LinkFirst p x j) (LinkAfter p (v .job LAST p) x j))
     (Refuse damaged)
 
@@ -108,14 +116,14 @@ planSettle s v j t d =
 -- the mark of the held job p: "the job finished has the wrong label" is 9
 unfoldable pub planMark : Sizes → View → ℕ → Plan
 planMark s v p =
-    pick (isPlace p && eqb (v .job LABEL p) 1 && leb (v .reserved) (s .arcs) && placeOk (v .job FIRST p) (v .reserved) (s .arcs))
+    pick (isPlace p && eqb (v .job LABEL p) 1 && placeOk (v .job FIRST p) (v .reserved) (s .arcs))
     (Mark p (v .job FIRST p))
     (Refuse damaged)
 
 -- the step for the arc x: "a count would fall below 0" is 9
 unfoldable pub planNotify : Sizes → View → ℕ → Plan
 planNotify s v x =
-    pick (isPlace x && leb (v .made) (s .jobs) && leb (v .reserved) (s .arcs) && ltb (v .arc DEPENDENT x) (v .made)
+    pick (isPlace x && ltb (v .arc DEPENDENT x) (v .made)
     && placeOk (v .arc AFTER x) (v .reserved) (s .arcs)
     && leb 1 (v .job COUNT (v .arc DEPENDENT x))
     && leb (v .job COUNT (v .arc DEPENDENT x)) mostNames)
@@ -140,12 +148,17 @@ planLinks s v w =
     (planLink s v (v .worker OWN-ARC w + v .worker PLACE w) (v .worker OWN-JOB w) (findOf s v (nameAt v w)))
     (planSettle s v (v .worker OWN-JOB w) (v .worker TALLY w) (v .worker LIST-COUNT w))
 
+-- the step of the call that the worker is in, by its phase
+unfoldable pub planCall : Sizes → View → ℕ → Plan
+planCall s v w =
+    pick (eqb (v .worker PHASE w) LOOKING) (planAdd s v w)
+    (pick (eqb (v .worker PHASE w) LINKING) (planLinks s v w)
+    (pick (eqb (v .worker PHASE w) MARKING) (planMark s v (v .worker HELD w)) (planNotify s v (v .worker OWN-ARC w))))
+
 unfoldable pub planPhase : Sizes → View → ℕ → Plan
 planPhase s v w =
     pick (eqb (v .worker PHASE w) IDLE) (Refuse nothingToStep)
-    (pick (eqb (v .worker PHASE w) LOOKING) (planAdd s v w)
-    (pick (eqb (v .worker PHASE w) LINKING) (planLinks s v w)
-    (pick (eqb (v .worker PHASE w) MARKING) (planMark s v (v .worker HELD w)) (planNotify s v (v .worker OWN-ARC w)))))
+    (pick (countersOk s v) (planCall s v w) (Refuse damaged))
 
 -- "Order: 1, 2, 9 for the worker's own words"
 unfoldable pub admitted : {A : Type 0} → Sizes → Tables → ℕ → (ℕ → A) → A → A
@@ -258,11 +271,11 @@ stepWords s t w = outcome (answerOf (planStep s t w)) (applied (planStep s t w) 
 -- ---- get
 unfoldable pub planTake : Sizes → View → ℕ → GetPlan
 planTake s v j =
-    pick (leb (v .made) (s .jobs) && ltb j (v .made) && eqb (v .job LABEL j) 0) (Take j (v .job NAME j) (v .taken)) (RefuseGet damaged)
+    pick (ltb j (v .made) && eqb (v .job LABEL j) 0) (Take j (v .job NAME j) (v .taken)) (RefuseGet damaged)
 
 unfoldable pub planQueue : Sizes → View → GetPlan
 planQueue s v =
-    pick (leb (v .taken) (v .put) && leb (v .put) (s .jobs))
+    pick (countersOk s v && leb (v .taken) (v .put) && leb (v .put) (s .jobs))
     (pick (eqb (v .taken) (v .put)) Wait (planTake s v (v .cell 0 (v .taken))))
     (RefuseGet damaged)
 
@@ -291,15 +304,21 @@ unfoldable pub getWords : Sizes → Tables → ℕ → Outcome Tables
 getWords s t w = outcome (answerGet (planGetOf s t w)) (appliedGet (planGetOf s t w) t w)
 
 -- ---- posts: the number that refuses, or 0
-abbrev pub judgedAdd : View → ℕ → Arguments → ℕ
-judgedAdd v w a = pick (eqb (v .worker PHASE w) IDLE) (pick (argumentsWrong a) wrongArguments 0) halfDone
+-- a post whose other tests are passed reads the counters alone
+abbrev pub judgedCounters : Sizes → View → ℕ
+judgedCounters s v = pick (countersOk s v) 0 damaged
+
+abbrev pub judgedAdd : Sizes → View → ℕ → Arguments → ℕ
+judgedAdd s v w a =
+    pick (eqb (v .worker PHASE w) IDLE) (pick (argumentsWrong a) wrongArguments (judgedCounters s v)) halfDone
 
 -- "finish of a name that this worker does not hold"
 abbrev pub holdsName : View → ℕ → ℕ → Bool
 holdsName v w name = isPlace (v .worker HELD w) && eqb (v .job NAME (v .worker HELD w)) name
 
-abbrev pub judgedFinish : View → ℕ → ℕ → ℕ
-judgedFinish v w name = pick (eqb (v .worker PHASE w) IDLE) (pick (holdsName v w name) 0 notHeld) halfDone
+abbrev pub judgedFinish : Sizes → View → ℕ → ℕ → ℕ
+judgedFinish s v w name =
+    pick (eqb (v .worker PHASE w) IDLE) (pick (holdsName v w name) (judgedCounters s v) notHeld) halfDone
 
 -- the words of the posted add; "names past the count are kept as 0"
 abbrev pub addingWorker : ℕ → Arguments → List ℕ
@@ -316,11 +335,11 @@ refusal n = n
 
 unfoldable pub addWords : Sizes → Tables → ℕ → Arguments → Outcome Tables
 addWords s t w a =
-    posted (admitted s t w refusal (judgedAdd (view t) w a)) t w (addingWorker (view t .worker HELD w) a)
+    posted (admitted s t w refusal (judgedAdd s (view t) w a)) t w (addingWorker (view t .worker HELD w) a)
 
 unfoldable pub finishWords : Sizes → Tables → ℕ → ℕ → Outcome Tables
 finishWords s t w name =
-    posted (admitted s t w refusal (judgedFinish (view t) w name)) t w (bareWorker MARKING (view t .worker HELD w))
+    posted (admitted s t w refusal (judgedFinish s (view t) w name)) t w (bareWorker MARKING (view t .worker HELD w))
 
 -- ---- laying out
 unfoldable pub layOut : Sizes → Tables → Outcome Tables

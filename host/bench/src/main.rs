@@ -1,111 +1,135 @@
 //! The speed of reading and writing job sheets: the proved library, through its C interface, beside
-//! the reference, both in this process and on the same sheets. Fails where the library has less than
-//! `LEAST_RATIO` of the reference's throughput.
+//! the reference, both in this process and on the same sheets. Then the instructions of both, counted; it
+//! fails where the library takes more of them than it may beside the reference.
+//!
+//! With the arguments `count`, a side (`library` or `reference`), `read` or `write`, and the name of sheets:
+//! reads or writes each of these once, for callgrind to count.
 
 mod sheets;
 
 use std::{
+    env,
     process::ExitCode,
     time::{Duration, Instant},
 };
 
+use counting::Row;
 use library::ENTRY_WORDS;
 use reference::sheet;
 use sheets::{Sample, Workload};
 
-/// The least throughput of the library, as a part of the reference's.
-const LEAST_RATIO: f64 = 0.8;
-
 /// Rounds of each measurement; the two implementations take turns, and the best round of each counts.
 /// The number is fixed: rounds added only where the library is slow would favour it.
-const ROUNDS: usize = 801;
+const ROUNDS: usize = 201;
 
 /// About how long a round takes: short, so that some rounds pass without a switch to another process.
 const ROUND_TIME: Duration = Duration::from_micros(800);
 
+/// One pass over all sheets of a workload by one side.
+type Pass<'a> = &'a mut dyn FnMut();
+
 fn main() -> ExitCode {
-    println!("The proved library beside the reference, both built for release, on the same sheets.");
-    println!("The best of {ROUNDS} rounds of each, taken in turns. Outputs are used again and not cleared first.");
-    let mut least = f64::INFINITY;
-    for workload in sheets::all() {
-        println!("{}", workload.description);
-        let ratio = reading(&workload).min(writing(&workload));
-        if workload.judged {
-            least = least.min(ratio);
+    let arguments: Vec<String> = env::args().skip(1).collect();
+    match arguments.iter().map(String::as_str).collect::<Vec<_>>()[..] {
+        [] => beside_reference(),
+        ["count", side @ ("library" | "reference"), what @ ("read" | "write"), name] => count(side, what, name),
+        _ => {
+            eprintln!("usage: bench [count library|reference read|write SHEETS]");
+            ExitCode::FAILURE
         }
     }
-    println!("least judged ratio {least:.2}, wanted {LEAST_RATIO:.2} or more");
-    if least < LEAST_RATIO {
-        ExitCode::FAILURE
+}
+
+fn beside_reference() -> ExitCode {
+    println!("The proved library beside the reference, both built for release, on the same sheets.");
+    println!("The best of {ROUNDS} rounds of each, taken in turns. Outputs are used again and not cleared first.");
+    let mut rows = Vec::new();
+    for workload in sheets::all() {
+        println!("{}", workload.description);
+        for (place, what) in ["read", "write"].into_iter().enumerate() {
+            let time = with_passes(what, &workload, |library, reference| compare(what, &workload, library, reference));
+            if let Some(most) = workload.most {
+                rows.push(row(what, workload.name, most[place], time));
+            }
+        }
+    }
+    counting::judge("reference", &rows)
+}
+
+fn row(what: &str, name: &str, most: f64, time: f64) -> Row {
+    let instructions = |side: &str| counting::instructions(&["count", side, what, name]);
+    let (library, other) = (instructions("library"), instructions("reference"));
+    Row { name: format!("{what} {name}"), library, other, most, time }
+}
+
+/// Reads or writes sheets once, for callgrind to count.
+fn count(side: &str, what: &str, name: &str) -> ExitCode {
+    let workload = sheets::all().into_iter().find(|workload| workload.name == name).expect("the name of sheets");
+    with_passes(what, &workload, |library, reference| {
+        counting::counted(if side == "library" { library } else { reference });
+    });
+    ExitCode::SUCCESS
+}
+
+fn with_passes<T>(what: &str, workload: &Workload, measure: impl FnOnce(Pass, Pass) -> T) -> T {
+    if what == "read" {
+        reading(&workload.samples, measure)
     } else {
-        ExitCode::SUCCESS
+        writing(&workload.samples, measure)
     }
 }
 
 /// Reads each sheet into rows of words (library) and into a vector of entries (reference), both of
 /// which have the room already.
-fn reading(workload: &Workload) -> f64 {
-    let most_entries = workload.samples.iter().map(|sample| sample.entries.len()).max().unwrap_or(0);
+fn reading<T>(samples: &[Sample], measure: impl FnOnce(Pass, Pass) -> T) -> T {
+    let most_entries = samples.iter().map(|sample| sample.entries.len()).max().unwrap_or(0);
     let mut rows = vec![0; most_entries * ENTRY_WORDS];
     let mut entries = Vec::with_capacity(most_entries);
-    for sample in &workload.samples {
+    for sample in samples {
         library::read_sheet(&sample.sheet, &mut rows);
         entries.clear();
         assert_eq!(sheet::read_sheet(&sample.sheet, &mut entries), Ok(()));
         assert!(rows.starts_with(&sample.rows) && entries == sample.entries, "both read what was written");
     }
-    compare(
-        "read",
-        workload,
-        |sample| assert_eq!(library::read_sheet(&sample.sheet, &mut rows).number, 0),
-        |sample| {
-            entries.clear();
-            assert_eq!(sheet::read_sheet(&sample.sheet, &mut entries), Ok(()));
-        },
-    )
+    let mut library = |sample: &Sample| assert_eq!(library::read_sheet(&sample.sheet, &mut rows).number, 0);
+    let mut reference = |sample: &Sample| {
+        entries.clear();
+        assert_eq!(sheet::read_sheet(&sample.sheet, &mut entries), Ok(()));
+    };
+    measure(&mut || samples.iter().for_each(&mut library), &mut || samples.iter().for_each(&mut reference))
 }
 
 /// Writes the entries of each sheet to a buffer that just holds them.
-fn writing(workload: &Workload) -> f64 {
-    let len = workload.samples[0].sheet.len();
+fn writing<T>(samples: &[Sample], measure: impl FnOnce(Pass, Pass) -> T) -> T {
+    let len = samples[0].sheet.len();
     let mut by_library = vec![0; len];
     let mut by_reference = vec![0; len];
-    for sample in &workload.samples {
+    for sample in samples {
         library::write_sheet(&sample.rows, &mut by_library);
         assert_eq!(sheet::write_sheet(&sample.entries, &mut by_reference), Ok(len));
         assert!(by_library == sample.sheet && by_reference == sample.sheet, "both write the sheet");
     }
-    compare(
-        "write",
-        workload,
-        |sample| assert_eq!(library::write_sheet(&sample.rows, &mut by_library).number, 0),
-        |sample| assert_eq!(sheet::write_sheet(&sample.entries, &mut by_reference), Ok(len)),
-    )
+    let mut library = |sample: &Sample| assert_eq!(library::write_sheet(&sample.rows, &mut by_library).number, 0);
+    let mut reference = |sample: &Sample| assert_eq!(sheet::write_sheet(&sample.entries, &mut by_reference), Ok(len));
+    measure(&mut || samples.iter().for_each(&mut library), &mut || samples.iter().for_each(&mut reference))
 }
 
-/// Prints the throughput of both and gives the library's as a part of the reference's. A round goes
+/// Prints the throughput of both and gives the library's time as a multiple of the reference's. A round goes
 /// once over all sheets, again and again until it is long enough to be timed.
-fn compare(
-    what: &str,
-    workload: &Workload,
-    mut library: impl FnMut(&Sample),
-    mut reference: impl FnMut(&Sample),
-) -> f64 {
-    let mut library = || workload.samples.iter().for_each(&mut library);
-    let mut reference = || workload.samples.iter().for_each(&mut reference);
-    let library_calls = calls_in_a_round(&mut library);
-    let reference_calls = calls_in_a_round(&mut reference);
+fn compare(what: &str, workload: &Workload, library: Pass, reference: Pass) -> f64 {
+    let library_calls = calls_in_a_round(library);
+    let reference_calls = calls_in_a_round(reference);
     let mut library_best = f64::INFINITY;
     let mut reference_best = f64::INFINITY;
     for _ in 0..ROUNDS {
-        library_best = library_best.min(seconds_per_call(library_calls, &mut library));
-        reference_best = reference_best.min(seconds_per_call(reference_calls, &mut reference));
+        library_best = library_best.min(seconds_per_call(library_calls, library));
+        reference_best = reference_best.min(seconds_per_call(reference_calls, reference));
     }
-    let ratio = reference_best / library_best;
+    let ratio = library_best / reference_best;
     let bytes: usize = workload.samples.iter().map(|sample| sample.sheet.len()).sum();
     let throughput = |seconds: f64| bytes as f64 / seconds / 1e6;
     println!(
-        "  {what:<5}  library {:7.0} MB/s   reference {:7.0} MB/s   ratio {ratio:.2}",
+        "  {what:<5}  library {:7.0} MB/s   reference {:7.0} MB/s   times {ratio:.2}",
         throughput(library_best),
         throughput(reference_best),
     );
@@ -113,7 +137,7 @@ fn compare(
 }
 
 /// How many passes over all sheets fill a round; the first ones also bring code and data into the caches.
-fn calls_in_a_round(call: &mut impl FnMut()) -> u32 {
+fn calls_in_a_round(call: Pass) -> u32 {
     let mut calls = 1;
     loop {
         let seconds = seconds_per_call(calls, call);
@@ -124,7 +148,7 @@ fn calls_in_a_round(call: &mut impl FnMut()) -> u32 {
     }
 }
 
-fn seconds_per_call(calls: u32, call: &mut impl FnMut()) -> f64 {
+fn seconds_per_call(calls: u32, call: Pass) -> f64 {
     let start = Instant::now();
     for _ in 0..calls {
         call();

@@ -2,8 +2,11 @@
 //!
 //! Without arguments: nanoseconds a job for building and draining graphs of several shapes, with the proved
 //! library through C, the same rules in unproved Rust, oneTBB's flow graph and Python's graphlib, all in this
-//! run and with one thread each. A peer that is not there is named and left out. It fails where the library
-//! takes more than 1.25 times what unproved Rust takes.
+//! run and with one thread each. A peer that is not there is named and left out. Then the instructions of the
+//! first two, counted; it fails where the library takes more than `MOST` times what unproved Rust takes.
+//!
+//! With the arguments `count`, a side (`library` or `unproved`) and a shape's name: builds and drains that graph
+//! once, for callgrind to count.
 //!
 //! With the argument `steps`: nanoseconds a step by the numbers of jobs and of bucket bits, as a table that
 //! scripts/plot-steps draws.
@@ -16,6 +19,7 @@ use bench_graph::{
     calls::{build, drain, Arena, Calls, Proved, Unproved},
     shapes::{self, Shape},
 };
+use counting::Row;
 use library::graph::Sizes;
 use peers::Peer;
 
@@ -25,8 +29,8 @@ const ROUNDS: usize = 100;
 /// After so many rounds it is the peers' turn, and then all begin again: a machine has slow seconds.
 const TURNS: usize = 3;
 
-/// The most that the library may take, as a multiple of unproved Rust's time.
-const MOST: f64 = 1.25;
+/// The most instructions that the library may take, as a multiple of unproved Rust's (docs/SPEED.md).
+const MOST: f64 = 1.1;
 
 const BITS: u32 = 8;
 
@@ -34,12 +38,18 @@ fn main() -> ExitCode {
     let arguments: Vec<String> = env::args().skip(1).collect();
     match arguments.iter().map(String::as_str).collect::<Vec<_>>()[..] {
         [] => beside_others(),
+        ["count", "library", shape] => count::<Proved>(shape),
+        ["count", "unproved", shape] => count::<Unproved>(shape),
         ["steps"] => steps(),
         _ => {
-            eprintln!("usage: bench_graph [steps]");
+            eprintln!("usage: bench_graph [count library|unproved SHAPE | steps]");
             ExitCode::FAILURE
         }
     }
+}
+
+fn all_shapes() -> [Shape; 5] {
+    [shapes::random(4_096, 8), shapes::chain(4_096), shapes::fans(4_096), shapes::grid(64), shapes::random(256, 4)]
 }
 
 // ---- beside others
@@ -52,18 +62,27 @@ fn beside_others() -> ExitCode {
             println!("left out: {} ({why})", peer.name);
         }
     }
-    let mut greatest: f64 = 0.0;
-    let shapes =
-        [shapes::random(4_096, 8), shapes::chain(4_096), shapes::fans(4_096), shapes::grid(64), shapes::random(256, 4)];
-    for shape in &shapes {
-        greatest = greatest.max(measure(shape, &peers));
-    }
-    println!("greatest ratio of the library to unproved Rust {greatest:.2}; at most {MOST:.2} passes");
-    if greatest <= MOST {
-        ExitCode::SUCCESS
-    } else {
-        ExitCode::FAILURE
-    }
+    let rows: Vec<Row> = all_shapes().into_iter().map(|shape| row(measure(&shape, &peers), shape)).collect();
+    counting::judge(Unproved::NAME, &rows)
+}
+
+fn row(time: f64, shape: Shape) -> Row {
+    let instructions = |side: &str| counting::instructions(&["count", side, &shape.name]);
+    let (library, other) = (instructions("library"), instructions("unproved"));
+    Row { name: shape.name, library, other, most: MOST, time }
+}
+
+/// Builds and drains a graph once, for callgrind to count.
+fn count<C: Calls>(name: &str) -> ExitCode {
+    let shape = all_shapes().into_iter().find(|shape| shape.name == name).expect("the name of a shape");
+    let sizes = shape.sizes(BITS);
+    let mut arena = Arena::new(sizes);
+    let mut tables = arena.lent();
+    counting::counted(&mut || {
+        build::<C>(sizes, &mut tables, &shape);
+        drain::<C>(sizes, &mut tables);
+    });
+    ExitCode::SUCCESS
 }
 
 /// Prints the times of a shape, and gives the library's as a multiple of unproved Rust's.

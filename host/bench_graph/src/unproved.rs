@@ -181,11 +181,17 @@ impl<'a> Graph<'a> {
         (name.wrapping_mul(FACTOR) >> (32 - self.sizes.bits)) as usize
     }
 
+    /// Damage where more jobs were made or arcs reserved than the tables have.
+    fn judge_counters(&self) -> Outcome<()> {
+        if self.made() <= self.sizes.jobs && self.reserved() <= self.sizes.arcs {
+            Ok(())
+        } else {
+            Err(DAMAGED)
+        }
+    }
+
     /// The job of a name, or none; a walk that strays or passes more jobs than were made is damage.
     fn find(&self, name: u32) -> Outcome<u32> {
-        if self.made() > self.sizes.jobs {
-            return Err(DAMAGED);
-        }
         let mut place = self.buckets[self.bucket(name)];
         for _ in 0..self.made() {
             if place == NONE {
@@ -208,7 +214,7 @@ impl<'a> Graph<'a> {
     }
 
     /// The queue's counters, taken and put.
-    fn counters(&self) -> Outcome<(u32, u32)> {
+    fn queue_counters(&self) -> Outcome<(u32, u32)> {
         let (taken, put) = (self.queue[0], self.queue[1]);
         if taken <= put && put <= self.sizes.jobs {
             Ok((taken, put))
@@ -219,7 +225,7 @@ impl<'a> Graph<'a> {
 
     /// Damage where a job could not enter the queue.
     fn judge_room(&self) -> Outcome<()> {
-        let (_, put) = self.counters()?;
+        let (_, put) = self.queue_counters()?;
         if put == self.sizes.jobs {
             return Err(DAMAGED);
         }
@@ -258,9 +264,6 @@ impl<'a> Graph<'a> {
         let (name, count, class, grower) =
             (own[worker::NAME], own[worker::COUNT], own[worker::CLASS], own[worker::GROWER]);
         let (made, reserved) = (self.made(), self.reserved());
-        if reserved > self.sizes.arcs {
-            return Err(DAMAGED);
-        }
         let present = self.find(name)? != NONE;
         if present || made == self.sizes.jobs || self.sizes.arcs - reserved < count {
             self.clear(at);
@@ -296,7 +299,6 @@ impl<'a> Graph<'a> {
         } else {
             let last = self.job(prerequisite)[job::LAST];
             let fits = dependent < self.made()
-                && self.reserved() <= self.sizes.arcs
                 && base < self.reserved()
                 && base + place < self.reserved()
                 && self.arc_fits(last);
@@ -345,10 +347,7 @@ impl<'a> Graph<'a> {
             return Err(DAMAGED);
         }
         let first = self.job(held)[job::FIRST];
-        let fits = self.job(held)[job::LABEL] == EXECUTING
-            && self.reserved() <= self.sizes.arcs
-            && self.arc_fits(first);
-        if !fits {
+        if self.job(held)[job::LABEL] != EXECUTING || !self.arc_fits(first) {
             return Err(DAMAGED);
         }
         self.job(held)[job::LABEL] = FINISHED;
@@ -363,11 +362,7 @@ impl<'a> Graph<'a> {
             return Err(DAMAGED);
         }
         let (dependent, next) = (self.arc(arc)[0], self.arc(arc)[1]);
-        let fits = self.made() <= self.sizes.jobs
-            && self.reserved() <= self.sizes.arcs
-            && dependent < self.made()
-            && self.arc_fits(next);
-        if !fits {
+        if dependent >= self.made() || !self.arc_fits(next) {
             return Err(DAMAGED);
         }
         let count = self.job(dependent)[job::COUNT];
@@ -393,16 +388,13 @@ impl<'a> Graph<'a> {
     }
 
     fn take(&mut self, at: usize) -> Outcome<Answer> {
-        let (taken, put) = self.counters()?;
+        let (taken, put) = self.queue_counters()?;
         if taken == put {
             return Ok(answer(kind::NONE_READY));
         }
         let cell = QUEUE_HEADER + taken as usize;
         let number = self.queue[cell];
-        let fits = self.made() <= self.sizes.jobs
-            && number < self.made()
-            && self.job(number)[job::LABEL] == UNEXECUTED;
-        if !fits {
+        if number >= self.made() || self.job(number)[job::LABEL] != UNEXECUTED {
             return Err(DAMAGED);
         }
         self.queue[cell] = NONE;
@@ -444,13 +436,14 @@ fn arguments_fit(entry: &Entry) -> bool {
 #[inline(never)]
 pub fn post_add(sizes: Sizes, tables: &mut Tables, worker: u32, entry: Entry) -> Answer {
     answered(Graph::admitted(sizes, tables, worker).and_then(|(graph, at)| {
-        let own = &mut graph.workers[at..at + WORKER_WORDS];
-        if own[worker::PHASE] != phase::IDLE {
+        if graph.workers[at + worker::PHASE] != phase::IDLE {
             return Err((3, 0));
         }
         if !arguments_fit(&entry) {
             return Err((5, 0));
         }
+        graph.judge_counters()?;
+        let own = &mut graph.workers[at..at + WORKER_WORDS];
         own[worker::PHASE] = phase::LOOKING_UP;
         let call = [entry.name, entry.count, entry.class, entry.grower, 0, 0, NONE, NONE];
         own[worker::NAME..worker::NAMES].copy_from_slice(&call);
@@ -471,6 +464,7 @@ pub fn post_finish(sizes: Sizes, tables: &mut Tables, worker: u32, name: u32) ->
         if held == NONE || graph.job(held)[job::NAME] != name {
             return Err((11, 0));
         }
+        graph.judge_counters()?;
         graph.clear(at);
         graph.workers[at + worker::PHASE] = phase::MARKING;
         Ok(answer(kind::POSTED))
@@ -482,8 +476,12 @@ pub fn step(sizes: Sizes, tables: &mut Tables, worker: u32) -> Answer {
     answered(Graph::admitted(sizes, tables, worker).and_then(|(mut graph, at)| {
         let own = &graph.workers[at..at + worker::NAMES];
         let more = own[worker::PLACE] < own[worker::COUNT];
-        match (own[worker::PHASE], more) {
-            (phase::IDLE, _) => Err((4, 0)),
+        let phase = own[worker::PHASE];
+        if phase == phase::IDLE {
+            return Err((4, 0));
+        }
+        graph.judge_counters()?;
+        match (phase, more) {
             (phase::LOOKING_UP, true) => graph.look_up(at),
             (phase::LOOKING_UP, false) => graph.enter(at),
             (phase::LINKING, true) => graph.link(at),
@@ -503,6 +501,7 @@ pub fn get(sizes: Sizes, tables: &mut Tables, worker: u32) -> Answer {
         if graph.workers[at + worker::HELD] != NONE {
             return Err((10, 0));
         }
+        graph.judge_counters()?;
         graph.take(at)
     }))
 }

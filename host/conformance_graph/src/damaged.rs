@@ -1,9 +1,11 @@
 //! Histories over damaged tables: words altered at random, tables cut short, sizes swapped. Every answer is
-//! one that document 01's list allows, and the tables hold afterwards what the list says.
+//! the one that document 01's list and `docs/TABLES.md` settle, and the tables hold afterwards what the list
+//! says.
 
 use conformance::{case::Case, random::Random};
 use library::graph::{self as proved, kind};
 use reference::{
+    bucket::bucket,
     graph::{judged_list, Graph, Sizes},
     history::Item,
     refusal,
@@ -45,6 +47,9 @@ pub fn numbered(seed: u64, number: u64) -> History {
 /// A random history with damage in the midst of it.
 pub fn history(random: &mut Random) -> History {
     let mut history = generate::history(random);
+    if random.once_in(2) {
+        history = with_counters_altered(random, history);
+    }
     let sizes = history.setup.sizes;
     for _ in 0..1 + random.below(6) {
         let place = history.events.len() - random.below(1 + history.events.len() * 2 / 3);
@@ -63,10 +68,41 @@ pub fn history(random: &mut Random) -> History {
     history
 }
 
+/// Before some of the calls a counter is altered; then it is put back, and the call comes again.
+fn with_counters_altered(random: &mut Random, history: History) -> History {
+    let History { setup, events } = history;
+    let mut graph = Graph::lay_out(setup.sizes).expect("the sizes are within their limits");
+    let mut altered = Vec::with_capacity(2 * events.len());
+    for event in events {
+        if matches!(event, Event::Call(_)) && random.once_in(4) {
+            let (taken, put) = graph.queue();
+            let (table, place, right) = random.pick(&[
+                (JOBS, layout::MADE, graph.jobs().len()),
+                (ARCS, layout::RESERVED, graph.arcs().len()),
+                (QUEUE, layout::TAKEN, taken),
+                (QUEUE, layout::PUT, put.len()),
+            ]);
+            altered.push(Event::Set { table, place, value: damaged_counter(random, graph.sizes()) });
+            altered.push(event.clone());
+            altered.push(Event::Set { table, place, value: right as u32 });
+        }
+        generate::follow(&mut graph, &setup, &event);
+        altered.push(event);
+    }
+    History { setup, events: altered }
+}
+
 /// An altered word, mostly one that is in use early.
 fn damage(random: &mut Random, sizes: Sizes) -> Event {
-    if random.once_in(4) {
-        return strayed_list(random);
+    match random.below(8) {
+        0 | 1 => return strayed_list(random),
+        2 => {
+            let counters =
+                [(JOBS, layout::MADE), (ARCS, layout::RESERVED), (QUEUE, layout::TAKEN), (QUEUE, layout::PUT)];
+            let (table, place) = random.pick(&counters);
+            return Event::Set { table, place, value: damaged_counter(random, sizes) };
+        }
+        _ => {}
     }
     let near = |random: &mut Random, records: u32| {
         let most = random.pick(&[3, 12, 400]).min(records as usize);
@@ -74,12 +110,10 @@ fn damage(random: &mut Random, sizes: Sizes) -> Event {
     };
     let table = random.pick(&[JOBS, JOBS, ARCS, BUCKETS, QUEUE, WORKERS, WORKERS]);
     let place = match table {
-        JOBS if random.once_in(6) => random.pick(&[layout::MADE, layout::MADE, layout::MADE, 0, 1, 2, 3]),
+        JOBS if random.once_in(12) => random.below(layout::MADE),
         JOBS => layout::job_at(near(random, sizes.jobs)) + random.below(layout::JOB_WORDS),
-        ARCS if random.once_in(4) => layout::RESERVED,
         ARCS => layout::arc_at(near(random, sizes.arcs)) + random.below(layout::ARC_WORDS),
         BUCKETS => random.below(1 << sizes.bits),
-        QUEUE if random.once_in(2) => random.pick(&[layout::TAKEN, layout::PUT]),
         QUEUE => layout::QUEUE_HEADER + near(random, sizes.jobs),
         _ => {
             let fields = if random.once_in(8) { layout::WORKER_WORDS } else { worker::NAMES };
@@ -97,6 +131,16 @@ fn strayed_list(random: &mut Random) -> Event {
         _ => (JOBS, layout::job_at(number) + job::NEXT),
     };
     Event::Set { table, place, value }
+}
+
+/// A counter on the edge of its range or off it, or any word.
+fn damaged_counter(random: &mut Random, sizes: Sizes) -> u32 {
+    let edge = [sizes.jobs, sizes.jobs + 1, sizes.arcs, sizes.arcs + 1, NONE];
+    if random.once_in(4) {
+        damaged_word(random, sizes)
+    } else {
+        random.pick(&edge)
+    }
 }
 
 fn damaged_word(random: &mut Random, sizes: Sizes) -> u32 {
@@ -161,11 +205,11 @@ impl Lent {
     /// The answer of a call, and its fault.
     fn call(&mut self, call: &Call) -> (proved::Answer, Option<String>) {
         let sizes = call.sizes.unwrap_or(self.sizes);
-        let allowed = allowed_answers(&self.tables, sizes, call);
+        let expected = expected_answer(&self.tables, sizes, call);
         let before = self.tables.clone();
         let answer = call_library(sizes, &mut self.tables.lent(call.short), &call.item);
-        if !allowed.contains(&answer) {
-            return (answer, Some(format!("the answer is {answer:?}, none of {allowed:?}")));
+        if answer != expected {
+            return (answer, Some(format!("the answer is {answer:?}, not {expected:?}")));
         }
         let after = Change { before: &before, after: &self.tables, item: &call.item };
         (answer, after.fault(answer).or_else(|| self.touched_past_the_need(&before)))
@@ -227,54 +271,56 @@ fn refused(number: u32) -> proved::Answer {
     proved::Answer { number, ..of_kind(kind::REFUSED) }
 }
 
-/// The answers that the list allows. All but those of a step are settled whatever the words.
-fn allowed_answers(tables: &Tables, sizes: Sizes, call: &Call) -> Vec<proved::Answer> {
+/// The answer that the list settles, whatever the words.
+fn expected_answer(tables: &Tables, sizes: Sizes, call: &Call) -> proved::Answer {
     let number = worker_of(&call.item);
     let stored = [sizes.jobs, sizes.arcs, sizes.bits, sizes.workers];
     if !sizes.within_limits()
         || !layout::suffice(tables.cut_lens(call.short), sizes)
         || tables.words(JOBS)[..layout::MADE] != stored
     {
-        return vec![refused(refusal::SIZE)];
+        return refused(refusal::SIZE);
     }
     if number >= sizes.workers {
-        return vec![refused(refusal::WORKER)];
+        return refused(refusal::WORKER);
     }
     let words = Words { tables, sizes };
     let own = words.worker(number);
     if !words.own_words_fit(own) {
-        return vec![refused(refusal::DAMAGED)];
+        return refused(refusal::DAMAGED);
     }
     let idle = own[worker::PHASE] == phase::IDLE;
-    match &call.item {
-        Item::Step { .. } if idle => vec![refused(refusal::IDLE)],
-        Item::Step { .. } => allowed_steps(own),
-        _ if !idle => vec![refused(refusal::HALF_DONE)],
-        Item::PostAdd { entry, .. } if judged_list(entry).is_err() => vec![refused(refusal::ARGUMENTS)],
-        Item::PostAdd { .. } => vec![of_kind(kind::POSTED)],
+    let held = own[worker::HELD];
+    let before_the_words_read = match &call.item {
+        Item::Step { .. } => idle.then_some(refusal::IDLE),
+        _ if !idle => Some(refusal::HALF_DONE),
+        Item::PostAdd { entry, .. } => judged_list(entry).is_err().then_some(refusal::ARGUMENTS),
         Item::PostFinish { name, .. } => {
-            let held = own[worker::HELD];
             let holds = held != NONE && words.job(held)[job::NAME] == *name;
-            vec![if holds { of_kind(kind::POSTED) } else { refused(refusal::NOT_HELD) }]
+            (!holds).then_some(refusal::NOT_HELD)
         }
-        Item::Get { .. } if own[worker::HELD] != NONE => vec![refused(refusal::HOLDING)],
-        Item::Get { .. } => words.allowed_gets(),
+        Item::Get { .. } => (held != NONE).then_some(refusal::HOLDING),
+    };
+    if let Some(number) = before_the_words_read {
+        return refused(number);
     }
+    let answer = words.judge_counters().and_then(|()| match &call.item {
+        Item::Step { .. } => words.step(own),
+        Item::Get { .. } => words.get(),
+        Item::PostAdd { .. } | Item::PostFinish { .. } => Ok(of_kind(kind::POSTED)),
+    });
+    answer.unwrap_or_else(|Harm| refused(refusal::DAMAGED))
 }
 
-/// What a step of a worker half done may answer, by its phase.
-fn allowed_steps(own: &[u32]) -> Vec<proved::Answer> {
-    let place = own[worker::PLACE];
-    let (going_on, ended) = (of_kind(kind::GOING_ON), of_kind(kind::ENDED));
-    let mut allowed = match (own[worker::PHASE], place < own[worker::COUNT]) {
-        (phase::LOOKING_UP, true) => vec![going_on, proved::Answer { place, ..refused(refusal::UNKNOWN_NAME) }],
-        (phase::LOOKING_UP, false) => vec![going_on, refused(refusal::NAME_PRESENT), refused(refusal::FULL)],
-        (phase::LINKING, true) => vec![going_on],
-        (phase::LINKING, false) => vec![ended],
-        _ => vec![going_on, ended],
-    };
-    allowed.push(refused(refusal::DAMAGED));
-    allowed
+/// A word that a call reads lies off its range, or does not go with another.
+struct Harm;
+
+fn harm_unless(right: bool) -> Result<(), Harm> {
+    if right {
+        Ok(())
+    } else {
+        Err(Harm)
+    }
 }
 
 /// The words of tables that are long enough, with the sizes laid out.
@@ -295,11 +341,16 @@ impl<'a> Words<'a> {
     }
 
     fn job_in_use(&self, place: u32) -> bool {
-        place < self.tables.words(JOBS)[layout::MADE] && place < self.sizes.jobs
+        place < self.made() && place < self.sizes.jobs
     }
 
     fn arc_in_use(&self, place: u32) -> bool {
-        place < self.tables.words(ARCS)[layout::RESERVED] && place < self.sizes.arcs
+        place < self.reserved() && place < self.sizes.arcs
+    }
+
+    /// None, or in use.
+    fn arc_fits(&self, place: u32) -> bool {
+        place == NONE || self.arc_in_use(place)
     }
 
     /// A worker's own words: places are none or in use, the others in their ranges.
@@ -307,7 +358,7 @@ impl<'a> Words<'a> {
         let count = own[worker::COUNT];
         own[worker::PHASE] <= phase::NOTIFYING
             && [own[worker::HELD], own[worker::JOB]].iter().all(|place| *place == NONE || self.job_in_use(*place))
-            && (own[worker::ARC] == NONE || self.arc_in_use(own[worker::ARC]))
+            && self.arc_fits(own[worker::ARC])
             && count as usize <= MAX_NAMES
             && own[worker::CLASS] <= MAX_CLASS
             && own[worker::GROWER] <= MAX_GROWER
@@ -315,28 +366,130 @@ impl<'a> Words<'a> {
             && own[worker::PLACE] <= count
     }
 
-    /// What a get by a worker without a job may answer.
-    fn allowed_gets(&self) -> Vec<proved::Answer> {
-        let damaged = refused(refusal::DAMAGED);
-        let queue = self.tables.words(QUEUE);
-        let (taken, put) = (queue[layout::TAKEN], queue[layout::PUT]);
-        if taken > put || put > self.sizes.jobs {
-            return vec![damaged];
+    fn made(&self) -> u32 {
+        self.tables.words(JOBS)[layout::MADE]
+    }
+
+    fn reserved(&self) -> u32 {
+        self.tables.words(ARCS)[layout::RESERVED]
+    }
+
+    /// Every call with a worker reads how many jobs were made and arcs reserved: at most R and A.
+    fn judge_counters(&self) -> Result<(), Harm> {
+        harm_unless(self.made() <= self.sizes.jobs && self.reserved() <= self.sizes.arcs)
+    }
+
+    /// The queue's counters, taken and put: in order, and at most R.
+    fn queue_counters(&self) -> Result<(u32, u32), Harm> {
+        let (taken, put) = (self.tables.words(QUEUE)[layout::TAKEN], self.tables.words(QUEUE)[layout::PUT]);
+        harm_unless(taken <= put && put <= self.sizes.jobs)?;
+        Ok((taken, put))
+    }
+
+    /// One more job is put in the queue, which must not pass its end.
+    fn judge_room(&self) -> Result<(), Harm> {
+        let (_, put) = self.queue_counters()?;
+        harm_unless(put < self.sizes.jobs)
+    }
+
+    /// The job of a name, if there is one.
+    fn find(&self, name: u32) -> Result<Option<u32>, Harm> {
+        let mut place = self.tables.words(BUCKETS)[bucket(name, self.sizes.bits) as usize];
+        for _ in 0..self.made() {
+            if place == NONE {
+                return Ok(None);
+            }
+            harm_unless(self.job_in_use(place))?;
+            if self.job(place)[job::NAME] == name {
+                return Ok(Some(place));
+            }
+            place = self.job(place)[job::NEXT];
         }
+        harm_unless(place == NONE)?;
+        Ok(None)
+    }
+
+    /// What a get by an idle worker without a job answers.
+    fn get(&self) -> Result<proved::Answer, Harm> {
+        let (taken, put) = self.queue_counters()?;
         if taken == put {
-            return vec![of_kind(kind::NONE_READY)];
+            return Ok(of_kind(kind::NONE_READY));
         }
-        let number = queue[layout::QUEUE_HEADER + taken as usize];
-        if !self.job_in_use(number) || self.job(number)[job::LABEL] != 0 {
-            return vec![damaged];
+        let number = self.tables.words(QUEUE)[layout::QUEUE_HEADER + taken as usize];
+        harm_unless(self.job_in_use(number) && self.job(number)[job::LABEL] == 0)?;
+        Ok(proved::Answer { job: number, name: self.job(number)[job::NAME], ..of_kind(kind::HANDED_OUT) })
+    }
+
+    /// What a step of a worker half done answers.
+    fn step(&self, own: &[u32]) -> Result<proved::Answer, Harm> {
+        let place = own[worker::PLACE];
+        let more = place < own[worker::COUNT];
+        let listed = || self.find(own[worker::NAMES + place as usize]);
+        match own[worker::PHASE] {
+            phase::LOOKING_UP if more => Ok(match listed()? {
+                Some(_) => of_kind(kind::GOING_ON),
+                None => proved::Answer { place, ..refused(refusal::UNKNOWN_NAME) },
+            }),
+            phase::LOOKING_UP => self.enter(own),
+            phase::LINKING if more => self.link(own, listed()?.ok_or(Harm)?),
+            phase::LINKING => self.settle(own),
+            phase::MARKING => self.mark(own[worker::HELD]),
+            _ => self.notify(own[worker::ARC]),
         }
-        let name = self.job(number)[job::NAME];
-        let mut allowed = vec![proved::Answer { job: number, name, ..of_kind(kind::HANDED_OUT) }];
-        // Whether a get judges the counter of jobs beside the place is left open.
-        if self.tables.words(JOBS)[layout::MADE] > self.sizes.jobs {
-            allowed.push(damaged);
+    }
+
+    fn enter(&self, own: &[u32]) -> Result<proved::Answer, Harm> {
+        if self.find(own[worker::NAME])?.is_some() {
+            return Ok(refused(refusal::NAME_PRESENT));
         }
-        allowed
+        let full = self.made() == self.sizes.jobs || self.sizes.arcs - self.reserved() < own[worker::COUNT];
+        Ok(if full { refused(refusal::FULL) } else { of_kind(kind::GOING_ON) })
+    }
+
+    fn link(&self, own: &[u32], prerequisite: u32) -> Result<proved::Answer, Harm> {
+        let words = self.job(prerequisite);
+        harm_unless(words[job::LABEL] <= 2)?;
+        if words[job::LABEL] < 2 {
+            let arc = u64::from(own[worker::ARC]) + u64::from(own[worker::PLACE]);
+            harm_unless(own[worker::JOB] != NONE && arc < u64::from(self.reserved()))?;
+            harm_unless(self.arc_fits(words[job::LAST]))?;
+        }
+        Ok(of_kind(kind::GOING_ON))
+    }
+
+    fn settle(&self, own: &[u32]) -> Result<proved::Answer, Harm> {
+        let (number, tally) = (own[worker::JOB], own[worker::TALLY]);
+        harm_unless(number != NONE)?;
+        let count = self.job(number)[job::COUNT];
+        harm_unless(count as usize <= MAX_NAMES && tally <= count)?;
+        if count == tally && (tally > 0 || own[worker::COUNT] == 0) {
+            self.judge_room()?;
+        }
+        Ok(of_kind(kind::ENDED))
+    }
+
+    fn mark(&self, held: u32) -> Result<proved::Answer, Harm> {
+        harm_unless(held != NONE && self.job(held)[job::LABEL] == 1)?;
+        self.goes_on(self.job(held)[job::FIRST])
+    }
+
+    fn notify(&self, arc: u32) -> Result<proved::Answer, Harm> {
+        harm_unless(arc != NONE)?;
+        let at = layout::arc_at(arc as usize);
+        let (dependent, next) = (self.tables.words(ARCS)[at], self.tables.words(ARCS)[at + layout::ARC_NEXT]);
+        harm_unless(self.job_in_use(dependent))?;
+        let count = self.job(dependent)[job::COUNT];
+        harm_unless(count > 0 && count as usize <= MAX_NAMES)?;
+        if count == 1 {
+            self.judge_room()?;
+        }
+        self.goes_on(next)
+    }
+
+    /// A finish goes on with an arc, or ends where there is none.
+    fn goes_on(&self, arc: u32) -> Result<proved::Answer, Harm> {
+        harm_unless(self.arc_fits(arc))?;
+        Ok(of_kind(if arc == NONE { kind::ENDED } else { kind::GOING_ON }))
     }
 }
 

@@ -84,7 +84,7 @@ pub fn setup(random: &mut Random, sizes: Sizes) -> Setup {
 }
 
 /// Lets the reference's graph do what the event does.
-fn follow(graph: &mut Graph, setup: &Setup, event: &Event) {
+pub fn follow(graph: &mut Graph, setup: &Setup, event: &Event) {
     match event {
         Event::LayOut(sizes) => {
             let mut lens = layout::words_needed(setup.sizes);

@@ -35,6 +35,8 @@ pub mod job {
     pub const COUNT: usize = 2;
     pub const CLASS: usize = 3;
     pub const GROWER: usize = 4;
+    pub const FIRST: usize = 5;
+    pub const LAST: usize = 6;
     pub const NEXT: usize = 7;
 }
 

@@ -22,20 +22,10 @@ unfolding findOf
 returns c =
     λ arcs queue workers.
     rw (
-      ← c .before .before .before .before .before .header .ensures,
-      c .before .before .before .if1 .taken,
+      ← c .before .before .before .header .ensures,
       ← c .before .before .bucket .ensures,
       ← c .before .bucket-word .ensures,
       ← c .walk-from .ensures,
-    )
-
-returns-2 : tie.Need-returns-2
-unfolding findOf
-returns-2 c =
-    λ arcs queue workers.
-    rw (
-      ← c .before .before .header .ensures,
-      c .if1 .left,
     )
 
 pub find-spec : {M : Type 1} → statement M
@@ -46,5 +36,4 @@ find-spec =
     bucket-requires
     bucket-word-requires
     walk-from-requires
-    returns
-    returns-2)
+    returns)

@@ -10,34 +10,50 @@ worker-word-requires c κs = search needs
 worker-word-requires-2 : tie.Need-worker-word-requires-2
 worker-word-requires-2 c κs = search needs
 
-job-word-requires : tie.Need-job-word-requires
-job-word-requires c κs = search needs
-
 returns : tie.Need-returns
 returns c =
-    λ arcs buckets queue.
+    λ buckets queue.
     rw (
-      ← c .before .before .before .before .worker-word .ensures,
-      c .before .before .before .if1 .taken,
-      ← c .before .before .worker-word2 .ensures,
-      ← c .before .job-word .ensures,
+      ← c .before .before .before .worker-word .ensures,
+      c .before .before .if1 .taken,
+      ← c .before .worker-word2 .ensures,
       c .if2 .taken,
     )
 
+job-word-requires : tie.Need-job-word-requires
+job-word-requires c κs = search needs
+
+judge-counters-requires : tie.Need-judge-counters-requires
+judge-counters-requires c κs = search needs
+
 returns-2 : tie.Need-returns-2
 returns-2 c =
-    λ arcs buckets queue.
+    λ buckets queue.
     rw (
-      ← c .before .before .before .before .worker-word .ensures,
-      c .before .before .before .if1 .taken,
-      ← c .before .before .worker-word2 .ensures,
-      ← c .before .job-word .ensures,
-      c .if2 .left,
+      ← c .before .before .before .before .before .before .worker-word .ensures,
+      c .before .before .before .before .before .if1 .taken,
+      ← c .before .before .before .before .worker-word2 .ensures,
+      c .before .before .before .if2 .left,
+      ← c .before .before .job-word .ensures,
+      c .before .if3 .taken,
+      ← c .judge-counters .ensures,
     )
 
 returns-3 : tie.Need-returns-3
 returns-3 c =
-    λ arcs buckets queue.
+    λ buckets queue.
+    rw (
+      ← c .before .before .before .before .before .worker-word .ensures,
+      c .before .before .before .before .if1 .taken,
+      ← c .before .before .before .worker-word2 .ensures,
+      c .before .before .if2 .left,
+      ← c .before .job-word .ensures,
+      c .if3 .left,
+    )
+
+returns-4 : tie.Need-returns-4
+returns-4 c =
+    λ buckets queue.
     rw (
       ← c .before .worker-word .ensures,
       c .if1 .left,
@@ -49,7 +65,9 @@ judge-admitted-finish-spec =
     (tie.spec
     worker-word-requires
     worker-word-requires-2
-    job-word-requires
     returns
+    job-word-requires
+    judge-counters-requires
     returns-2
-    returns-3)
+    returns-3
+    returns-4)

@@ -17,7 +17,7 @@ plan-queue-requires c κs = search needs
 returns : tie.Need-returns
 unfolding planGet
 returns c =
-    λ arcs buckets.
+    λ buckets.
     rw (
       ← c .before .before .before .before .worker-word .ensures,
       c .before .before .before .if1 .taken,
@@ -29,7 +29,7 @@ returns c =
 returns-2 : tie.Need-returns-2
 unfolding planGet
 returns-2 c =
-    λ arcs buckets.
+    λ buckets.
     rw (
       ← c .before .before .before .worker-word .ensures,
       c .before .before .if1 .taken,
@@ -40,7 +40,7 @@ returns-2 c =
 returns-3 : tie.Need-returns-3
 unfolding planGet
 returns-3 c =
-    λ arcs buckets.
+    λ buckets.
     rw (
       ← c .before .worker-word .ensures,
       c .if1 .left,

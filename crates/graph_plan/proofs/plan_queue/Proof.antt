@@ -1,7 +1,7 @@
 -- `graph_plan::plan_queue` meets its contract: each way through the code is a case of the definition.
 -- Assumes nothing.
 use borrow.Author.Needs.{needs}
-use Rattle.words.specs.Words.{planQueue}
+use Rattle.words.specs.Words.{planQueue, planTake}
 use Rattle.graph_plan.proofs.plan_queue.Statement.{statement}
 use Rattle.graph_plan.proofs.plan_queue.Tie as tie
 
@@ -11,44 +11,92 @@ header-requires c κs = search needs
 header-requires-2 : tie.Need-header-requires-2
 header-requires-2 c κs = search needs
 
-cell-requires : tie.Need-cell-requires
-cell-requires c κs = search needs
-
-plan-take-requires : tie.Need-plan-take-requires
-plan-take-requires c κs = search needs
+counters-ok-requires : tie.Need-counters-ok-requires
+counters-ok-requires c κs = search needs
 
 returns : tie.Need-returns
-unfolding planQueue
+unfolding planQueue planTake
 returns c =
-    λ arcs buckets workers.
+    λ buckets workers.
     rw (
       ← c .before .before .before .before .header .ensures,
       ← c .before .before .before .header2 .ensures,
+      ← c .before .before .counters-ok .ensures,
+      c .if1 .left,
+    )
+
+returns-2 : tie.Need-returns-2
+unfolding planQueue planTake
+returns-2 c =
+    λ buckets workers.
+    rw (
+      ← c .before .before .before .before .before .header .ensures,
+      ← c .before .before .before .before .header2 .ensures,
+      ← c .before .before .before .counters-ok .ensures,
       c .before .if1 .taken,
       c .if2 .taken,
     )
 
-returns-2 : tie.Need-returns-2
-unfolding planQueue
-returns-2 c =
-    λ arcs buckets workers.
-    rw (
-      c .plan-take .ensures arcs buckets workers,
-      ← c .before .before .before .before .before .before .header .ensures,
-      ← c .before .before .before .before .before .header2 .ensures,
-      c .before .before .before .if1 .taken,
-      c .before .before .if2 .left,
-      ← c .before .cell .ensures,
-    )
+cell-requires : tie.Need-cell-requires
+cell-requires c κs = search needs
+
+header-requires-3 : tie.Need-header-requires-3
+header-requires-3 c κs = search needs
 
 returns-3 : tie.Need-returns-3
-unfolding planQueue
+unfolding planQueue planTake
 returns-3 c =
-    λ arcs buckets workers.
+    λ buckets workers.
     rw (
-      ← c .before .before .before .header .ensures,
-      ← c .before .before .header2 .ensures,
-      c .if1 .left,
+      ← c .before .before .before .before .before .before .before .before .header .ensures,
+      ← c .before .before .before .before .before .before .before .header2 .ensures,
+      ← c .before .before .before .before .before .before .counters-ok .ensures,
+      c .before .before .before .before .if1 .taken,
+      c .before .before .before .if2 .left,
+      ← c .before .before .cell .ensures,
+      ← c .before .header3 .ensures,
+      c .if3 .left,
+    )
+
+job-word-requires : tie.Need-job-word-requires
+job-word-requires c κs = search needs
+
+job-word-requires-2 : tie.Need-job-word-requires-2
+job-word-requires-2 c κs = search needs
+
+returns-4 : tie.Need-returns-4
+unfolding planQueue planTake
+returns-4 c =
+    λ buckets workers.
+    rw (
+      ← c .before .before .before .before .before .before .before .before .before .before .before .header .ensures,
+      ← c .before .before .before .before .before .before .before .before .before .before .header2 .ensures,
+      ← c .before .before .before .before .before .before .before .before .before .counters-ok .ensures,
+      c .before .before .before .before .before .before .before .if1 .taken,
+      c .before .before .before .before .before .before .if2 .left,
+      ← c .before .before .before .before .before .cell .ensures,
+      ← c .before .before .before .before .header3 .ensures,
+      c .before .before .before .if3 .taken,
+      ← c .before .before .job-word .ensures,
+      c .before .if4 .taken,
+      ← c .job-word2 .ensures,
+    )
+
+returns-5 : tie.Need-returns-5
+unfolding planQueue planTake
+returns-5 c =
+    λ buckets workers.
+    rw (
+      ← c .before .before .before .before .before .before .before .before .before .before .header .ensures,
+      ← c .before .before .before .before .before .before .before .before .before .header2 .ensures,
+      ← c .before .before .before .before .before .before .before .before .counters-ok .ensures,
+      c .before .before .before .before .before .before .if1 .taken,
+      c .before .before .before .before .before .if2 .left,
+      ← c .before .before .before .before .cell .ensures,
+      ← c .before .before .before .header3 .ensures,
+      c .before .before .if3 .taken,
+      ← c .before .job-word .ensures,
+      c .if4 .left,
     )
 
 pub plan-queue-spec : {M : Type 1} → statement M
@@ -57,8 +105,13 @@ plan-queue-spec =
     (tie.spec
     header-requires
     header-requires-2
-    cell-requires
-    plan-take-requires
+    counters-ok-requires
     returns
     returns-2
-    returns-3)
+    cell-requires
+    header-requires-3
+    returns-3
+    job-word-requires
+    job-word-requires-2
+    returns-4
+    returns-5)

@@ -1,14 +1,20 @@
--- `graph_totals::totals_of_graph` meets its contract: the code's tests are the definition's, and the graph's row stands in its table of jobs.
--- Assumes nothing.
-use mathlib.Core.Path.{_≡_, refl}
+-- `graph_totals::totals_of_graph` meets its contract: the code's tests are the definition's, and the graph's row stands
+-- in its table of jobs. Assumes nothing.
+use mathlib.Core.Path.{_≡_, refl, sym, _∙_}
+use mathlib.Core.Bool.{true, and-eq-true-iff}
 use mathlib.Core.List.{List}
-use Prim.Native.Nat.{ℕ, zero, suc}
+use Prim.Native.Nat.{ℕ, zero, suc, _+_, _*_, _≤_}
+use native.Mathlib.Nat.{mul-le-mul-left}
+use native.Mathlib.Omega.{arith}
 use borrow.Author.Needs.{needs}
-use borrow.Author.Tests.{le-leb, lt-leb}
-use Rattle.totals.specs.Board.{recordsFrom, recordAt}
+use borrow.Author.Tests.{le-leb, lt-leb, leb-true}
+use lib.ListN.{length}
+use Rattle.terms.specs.Terms.{withinLimits}
+use Rattle.terms.specs.declared.Sizes.{Sizes}
+use Rattle.totals.specs.Board.{recordsFrom, recordAt, standsInTable, totalsOfTable}
 use Rattle.words.specs.Columns.{columns}
-use Rattle.words.specs.Layout.{jobShape, LABEL, CLASS}
-use Rattle.graph_board.specs.Board.{rowsFrom, graphTotals}
+use Rattle.words.specs.Layout.{jobShape, need, sizesKept, LABEL, CLASS}
+use Rattle.graph_board.specs.Board.{rowsFrom, jobsFit, graphTotals}
 use Rattle.graph_totals.proofs.totals_of_graph.Statement.{statement}
 use Rattle.graph_totals.proofs.totals_of_graph.Tie as tie
 
@@ -18,6 +24,17 @@ graph-rows : (jobs : List ℕ) (j n : ℕ)
 unfolding recordsFrom rowsFrom columns
 graph-rows jobs j zero = refl
 graph-rows jobs j (suc n) = rw (graph-rows jobs (suc j) n)
+
+-- a table with room for all jobs has room for those that were made
+made-stand : (s : Sizes) (jobs : List ℕ) (made : ℕ) → jobsFit s jobs ≡ true → made ≤ s .jobs
+    → standsInTable (jobShape .head) (jobShape .width) LABEL CLASS jobs made ≡ true
+unfolding jobsFit
+made-stand s jobs made fit few =
+    let before-kept = and-eq-true-iff _ (sizesKept s jobs) .0 fit .0 in
+    let fits = and-eq-true-iff (withinLimits s) _ .0 before-kept .1 in
+    let room = leb-true (need jobShape (s .jobs)) (length jobs) fits in
+    le-leb (jobShape .head + jobShape .width * made) (length jobs)
+    (omega (arith, room, mul-le-mul-left (jobShape .width) few))
 
 jobs-fit-requires : tie.Need-jobs-fit-requires
 jobs-fit-requires c κs = search needs
@@ -38,25 +55,31 @@ blank-requires-2 : tie.Need-blank-requires-2
 blank-requires-2 c κs = search needs
 
 returns : tie.Need-returns
-unfolding graphTotals
+unfolding graphTotals totalsOfTable
 returns c =
+    let made = c .before .before .before .header .result in
+    let s = c .before .before .before .before .before .before .before .args .sizes in
+    let taken = c .before .before .before .before .if1 .taken in
+    let fit = sym (c .before .before .before .before .before .jobs-fit .ensures) ∙ taken in
     rw (
       ← c .before .before .before .before .before .jobs-fit .ensures,
       c .before .before .before .before .if1 .taken,
       ← c .before .before .before .header .ensures,
-      le-leb _ _ (c .before .if2 .taken),
+      le-leb made (s .jobs) (omega arith),
       ← (graph-rows _ 0 _),
     )
-    (c .of-table .ensures)
+    (rw (made-stand s _ made fit (omega arith)) at (c .of-table .ensures))
 
 returns-2 : tie.Need-returns-2
 unfolding graphTotals
 returns-2 c =
+    let made = c .before .before .before .header .result in
+    let s = c .before .before .before .before .before .before .before .args .sizes in
     rw (
       ← c .before .before .before .before .before .jobs-fit .ensures,
       c .before .before .before .before .if1 .taken,
       ← c .before .before .before .header .ensures,
-      lt-leb _ _ (c .before .if2 .left),
+      lt-leb made (s .jobs) (omega arith),
     )
     (c .blank .ensures)
 

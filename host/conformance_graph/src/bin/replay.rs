@@ -1,5 +1,5 @@
 //! Reads a history from standard input, as a failing test prints it, and says what the library does with
-//! it: for a history with damage, whether each answer is allowed; else, whether the reference agrees.
+//! it: for a history with damage, whether each answer is the right one; else, whether the reference agrees.
 //!
 //! With the arguments `damaged SEED NUMBER` it prints that history of the test of damaged tables.
 

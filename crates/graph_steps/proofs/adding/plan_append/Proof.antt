@@ -1,11 +1,11 @@
 -- `graph_steps::adding::plan_append` meets its contract: the arc is below the number reserved, so that it fits 32 bits.
 -- Assumes nothing.
 use native.Mathlib.Omega.{arith}
-use lib.Dec.{ltb, leb}
+use lib.Dec.{ltb}
 use borrow.Author.Tests.{ltb-true}
 use borrow.Author.Needs.{needs}
 use Rattle.words.specs.Words.{planAppend}
-use Rattle.graph_steps.proofs.Tests.{third}
+use Rattle.graph_steps.proofs.Tests.{second}
 use Rattle.graph_steps.proofs.adding.plan_append.Statement.{statement}
 use Rattle.graph_steps.proofs.adding.plan_append.Tie as tie
 
@@ -26,20 +26,20 @@ cast-sound c = search needs
 
 cast-arc : tie.Need-cast-arc
 cast-arc c =
-    let a = c .before .before .before .before .before .before .before .before .args in
-    let made = c .before .before .before .before .before .header .result in
-    let reserved = c .before .before .before .before .header2 .result in
-    omega (arith, ltb-true (a .arc) reserved (third (ltb (a .job) made) (leb reserved (a .sizes .arcs)) (ltb (a .arc) reserved) (c .before .before .place-ok .result) (c .if1 .taken)))
+    let a = c .before .before .before .before .before .before .before .args in
+    let made = c .before .before .before .before .header .result in
+    let reserved = c .before .before .before .header2 .result in
+    omega (arith, ltb-true (a .arc) reserved (second (ltb (a .job) made) (ltb (a .arc) reserved) (c .before .place-ok .result) (c .if1 .taken)))
 
 returns : tie.Need-returns
 unfolding planAppend
 returns c =
     λ buckets queue workers.
     rw (
-      ← c .before .before .before .before .before .before .header .ensures,
-      ← c .before .before .before .before .before .header2 .ensures,
-      ← c .before .before .before .before .job-word .ensures,
-      ← c .before .before .before .place-ok .ensures,
+      ← c .before .before .before .before .before .header .ensures,
+      ← c .before .before .before .before .header2 .ensures,
+      ← c .before .before .before .job-word .ensures,
+      ← c .before .before .place-ok .ensures,
       c .before .if1 .taken,
       c .if2 .taken,
     )
@@ -49,10 +49,10 @@ unfolding planAppend
 returns-2 c =
     λ buckets queue workers.
     rw (
-      ← c .before .before .before .before .before .before .header .ensures,
-      ← c .before .before .before .before .before .header2 .ensures,
-      ← c .before .before .before .before .job-word .ensures,
-      ← c .before .before .before .place-ok .ensures,
+      ← c .before .before .before .before .before .header .ensures,
+      ← c .before .before .before .before .header2 .ensures,
+      ← c .before .before .before .job-word .ensures,
+      ← c .before .before .place-ok .ensures,
       c .before .if1 .taken,
       c .if2 .left,
     )
@@ -62,10 +62,10 @@ unfolding planAppend
 returns-3 c =
     λ buckets queue workers.
     rw (
-      ← c .before .before .before .before .before .header .ensures,
-      ← c .before .before .before .before .header2 .ensures,
-      ← c .before .before .before .job-word .ensures,
-      ← c .before .before .place-ok .ensures,
+      ← c .before .before .before .before .header .ensures,
+      ← c .before .before .before .header2 .ensures,
+      ← c .before .before .job-word .ensures,
+      ← c .before .place-ok .ensures,
       c .if1 .left,
     )
 

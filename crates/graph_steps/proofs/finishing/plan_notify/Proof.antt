@@ -6,11 +6,12 @@ use Rattle.words.specs.Words.{planNotify}
 use Rattle.graph_steps.proofs.finishing.plan_notify.Statement.{statement}
 use Rattle.graph_steps.proofs.finishing.plan_notify.Tie as tie
 
-header-requires : tie.Need-header-requires
-header-requires c κs = search needs
-
-header-requires-2 : tie.Need-header-requires-2
-header-requires-2 c κs = search needs
+returns : tie.Need-returns
+unfolding planNotify
+returns c =
+    λ buckets workers.
+    rw
+    (c .if1 .taken)
 
 arc-word-requires : tie.Need-arc-word-requires
 arc-word-requires c κs = search needs
@@ -18,8 +19,26 @@ arc-word-requires c κs = search needs
 arc-word-requires-2 : tie.Need-arc-word-requires-2
 arc-word-requires-2 c κs = search needs
 
+header-requires : tie.Need-header-requires
+header-requires c κs = search needs
+
+returns-2 : tie.Need-returns-2
+unfolding planNotify
+returns-2 c =
+    λ buckets workers.
+    rw (
+      c .before .before .before .before .if1 .left,
+      ← c .before .before .before .arc-word .ensures,
+      ← c .before .before .arc-word2 .ensures,
+      ← c .before .header .ensures,
+      c .if2 .left,
+    )
+
 job-word-requires : tie.Need-job-word-requires
 job-word-requires c κs = search needs
+
+header-requires-2 : tie.Need-header-requires-2
+header-requires-2 c κs = search needs
 
 place-ok-requires : tie.Need-place-ok-requires
 place-ok-requires c κs = search needs
@@ -30,66 +49,74 @@ less-requires c κs = search needs
 notify-queue-requires : tie.Need-notify-queue-requires
 notify-queue-requires c κs = search needs
 
-returns : tie.Need-returns
-unfolding planNotify
-returns c =
-    λ buckets workers.
-    let a = c .before .before .before .before .before .before .before .before .before .before .before .before .before .before .before .args in
-    rw (
-      c .notify-queue .ensures (now (a .jobs)) (now (a .arcs)) buckets workers,
-      ← c .before .before .before .before .before .before .before .before .before .before .before .header .ensures,
-      ← c .before .before .before .before .before .before .before .before .before .before .header2 .ensures,
-      ← c .before .before .before .before .before .before .before .before .before .arc-word .ensures,
-      ← c .before .before .before .before .before .before .before .before .arc-word2 .ensures,
-      ← c .before .before .before .before .before .before .before .job-word .ensures,
-      ← c .before .before .before .before .before .before .place-ok .ensures,
-      c .before .before .before .if1 .taken,
-      ← c .before .before .less .ensures,
-      c .before .if2 .taken,
-    )
-
-returns-2 : tie.Need-returns-2
-unfolding planNotify
-returns-2 c =
-    λ buckets workers.
-    rw (
-      ← c .before .before .before .before .before .before .before .before .before .before .header .ensures,
-      ← c .before .before .before .before .before .before .before .before .before .header2 .ensures,
-      ← c .before .before .before .before .before .before .before .before .arc-word .ensures,
-      ← c .before .before .before .before .before .before .before .arc-word2 .ensures,
-      ← c .before .before .before .before .before .before .job-word .ensures,
-      ← c .before .before .before .before .before .place-ok .ensures,
-      c .before .before .if1 .taken,
-      ← c .before .less .ensures,
-      c .if2 .left,
-    )
-
 returns-3 : tie.Need-returns-3
 unfolding planNotify
 returns-3 c =
     λ buckets workers.
+    let a = c .before .before .before .before .before .before .before .before .before .before .before .before .before .before .before .args in
     rw (
+      c .notify-queue .ensures (now (a .jobs)) (now (a .arcs)) buckets workers,
+      c .before .before .before .before .before .before .before .before .before .before .before .if1 .left,
+      ← c .before .before .before .before .before .before .before .before .before .before .arc-word .ensures,
+      ← c .before .before .before .before .before .before .before .before .before .arc-word2 .ensures,
       ← c .before .before .before .before .before .before .before .before .header .ensures,
-      ← c .before .before .before .before .before .before .before .header2 .ensures,
-      ← c .before .before .before .before .before .before .arc-word .ensures,
-      ← c .before .before .before .before .before .arc-word2 .ensures,
-      ← c .before .before .before .before .job-word .ensures,
+      c .before .before .before .before .before .before .before .if2 .taken,
+      ← c .before .before .before .before .before .before .job-word .ensures,
+      ← c .before .before .before .before .before .header2 .ensures,
+      ← c .before .before .before .before .place-ok .ensures,
+      c .before .before .before .if3 .taken,
+      ← c .before .before .less .ensures,
+      c .before .if4 .taken,
+    )
+
+returns-4 : tie.Need-returns-4
+unfolding planNotify
+returns-4 c =
+    λ buckets workers.
+    rw (
+      c .before .before .before .before .before .before .before .before .before .before .if1 .left,
+      ← c .before .before .before .before .before .before .before .before .before .arc-word .ensures,
+      ← c .before .before .before .before .before .before .before .before .arc-word2 .ensures,
+      ← c .before .before .before .before .before .before .before .header .ensures,
+      c .before .before .before .before .before .before .if2 .taken,
+      ← c .before .before .before .before .before .job-word .ensures,
+      ← c .before .before .before .before .header2 .ensures,
       ← c .before .before .before .place-ok .ensures,
-      c .if1 .left,
+      c .before .before .if3 .taken,
+      ← c .before .less .ensures,
+      c .if4 .left,
+    )
+
+returns-5 : tie.Need-returns-5
+unfolding planNotify
+returns-5 c =
+    λ buckets workers.
+    rw (
+      c .before .before .before .before .before .before .before .before .if1 .left,
+      ← c .before .before .before .before .before .before .before .arc-word .ensures,
+      ← c .before .before .before .before .before .before .arc-word2 .ensures,
+      ← c .before .before .before .before .before .header .ensures,
+      c .before .before .before .before .if2 .taken,
+      ← c .before .before .before .job-word .ensures,
+      ← c .before .before .header2 .ensures,
+      ← c .before .place-ok .ensures,
+      c .if3 .left,
     )
 
 pub plan-notify-spec : {M : Type 1} → statement M
 plan-notify-spec =
     tie.close
     (tie.spec
-    header-requires
-    header-requires-2
+    returns
     arc-word-requires
     arc-word-requires-2
+    header-requires
+    returns-2
     job-word-requires
+    header-requires-2
     place-ok-requires
     less-requires
     notify-queue-requires
-    returns
-    returns-2
-    returns-3)
+    returns-3
+    returns-4
+    returns-5)

@@ -1,0 +1,57 @@
+-- With no call half done, no job held and the queue empty, every job is finished, by the rules. Assumes nothing.
+use mathlib.Core.Path.{_≡_, refl, ap, _∙_}
+use mathlib.Core.List.{[]}
+use mathlib.Core.Option.{none}
+use Prim.Native.Nat.{ℕ, zero, suc, _<_}
+use native.Mathlib.Omega.{arith}
+use lib.ListN.{length, getD}
+use Rattle.terms.specs.Base.{occurrences}
+use Rattle.terms.specs.Terms.{Label, unexecuted, executing, finished}
+use Rattle.terms.specs.declared.Sizes.{Sizes}
+use Rattle.rules.specs.Rules.{Graph, job}
+use Rattle.reading.specs.Reading.{Reading}
+use Rattle.story.specs.Story.{Story, AllIdle, entriesOf}
+use Rattle.invariant.specs.Base.{occurrences-nil}
+use Rattle.invariant.specs.Start.{reached}
+use Rattle.invariant.specs.Sound.{sound}
+use Rattle.invariant.specs.Balanced.{balanced}
+use Rattle.bookkeeping.specs.Entries.{none-awaited, finished-not-awaited}
+use Rattle.bookkeeping.specs.Base.{never}
+use Rattle.audit.specs.Held.{holders}
+use Rattle.audit.specs.Earlier.{earlier}
+
+module _ {s : Sizes} {g : Graph} {r : Reading} {e : ℕ → ℕ} (story : Story s g r e) (quiet : AllIdle g)
+    (free : (w : ℕ) → w < s .workers → g .workers w .held ≡ none) (empty : g .queue ≡ []) where
+  -- a job whose prerequisites are all finished is finished itself
+  next-finished : (j : ℕ) → j < length (g .jobs)
+      → ((p : ℕ) → p < j → p < length (g .jobs) → job g p .label ≡ finished) → job g j .label ≡ finished
+  next-finished j h all = by-label (job g j .label) refl
+    where
+      none-left : job g j .count ≡ 0
+      none-left =
+          let B = balanced story quiet in
+          let K = reached story .kept in
+          B .counts j h ∙ none-awaited (entriesOf (g .jobs)) (job g j .list) (λ i k.
+          let o = earlier story j h i k in
+          let there : o .job < length (g .jobs) = omega (arith, o .below) in
+          finished-not-awaited (getD (job g j .list) i 0) (sound story) (record {
+            job = o .job;
+            found = rw (o .named) at (K .jobs (o .job) .known .named (omega (arith, K .size)));
+            finished = all (o .job) (o .below) there;
+          }))
+
+      by-label : (l : Label) → job g j .label ≡ l → l ≡ finished
+      by-label finished z = refl
+      by-label executing z = let o = holders story j z in never (cc (o .held, free (o .worker) (o .below)))
+      by-label unexecuted z =
+          let queued : 0 < occurrences j (g .queue) =
+          balanced story quiet .waits j .1 (record { there = h; unexecuted = z; none-left = none-left }) in
+          absurd (omega (arith, ap (occurrences j) empty, occurrences-nil j))
+
+  all-below : (n j : ℕ) → j < n → j < length (g .jobs) → job g j .label ≡ finished
+  all-below zero j k h = absurd (omega arith)
+  all-below (suc n) j k h = next-finished j h (λ p l m. all-below n p (omega arith) m)
+
+  -- every job that was made is finished
+  pub drained : (j : ℕ) → j < length (g .jobs) → job g j .label ≡ finished
+  drained j h = all-below (suc j) j (omega arith) h

@@ -1,0 +1,55 @@
+-- A job is handed out at most once, by the rules, in every history. Assumes nothing.
+use mathlib.Core.Path.{ap}
+use mathlib.Core.List.{List, [], _∷_}
+use Prim.Native.Nat.{ℕ, _+_, _≤_}
+use native.Mathlib.Omega.{arith}
+use native.Mathlib.Decide.{ℕ-discrete}
+use Rattle.terms.specs.Base.{occurrences}
+use Rattle.terms.specs.Terms.{Label, unexecuted, executing, finished}
+use Rattle.terms.specs.Runs.{Item, events}
+use Rattle.terms.specs.declared.Sizes.{Sizes}
+use Rattle.terms.specs.declared.Answer.{Answer}
+use Rattle.rules.specs.Rules.{Graph, empty, job, perform}
+use Rattle.rules.specs.Sound.{startedBy, Sound}
+use Rattle.reading.specs.Reading.{Reading}
+use Rattle.story.specs.Story.{Story, start, then}
+use Rattle.demand.specs.Demand.{orHanded, handedOut}
+use Rattle.invariant.specs.Base.{hit-same, hit-other, occurrences-nil, occurrences-cons}
+use Rattle.invariant.specs.Sound.{sound}
+use Rattle.audit.specs.Deeds.{Deed, plain, marks, hands, deeds}
+
+started-once : (l : Label) → startedBy l ≤ 1
+started-once unexecuted = omega arith
+started-once executing = omega arith
+started-once finished = omega arith
+
+-- a job that is handed out was not handed out before, and is from then on
+starts : {s : Sizes} {g : Graph} {w : ℕ} {before : List ℕ} (x : Answer) (h : Graph) (later : List ℕ) → Sound s g
+    → Deed s g w before x h later → (j : ℕ) (l : List ℕ)
+    → startedBy (job g j .label) + occurrences j (orHanded x l) ≤ startedBy (job h j .label) + occurrences j l
+starts x h later S (plain none labels holds) j l = rw (none l) (omega (arith, ap startedBy (labels j)))
+starts {g = g} x h later S (marks p none held L o) j l = elim (ℕ-discrete j p) [
+  | yes z ↦ rw (none l, z, L .here) (omega (arith, started-once (job g p .label)))
+  | no z ↦ rw (none l) (omega (arith, ap startedBy (L .others j z)))
+]
+starts x h later S (hands k b queued held L now o) j l = elim (ℕ-discrete j k) [
+  | yes z ↦ rw (z, L .here, S .queue-unexecuted k queued) (omega (arith, occurrences-cons k k l, hit-same k))
+  | no z ↦ omega (arith, occurrences-cons j k l, hit-other j k z, ap startedBy (L .others j z))
+]
+
+-- what a story goes on to hand out it has not handed out so far
+not-again : {s : Sizes} {g : Graph} {r : Reading} {e : ℕ → ℕ} → Story s g r e → (items : List Item) (j : ℕ)
+    → startedBy (job g j .label) + occurrences j (handedOut (events (perform s) g items)) ≤ 1
+unfolding events handedOut
+not-again {s} {g} story [] j = omega (arith, occurrences-nil j, started-once (job g j .label))
+not-again {s} {g} story (i ∷ items) j =
+    omega (
+      arith,
+      starts _ _ _ (sound story) (deeds story i .deed) j (handedOut (events (perform s) (perform s g i .state) items)),
+      not-again (then story i) items j,
+    )
+
+-- a job is handed out at most once
+pub handed-once : (s : Sizes) (items : List Item) (j : ℕ)
+    → occurrences j (handedOut (events (perform s) empty items)) ≤ 1
+handed-once s items j = omega (arith, not-again {s = s} start items j)

@@ -1,0 +1,11 @@
+pub mod Digits
+pub mod Lines
+pub mod Jobs
+pub mod Team
+pub mod At
+pub mod Calls
+pub mod Adds
+pub mod Holders
+pub mod Rounds
+pub mod Ends
+pub mod Theorem

@@ -1,0 +1,105 @@
+-- What a board over the graph's own row must answer from a fresh graph on, said of any board and by the number of the
+-- job: "the number of jobs and the sum of minutes under each label", and "the three sums together equal the minutes of
+-- all jobs that ever entered". (Wrong.antt has boards that do not.) Assumes nothing.
+use mathlib.Core.Path.{_≡_, refl}
+use mathlib.Core.Bool.{Bool, true, false}
+use mathlib.Core.List.{List, [], _∷_}
+use Prim.Native.Nat.{ℕ, zero, suc, _+_}
+use native.Mathlib.Omega.{arith}
+use lib.Dec.{eqb, leb, ltb}
+use lib.ListN.{length}
+use Rattle.minutes.specs.Minutes.{minutesIn}
+use Rattle.terms.specs.Base.{pick}
+use Rattle.terms.specs.Terms.{Label, unexecuted, executing, finished, labelNumber, Arguments}
+use Rattle.terms.specs.declared.Sizes.{Sizes}
+use Rattle.words.specs.Columns.{columns, header}
+use Rattle.words.specs.Layout.{jobShape, MADE, LABEL, CLASS}
+use Rattle.totals.specs.Board.{served, offLimits, damaged, refused, sumOver, under, oneJob, itsMinutes}
+use Rattle.totals.specs.Board.{mostRecords, allWellFormed, counted, totalsOf}
+use Rattle.totals.specs.AllJobs.{together}
+use Rattle.totals.specs.declared.JobRecord.{JobRecord}
+use Rattle.totals.specs.declared.Totals.{Totals}
+use Rattle.graph_board.specs.Board.{rowsFrom, graphRows, jobsFit, graphTotals, minutesEntered}
+
+-- ---- sums over jobs by their number
+-- of the first n jobs
+unfoldable pub overJobs : (ℕ → ℕ) → ℕ → ℕ
+overJobs amount zero = 0
+overJobs amount (suc n) = overJobs amount n + amount n
+
+-- how many of them have a label, and their minutes, by the columns of the jobs table
+abbrev pub jobsOf : (ℕ → ℕ → ℕ) → ℕ → Label → ℕ
+jobsOf f n l = overJobs (λ j. pick (eqb (f LABEL j) (labelNumber l)) 1 0) n
+
+abbrev pub minutesOf : List ℕ → (ℕ → ℕ → ℕ) → ℕ → Label → ℕ
+minutesOf table f n l = overJobs (λ j. pick (eqb (f LABEL j) (labelNumber l)) (minutesIn table (f CLASS j)) 0) n
+
+-- a number for each label
+abbrev pub byLabel : (Label → ℕ) → List ℕ
+byLabel amount = amount unexecuted ∷ amount executing ∷ amount finished ∷ []
+
+-- ---- the claim of a board, by the words of the jobs table and by the accepted adds
+pub record UnderLabels (table words : List ℕ) (t : Totals) : Type 0 where
+  pub jobs : t .jobs ≡ byLabel (jobsOf (columns jobShape words) (header words MADE))
+  pub minutes : t .minutes ≡ byLabel (minutesOf table (columns jobShape words) (header words MADE))
+
+abbrev pub Board : Type 0
+Board = List ℕ → Sizes → List ℕ → Totals
+
+pub record Accounted (board : Board) (table : List ℕ) (s : Sizes) (words : List ℕ) (adds : List Arguments)
+    : Type 0 where
+  pub answered : board table s words .number ≡ served
+  pub under-labels : UnderLabels table words (board table s words)
+  pub all-minutes : together (board table s words .minutes) ≡ minutesEntered table adds
+
+-- ---- the graph's board has them: a sum over the row is the sum over its jobs
+abbrev recordOf : (ℕ → ℕ → ℕ) → ℕ → JobRecord
+recordOf f j = record { label = f LABEL j; class = f CLASS j }
+
+last-row : (f : ℕ → ℕ → ℕ) (amount : JobRecord → ℕ) (j n : ℕ)
+    → sumOver amount (rowsFrom f j (suc n)) ≡ sumOver amount (rowsFrom f j n) + amount (recordOf f (j + n))
+unfolding sumOver rowsFrom
+last-row f amount j zero = let e : j + 0 ≡ j = omega arith in rw e (omega arith)
+last-row f amount j (suc n) =
+    let e : j + suc n ≡ suc j + n = omega arith in rw e (omega (arith, last-row f amount (suc j) n))
+
+row-sum : (f : ℕ → ℕ → ℕ) (amount : JobRecord → ℕ) (n : ℕ)
+    → sumOver amount (rowsFrom f 0 n) ≡ overJobs (λ j. amount (recordOf f j)) n
+unfolding overJobs sumOver rowsFrom
+row-sum f amount zero = refl
+row-sum f amount (suc n) =
+    let e : 0 + n ≡ n = omega arith in omega (arith, rw e at (last-row f amount 0 n), row-sum f amount n)
+
+-- the board of the graph's own row, if it is served
+pub graph-counts : (table : List ℕ) (s : Sizes) (words : List ℕ) → graphTotals table s words .number ≡ served
+    → UnderLabels table words (graphTotals table s words)
+unfolding graphTotals totalsOf counted
+graph-counts table s words =
+    by (jobsFit s words) (leb (header words MADE) (s .jobs)) (ltb mostRecords (length rows)) (allWellFormed rows)
+  where
+    f : ℕ → ℕ → ℕ
+    f = columns jobShape words
+
+    rows : List JobRecord
+    rows = graphRows words
+
+    given : Bool → Bool → Bool → Bool → Totals
+    given fit made many formed =
+        let row = pick many (refused offLimits) (pick formed (counted table rows) (refused damaged)) in
+        pick fit (pick made row (refused damaged)) (refused offLimits)
+
+    never : {A : Type 0} → _≡_ {A = ℕ} 0 1 → A
+    never e = absurd (omega arith)
+
+    by : (fit made many formed : Bool) → given fit made many formed .number ≡ served
+        → UnderLabels table words (given fit made many formed)
+    by false made many formed e = never (cc)
+    by true false many formed e = never (cc)
+    by true true true formed e = never (cc)
+    by true true false false e = never (cc)
+    by true true false true e = record {
+      jobs = rw (row-sum f (under 0 oneJob), row-sum f (under 1 oneJob), row-sum f (under 2 oneJob));
+      minutes =
+          let amount : ℕ → JobRecord → ℕ = λ l. under l (itsMinutes table) in
+          rw (row-sum f (amount 0), row-sum f (amount 1), row-sum f (amount 2));
+    }

@@ -1,0 +1,65 @@
+-- When tables are laid out, and what laying out leaves: a fresh graph in the words needed, whatever they were, and the
+-- rest as it was. For all tables. Follows document 01, "Tables and their measures" ("Laying out makes a fresh graph")
+-- and "Turned-away calls" (number 1). Assumes nothing.
+use mathlib.Core.Path.{_≡_, ap, _∙_}
+use mathlib.Core.Logic.{_↔_}
+use mathlib.Core.Bool.{true}
+use mathlib.Core.List.{List, _++_}
+use Prim.Native.Nat.{ℕ, zero, suc, _*_, _^_}
+use native.Mathlib.Omega.{arith}
+use native.Mathlib.Nat.{mul-suc, zero-add}
+use lib.Dec.{leb}
+use lib.ListN.{length, drop, length-append, length-replicate}
+use lib.Seq.{sets, sets-eq}
+use borrow.Author.Tests.{leb-true}
+use Rattle.terms.specs.Base.{pick}
+use Rattle.terms.specs.Terms.{wrongSizes}
+use Rattle.terms.specs.Runs.{outcome}
+use Rattle.terms.specs.declared.Sizes.{Sizes}
+use Rattle.terms.specs.declared.Answer.the-variants.{Laid, Refused}
+use Rattle.words.specs.Columns.{rows}
+use Rattle.words.specs.Layout.{none, jobShape, arcShape, bucketShape, queueShape, workerShape, IDLE, Tables, tables}
+use Rattle.words.specs.Layout.{need, bareWorker, repeated, freshJob, freshArc, freshJobs, freshArcs, freshBuckets}
+use Rattle.words.specs.Layout.{freshQueue, freshWorkers, freshTables, longEnough, roomFor}
+use Rattle.words.specs.Words.{layOut}
+use Rattle.locality.specs.Parts.{test, rest, joined, parts, Long, long}
+
+-- "no jobs, all workers idle and holding nothing, unused words 0, every place none"
+abbrev pub fresh : Sizes → Tables
+fresh s = tables (freshJobs s) (freshArcs s) (freshBuckets s) (freshQueue s) (freshWorkers s)
+
+length-repeated : (n : ℕ) (r : List ℕ) → length (repeated n r) ≡ length r * n
+unfolding repeated
+length-repeated zero r = omega arith
+length-repeated (suc n) r = omega (arith, length-append r (repeated n r), length-repeated n r, mul-suc (length r) n)
+
+lay-table : (x l : List ℕ) (n : ℕ) → length x ≡ n → leb n (length l) ≡ true → sets l 0 x ≡ x ++ drop n l
+lay-table x l n e h =
+    sets-eq x l 0 (omega (arith, leb-true n (length l) h)) ∙ ap (λ k. x ++ drop k l) (zero-add (length x) ∙ e)
+
+lay-fresh : (s : Sizes) (t : Tables) → Long s t → freshTables s t ≡ joined (fresh s) (rest s t)
+unfolding freshTables rows
+lay-fresh s t h i =
+    let jobs = length-repeated (s .jobs) freshJob in
+    let arcs = length-repeated (s .arcs) freshArc in
+    let buckets = length-replicate (2 ^ s .bits) none in
+    let queue = length-replicate (s .jobs) none in
+    let workers = length-repeated (s .workers) (bareWorker IDLE none) in
+    tables (lay-table (freshJobs s) (t .jobs) (need jobShape (s .jobs)) (omega arith) (h .jobs) i)
+    (lay-table (freshArcs s) (t .arcs) (need arcShape (s .arcs)) (omega arith) (h .arcs) i)
+    (lay-table (freshBuckets s) (t .buckets) (need bucketShape (2 ^ s .bits)) (omega arith) (h .buckets) i)
+    (lay-table (freshQueue s) (t .queue) (need queueShape (s .jobs)) (omega arith) (h .queue) i)
+    (lay-table (freshWorkers s) (t .workers) (need workerShape (s .workers)) (omega arith) (h .workers) i)
+
+-- laying out: where there is room for the sizes, a fresh graph, the rest as it was; else number 1, and nothing changed
+pub laid-out : (s : Sizes) (t : Tables)
+    → layOut s t ≡ pick (roomFor s t) (outcome Laid (joined (fresh s) (rest s t))) (outcome (Refused wrongSizes 0) t)
+unfolding layOut
+laid-out s t = test (roomFor s t)
+    (λ e. let h : longEnough s t ≡ true = search parts in rw (e, lay-fresh s t (long h)))
+    (λ e. rw e)
+
+-- tables are laid out exactly if the sizes lie in their limits and each table is long enough
+pub laid-if-room : (s : Sizes) (t : Tables) → (layOut s t .answer ≡ Laid) ↔ (roomFor s t ≡ true)
+unfolding layOut
+laid-if-room s t = (λ a. test (roomFor s t) (λ e. e) (λ e. let never = rw e at a in cc), λ e. rw e)

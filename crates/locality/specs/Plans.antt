@@ -1,0 +1,302 @@
+-- What the calls plan is read within the sizes, and names only places within the sizes; and which numbers a plan can
+-- refuse with.
+-- Follows document 01, "Tables and their measures" and "Turned-away calls". Assumes nothing.
+use mathlib.Core.Path.{_≡_, refl}
+use mathlib.Core.Bool.{Bool, true, false, _&&_, _||_}
+use Prim.Native.Nat.{ℕ, zero, suc, _+_, _-_, _^_}
+use native.Mathlib.Omega.{arith}
+use lib.Dec.{ltb, leb, eqb}
+use borrow.Author.Tests.{ltb-true, leb-true, leb-false, eqb-true, eqb-false, lt-ltb}
+use Rattle.bucket.specs.Bucket.{bucketOf}
+use Rattle.bucket.specs.Laws.{below}
+use Rattle.terms.specs.Base.{pick}
+use Rattle.terms.specs.Terms.{mostNames, wrongSizes, noSuchWorker, unknownName, namePresent, noRoom, damaged, Arguments}
+use Rattle.terms.specs.Terms.{argumentsWrong}
+use Rattle.terms.specs.declared.Sizes.{Sizes}
+use Rattle.words.specs.Layout.{none, NAME, LABEL, COUNT, FIRST, LAST, NEXT, DEPENDENT, AFTER, PHASE, HELD, OWN-NAME}
+use Rattle.words.specs.Layout.{LIST-COUNT, PLACE, OWN-JOB, OWN-ARC, IDLE, LOOKING, LINKING, MARKING, Tables, View, view}
+use Rattle.words.specs.Layout.{sizesFit}
+use Rattle.words.specs.Words.{placeOk, isPlace, countersOk, ownOk, walk, findOf, planLookUp, planEnter, planAppend}
+use Rattle.words.specs.Words.{planLink, withCell, settles, planSettle, planMark, planNotify, nameAt, planAdd, planLinks}
+use Rattle.words.specs.Words.{planCall, planPhase, admitted, planTake, planQueue, planGet, judgedCounters, judgedAdd}
+use Rattle.words.specs.Words.{judgedFinish}
+use Rattle.words.specs.declared.Found.{Found}
+use Rattle.words.specs.declared.Found.the-variants.{At, Missing, Damaged}
+use Rattle.words.specs.declared.Plan.{Plan}
+use Rattle.words.specs.declared.Plan.the-variants.{Refuse, Quit, Pass, Enter, Tally, LinkFirst, LinkAfter, Settle}
+use Rattle.words.specs.declared.Plan.the-variants.{SettleQueue, Mark, Notify, NotifyQueue}
+use Rattle.words.specs.declared.GetPlan.{GetPlan}
+use Rattle.words.specs.declared.GetPlan.the-variants.{RefuseGet, Wait, Take}
+use Rattle.locality.specs.Parts.{test, right, parts, clip}
+
+-- ---- what every plan keeps to
+-- 6, 7 and 8 end an add that was accepted by its post
+abbrev pub quitsBy : ℕ → Bool
+quitsBy n = eqb n unknownName || eqb n namePresent || eqb n noRoom
+
+-- the places that a plan stores at lie within the sizes; only `Quit` has a number that ends a call; m says that the
+-- step is a mark
+abbrev pub Inside : Sizes → Bool → Plan → Type 0
+Inside s m (Refuse n) = quitsBy n ≡ false
+Inside s m (Quit n i) = (quitsBy n ≡ true) × (m ≡ false)
+Inside s m Pass = Unit {0}
+Inside s m (Enter j k h x) = (ltb j (s .jobs) ≡ true) × (ltb k (2 ^ s .bits) ≡ true)
+Inside s m Tally = Unit {0}
+Inside s m (LinkFirst p x j) = (ltb p (s .jobs) ≡ true) × (ltb x (s .arcs) ≡ true)
+Inside s m (LinkAfter p l x j) = (ltb p (s .jobs) ≡ true) × (ltb x (s .arcs) ≡ true) × (ltb l (s .arcs) ≡ true)
+Inside s m (Settle j c) = (ltb j (s .jobs) ≡ true) × (m ≡ false)
+Inside s m (SettleQueue j c q) = (ltb j (s .jobs) ≡ true) × (ltb q (s .jobs) ≡ true) × (m ≡ false)
+Inside s m (Mark p x) = (ltb p (s .jobs) ≡ true) × (m ≡ true)
+Inside s m (Notify j c x) = (ltb j (s .jobs) ≡ true) × (m ≡ false)
+Inside s m (NotifyQueue j c x q) = (ltb j (s .jobs) ≡ true) × (ltb q (s .jobs) ≡ true) × (m ≡ false)
+
+abbrev pub InsideGet : Sizes → GetPlan → Type 0
+InsideGet s (RefuseGet n) = quitsBy n ≡ false
+InsideGet s Wait = Unit {0}
+InsideGet s (Take j name q) = (ltb j (s .jobs) ≡ true) × (ltb q (s .jobs) ≡ true)
+
+-- two plans are one, which keeps to P
+abbrev pub Alike : {A : Type 0} (P : A → Type 0) → A → A → Type 0
+Alike P x y = (x ≡ y) × P x
+
+-- what is planned by reading v is planned by reading it within the sizes alone
+abbrev pub Reads : {A : Type 0} → Sizes → View → (A → Type 0) → (View → A) → Type 0
+Reads s v P f = Alike P (f v) (f (clip s v))
+
+choose : {A : Type 0} (P : A → Type 0) (b : Bool) {x y x′ y′ : A}
+    → (b ≡ true → Alike P x x′) → (b ≡ false → Alike P y y′)
+    → Alike P (pick b x y) (pick b x′ y′)
+choose P true f g = f refl
+choose P false f g = g refl
+
+-- ---- places
+neither : (a b : Bool) → (a || b) ≡ false → a ≡ false
+neither true b e = e
+neither false b e = refl
+
+-- a place that is none or in use is none, or lies within its size
+place-cases : {A : Type 0} (j c n : ℕ) → placeOk j c n ≡ true
+    → (eqb j none ≡ true → A) → (eqb j none ≡ false → ltb j n ≡ true → A) → A
+place-cases j c n e f g = test (eqb j none) f (λ h. g h (right (ltb j c) (ltb j n) (rw h at e)))
+
+-- so does one below a counter that is in its range
+within : (j c n : ℕ) → leb c n ≡ true → ltb j c ≡ true → ltb j n ≡ true
+within j c n a b = lt-ltb j n (omega (arith, leb-true c n a, ltb-true j c b))
+
+-- ---- the plans of a step, with counters in their range
+module _ (s : Sizes) (v : View) (made : leb (v .made) (s .jobs) ≡ true)
+    (reserved : leb (v .reserved) (s .arcs) ≡ true) where
+  -- the walk along a bucket stays within the jobs made
+  abbrev InFound : Found → Type 0
+  InFound (At p) = ltb p (s .jobs) ≡ true
+  InFound Missing = Unit {0}
+  InFound Damaged = Unit {0}
+
+  walk-alike : (k name at : ℕ)
+      → Alike InFound (walk k (v .job) (v .made) name at) (walk k (clip s v .job) (v .made) name at)
+  unfolding walk
+  walk-alike zero name at = choose InFound (eqb at none) (λ _. (refl, tt)) (λ _. (refl, tt))
+  walk-alike (suc k) name at =
+      choose InFound (eqb at none) (λ _. (refl, tt))
+      (λ _. choose InFound (ltb at (v .made))
+      (λ e. let h = within at (v .made) (s .jobs) made e in
+      rw h (choose InFound (eqb (v .job NAME at) name) (λ _. (refl, h)) (λ _. walk-alike k name (v .job NEXT at))))
+      (λ _. (refl, tt)))
+
+  find-alike : (name : ℕ) → Alike InFound (findOf s v name) (findOf s (clip s v) name)
+  unfolding findOf
+  find-alike name =
+      rw (lt-ltb (bucketOf name (s .bits)) (2 ^ s .bits) (below name (s .bits))) (walk-alike (v .made) name _)
+
+  module _ (m : Bool) where
+    abbrev Planned : (View → Plan) → Type 0
+    Planned = Reads s v (Inside s m)
+
+    damage : Planned (λ _. Refuse damaged)
+    damage = (refl, refl)
+
+    look-up : m ≡ false → (i : ℕ) (f : Found) → Inside s m (planLookUp i f)
+    unfolding planLookUp
+    look-up z i (At j) = tt
+    look-up z i Missing = (refl, z)
+    look-up z i Damaged = refl
+
+    enter : m ≡ false → (name d : ℕ) (f : Found) → Planned (λ u. planEnter s u name d f)
+    unfolding planEnter
+    enter z name d (At j) = (refl, (refl, z))
+    enter z name d Missing =
+        let h = lt-ltb (bucketOf name (s .bits)) (2 ^ s .bits) (below name (s .bits)) in
+        rw h (choose (Inside s m) (leb (s .jobs) (v .made) || ltb (s .arcs) (v .reserved + d)) (λ _. (refl, (refl, z)))
+        (λ e. let o = leb-false (s .jobs) (v .made) (neither _ (ltb (s .arcs) (v .reserved + d)) e) in
+        (refl, (lt-ltb (v .made) (s .jobs) o, h))))
+    enter z name d Damaged = damage
+
+    append : (p x j : ℕ) → ltb p (s .jobs) ≡ true → Planned (λ u. planAppend s u p x j)
+    unfolding planAppend
+    append p x j h =
+        let last = v .job LAST p in
+        rw h (choose (Inside s m) (ltb j (v .made) && ltb x (v .reserved) && placeOk last (v .reserved) (s .arcs))
+        (λ e. let i = within x (v .reserved) (s .arcs) reserved (search parts) in
+        place-cases last (v .reserved) (s .arcs) (search parts) (λ n. rw n (refl, (h, i)))
+        (λ n k. rw n (refl, (h, i, k))))
+        (λ _. damage))
+
+    link : (x j : ℕ) (f : Found) → InFound f → Planned (λ u. planLink s u x j f)
+    unfolding planLink
+    link x j (At p) h =
+        rw h (choose (Inside s m) (leb (v .job LABEL p) 2)
+        (λ _. choose (Inside s m) (eqb (v .job LABEL p) 2) (λ _. (refl, tt)) (λ _. append p x j h))
+        (λ _. damage))
+    link x j Missing h = damage
+    link x j Damaged h = damage
+
+    cell : (plan : ℕ → Plan) → ((q : ℕ) → ltb q (s .jobs) ≡ true → Inside s m (plan q))
+        → Planned (λ u. withCell s u plan)
+    unfolding withCell
+    cell plan f =
+        choose (Inside s m) (leb (v .taken) (v .put) && ltb (v .put) (s .jobs)) (λ e. (refl, f (v .put) (search parts)))
+        (λ _. damage)
+
+    settle : m ≡ false → (j t d : ℕ) → placeOk j (v .made) (s .jobs) ≡ true → Planned (λ u. planSettle s u j t d)
+    unfolding planSettle
+    settle z j t d o = place-cases j (v .made) (s .jobs) o (λ e. rw e damage)
+        (λ _ h. rw h (choose (Inside s m) (isPlace j && leb (v .job COUNT j) mostNames && leb t (v .job COUNT j))
+        (λ _. choose (Inside s m) (settles (v .job COUNT j - t) t d) (λ _. cell _ (λ q e. (h, e, z)))
+        (λ _. (refl, (h, z))))
+        (λ _. damage)))
+
+    mark : m ≡ true → (p : ℕ) → placeOk p (v .made) (s .jobs) ≡ true → Planned (λ u. planMark s u p)
+    unfolding planMark
+    mark z p o = place-cases p (v .made) (s .jobs) o (λ e. rw e damage)
+        (λ _ h. rw h (choose (Inside s m)
+        (isPlace p && eqb (v .job LABEL p) 1 && placeOk (v .job FIRST p) (v .reserved) (s .arcs)) (λ _. (refl, (h, z)))
+        (λ _. damage)))
+
+    notify : m ≡ false → (x : ℕ) → placeOk x (v .reserved) (s .arcs) ≡ true → Planned (λ u. planNotify s u x)
+    unfolding planNotify
+    notify z x o = place-cases x (v .reserved) (s .arcs) o (λ e. rw e damage)
+        (λ i h. let j = v .arc DEPENDENT x in
+        rw (i, h) (test (ltb j (v .made))
+        (λ e. let k = within j (v .made) (s .jobs) made e in
+        rw (e, k) (choose (Inside s m)
+        (placeOk (v .arc AFTER x) (v .reserved) (s .arcs) && leb 1 (v .job COUNT j) && leb (v .job COUNT j) mostNames)
+        (λ _. choose (Inside s m) (eqb (v .job COUNT j) 1) (λ _. cell _ (λ q y. (k, y, z))) (λ _. (refl, (k, z))))
+        (λ _. damage)))
+        (λ e. rw e damage)))
+
+    module _ (w : ℕ) (known : ltb w (s .workers) ≡ true) where
+      adding : m ≡ false → Planned (λ u. planAdd s u w)
+      unfolding planAdd
+      adding z =
+          let i = v .worker PLACE w in let d = v .worker LIST-COUNT w in let name = v .worker OWN-NAME w in
+          rw (known, ← (find-alike (nameAt v w) .0), ← (find-alike name .0))
+          (choose (Inside s m) (ltb i d) (λ _. (refl, look-up z i _)) (λ _. enter z name d _))
+
+      linking : m ≡ false → placeOk (v .worker OWN-JOB w) (v .made) (s .jobs) ≡ true → Planned (λ u. planLinks s u w)
+      unfolding planLinks
+      linking z o =
+          let found = find-alike (nameAt v w) in
+          rw (known, ← (found .0))
+          (choose (Inside s m) (ltb (v .worker PLACE w) (v .worker LIST-COUNT w)) (λ _. link _ _ _ (found .1))
+          (λ _. settle z _ _ _ o))
+
+-- a worker's own words: its hold, the job and the arc of its call are none or in use
+own-places : (s : Sizes) (v : View) (w : ℕ) → ownOk s v w ≡ true
+    → (placeOk (v .worker HELD w) (v .made) (s .jobs) ≡ true)
+    × (placeOk (v .worker OWN-JOB w) (v .made) (s .jobs) ≡ true)
+    × (placeOk (v .worker OWN-ARC w) (v .reserved) (s .arcs) ≡ true)
+unfolding ownOk
+own-places s v w e = (search parts depth 9, search parts, search parts)
+
+pub own-alike : (s : Sizes) (v : View) (w : ℕ) → ltb w (s .workers) ≡ true → ownOk s v w ≡ ownOk s (clip s v) w
+unfolding ownOk
+own-alike s v w e = rw e
+
+-- the worker's next step is a mark
+abbrev pub marking : View → ℕ → Bool
+marking v w = eqb (v .worker PHASE w) MARKING
+
+-- ---- the plans of every call of a worker whose own words are sound
+module _ (s : Sizes) (v : View) (w : ℕ) (known : ltb w (s .workers) ≡ true) (own : ownOk s v w ≡ true) where
+  abbrev pub phase : ℕ
+  phase = v .worker PHASE w
+
+  abbrev pub P : Plan → Type 0
+  P = Inside s (marking v w)
+
+  step-alike : leb (v .made) (s .jobs) ≡ true → leb (v .reserved) (s .arcs) ≡ true → Reads s v P (λ u. planCall s u w)
+  unfolding planCall
+  step-alike a b =
+      let o = own-places s v w own in let m = marking v w in
+      rw known (choose P (eqb phase LOOKING) (λ e. adding s v a b m w known (rw (eqb-true phase LOOKING e)))
+      (λ _. choose P (eqb phase LINKING) (λ e. linking s v a b m w known (rw (eqb-true phase LINKING e)) (o .1))
+      (λ _. choose P m (λ e. mark s v a b m e (v .worker HELD w) (o .0))
+      (λ e. notify s v a b m e (v .worker OWN-ARC w) (o .2)))))
+
+  pub phase-alike : Reads s v P (λ u. planPhase s u w)
+  unfolding planPhase
+  phase-alike =
+      rw known (choose P (eqb phase IDLE) (λ _. (refl, refl))
+      (λ _. choose P (countersOk s v) (λ e. step-alike (search parts) (search parts)) (λ _. (refl, refl))))
+
+  -- a get
+  take-alike : leb (v .made) (s .jobs) ≡ true → ltb (v .taken) (s .jobs) ≡ true → (j : ℕ)
+      → Reads s v (InsideGet s) (λ u. planTake s u j)
+  unfolding planTake
+  take-alike a b j = test (ltb j (v .made))
+      (λ e. let h = within j (v .made) (s .jobs) a e in
+      rw (e, h) (choose (InsideGet s) (eqb (v .job LABEL j) 0) (λ _. (refl, (h, b))) (λ _. (refl, refl))))
+      (λ e. rw e (refl, refl))
+
+  queue-alike : Reads s v (InsideGet s) (λ u. planQueue s u)
+  unfolding planQueue
+  queue-alike =
+      choose (InsideGet s) (countersOk s v && leb (v .taken) (v .put) && leb (v .put) (s .jobs))
+      (λ e. choose (InsideGet s) (eqb (v .taken) (v .put)) (λ _. (refl, tt))
+      (λ n. let a = leb-true (v .taken) (v .put) (search parts) in let b = leb-true (v .put) (s .jobs) (search parts) in
+      let h = lt-ltb (v .taken) (s .jobs) (omega (arith, eqb-false (v .taken) (v .put) n)) in
+      rw h (take-alike (search parts) h (v .cell 0 (v .taken)))))
+      (λ _. (refl, refl))
+
+  pub get-alike : Reads s v (InsideGet s) (λ u. planGet s u w)
+  unfolding planGet
+  get-alike =
+      rw known (choose (InsideGet s) (eqb phase IDLE)
+      (λ _. choose (InsideGet s) (eqb (v .worker HELD w) none) (λ _. queue-alike) (λ _. (refl, refl)))
+      (λ _. (refl, refl)))
+
+  -- posts
+  abbrev pub Post : ℕ → Type 0
+  Post n = quitsBy n ≡ false
+
+  counters-alike : Reads s v Post (λ u. judgedCounters s u)
+  counters-alike = choose Post (countersOk s v) (λ _. (refl, refl)) (λ _. (refl, refl))
+
+  pub add-alike : (a : Arguments) → Reads s v Post (λ u. judgedAdd s u w a)
+  add-alike a =
+      rw known (choose Post (eqb phase IDLE)
+      (λ _. choose Post (argumentsWrong a) (λ _. (refl, refl)) (λ _. counters-alike))
+      (λ _. (refl, refl)))
+
+  pub finish-alike : (name : ℕ) → Reads s v Post (λ u. judgedFinish s u w name)
+  finish-alike name =
+      let p = v .worker HELD w in
+      rw known (choose Post (eqb phase IDLE)
+      (λ _. place-cases p (v .made) (s .jobs) (own-places s v w own .0) (λ e. rw e (refl, refl))
+      (λ e h. rw (e, h) (choose Post (eqb (v .job NAME p) name) (λ _. counters-alike) (λ _. (refl, refl)))))
+      (λ _. (refl, refl)))
+
+-- ---- what is admitted, or refused before: by 1, 2 or 9
+pub admit : {A : Type 0} (P : A → Type 0) (s : Sizes) (t : Tables) (w : ℕ) (refuse : ℕ → A) (x : A)
+    → ((n : ℕ) → quitsBy (suc n) ≡ false → P (refuse (suc n)))
+    → (sizesFit s t ≡ true → ltb w (s .workers) ≡ true → ownOk s (view t) w ≡ true → P x)
+    → P (admitted s t w refuse x)
+unfolding admitted
+admit P s t w refuse x f g = go (sizesFit s t) refl (ltb w (s .workers)) refl (ownOk s (view t) w) refl
+  where
+    go : (a : Bool) → sizesFit s t ≡ a → (b : Bool) → ltb w (s .workers) ≡ b → (c : Bool) → ownOk s (view t) w ≡ c
+        → P (pick a (pick b (pick c x (refuse damaged)) (refuse noSuchWorker)) (refuse wrongSizes))
+    go true d true e true h = g d e h
+    go true d true e false h = f _ refl
+    go true d false e c h = f _ refl
+    go false d b e c h = f _ refl

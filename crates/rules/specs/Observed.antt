@@ -1,0 +1,35 @@
+-- What is seen in a graph of the rules. Assumes nothing.
+use mathlib.Core.List.{List}
+use Prim.Native.Nat.{ℕ}
+use lib.ListN.{length, drop}
+use Rattle.terms.specs.Terms.{labelNumber}
+use Rattle.terms.specs.Seen.{request, CallSeen, JobSeen, Seen}
+use Rattle.terms.specs.Seen as seen-as
+use Rattle.rules.specs.Rules.{Job, Call, idle, looking, linking, marking, notifying, Graph, job}
+
+abbrev pub jobSeen : Job → JobSeen
+jobSeen x = record {
+  name = x .name;
+  label = labelNumber (x .label);
+  count = x .count;
+  class = x .class;
+  grower = x .grower;
+  arcs = x .dependents;
+}
+
+abbrev pub callSeen : Graph → Call → CallSeen
+callSeen g idle = seen-as.idle
+callSeen g (looking a i) = seen-as.looking (request a) i
+callSeen g (linking a j i t) = seen-as.linking (request a) j i t
+callSeen g marking = seen-as.marking
+callSeen g (notifying p k) = seen-as.notifying (drop k (job g p .dependents))
+
+abbrev pub seen : Graph → Seen
+seen g = record {
+  made = length (g .jobs);
+  reserved = g .reserved;
+  job = λ j. jobSeen (job g j);
+  waiting = g .queue;
+  held = λ w. g .workers w .held;
+  call = λ w. callSeen g (g .workers w .call);
+}

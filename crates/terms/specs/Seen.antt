@@ -1,0 +1,57 @@
+-- What is looked at in the state of a machine that answers items: the jobs, the queue, the holds and the calls half
+-- done, with no word of how a machine keeps them. Follows document 01, "Tables and their measures" and "Steps". Assumes
+-- nothing.
+use mathlib.Core.Path.{_≡_}
+use mathlib.Core.List.{List}
+use mathlib.Core.Option.{Option}
+use Prim.Native.Nat.{ℕ, _<_}
+use Rattle.terms.specs.Terms.{Arguments, listed}
+use Rattle.terms.specs.declared.Sizes.{Sizes}
+
+-- what an add asks for: its arguments up to the count of its list
+pub record Request : Type 0 where
+  pub name : ℕ
+  pub list : List ℕ
+  pub class : ℕ
+  pub grower : ℕ
+
+abbrev pub request : Arguments → Request
+request a = record { name = a .name; list = listed a; class = a .class; grower = a .grower }
+
+-- "the call half done": an add before its entering step, at a place of its list; an add of the job that it entered, at
+-- a place of its list, with its tally; a finish before its mark; a finish after it, with the dependents whose counts
+-- are yet to be lowered, in order
+pub data CallSeen : Type 0 where
+  idle : CallSeen
+  looking : Request → ℕ → CallSeen
+  linking : Request → ℕ → ℕ → ℕ → CallSeen
+  marking : CallSeen
+  notifying : List ℕ → CallSeen
+
+-- a job, with the dependents of its arcs, oldest first
+pub record JobSeen : Type 0 where
+  pub name : ℕ
+  pub label : ℕ
+  pub count : ℕ
+  pub class : ℕ
+  pub grower : ℕ
+  pub arcs : List ℕ
+
+-- how many jobs were made and arcs reserved, each job by its number, the queue in order, and of each worker its hold
+-- and its call
+pub record Seen : Type 0 where
+  pub made : ℕ
+  pub reserved : ℕ
+  pub job : ℕ → JobSeen
+  pub waiting : List ℕ
+  pub held : ℕ → Option ℕ
+  pub call : ℕ → CallSeen
+
+-- the same is seen: of all jobs that were made and of all workers
+pub record Same (s : Sizes) (x y : Seen) : Type 0 where
+  pub made : x .made ≡ y .made
+  pub reserved : x .reserved ≡ y .reserved
+  pub jobs : (j : ℕ) → j < y .made → x .job j ≡ y .job j
+  pub waiting : x .waiting ≡ y .waiting
+  pub held : (w : ℕ) → w < s .workers → x .held w ≡ y .held w
+  pub calls : (w : ℕ) → w < s .workers → x .call w ≡ y .call w

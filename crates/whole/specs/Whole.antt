@@ -1,0 +1,95 @@
+-- Calls "run whole", by the rules: an add or a finish posted, and its steps with no item between, until one does not go
+-- on. How many steps that takes, what they answer and what they leave ("Steps", "Turned-away calls"). The statements
+-- alone. Assumes nothing.
+use mathlib.Core.Path.{_≡_}
+use mathlib.Core.Logic.{_≢_}
+use mathlib.Core.List.{List, [], _∷_, _++_, map}
+use mathlib.Core.Option.{none}
+use Prim.Native.Nat.{ℕ, zero, suc, _+_, _*_, _<_}
+use lib.ListN.{length, replicate}
+use Rattle.terms.specs.Terms.{Arguments, finished, wrongArguments, unknownName, namePresent, noRoom}
+use Rattle.terms.specs.Runs.{Item, postAdd, postFinish, step, Event, after, events}
+use Rattle.terms.specs.declared.Sizes.{Sizes}
+use Rattle.terms.specs.declared.Answer.{Answer}
+use Rattle.terms.specs.declared.Answer.the-variants.{Posted, Going, Ended, Refused}
+use Rattle.rules.specs.Rules.{idle, Graph, job, perform}
+
+-- ---- a list of items by the rules
+abbrev pub stepsOf : Sizes → ℕ → ℕ → List Item
+stepsOf s w k = replicate k (step s w)
+
+abbrev pub answers : Sizes → Graph → List Item → List Answer
+answers s g is = map (λ (e : Event). e .answer) (events (perform s) g is)
+
+abbrev pub through : Sizes → Graph → List Item → Graph
+through s g is = after (perform s) g is
+
+-- "A step answers "going on" or how the call ended": all go on but the last
+abbrev pub goingTo : ℕ → Answer → List Answer
+goingTo k x = replicate k Going ++ (x ∷ [])
+
+-- a call of so many steps: without any it is its post that ends it
+abbrev pub wholly : ℕ → Answer → List Answer
+wholly zero x = x ∷ []
+wholly (suc k) x = Posted ∷ goingTo k x
+
+-- ---- what is left
+-- more at the end of the queue, perhaps
+pub record Grown (q l : List ℕ) : Type 0 where
+  pub more : List ℕ
+  pub so : l ≡ q ++ more
+
+-- the holds, the calls of the other workers and the labels are as they were, and no job has left the queue
+-- (a job that is not there is unexecuted, as is one that enters)
+pub record Kept (w : ℕ) (g later : Graph) : Type 0 where
+  pub held : later .workers w .held ≡ g .workers w .held
+  pub others : (v : ℕ) → v ≢ w → later .workers v ≡ g .workers v
+  pub labels : (j : ℕ) → job later j .label ≡ job g j .label
+  pub queue : Grown (g .queue) (later .queue)
+
+-- "nothing else changed"
+pub record Unchanged (g later : Graph) : Type 0 where
+  pub jobs : later .jobs ≡ g .jobs
+  pub reserved : later .reserved ≡ g .reserved
+  pub queue : later .queue ≡ g .queue
+
+-- ---- an add: "An accepted add takes exactly 2d + 2 steps", and makes a job; 5 refuses its post, 6 the look-up of the
+-- name at its place, 7 and 8 its entering step
+pub data AddEnd (a : Arguments) (g later : Graph) (steps : ℕ) : Answer → Type 0 where
+  accepted : steps ≡ 2 * a .count + 2 → length (later .jobs) ≡ suc (length (g .jobs)) → AddEnd a g later steps Ended
+  wrong : steps ≡ 0 → Unchanged g later → AddEnd a g later steps (Refused wrongArguments 0)
+  unknown : {i : ℕ} → i < a .count → steps ≡ i + 1 → Unchanged g later → AddEnd a g later steps (Refused unknownName i)
+  present : steps ≡ a .count + 1 → Unchanged g later → AddEnd a g later steps (Refused namePresent 0)
+  no-room : steps ≡ a .count + 1 → Unchanged g later → AddEnd a g later steps (Refused noRoom 0)
+
+pub record AddLeft (w : ℕ) (a : Arguments) (g later : Graph) (steps : ℕ) (answer : Answer) : Type 0 where
+  pub idle : later .workers w .call ≡ idle
+  pub kept : Kept w g later
+  pub end : AddEnd a g later steps answer
+
+abbrev pub addItems : Sizes → ℕ → Arguments → ℕ → List Item
+addItems s w a steps = postAdd s w a ∷ stepsOf s w steps
+
+pub record WholeAdd (s : Sizes) (g : Graph) (w : ℕ) (a : Arguments) : Type 0 where
+  pub steps : ℕ
+  pub answer : Answer
+  pub answered : answers s g (addItems s w a steps) ≡ wholly steps answer
+  pub left : AddLeft w a g (through s g (addItems s w a steps)) steps answer
+
+-- ---- a finish of the held job p: "It takes 1 step more than it has arcs"; it "labels the job finished and frees the
+-- worker's hold"
+pub record FinishLeft (w p : ℕ) (g later : Graph) : Type 0 where
+  pub idle : later .workers w .call ≡ idle
+  pub held : later .workers w .held ≡ none
+  pub others : (v : ℕ) → v ≢ w → later .workers v ≡ g .workers v
+  pub finished : job later p .label ≡ finished
+  pub labels : (j : ℕ) → j ≢ p → job later j .label ≡ job g j .label
+  pub jobs : length (later .jobs) ≡ length (g .jobs)
+  pub queue : Grown (g .queue) (later .queue)
+
+abbrev pub finishItems : Sizes → Graph → ℕ → ℕ → List Item
+finishItems s g w p = postFinish s w (job g p .name) ∷ stepsOf s w (suc (length (job g p .dependents)))
+
+pub record WholeFinish (s : Sizes) (g : Graph) (w p : ℕ) : Type 0 where
+  pub answered : answers s g (finishItems s g w p) ≡ wholly (suc (length (job g p .dependents))) Ended
+  pub left : FinishLeft w p g (through s g (finishItems s g w p))
