@@ -16,17 +16,17 @@
 use mathlib.Core.Path.{_≡_}
 use mathlib.Core.Logic.{_↔_, _≢_}
 use mathlib.Core.Bool.{true, false}
-use mathlib.Core.List.{List, []}
+use mathlib.Core.List.{List, [], _∷_, _++_}
 use mathlib.Core.Option.{none}
 use Prim.Native.Nat.{ℕ, _+_, _^_, _≤_, _<_}
 use lib.ListN.{length, getD}
 use Rattle.bucket.specs.Bucket.{bucketOf}
 use Rattle.terms.specs.Base.{pick, occurrences}
-use Rattle.terms.specs.Terms.{Arguments, sameSizes, wrongSizes, damaged, mostNames, labelNumber, finished}
+use Rattle.terms.specs.Terms.{Arguments, withinLimits, sameSizes, wrongSizes, damaged, mostNames, labelNumber, finished}
 use Rattle.terms.specs.Runs.{Item, step, get, sizesOf, workerOf, outcome, after, events}
 use Rattle.terms.specs.Seen.{Same, idle}
 use Rattle.terms.specs.declared.Sizes.{Sizes}
-use Rattle.terms.specs.declared.Answer.the-variants.{Laid, NoneReady, Handed, Refused}
+use Rattle.terms.specs.declared.Answer.the-variants.{Laid, Ended, NoneReady, Handed, Refused}
 use Rattle.words.specs.Layout.{Tables, view, workerShape, NAME, HELD, LIST-COUNT, NAMES, IDLE, bareWorker, roomFor}
 use Rattle.words.specs.Layout as words
 use Rattle.words.specs.Words.{putWorker, perform, layOut}
@@ -47,6 +47,13 @@ use Rattle.locality.specs.Refusals as refusals
 use Rattle.locality.specs.Within as within
 use Rattle.locality.specs.Laying.{fresh}
 use Rattle.locality.specs.Laying as laying
+use Rattle.sheet_format.specs.Job.{Job}
+use Rattle.sheet_format.specs.NumberLaws.{Bytes}
+use Rattle.day_format.specs.Text.{decimal, leftWord, line, _␣_}
+use Rattle.day_format.specs.Whole.{wholeAdd, wholeFinish}
+use Rattle.day_format.specs.Day.{argumentsOf, Holder, getRound, finishAll, rounds, dayOf, dayText}
+use Rattle.day_history.specs.Theorem.{AddAnswer, Begins, afterAdds, withFirst, afterRounds, mostPrinted}
+use Rattle.day_history.specs.Theorem as ends-of-day
 use Rattle.graph_board.specs.Board.{graphTotals}
 use Rattle.graph_board.specs.Accounted.{Accounted}
 use Rattle.board_history.specs.Minutes.{accounted}
@@ -204,6 +211,28 @@ pub laying-out-makes-a-fresh-graph : (s : Sizes) (t : Tables)
     → layOut s t
     ≡ pick (roomFor s t) (outcome Laid (joined (fresh s) (rest s t))) (outcome (Refused wrongSizes 0) t)
 laying-out-makes-a-fresh-graph = laying.laid-out
+
+-- ---- the day list, of any entries at any sizes within their limits: no call that it runs whole is cut short by its budget
+-- of steps, nor the rounds by theirs, and no job is left
+module _ (s : Sizes) (limits : withinLimits s ≡ true) (js : List Job) where
+  pub no-add-is-cut-short : (j : Job) → AddAnswer (wholeAdd s (afterAdds s limits js .state) 0 (argumentsOf j) .answer)
+  no-add-is-cut-short = ends-of-day.no-add-is-cut-short s limits js
+
+  pub no-finish-is-cut-short : {t : Tables} {text : List ℕ} {h : ℕ} → Begins s limits js t text h
+      → (hs : List Holder) (x : Holder) (rest : List Holder) → getRound s t text h .holders ≡ hs ++ (x ∷ rest)
+      → wholeFinish s (finishAll s hs (getRound s t text h .state)) (x .worker) (x .name) .answer ≡ Ended
+  no-finish-is-cut-short = ends-of-day.no-finish-is-cut-short s limits js
+
+  pub the-rounds-suffice : (k : ℕ)
+      → rounds (k + (s .jobs + 1)) s (afterAdds s limits js .state) (withFirst s limits js) 0 ≡ afterRounds s limits js
+  the-rounds-suffice = ends-of-day.the-rounds-suffice s limits js
+
+  pub the-day-list-leaves-nothing : dayOf s js ≡ afterRounds s limits js .text ++ line (leftWord ␣ decimal 0)
+  the-day-list-leaves-nothing = ends-of-day.nothing-is-left s limits js
+
+-- and with two workers no sheet prints more than 97,979 bytes.
+pub the-day-list-fits : (sheet : List ℕ) → Bytes sheet → length (dayText 2 sheet) ≤ mostPrinted
+the-day-list-fits = ends-of-day.the-day-list-fits
 
 -- ---- the starred cases of document 01, "Checked by hand".
 pub the-starred-cases-hold : Starred
