@@ -18,19 +18,19 @@ use day_text::handed_line;
 use day_text::jobs_line;
 use day_text::left_line;
 use day_text::refused_line;
-use graph::get;
-use graph::lay_out;
+use graph_get::get;
+use graph_layout::lay_out;
 use graph_words::header;
 use graph_words::job_word;
 use sheet_format::Entry;
 use sheet_format::Read;
 use sheet_format::SheetRead;
 use sheet_reader::read;
-use sheet_reader::scan_sheet;
+use sheet_scan::scan_sheet;
 use terms::Answer;
 use terms::Sizes;
-use whole_calls::add_whole;
-use whole_calls::finish_whole;
+use whole_add::add_whole;
+use whole_finish::finish_whole;
 
 // Refusals: a number of workers off its limits, a sheet that is cut, an output that is too short.
 const WRONG_SIZES: u32 = 1;

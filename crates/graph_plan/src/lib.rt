@@ -3,8 +3,12 @@
 ghost use mathlib.Core.Path.{_≡_};
 ghost use mathlib.Core.List.{List};
 ghost use Prim.Native.Nat.{ℕ};
-ghost use Rattle.words.specs.Layout.{tables, lent, view};
-ghost use Rattle.words.specs.Words.{planPhase, admitted, refusal, planStep, planQueue, planGet, planGetOf, judgedCounters, judgedAdd, judgedFinish};
+ghost use lib.Dec.{eqb};
+ghost use Rattle.terms.specs.Base.{pick};
+ghost use Rattle.terms.specs.Terms.{argumentsWrong, halfDone, wrongArguments, damaged, notHeld};
+ghost use Rattle.words.specs.Columns.{columns};
+ghost use Rattle.words.specs.Layout.{workerShape, PHASE, IDLE, tables, lent, view};
+ghost use Rattle.words.specs.Words.{planPhase, admitted, refusal, planStep, planQueue, planGet, planGetOf, judgedAdd, holdsName, judgedFinish};
 
 pub mod arguments;
 
@@ -195,33 +199,29 @@ pub fn plan_get(
     }
 }
 
-// The number that turns a post away where a counter is off its range, or 0.
-fn judge_counters(sizes: Sizes, jobs: &[u32], arcs: &[u32]) -> u32
-    ensures { λ r. ⌜ ((buckets queue workers : List ℕ) → r ≡ judgedCounters sizes (view (tables (now (jobs .entry)) (now (arcs .entry)) buckets queue workers))) ⌝ }
-{
-    let counted = counters_ok(sizes, jobs, arcs);
-    if counted { 0 } else { DAMAGED }
-}
-
+// What turns the post of an add away, given whether the counters are within their range.
 fn judge_admitted_add(
-    sizes: Sizes,
-    jobs: &[u32],
-    arcs: &[u32],
     workers: &[u32],
     worker: u32,
+    counted: bool,
     name: u32,
     names: [u32; 32],
     count: u32,
     class: u32,
     grower: u32,
 ) -> u32
-    ensures { λ r. ⌜ ((buckets queue : List ℕ) → r ≡ judgedAdd sizes (view (tables (now (jobs .entry)) (now (arcs .entry)) buckets queue (now (workers .entry)))) worker (record { name = name; count = count; names = names; class = class; grower = grower })) ⌝ }
+    ensures { λ r. ⌜ r ≡ pick (eqb (columns workerShape (now (workers .entry)) PHASE worker) IDLE) (pick (argumentsWrong (record { name = name; count = count; names = names; class = class; grower = grower })) wrongArguments (pick counted 0 damaged)) halfDone ⌝ }
 {
     let idle = worker_word(workers, worker, PHASE) == IDLE;
     if idle {
-        let counters = judge_counters(sizes, jobs, arcs);
         let wrong = arguments_wrong(name, names, count, class, grower);
-        if wrong { WRONG_ARGUMENTS } else { counters }
+        if wrong {
+            WRONG_ARGUMENTS
+        } else if counted {
+            0
+        } else {
+            DAMAGED
+        }
     } else {
         HALF_DONE
     }
@@ -250,18 +250,8 @@ pub fn judge_add(
         if known {
             let sound = own_ok(sizes, jobs, arcs, workers, worker);
             if sound {
-                judge_admitted_add(
-                    sizes,
-                    jobs,
-                    arcs,
-                    workers,
-                    worker,
-                    name,
-                    names,
-                    count,
-                    class,
-                    grower,
-                )
+                let counted = counters_ok(sizes, jobs, arcs);
+                judge_admitted_add(workers, worker, counted, name, names, count, class, grower)
             } else {
                 DAMAGED
             }
@@ -273,16 +263,15 @@ pub fn judge_add(
     }
 }
 
-// The held job's name is read only where there is one.
+// The same for a finish. The held job's name is read only where there is one.
 fn judge_admitted_finish(
-    sizes: Sizes,
     jobs: &[u32],
-    arcs: &[u32],
     workers: &[u32],
     worker: u32,
+    counted: bool,
     name: u32,
 ) -> u32
-    ensures { λ r. ⌜ ((buckets queue : List ℕ) → r ≡ judgedFinish sizes (view (tables (now (jobs .entry)) (now (arcs .entry)) buckets queue (now (workers .entry)))) worker name) ⌝ }
+    ensures { λ r. ⌜ ((arcs buckets queue : List ℕ) → r ≡ pick (eqb (columns workerShape (now (workers .entry)) PHASE worker) IDLE) (pick (holdsName (view (tables (now (jobs .entry)) arcs buckets queue (now (workers .entry)))) worker name) (pick counted 0 damaged) notHeld) halfDone) ⌝ }
 {
     let idle = worker_word(workers, worker, PHASE) == IDLE;
     if idle {
@@ -293,7 +282,7 @@ fn judge_admitted_finish(
         }
         let holds = job_word(jobs, held, NAME) == name;
         if holds {
-            judge_counters(sizes, jobs, arcs)
+            if counted { 0 } else { DAMAGED }
         } else {
             NOT_HELD
         }
@@ -321,7 +310,8 @@ pub fn judge_finish(
         if known {
             let sound = own_ok(sizes, jobs, arcs, workers, worker);
             if sound {
-                judge_admitted_finish(sizes, jobs, arcs, workers, worker, name)
+                let counted = counters_ok(sizes, jobs, arcs);
+                judge_admitted_finish(jobs, workers, worker, counted, name)
             } else {
                 DAMAGED
             }

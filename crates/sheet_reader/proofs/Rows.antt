@@ -9,10 +9,10 @@ use borrow.Author.Tests.{le-leb, lt-leb}
 use Rattle.sheet_format.specs.Job.{Job, mostNames}
 use Rattle.sheet_format.specs.Decode.{job, end, refused, decode, Sheet, jobs, broken, before, decodeSheet, scanSheet, rowWords, rowOf, rowsOf, sheetRows, readSheet, noRoom}
 use Rattle.sheet_format.specs.declared.SheetRead.{SheetRead}
-use Rattle.sheet_reader.proofs.Fields.{never}
-use Rattle.sheet_reader.proofs.Entries.{stands}
+use Rattle.entry_scan.proofs.Fields.{never}
+use Rattle.entry_scan.proofs.Entries.{stands}
 use Rattle.sheet_reader.proofs.Stores.{sets-append}
-use Rattle.sheet_reader.proofs.Sheets.{rest, rest-start, rest-on}
+use Rattle.sheet_scan.proofs.Sheets.{rest, rest-start, rest-on}
 
 -- a sheet of jobs that was counted
 pub counted-jobs : (t : Sheet) (n : ℕ) {P : Type 0} → scanSheet t ≡ SheetRead.Whole n → ((js : List Job) → t ≡ jobs js → length js ≡ n → P) → P
@@ -90,3 +90,7 @@ module _ {s rows₀ rows : List ℕ} {at from : ℕ} (l : Left s rows₀ rows at
   left-refused {c} {a} e =
       let r : broken c a ≡ jobs (l .left) = rw e at (sym (rest-on s at) ∙ l .behind) in
       never (cc)
+
+  -- so what is said of an entry that is no refusal holds of each entry
+  pub left-sound : {P : Type 0} → (((number place : ℕ) → decode s at ≡ refused number place → ⊥) → P) → P
+  left-sound said = said λ number place e. left-refused e

@@ -9,7 +9,7 @@ use lib.Seq.{sets, sets-eq, set-set, set-comm}
 use Rattle.sheet_format.specs.Number.{numberAt}
 use Rattle.sheet_format.specs.Job.{mostNames}
 use Rattle.sheet_format.specs.Decode.{namesAt, padded}
-use Rattle.sheet_reader.proofs.Entries.{names-length}
+use Rattle.entry_scan.proofs.Entries.{names-length}
 
 -- one run of stores behind another
 pub sets-append : (l vs ws : List ℕ) (i k : ℕ) → k ≡ i + length vs → sets (sets l i vs) k ws ≡ sets l i (vs ++ ws)

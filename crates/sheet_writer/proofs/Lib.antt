@@ -1,3 +1,1 @@
 pub mod Puts
-pub mod Judging
-pub mod Rows

@@ -1,17 +1,15 @@
--- Runs of stores at a running place, and how long each field of an entry is, at every width. Assumes nothing.
-use Prim.Native.Nat.{ℕ, zero, suc, _+_, _*_, _-_, _≤_, _<_}
-use mathlib.Core.Path.{_≡_, refl, sym, ap, _∙_}
+-- Runs of stores at a running place. Assumes nothing.
+use Prim.Native.Nat.{ℕ, suc, _+_, _-_, _≤_, _<_}
+use mathlib.Core.Path.{_≡_, refl, ap, _∙_}
 use mathlib.Core.List.{List, [], _∷_, _++_}
-use mathlib.Core.Bool.{Bool, true, false}
 use native.Mathlib.Omega.{arith}
-use lib.Dec.{leb}
-use lib.ListN.{length, getD, set, take, drop, length-append, length-drop}
-use lib.Seq.{sets, drop-cons, length-sets, length-take-le}
-use borrow.Author.Tests.{leb-true, leb-false, le-leb, lt-leb}
+use lib.ListN.{length, getD, set, take, drop, length-append}
+use lib.Seq.{sets, drop-cons, length-sets}
 use Rattle.sheet_format.specs.Number.{spelt}
-use Rattle.sheet_format.specs.Job.{bitOf, nameBytes, countBytes, classBytes, growerBytes, speltUnlessZero, speltNames, speltList, mapByte, encode}
-use Rattle.sheet_format.specs.Write.{listPlace, listBytes}
-use Rattle.sheet_writer.specs.Put.{Put, jobWith}
+use Rattle.sheet_format.specs.Job.{nameBytes, classBytes, growerBytes, speltUnlessZero, speltNames, speltList}
+use Rattle.sheet_format.specs.Job.{mapByte, encode}
+use Rattle.sheet_limits.specs.Jobs.{jobWith}
+use Rattle.sheet_writer.specs.Put.{Put}
 
 -- a run of stores after another is one run
 pub sets-append : (l vs ws : List ℕ) (i k : ℕ) → k ≡ i + length vs → sets (sets l i vs) k ws ≡ sets l i (vs ++ ws)
@@ -37,51 +35,7 @@ nothing out place = record { stored = refl; past = omega arith }
 pub one : (out : List ℕ) (place b : ℕ) → Put (b ∷ []) out place (set out place b) (place + 1)
 one out place b = record { stored = refl; past = refl }
 
--- a field that is there
-module _ (n : ℕ) (some : n ≡ 0 → ⊥) where
-  above-zero : n ≡ suc (n - 1)
-  above-zero = omega arith
-
-  pub bit-some : bitOf n ≡ 1
-  bit-some = rw above-zero
-
-  pub bytes-some : listBytes n ≡ countBytes + nameBytes * n
-  bytes-some = rw above-zero
-
-  pub spelt-some : (w : ℕ) → speltUnlessZero w n ≡ spelt w n
-  spelt-some w = rw above-zero
-
-  pub list-some : (w : ℕ) (xs : List ℕ) → length xs ≡ n → speltList w xs ≡ spelt countBytes n ++ speltNames w xs
-  list-some w [] h = absurd (some (sym h))
-  list-some w (x ∷ xs) h = rw h
-
--- how long each field is
-pub spelt-length : (w n : ℕ) → length (spelt w n) ≡ w
-unfolding spelt
-spelt-length zero n = refl
-spelt-length (suc w) n = ap suc (spelt-length w _)
-
-pub unless-length : (w n : ℕ) → length (speltUnlessZero w n) ≡ w * bitOf n
-unless-length w zero = omega arith
-unless-length w (suc n) = spelt-length w (suc n) ∙ omega arith
-
-pub names-length : (w : ℕ) (xs : List ℕ) → length (speltNames w xs) ≡ w * length xs
-unfolding speltNames
-names-length w [] = omega arith
-names-length w (x ∷ xs) =
-    length-append (spelt w x) (speltNames w xs) ∙ omega (arith, spelt-length w x, names-length w xs)
-
-list-length : (xs : List ℕ) → length (speltList nameBytes xs) ≡ listBytes (length xs)
-list-length [] = refl
-list-length (x ∷ xs) =
-    length-append (spelt countBytes (length (x ∷ xs))) (speltNames nameBytes (x ∷ xs))
-    ∙ omega (arith, spelt-length countBytes (length (x ∷ xs)), names-length nameBytes (x ∷ xs))
-
--- n of the words, the first at from
-pub taken : (words : List ℕ) (from n : ℕ) → from + n ≤ length words → length (take n (drop from words)) ≡ n
-taken words from n h = length-take-le n (drop from words) (simp length-drop (omega arith))
-
--- the first of them, and the others
+-- n of the words, the first at from: the first of them, and the others
 pub next-name : (w : ℕ) (words : List ℕ) (from i n : ℕ) → i < n → from + n ≤ length words → speltNames w (take (n - i) (drop (from + i) words)) ≡ spelt w (getD words (from + i) 0) ++ speltNames w (take (n - (i + 1)) (drop (from + (i + 1)) words))
 unfolding speltNames
 next-name w words from i n h k =
@@ -94,30 +48,10 @@ pub onward : {a rest out mid whole : List ℕ} {place p : ℕ} (b : List ℕ) �
 onward {a} {rest} {out} {mid} {whole} {place} {p} b f e h =
     rw (f .stored) (sets-append out a b place p (f .past) ∙ rw e at h)
 
--- the bytes of an entry with so many names, this class and this grower
-abbrev pub bytesOf : ℕ → ℕ → ℕ → ℕ
-bytesOf count class grower = listPlace + listBytes count + classBytes * bitOf class + growerBytes * bitOf grower
-
 -- an entry
 module _ (words : List ℕ) (from count class grower : ℕ) (named : from + count ≤ length words) where
-  pub list-bytes : length (speltList nameBytes (take count (drop from words))) ≡ listBytes count
-  list-bytes = list-length (take count (drop from words)) ∙ ap listBytes (taken words from count named)
-
-  pub encode-length : (name : ℕ) → length (encode (jobWith name words from count class grower)) ≡ bytesOf count class grower
-  unfolding encode
-  encode-length name =
-      simp (length-append, spelt-length, list-bytes, unless-length) (omega arith)
-
   -- the map byte and the fields, stored one after the other
   pub entry : {b place p₁ p₂ p₃ p₄ : ℕ} {out l₁ l₂ l₃ l₄ : List ℕ} (name : ℕ) → b ≡ mapByte (jobWith name words from count class grower) → Put (spelt nameBytes name) (set out place b) (place + 1) l₁ p₁ → Put (speltList nameBytes (take count (drop from words))) l₁ p₁ l₂ p₂ → Put (speltUnlessZero classBytes class) l₂ p₂ l₃ p₃ → Put (speltUnlessZero growerBytes grower) l₃ p₃ l₄ p₄ → Put (encode (jobWith name words from count class grower)) out place l₄ p₄
   unfolding encode
   entry {b} {place} name m f₁ f₂ f₃ f₄ =
       rw (← m) (after (one _ place b) (after f₁ (after f₂ (after f₃ f₄))))
-
--- room, tested with no sum
-pub room : (n at b : ℕ) → at ≤ n → leb b (n - at) ≡ leb (at + b) n
-room n at b h = go (leb b (n - at)) refl
-  where
-    go : (t : Bool) → leb b (n - at) ≡ t → leb b (n - at) ≡ leb (at + b) n
-    go true e = let k = leb-true b (n - at) e in e ∙ sym (le-leb (at + b) n (omega arith))
-    go false e = let k = leb-false b (n - at) e in e ∙ sym (lt-leb (at + b) n (omega arith))

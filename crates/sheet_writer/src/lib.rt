@@ -1,19 +1,36 @@
-// Writes entries and whole sheets of jobs (document 01, "Job sheets", numbers 14 and 15): judged first, then stored field
-// after field at a running place. A refusal leaves the output as it was. Assumes nothing.
+// Writes entries and whole sheets of jobs (document 01, "Job sheets", numbers 14 and 15): judged first, then stored
+// field after field at a running place. A refusal leaves the output as it was. Assumes nothing.
+use sheet_format::Entry;
+use sheet_format::SheetWrote;
+use sheet_format::Wrote;
+use sheet_limits::CLASS_BYTES;
+use sheet_limits::CLASS_WORD;
+use sheet_limits::COUNT_BYTES;
+use sheet_limits::COUNT_WORD;
+use sheet_limits::GROWER_BYTES;
+use sheet_limits::GROWER_WORD;
+use sheet_limits::Judged;
+use sheet_limits::MAP_BYTES;
+use sheet_limits::NAME_BYTES;
+use sheet_limits::NAMES_WORD;
+use sheet_limits::ROW_WORDS;
+use sheet_limits::SheetJudged;
+use sheet_limits::bit;
+use sheet_limits::has_room;
+use sheet_limits::judge;
+use sheet_limits::judge_sheet;
 ghost use mathlib.Core.Path.{_≡_};
 ghost use mathlib.Core.List.{List, map};
 ghost use Prim.Native.Nat.{ℕ, _+_, _*_, _≤_};
 ghost use lib.ListN.{length, take, drop};
-ghost use lib.Dec.{leb};
 ghost use Rattle.sheet_format.specs.Number.{spelt};
-ghost use Rattle.sheet_format.specs.Job.{mostNames, nameBytes, countBytes, classBytes, growerBytes, bitOf, speltUnlessZero, speltNames, speltList, mapByte, encode, encodeSheet};
+ghost use Rattle.sheet_format.specs.Job.{nameBytes, classBytes, growerBytes, bitOf, speltUnlessZero, speltNames};
+ghost use Rattle.sheet_format.specs.Job.{speltList, mapByte, encode, encodeSheet};
 ghost use Rattle.sheet_format.specs.Decode.{rowWords};
-ghost use Rattle.sheet_format.specs.Write.{listBytes, Fault, faultOf, jobOf, entryAt, entriesFrom, SheetFault, sheetFault, written, writeEntry, sheetWritten, writeSheet};
-ghost use Rattle.sheet_writer.specs.Judge.{judged, entryWith, sheetJudged};
-ghost use Rattle.sheet_writer.specs.Put.{Put, jobOn, jobWith};
-use sheet_format::Entry;
-use sheet_format::SheetWrote;
-use sheet_format::Wrote;
+ghost use Rattle.sheet_format.specs.Write.{listBytes, Fault, faultOf, jobOf, entryAt, entriesFrom};
+ghost use Rattle.sheet_format.specs.Write.{SheetFault, sheetFault, written, writeEntry, sheetWritten, writeSheet};
+ghost use Rattle.sheet_limits.specs.Jobs.{jobOn, jobWith};
+ghost use Rattle.sheet_writer.specs.Put.{Put};
 
 // Refusals: a table shorter than its records need, a field off its limits, an output without room.
 const CUT_TABLE: u32 = 1;
@@ -21,97 +38,6 @@ const CUT_TABLE: u32 = 1;
 const OFF_LIMITS: u32 = 14;
 
 const NO_ROOM: u32 = 15;
-
-// The most names of a list, the highest class and the highest grower.
-const MOST_NAMES: u32 = 32;
-
-const MOST_CLASS: u32 = 15;
-
-const MOST_GROWER: u32 = 65535;
-
-// Bytes of the map, a name, a list's count, a class and a grower.
-const MAP_BYTES: usize = 1;
-
-const NAME_BYTES: usize = 4;
-
-const COUNT_BYTES: usize = 1;
-
-const CLASS_BYTES: usize = 1;
-
-const GROWER_BYTES: usize = 2;
-
-// Where the list stands, from the entry's start.
-const LIST_PLACE: usize = MAP_BYTES + NAME_BYTES;
-
-// The row of words that holds an entry: its name, and from these words on its count, class, grower and names.
-const ROW_WORDS: usize = 36;
-
-const COUNT_WORD: usize = 1;
-
-const CLASS_WORD: usize = 2;
-
-const GROWER_WORD: usize = 3;
-
-const NAMES_WORD: usize = 4;
-
-// An entry judged by its limits: where its first wrong field stands, from the entry's start, or the bytes that it takes.
-enum Judged {
-    Refused { at: usize },
-    Takes { bytes: usize },
-}
-
-// A sheet judged: its first entry with a wrong field, and where that field stands, or the bytes that the sheet takes.
-enum SheetJudged {
-    Refused { entry: usize, at: usize },
-    Takes { bytes: usize },
-}
-
-// 1 for a field that is written, 0 for one that is left out.
-fn bit(x: u32) -> usize
-    ensures { λ r. ⌜ (r ≡ bitOf x) × (r ≤ 1) ⌝ }
-{
-    if x == 0 { 0 } else { 1 }
-}
-
-// The bytes of a list of n names.
-fn list_bytes(n: u32) -> usize
-    ensures { λ r. ⌜ (r ≡ listBytes n) × (r ≤ countBytes + nameBytes * n) ⌝ }
-{
-    if n == 0 {
-        0
-    } else {
-        COUNT_BYTES + NAME_BYTES * (n as usize)
-    }
-}
-
-// Judges an entry by its count, class and grower, whatever its names are.
-fn judge(count: u32, class: u32, grower: u32) -> Judged
-    ensures { λ r. ⌜ ((name : ℕ) (names : List ℕ) → length names ≡ mostNames → r ≡ judged (entryWith name count class grower names)) ⌝ }
-{
-    if MOST_NAMES < count {
-        return Judged::Refused { at: LIST_PLACE };
-    }
-    let class_place = LIST_PLACE + list_bytes(count);
-    if MOST_CLASS < class {
-        return Judged::Refused { at: class_place };
-    }
-    let grower_place = class_place + CLASS_BYTES * bit(class);
-    if MOST_GROWER < grower {
-        return Judged::Refused { at: grower_place };
-    }
-    let bytes = grower_place + GROWER_BYTES * bit(grower);
-    Judged::Takes { bytes }
-}
-
-// Whether so many bytes from an offset on lie before the end. No sum is made, so none can wrap.
-fn has_room(end: usize, at: usize, bytes: usize) -> bool
-    ensures { λ r. ⌜ r ≡ leb (at + bytes) end ⌝ }
-{
-    if end < at {
-        return false;
-    }
-    bytes <= end - at
-}
 
 // A name, least byte first.
 fn put_name(out: &mut [u8], place: usize, name: u32) -> usize
@@ -204,6 +130,24 @@ fn put_entry(
     put_grower(out, grower_place, grower)
 }
 
+// An entry that is within its limits and for which there is room.
+fn put_whole(out: &mut [u8], place: usize, entry: Entry) -> usize
+    requires { ⌜ (faultOf entry ≡ Fault.none) × (place + length (encode (jobOf entry)) ≤ length (now out)) ⌝ }
+    ensures { λ r. ⌜ Put (encode (jobOf entry)) (now (out .entry)) place (now (out .exit)) r ⌝ }
+{
+    let names = entry.names;
+    put_entry(
+        out,
+        place,
+        entry.name,
+        &names,
+        0,
+        entry.count,
+        entry.class,
+        entry.grower,
+    )
+}
+
 // Writes an entry at an offset of the output, or leaves the output as it was.
 pub fn write(out: &mut [u8], at: usize, entry: Entry) -> Wrote
     ensures { λ r. ⌜ written r (now (out .exit)) ≡ writeEntry entry (now (out .entry)) at ⌝ }
@@ -215,17 +159,7 @@ pub fn write(out: &mut [u8], at: usize, entry: Entry) -> Wrote
         },
         Judged::Takes { bytes } => {
             if has_room(out.len(), at, bytes) {
-                let names = entry.names;
-                let next = put_entry(
-                    out,
-                    at,
-                    entry.name,
-                    &names,
-                    0,
-                    entry.count,
-                    entry.class,
-                    entry.grower,
-                );
+                let next = put_whole(out, at, entry);
                 Wrote::Done { next }
             } else {
                 Wrote::Refused {
@@ -235,40 +169,6 @@ pub fn write(out: &mut [u8], at: usize, entry: Entry) -> Wrote
             }
         }
     }
-}
-
-// The entry in row i, judged.
-fn judge_row(rows: &[u32], i: usize) -> Judged
-    requires { ⌜ rowWords * (i + 1) ≤ length (now rows) ⌝ }
-    ensures { λ r. ⌜ r ≡ judged (entryAt (now (rows .entry)) i) ⌝ }
-{
-    let row = ROW_WORDS * i;
-    judge(
-        rows[row + COUNT_WORD],
-        rows[row + CLASS_WORD],
-        rows[row + GROWER_WORD],
-    )
-}
-
-// The entries of the first n rows, judged.
-fn judge_rows(rows: &[u32], n: usize) -> SheetJudged
-    requires { ⌜ rowWords * n ≤ length (now rows) ⌝ }
-    ensures { λ r. ⌜ r ≡ sheetJudged (entriesFrom (now (rows .entry)) 0 n) ⌝ }
-{
-    let mut sum: usize = 0;
-    let mut i: usize = 0;
-    while i < n {
-        match judge_row(rows, i) {
-            Judged::Refused { at } => {
-                return SheetJudged::Refused { entry: i, at };
-            }
-            Judged::Takes { bytes } => {
-                sum += bytes;
-            }
-        }
-        i += 1;
-    }
-    SheetJudged::Takes { bytes: sum }
 }
 
 // The entry in row i, which is within its limits and for which there is room. Its names are read where they stand.
@@ -319,7 +219,7 @@ pub fn write_sheet(rows: &[u32], out: &mut [u8]) -> SheetWrote
             at: 0,
         };
     }
-    match judge_rows(rows, n) {
+    match judge_sheet(rows) {
         SheetJudged::Refused { entry, at } => SheetWrote::Refused {
             number: OFF_LIMITS,
             entry,

@@ -134,7 +134,7 @@ fn scanned(answer: SheetRead) -> SheetScanned
 pub extern "C" fn tg_scan_sheet(sheet: &[u8]) -> SheetScanned
     ensures { λ r. ⌜ r ≡ sheetScanned (decodeSheet (now (sheet .entry))) ⌝ }
 {
-    scanned(sheet_reader::scan_sheet(sheet))
+    scanned(sheet_scan::scan_sheet(sheet))
 }
 
 // Reads a whole sheet into rows of words, one for each entry. A refusal leaves the rows as they were.

@@ -1,7 +1,7 @@
 -- `graph_apply::apply_get` meets its contract: each arm's stores are those of its plan.
 -- Assumes nothing.
 use Rattle.words.specs.Words.{appliedGet}
-use Rattle.graph_apply.specs.Fitting.{FittingGet}
+use Rattle.fitting.specs.Fitting.{FittingGet}
 use borrow.Author.Needs.{needs}
 use Rattle.graph_apply.proofs.apply_get.Statement.{statement}
 use Rattle.graph_apply.proofs.apply_get.Tie as tie
@@ -15,14 +15,8 @@ enum-told-2 c = search needs
 enum-known-plan : tie.Need-enum-known-plan
 enum-known-plan c = search needs
 
-put-job-requires : tie.Need-put-job-requires
-put-job-requires c κs = search needs
-
-take-job-requires : tie.Need-take-job-requires
-take-job-requires c κs = search needs
-
-put-worker-requires : tie.Need-put-worker-requires
-put-worker-requires c κs = search needs
+take-requires : tie.Need-take-requires
+take-requires c κs = search needs
 
 returns : tie.Need-returns
 unfolding appliedGet
@@ -42,15 +36,11 @@ same-length-3 : tie.Need-same-length-3
 same-length-3 c = search needs
 
 returns-3 : tie.Need-returns-3
-unfolding appliedGet FittingGet
+unfolding FittingGet
 returns-3 c =
     λ h arcs buckets.
-    rw (
-      c .before .before .before .before .before .before .before .before .before .before .before .before .before .plan .given .1,
-      c .before .before .put-worker .ensures,
-      c .before .before .before .before .before .before .before .before .before .before .put-job .ensures,
-      c .before .before .before .before .before .before .take-job .ensures (rw (c .before .before .before .before .before .before .before .before .before .before .before .before .before .plan .given .1) at h),
-    )
+    let e = c .before .before .before .before .before .before .before .before .before .before .before .plan .given .1 in
+    rw e (c .before .before .before .before .before .before .take .ensures (rw e at h) _ arcs buckets)
 
 pub apply-get-spec : {M : Type 1} → statement M
 apply-get-spec =
@@ -59,9 +49,7 @@ apply-get-spec =
     enum-told
     enum-told-2
     enum-known-plan
-    put-job-requires
-    take-job-requires
-    put-worker-requires
+    take-requires
     returns
     returns-2
     same-length

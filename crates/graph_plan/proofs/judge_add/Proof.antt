@@ -14,21 +14,25 @@ sizes-fit-requires c κs = search needs
 own-ok-requires : tie.Need-own-ok-requires
 own-ok-requires c κs = search needs
 
+counters-ok-requires : tie.Need-counters-ok-requires
+counters-ok-requires c κs = search needs
+
 judge-admitted-add-requires : tie.Need-judge-admitted-add-requires
 judge-admitted-add-requires c κs = search needs
 
 returns : tie.Need-returns
 unfolding admitted
 returns c =
-    let a = c .before .before .before .before .before .before .before .before .before .before .before .before .args in
+    let a = c .before .before .before .before .before .before .before .before .before .before .before .before .before .args in
     let t = tables (now (a .jobs)) (now (a .arcs)) (now (a .buckets)) (now (a .queue)) (now (a .workers)) in
-    let fit = c .before .before .before .before .before .before .sizes-fit in
-    let own = c .before .before .own-ok in
+    let fit = c .before .before .before .before .before .before .before .sizes-fit in
+    let own = c .before .before .before .own-ok in
     rw (
       admits-known (a .sizes) t (a .worker) (fit .result) (own .result) (fit .ensures) (own .ensures (now (a .buckets)) (now (a .queue)))
-          (c .before .before .before .before .before .if1 .taken)
-          (c .before .before .before .if2 .taken),
-      c .before .if3 .taken,
+          (c .before .before .before .before .before .before .if1 .taken)
+          (c .before .before .before .before .if2 .taken),
+      c .before .before .if3 .taken,
+      ← c .before .counters-ok .ensures,
       ← c .judge-admitted-add .ensures,
     )
 
@@ -69,6 +73,7 @@ judge-add-spec =
     (tie.spec
     sizes-fit-requires
     own-ok-requires
+    counters-ok-requires
     judge-admitted-add-requires
     returns
     returns-2

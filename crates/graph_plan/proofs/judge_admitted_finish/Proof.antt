@@ -12,7 +12,7 @@ worker-word-requires-2 c κs = search needs
 
 returns : tie.Need-returns
 returns c =
-    λ buckets queue.
+    λ arcs buckets queue.
     rw (
       ← c .before .before .before .worker-word .ensures,
       c .before .before .if1 .taken,
@@ -23,12 +23,9 @@ returns c =
 job-word-requires : tie.Need-job-word-requires
 job-word-requires c κs = search needs
 
-judge-counters-requires : tie.Need-judge-counters-requires
-judge-counters-requires c κs = search needs
-
 returns-2 : tie.Need-returns-2
 returns-2 c =
-    λ buckets queue.
+    λ arcs buckets queue.
     rw (
       ← c .before .before .before .before .before .before .worker-word .ensures,
       c .before .before .before .before .before .if1 .taken,
@@ -36,12 +33,25 @@ returns-2 c =
       c .before .before .before .if2 .left,
       ← c .before .before .job-word .ensures,
       c .before .if3 .taken,
-      ← c .judge-counters .ensures,
+      c .if4 .taken,
     )
 
 returns-3 : tie.Need-returns-3
 returns-3 c =
-    λ buckets queue.
+    λ arcs buckets queue.
+    rw (
+      ← c .before .before .before .before .before .before .worker-word .ensures,
+      c .before .before .before .before .before .if1 .taken,
+      ← c .before .before .before .before .worker-word2 .ensures,
+      c .before .before .before .if2 .left,
+      ← c .before .before .job-word .ensures,
+      c .before .if3 .taken,
+      c .if4 .left,
+    )
+
+returns-4 : tie.Need-returns-4
+returns-4 c =
+    λ arcs buckets queue.
     rw (
       ← c .before .before .before .before .before .worker-word .ensures,
       c .before .before .before .before .if1 .taken,
@@ -51,9 +61,9 @@ returns-3 c =
       c .if3 .left,
     )
 
-returns-4 : tie.Need-returns-4
-returns-4 c =
-    λ buckets queue.
+returns-5 : tie.Need-returns-5
+returns-5 c =
+    λ arcs buckets queue.
     rw (
       ← c .before .worker-word .ensures,
       c .if1 .left,
@@ -67,7 +77,7 @@ judge-admitted-finish-spec =
     worker-word-requires-2
     returns
     job-word-requires
-    judge-counters-requires
     returns-2
     returns-3
-    returns-4)
+    returns-4
+    returns-5)

@@ -7,6 +7,7 @@ use lib.ListN.{length, length-set}
 use borrow.Author.Needs.{needs}
 use Rattle.sheet_format.specs.Decode.{namesAt}
 use Rattle.sheet_format.specs.Job.{nameBytes}
+use Rattle.entry_scan.proofs.Fields.{number4-at}
 use Rattle.sheet_reader.proofs.Stores.{name-more}
 use Rattle.sheet_reader.proofs.store_names.Statement.{statement}
 use Rattle.sheet_reader.proofs.store_names.Tie as tie
@@ -22,14 +23,35 @@ loop-holds : tie.Need-loop-holds Inv-loop μ-loop
 unfolding namesAt
 loop-holds c = search needs
 
-mul-number4 : tie.Need-mul-number4 Inv-loop μ-loop
-mul-number4 c = search needs
+mul-place : tie.Need-mul-place Inv-loop μ-loop
+mul-place c = search needs
 
-add-number4 : tie.Need-add-number4 Inv-loop μ-loop
-add-number4 c = search needs
+add-place : tie.Need-add-place Inv-loop μ-loop
+add-place c = search needs
 
-number4-requires : tie.Need-number4-requires Inv-loop μ-loop
-number4-requires c κs = search needs
+shared-slice-read-spelt4 : tie.Need-shared-slice-read-spelt4 Inv-loop μ-loop
+shared-slice-read-spelt4 c = search needs
+
+add-spelt4 : tie.Need-add-spelt4 Inv-loop μ-loop
+add-spelt4 c = search needs
+
+shared-slice-read-spelt4-2 : tie.Need-shared-slice-read-spelt4-2 Inv-loop μ-loop
+shared-slice-read-spelt4-2 c = search needs
+
+add-spelt4-2 : tie.Need-add-spelt4-2 Inv-loop μ-loop
+add-spelt4-2 c = search needs
+
+shared-slice-read-spelt4-3 : tie.Need-shared-slice-read-spelt4-3 Inv-loop μ-loop
+shared-slice-read-spelt4-3 c = search needs
+
+add-spelt4-3 : tie.Need-add-spelt4-3 Inv-loop μ-loop
+add-spelt4-3 c = search needs
+
+shared-slice-read-spelt4-4 : tie.Need-shared-slice-read-spelt4-4 Inv-loop μ-loop
+shared-slice-read-spelt4-4 c = search needs
+
+spelt4-requires : tie.Need-spelt4-requires Inv-loop μ-loop
+spelt4-requires c κs = search needs
 
 add-words : tie.Need-add-words Inv-loop μ-loop
 add-words c = search needs
@@ -48,7 +70,12 @@ loop-less c = search needs
 
 loop-again : tie.Need-loop-again Inv-loop μ-loop
 loop-again c =
-    (search needs, simp length-set (omega arith), rw (c .before .before .loop .inv .2, c .number4 .ensures) (name-more _ _ _ nameBytes _ _ _ (omega arith)))
+    let inv = c .before .before .before .before .before .before .loop .inv in (
+      search needs,
+      simp length-set (omega arith),
+      rw (inv .2, c .spelt4 .ensures, ← number4-at)
+          (name-more _ _ _ nameBytes _ _ _ (omega arith)),
+    )
 
 same-length : tie.Need-same-length Inv-loop μ-loop
 same-length c = search needs
@@ -65,9 +92,16 @@ store-names-spec =
     Inv-loop
     μ-loop
     loop-holds
-    mul-number4
-    add-number4
-    number4-requires
+    mul-place
+    add-place
+    shared-slice-read-spelt4
+    add-spelt4
+    shared-slice-read-spelt4-2
+    add-spelt4-2
+    shared-slice-read-spelt4-3
+    add-spelt4-3
+    shared-slice-read-spelt4-4
+    spelt4-requires
     add-words
     mul-words
     slice-write-words

@@ -1,5 +1,4 @@
 -- `store_row` stores an entry's row. Assumes nothing.
-use mathlib.Core.Path.{_∙_}
 use native.Mathlib.Omega.{arith}
 use lib.ListN.{length-set}
 use borrow.Author.Needs.{needs}
@@ -60,8 +59,10 @@ same-length c =
 returns : tie.Need-returns
 returns c =
     let a = c .before .before .before .before .before .before .before .before .before .before .args in
-    c .before .before .store-names .ensures
-    ∙ rw (c .before .before .before .before .before .before .clear-names .ensures) (row-stored mostNames (a .rows .now) (a .from) (a .name) (a .count) (a .class) (a .grower) nameBytes _ _ _ (omega arith))
+    let cleared = c .before .before .before .before .before .before .clear-names .ensures in
+    rw (c .before .before .store-names .ensures, cleared)
+    (row-stored mostNames (a .rows .now) (a .from) (a .name) (a .count) (a .class) (a .grower) nameBytes _ _ _
+    (omega arith))
 
 pub store-row-spec : {M : Type 1} → statement M
 store-row-spec =

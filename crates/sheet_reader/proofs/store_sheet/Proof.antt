@@ -3,8 +3,8 @@ use Prim.Native.Nat.{_-_}
 use native.Mathlib.Omega.{arith}
 use lib.ListN.{length}
 use borrow.Author.Needs.{needs}
-use Rattle.sheet_reader.proofs.Rows.{Left, left-start, left-room, left-more, left-none, left-refused}
-use Rattle.sheet_reader.proofs.Entries.{scan-job, scan-end, scan-refused, names-length}
+use Rattle.sheet_reader.proofs.Rows.{Left, left-start, left-room, left-more, left-none, left-refused, left-sound}
+use Rattle.entry_scan.proofs.Entries.{scan-job, scan-end, scan-refused, names-length}
 use Rattle.sheet_reader.proofs.store_sheet.Statement.{statement}
 use Rattle.sheet_reader.proofs.store_sheet.Tie as tie
 
@@ -18,33 +18,43 @@ loop-holds : tie.Need-loop-holds Inv-loop μ-loop
 loop-holds c = left-start _ _ _ (c .before .before .pre .0) (c .before .before .pre .1)
 
 scan-again-requires : tie.Need-scan-again-requires Inv-loop μ-loop
-scan-again-requires c κs =
-    let l = c .loop .inv in
-    (l .inside, λ number place e. left-refused l e)
+scan-again-requires c κs = search needs
 
 enum-known-name : tie.Need-enum-known-name Inv-loop μ-loop
 enum-known-name c = search needs
 
 add-store-row : tie.Need-add-store-row Inv-loop μ-loop
-add-store-row c = omega (arith, scan-job (c .before .before .before .scan-again .ensures) (c .before .name .given .1))
+add-store-row c =
+    let s = c .before .before .before in
+    omega (arith, scan-job (left-sound (s .before .loop .inv) (s .scan-again .ensures)) (c .before .name .given .1))
 
 store-row-requires : tie.Need-store-row-requires Inv-loop μ-loop
 store-row-requires c κs =
-    let e = scan-job (c .before .before .before .before .scan-again .ensures) (c .before .before .name .given .1) in
-    (e .reach .most, e .reach .names, left-room (c .before .before .before .before .before .loop .inv) (e .entry))
+    let s = c .before .before .before .before in
+    let l = s .before .loop .inv in
+    let e = scan-job (left-sound l (s .scan-again .ensures)) (c .before .before .name .given .1) in
+    (e .reach .most, e .reach .names, left-room l (e .entry))
 
 add-from : tie.Need-add-from Inv-loop μ-loop
 add-from c =
-    let e = scan-job (c .before .before .before .before .before .before .before .scan-again .ensures) (c .before .before .before .before .before .name .given .1) in
-    omega (arith, left-room (c .before .before .before .before .before .before .before .before .loop .inv) (e .entry))
+    let s = c .before .before .before .before .before .before .before in
+    let l = s .before .loop .inv in
+    let e = scan-job (left-sound l (s .scan-again .ensures)) (c .before .before .before .before .before .name .given .1) in
+    omega (arith, left-room l (e .entry))
 
 loop-less : tie.Need-loop-less Inv-loop μ-loop
-loop-less c = omega (arith, scan-job (c .before .before .before .before .before .before .before .scan-again .ensures) (c .before .before .before .before .before .name .given .1))
+loop-less c =
+    let s = c .before .before .before .before .before .before .before in
+    let l = s .before .loop .inv in
+    omega (arith, scan-job (left-sound l (s .scan-again .ensures)) (c .before .before .before .before .before .name .given .1))
 
 loop-again : tie.Need-loop-again Inv-loop μ-loop
 loop-again c =
-    let e = scan-job (c .before .before .before .before .before .before .before .scan-again .ensures) (c .before .before .before .before .before .name .given .1) in
-    left-more (c .before .before .before .before .before .before .before .before .loop .inv) (e .entry) (rw names-length (e .reach .most)) (rw names-length (rw names-length at (c .before .before .store-row .ensures)))
+    let s = c .before .before .before .before .before .before .before in
+    let l = s .before .loop .inv in
+    let e = scan-job (left-sound l (s .scan-again .ensures)) (c .before .before .before .before .before .name .given .1) in
+    left-more l (e .entry) (rw names-length (e .reach .most))
+    (rw names-length (rw names-length at (c .before .before .store-row .ensures)))
 
 enum-told : tie.Need-enum-told Inv-loop μ-loop
 enum-told c = search needs
@@ -55,7 +65,9 @@ same-length c = c .before .before .before .loop .inv .same
 returns : tie.Need-returns Inv-loop μ-loop
 returns c =
     let a = c .before .before .before .before .before .before .pre in
-    left-none (c .before .before .before .loop .inv) (scan-end _ _ (c .before .before .scan-again .ensures) (c .enum-told .given .1)) (a .0) (a .1)
+    let l = c .before .before .before .loop .inv in
+    let e = scan-end _ _ (left-sound l (c .before .before .scan-again .ensures)) (c .enum-told .given .1) in
+    left-none l e (a .0) (a .1)
 
 enum-told-2 : tie.Need-enum-told-2 Inv-loop μ-loop
 enum-told-2 c = search needs
@@ -64,7 +76,10 @@ same-length-2 : tie.Need-same-length-2 Inv-loop μ-loop
 same-length-2 c = c .before .before .before .loop .inv .same
 
 returns-2 : tie.Need-returns-2 Inv-loop μ-loop
-returns-2 c = absurd (left-refused (c .before .before .before .loop .inv) (scan-refused _ _ (c .before .before .scan-again .ensures) (c .enum-told2 .given .1)))
+returns-2 c =
+    let l = c .before .before .before .loop .inv in
+    let e = scan-refused _ _ (left-sound l (c .before .before .scan-again .ensures)) (c .enum-told2 .given .1) in
+    absurd (left-refused l e)
 
 pub store-sheet-spec : {M : Type 1} → statement M
 store-sheet-spec =

@@ -2,7 +2,8 @@
 use native.Mathlib.Omega.{arith}
 use borrow.Author.Needs.{needs}
 use Rattle.sheet_format.specs.Number.{spelt}
-use Rattle.sheet_writer.proofs.Puts.{bit-some, spelt-some, nothing, one}
+use Rattle.sheet_limits.proofs.Sizes.{bit-some, spelt-some}
+use Rattle.sheet_writer.proofs.Puts.{nothing, one}
 use Rattle.sheet_writer.proofs.put_class.Statement.{statement}
 use Rattle.sheet_writer.proofs.put_class.Tie as tie
 

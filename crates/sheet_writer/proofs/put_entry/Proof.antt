@@ -7,7 +7,8 @@ use borrow.Author.Needs.{needs}
 use denote.Ref.{now}
 use Rattle.sheet_format.specs.Job.{nameBytes, classBytes, growerBytes, bitOf}
 use Rattle.sheet_format.specs.Write.{listBytes}
-use Rattle.sheet_writer.proofs.Puts.{spelt-length, list-bytes, unless-length, room-after, encode-length, entry, taken}
+use Rattle.sheet_limits.proofs.Sizes.{spelt-length, list-bytes, unless-length, encode-length, taken}
+use Rattle.sheet_writer.proofs.Puts.{room-after, entry}
 use Rattle.sheet_writer.proofs.put_entry.Statement.{statement}
 use Rattle.sheet_writer.proofs.put_entry.Tie as tie
 

@@ -5,7 +5,8 @@ use native.Mathlib.Numerals.{towards-suc}
 use lib.ListN.{length-set}
 use borrow.Author.Needs.{needs}
 use Rattle.sheet_format.specs.Number.{spelt}
-use Rattle.sheet_writer.proofs.Puts.{bit-some, spelt-some, nothing}
+use Rattle.sheet_limits.proofs.Sizes.{bit-some, spelt-some}
+use Rattle.sheet_writer.proofs.Puts.{nothing}
 use Rattle.sheet_writer.proofs.put_grower.Statement.{statement}
 use Rattle.sheet_writer.proofs.put_grower.Tie as tie
 

@@ -5,7 +5,8 @@ use lib.ListN.{length-set, take, drop}
 use borrow.Author.Needs.{needs}
 use denote.Ref.{now}
 use Rattle.sheet_format.specs.Number.{spelt}
-use Rattle.sheet_writer.proofs.Puts.{bytes-some, list-some, taken, nothing, one, after}
+use Rattle.sheet_limits.proofs.Sizes.{bytes-some, list-some, taken}
+use Rattle.sheet_writer.proofs.Puts.{nothing, one, after}
 use Rattle.sheet_writer.proofs.put_list.Statement.{statement}
 use Rattle.sheet_writer.proofs.put_list.Tie as tie
 

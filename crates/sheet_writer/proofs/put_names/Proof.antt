@@ -9,7 +9,8 @@ use lib.Seq.{sets}
 use borrow.Author.Needs.{needs}
 use denote.Ref.{now}
 use Rattle.sheet_format.specs.Job.{speltNames, nameBytes}
-use Rattle.sheet_writer.proofs.Puts.{spelt-length, onward, next-name, names-length, taken}
+use Rattle.sheet_limits.proofs.Sizes.{spelt-length, names-length, taken}
+use Rattle.sheet_writer.proofs.Puts.{onward, next-name}
 use Rattle.sheet_writer.proofs.put_names.Statement.{statement}
 use Rattle.sheet_writer.proofs.put_names.Tie as tie
 

@@ -3,8 +3,8 @@ use native.Mathlib.Omega.{arith}
 use borrow.Author.Needs.{needs}
 use denote.Ref.{now}
 use Rattle.sheet_format.specs.Write.{entryAt}
-use Rattle.sheet_writer.proofs.Judging.{few}
-use Rattle.sheet_writer.proofs.Rows.{job-at}
+use Rattle.sheet_limits.proofs.Judging.{few}
+use Rattle.sheet_limits.proofs.Rows.{job-at}
 use Rattle.sheet_writer.proofs.put_row.Statement.{statement}
 use Rattle.sheet_writer.proofs.put_row.Tie as tie
 

@@ -10,7 +10,7 @@ use borrow.Author.Needs.{needs}
 use denote.Ref.{now}
 use Rattle.sheet_format.specs.Write.{sheetFault, SheetFault}
 use Rattle.sheet_writer.proofs.Puts.{onward}
-use Rattle.sheet_writer.proofs.Rows.{rest, restBytes, allBytes, next-bytes, next-length, next-sound, end-bytes}
+use Rattle.sheet_limits.proofs.Rows.{rest, restBytes, allBytes, next-bytes, next-length, next-sound, end-bytes}
 use Rattle.sheet_writer.proofs.put_rows.Statement.{statement}
 use Rattle.sheet_writer.proofs.put_rows.Tie as tie
 

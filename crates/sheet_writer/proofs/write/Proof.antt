@@ -7,8 +7,8 @@ use borrow.Author.Tests.{leb-true}
 use borrow.Author.Needs.{needs}
 use denote.Ref.{now}
 use Rattle.sheet_format.specs.Write.{Fault, faultOf, writeEntry, jobOf}
-use Rattle.sheet_format.specs.Job.{mostNames, encode}
-use Rattle.sheet_writer.proofs.Judging.{refused, takes, few}
+use Rattle.sheet_format.specs.Job.{encode}
+use Rattle.sheet_limits.proofs.Judging.{refused, takes}
 use Rattle.sheet_writer.proofs.write.Statement.{statement}
 use Rattle.sheet_writer.proofs.write.Tie as tie
 
@@ -30,16 +30,12 @@ enum-known-bytes c = search needs
 has-room-requires : tie.Need-has-room-requires
 has-room-requires c κs = search needs
 
-slice-aggregate-put-entry : tie.Need-slice-aggregate-put-entry
-slice-aggregate-put-entry c = search needs
-
-put-entry-requires : tie.Need-put-entry-requires
-put-entry-requires c κs =
-    let a = c .before .before .before .before .before .before .before .before .before .before .args in
-    let all : length (a .entry .names) ≡ mostNames = search needs in
-    let t = takes-at (c .before .before .before .before .before) in
-    let w = few (a .entry) (t .0) in
-    (omega arith, leb-true (a .at + length (encode (jobOf (a .entry)))) (length (now (a .out))) (rw (t .1) (sym (c .before .before .before .before .has-room .ensures) ∙ c .before .before .before .if1 .taken)))
+put-whole-requires : tie.Need-put-whole-requires
+put-whole-requires c κs =
+    let a = c .before .before .before .before .before .before .before .before .args in
+    let t = takes-at (c .before .before .before) in
+    let fits = sym (c .before .before .has-room .ensures) ∙ c .before .if1 .taken in
+    (t .0, leb-true (a .at + length (encode (jobOf (a .entry)))) (length (now (a .out))) (rw (t .1) fits))
 
 returns : tie.Need-returns
 unfolding writeEntry
@@ -53,9 +49,11 @@ same-length c = search needs
 returns-2 : tie.Need-returns-2
 unfolding writeEntry
 returns-2 c =
-    let t = takes-at (c .before .before .before .before .before .before .before .before) in
-    let f = c .before .before .put-entry .ensures in
-    rw (t .0, f .stored, f .past, t .1, ← c .before .before .before .before .before .before .before .has-room .ensures, c .before .before .before .before .before .before .if1 .taken)
+    let t = takes-at (c .before .before .before .before .before .before) in
+    let f = c .before .before .put-whole .ensures in
+    let i = c .before .before .before .before in
+    let fits = sym (i .before .has-room .ensures) ∙ i .if1 .taken in
+    rw (t .0, f .stored, f .past, t .1, fits)
 
 returns-3 : tie.Need-returns-3
 unfolding writeEntry
@@ -71,8 +69,7 @@ write-spec =
     enum-known-place
     enum-known-bytes
     has-room-requires
-    slice-aggregate-put-entry
-    put-entry-requires
+    put-whole-requires
     returns
     same-length
     returns-2

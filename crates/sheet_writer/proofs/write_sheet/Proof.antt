@@ -9,8 +9,8 @@ use borrow.Author.Needs.{needs}
 use denote.Ref.{now}
 use Rattle.sheet_format.specs.Write.{SheetFault, sheetFault, writeSheet, jobOf, entriesOf}
 use Rattle.sheet_format.specs.Decode.{rowWords}
-use Rattle.sheet_writer.proofs.Judging.{sheet-refused, sheet-takes}
-use Rattle.sheet_writer.proofs.Rows.{allBytes, entries-length}
+use Rattle.sheet_limits.proofs.Judging.{sheet-refused, sheet-takes}
+use Rattle.sheet_limits.proofs.Rows.{allBytes, entries-length}
 use Rattle.sheet_writer.proofs.write_sheet.Statement.{statement}
 use Rattle.sheet_writer.proofs.write_sheet.Tie as tie
 
@@ -20,14 +20,14 @@ takes-at c =
     sheet-takes
     (entriesOf (now (c .before .before .before .before .before .before .before .args .rows)))
     _
-    (sym (c .before .before .before .judge-rows .ensures) ∙ c .before .bytes .given .1)
+    (sym (c .before .before .before .judge-sheet .ensures) ∙ c .before .bytes .given .1)
 
 returns : tie.Need-returns
 unfolding writeSheet
 returns c = rw (ne-eqb _ _ (c .if1 .taken))
 
-judge-rows-requires : tie.Need-judge-rows-requires
-judge-rows-requires c κs = search needs
+judge-sheet-requires : tie.Need-judge-sheet-requires
+judge-sheet-requires c κs = search needs
 
 enum-known-entry : tie.Need-enum-known-entry
 enum-known-entry c = search needs
@@ -42,7 +42,8 @@ returns-2 : tie.Need-returns-2
 unfolding writeSheet
 returns-2 c =
     let rows = now (c .before .before .before .before .before .before .before .args .rows) in
-    let f = sheet-refused (entriesOf rows) _ _ (sym (c .before .before .before .judge-rows .ensures) ∙ c .before .entry .given .1) in
+    let h = sym (c .before .before .before .judge-sheet .ensures) ∙ c .before .entry .given .1 in
+    let f = sheet-refused (entriesOf rows) _ _ h in
     rw (eq-eqb _ _ (c .before .before .before .before .if1 .left), f)
 
 same-length : tie.Need-same-length
@@ -73,7 +74,7 @@ write-sheet-spec =
     tie.close
     (tie.spec
     returns
-    judge-rows-requires
+    judge-sheet-requires
     enum-known-entry
     enum-known-bytes
     put-rows-requires

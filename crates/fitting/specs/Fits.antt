@@ -1,0 +1,281 @@
+-- Every plan of a step and of a get is a fitting one: the sizes' limits and the worker's own words bound what is counted. Follows document 01,
+-- "Tables and their measures" and "Turned-away calls". Assumes nothing.
+use mathlib.Core.Path.{_≡_, refl}
+use mathlib.Core.Bool.{Bool, true, false, _&&_, _||_}
+use Prim.Native.Nat.{ℕ, _+_, _-_, _<_, _≤_}
+use native.Mathlib.Omega.{arith}
+use lib.Dec.{ltb, leb, eqb}
+use borrow.Author.Tests.{ltb-true, ltb-false, leb-true, leb-false}
+use Rattle.terms.specs.Base.{pick}
+use Rattle.terms.specs.Terms.{mostJobs, mostArcs, mostBits, mostWorkers, mostNames, mostClass, mostGrower, withinLimits}
+use Rattle.terms.specs.declared.Sizes.{Sizes}
+use Rattle.words.specs.Layout.{none, LABEL, COUNT, FIRST, LAST, DEPENDENT, AFTER, PHASE, HELD, LIST-COUNT, OWN-CLASS, OWN-GROWER, TALLY, PLACE, OWN-JOB, OWN-ARC, IDLE, LOOKING, LINKING, MARKING, NOTIFYING, Tables, View, view, longEnough, sizesKept, roomFor, sizesFit}
+use Rattle.words.specs.Words.{placeOk, isPlace, settles, countersOk, ownOk, planLookUp, planEnter, planAppend, planLink, withCell, planSettle, planMark, planNotify, planAdd, planLinks, planCall, planPhase, admitted, planStep, planTake, planQueue, planGet, planGetOf}
+use Rattle.words.specs.declared.Found.{Found}
+use Rattle.words.specs.declared.Found.the-variants.{At, Missing, Damaged}
+use Rattle.words.specs.declared.Plan.{Plan}
+use Rattle.words.specs.declared.Plan.the-variants.{Refuse, Quit, Pass, Enter, Tally, LinkFirst, LinkAfter, Settle, SettleQueue, Mark, Notify, NotifyQueue}
+use Rattle.words.specs.declared.GetPlan.the-variants.{RefuseGet, Wait, Take}
+use Rattle.fitting.specs.Fitting.{Fitting, FittingGet}
+
+-- ---- tests
+and-left : (a b : Bool) → (a && b) ≡ true → a ≡ true
+and-left true b e = refl
+and-left false b e = e
+
+and-right : (a b : Bool) → (a && b) ≡ true → b ≡ true
+and-right true b e = e
+and-right false b e = cc
+
+or-left : (a b : Bool) → (a || b) ≡ false → a ≡ false
+or-left true b e = e
+or-left false b e = refl
+
+or-right : (a b : Bool) → (a || b) ≡ false → b ≡ false
+or-right true b e = cc
+or-right false b e = e
+
+-- what holds of both plans of a choice holds of the chosen
+choice : {A : Type 0} (P : A → Type 0) (b : Bool) (x y : A) → (b ≡ true → P x) → (b ≡ false → P y) → P (pick b x y)
+choice P true x y f g = f refl
+choice P false x y f g = g refl
+
+-- the second and third of five tests; the third, sixth and seventh of nine
+limits : (a b c d e : Bool) → (a && b && c && d && e) ≡ true → (b ≡ true) × (c ≡ true)
+limits a b c d e h =
+    let k = and-left (a && b && c) d (and-left (a && b && c && d) e h) in
+    (and-right a b (and-left (a && b) c k), and-right (a && b) c k)
+
+counts : (a b c d e f g h i : Bool) → (a && b && c && d && e && f && g && h && i) ≡ true → (c ≡ true) × (f ≡ true) × (g ≡ true)
+counts a b c d e f g h i k =
+    let m = and-left (a && b && c && d && e && f && g) h (and-left (a && b && c && d && e && f && g && h) i k) in
+    let n = and-left (a && b && c && d && e && f) g m in
+    let o = and-left (a && b && c) d (and-left (a && b && c && d) e (and-left (a && b && c && d && e) f n)) in
+    (and-right (a && b) c o, and-right (a && b && c && d && e) f n, and-right (a && b && c && d && e && f) g m)
+
+-- ---- sizes within their limits are small
+pub few : (s : Sizes) → withinLimits s ≡ true → (s .jobs ≤ mostJobs) × (s .arcs ≤ mostArcs)
+unfolding withinLimits
+few s e =
+    let h = limits (leb 1 (s .jobs)) (leb (s .jobs) mostJobs) (leb (s .arcs) mostArcs) (leb 1 (s .bits) && leb (s .bits) mostBits)
+    (leb 1 (s .workers) && leb (s .workers) mostWorkers) e in
+    (leb-true (s .jobs) mostJobs (h .0), leb-true (s .arcs) mostArcs (h .1))
+
+fit-within : (s : Sizes) (t : Tables) → sizesFit s t ≡ true → withinLimits s ≡ true
+fit-within s t e = and-left (withinLimits s) (longEnough s t) (and-left (roomFor s t) (sizesKept s (t .jobs)) e)
+
+-- ---- and so are the counts of sound own words
+own-small : (s : Sizes) (v : View) (w : ℕ) → ownOk s v w ≡ true → (v .worker PLACE w < none) × (v .worker TALLY w < none)
+unfolding ownOk
+own-small s v w e =
+    let h = counts (leb (v .worker PHASE w) NOTIFYING) (placeOk (v .worker HELD w) (v .made) (s .jobs)) (leb (v .worker LIST-COUNT w) mostNames)
+    (leb (v .worker OWN-CLASS w) mostClass) (leb (v .worker OWN-GROWER w) mostGrower) (leb (v .worker TALLY w) (v .worker LIST-COUNT w))
+    (leb (v .worker PLACE w) (v .worker LIST-COUNT w)) (placeOk (v .worker OWN-JOB w) (v .made) (s .jobs))
+    (placeOk (v .worker OWN-ARC w) (v .reserved) (s .arcs)) e in
+    let a = leb-true (v .worker LIST-COUNT w) mostNames (h .0) in
+    let b = leb-true (v .worker TALLY w) (v .worker LIST-COUNT w) (h .1) in
+    let c = leb-true (v .worker PLACE w) (v .worker LIST-COUNT w) (h .2) in
+    (omega arith, omega arith)
+
+-- ---- a step's plans
+module _ (s : Sizes) (v : View) (w : ℕ) (jobs : s .jobs ≤ mostJobs) (arcs : s .arcs ≤ mostArcs) (place : v .worker PLACE w < none) (tally : v .worker TALLY w < none) where
+  abbrev Fine : Plan → Type 0
+  Fine p = Fitting p v w
+
+  -- the plans one by one
+  refuse : (n : ℕ) → Fine (Refuse n)
+  unfolding Fitting
+  refuse n = tt
+
+  quit : (n i : ℕ) → Fine (Quit n i)
+  unfolding Fitting
+  quit n i = tt
+
+  pass : Fine Pass
+  unfolding Fitting
+  pass = place
+
+  enter : (j k h x : ℕ) → j < none → x + v .worker LIST-COUNT w ≤ none → Fine (Enter j k h x)
+  unfolding Fitting
+  enter j k h x a b = (a, b)
+
+  tallied : Fine Tally
+  unfolding Fitting
+  tallied = (place, tally)
+
+  link-first : (p x j : ℕ) → Fine (LinkFirst p x j)
+  unfolding Fitting
+  link-first p x j = place
+
+  link-after : (p l x j : ℕ) → Fine (LinkAfter p l x j)
+  unfolding Fitting
+  link-after p l x j = place
+
+  settled : (j c : ℕ) → Fine (Settle j c)
+  unfolding Fitting
+  settled j c = tt
+
+  settled-queue : (j c q : ℕ) → q < none → Fine (SettleQueue j c q)
+  unfolding Fitting
+  settled-queue j c q h = h
+
+  marked : (p x : ℕ) → Fine (Mark p x)
+  unfolding Fitting
+  marked p x = tt
+
+  notified : (j c x : ℕ) → Fine (Notify j c x)
+  unfolding Fitting
+  notified j c x = tt
+
+  notified-queue : (j c x q : ℕ) → q < none → Fine (NotifyQueue j c x q)
+  unfolding Fitting
+  notified-queue j c x q h = h
+
+  -- the planning functions
+  look-up : (i : ℕ) (f : Found) → Fine (planLookUp i f)
+  unfolding planLookUp
+  look-up i (At j) = pass
+  look-up i Missing = quit _ _
+  look-up i Damaged = refuse _
+
+  entering : (name : ℕ) (f : Found) → Fine (planEnter s v name (v .worker LIST-COUNT w) f)
+  unfolding planEnter
+  entering name (At j) = quit _ _
+  entering name Missing =
+      choice Fine (leb (s .jobs) (v .made) || ltb (s .arcs) (v .reserved + v .worker LIST-COUNT w)) _ _ (λ _. quit _ _)
+      (λ h. let full = leb (s .jobs) (v .made) in
+      let over = ltb (s .arcs) (v .reserved + v .worker LIST-COUNT w) in
+      let a = leb-false (s .jobs) (v .made) (or-left full over h) in
+      let b = ltb-false (s .arcs) (v .reserved + v .worker LIST-COUNT w) (or-right full over h) in
+      enter _ _ _ _ (omega arith) (omega arith))
+  entering name Damaged = refuse _
+
+  append : (p x j : ℕ) → Fine (planAppend s v p x j)
+  unfolding planAppend
+  append p x j =
+      choice Fine
+      (ltb j (v .made) && ltb x (v .reserved) && placeOk (v .job LAST p) (v .reserved) (s .arcs))
+      _
+      _
+      (λ _. choice Fine (eqb (v .job LAST p) none) _ _ (λ _. link-first _ _ _) (λ _. link-after _ _ _ _))
+      (λ _. refuse _)
+
+  link : (x j : ℕ) (f : Found) → Fine (planLink s v x j f)
+  unfolding planLink
+  link x j (At p) =
+      choice Fine (leb (v .job LABEL p) 2) _ _
+      (λ _. choice Fine (eqb (v .job LABEL p) 2) _ _ (λ _. tallied) (λ _. append p x j))
+      (λ _. refuse _)
+  link x j Missing = refuse _
+  link x j Damaged = refuse _
+
+  cell : (plan : ℕ → Plan) → ((q : ℕ) → q < none → Fine (plan q)) → Fine (withCell s v plan)
+  unfolding withCell
+  cell plan f =
+      choice Fine (leb (v .taken) (v .put) && ltb (v .put) (s .jobs)) _ _
+      (λ h. let a = ltb-true (v .put) (s .jobs) (and-right (leb (v .taken) (v .put)) (ltb (v .put) (s .jobs)) h) in f (v .put) (omega arith))
+      (λ _. refuse _)
+
+  settle : (j t d : ℕ) → Fine (planSettle s v j t d)
+  unfolding planSettle
+  settle j t d =
+      choice Fine (isPlace j && leb (v .job COUNT j) mostNames && leb t (v .job COUNT j)) _ _
+      (λ _. choice Fine (settles (v .job COUNT j - t) t d) _ _ (λ _. cell _ (settled-queue _ _)) (λ _. settled _ _))
+      (λ _. refuse _)
+
+  mark : (p : ℕ) → Fine (planMark s v p)
+  unfolding planMark
+  mark p =
+      choice Fine
+      (isPlace p && eqb (v .job LABEL p) 1 && placeOk (v .job FIRST p) (v .reserved) (s .arcs))
+      _
+      _
+      (λ _. marked _ _)
+      (λ _. refuse _)
+
+  notify : (x : ℕ) → Fine (planNotify s v x)
+  unfolding planNotify
+  notify x =
+      let j = v .arc DEPENDENT x in
+      choice Fine
+      (isPlace x && ltb j (v .made) && placeOk (v .arc AFTER x) (v .reserved) (s .arcs)
+      && leb 1 (v .job COUNT j)
+      && leb (v .job COUNT j) mostNames)
+      _
+      _
+      (λ _. choice Fine (eqb (v .job COUNT j) 1) _ _ (λ _. cell _ (notified-queue _ _ _)) (λ _. notified _ _ _))
+      (λ _. refuse _)
+
+  adding : Fine (planAdd s v w)
+  unfolding planAdd
+  adding =
+      choice Fine (ltb (v .worker PLACE w) (v .worker LIST-COUNT w)) _ _ (λ _. look-up _ _) (λ _. entering _ _)
+
+  linking : Fine (planLinks s v w)
+  unfolding planLinks
+  linking = choice Fine (ltb (v .worker PLACE w) (v .worker LIST-COUNT w)) _ _ (λ _. link _ _ _) (λ _. settle _ _ _)
+
+  phase : Fine (planPhase s v w)
+  unfolding planPhase planCall
+  phase =
+      choice Fine (eqb (v .worker PHASE w) IDLE) _ _ (λ _. refuse _)
+      (λ _. choice Fine (countersOk s v) _ _
+      (λ _. choice Fine (eqb (v .worker PHASE w) LOOKING) _ _ (λ _. adding)
+      (λ _. choice Fine (eqb (v .worker PHASE w) LINKING) _ _ (λ _. linking)
+      (λ _. choice Fine (eqb (v .worker PHASE w) MARKING) _ _ (λ _. mark _) (λ _. notify _))))
+      (λ _. refuse _))
+
+-- what is admitted, and what refuses it, is fine: so is the answer to both
+let-in : {A : Type 0} (P : A → Type 0) (s : Sizes) (t : Tables) (w : ℕ) (refused : ℕ → A) (x : A) → ((n : ℕ) → P (refused n)) → (sizesFit s t ≡ true → ownOk s (view t) w ≡ true → P x) → P (admitted s t w refused x)
+unfolding admitted
+let-in P s t w refused x f g =
+    choice P (sizesFit s t) _ _
+    (λ fit. choice P (ltb w (s .workers)) _ _ (λ _. choice P (ownOk s (view t) w) _ _ (λ own. g fit own) (λ _. f _)) (λ _. f _))
+    (λ _. f _)
+
+pub planStep-fits : (s : Sizes) (t : Tables) (w : ℕ) → Fitting (planStep s t w) (view t) w
+unfolding Fitting
+planStep-fits s t w =
+    let-in (λ p. Fitting p (view t) w) s t w Refuse (planPhase s (view t) w) (λ n. tt)
+    (λ fit own. let h = few s (fit-within s t fit) in let k = own-small s (view t) w own in
+    phase s (view t) w (h .0) (h .1) (k .0) (k .1))
+
+-- ---- a get's plans
+refuse-get : (n : ℕ) → FittingGet (RefuseGet n)
+unfolding FittingGet
+refuse-get n = tt
+
+waits : FittingGet Wait
+unfolding FittingGet
+waits = tt
+
+takes : (j name q : ℕ) → q < none → FittingGet (Take j name q)
+unfolding FittingGet
+takes j name q h = h
+
+take-fits : (s : Sizes) (v : View) (j : ℕ) → v .taken < none → FittingGet (planTake s v j)
+unfolding planTake
+take-fits s v j h =
+    choice FittingGet (ltb j (v .made) && eqb (v .job LABEL j) 0) _ _ (λ _. takes _ _ _ h) (λ _. refuse-get _)
+
+queue-fits : (s : Sizes) (v : View) → s .jobs ≤ mostJobs → FittingGet (planQueue s v)
+unfolding planQueue
+queue-fits s v jobs =
+    choice FittingGet (countersOk s v && leb (v .taken) (v .put) && leb (v .put) (s .jobs)) _ _
+    (λ h. let start = countersOk s v && leb (v .taken) (v .put) in
+    let ordered = and-right (countersOk s v) (leb (v .taken) (v .put)) (and-left start (leb (v .put) (s .jobs)) h) in
+    let a = leb-true (v .taken) (v .put) ordered in
+    let b = leb-true (v .put) (s .jobs) (and-right start (leb (v .put) (s .jobs)) h) in
+    choice FittingGet (eqb (v .taken) (v .put)) _ _ (λ _. waits) (λ _. take-fits s v (v .cell 0 (v .taken)) (omega arith)))
+    (λ _. refuse-get _)
+
+get-fits : (s : Sizes) (v : View) (w : ℕ) → s .jobs ≤ mostJobs → FittingGet (planGet s v w)
+unfolding planGet
+get-fits s v w jobs =
+    choice FittingGet (eqb (v .worker PHASE w) IDLE) _ _
+    (λ _. choice FittingGet (eqb (v .worker HELD w) none) _ _ (λ _. queue-fits s v jobs) (λ _. refuse-get _))
+    (λ _. refuse-get _)
+
+pub planGet-fits : (s : Sizes) (t : Tables) (w : ℕ) → FittingGet (planGetOf s t w)
+planGet-fits s t w =
+    let-in FittingGet s t w RefuseGet (planGet s (view t) w) refuse-get (λ fit _. get-fits s (view t) w (few s (fit-within s t fit) .0))

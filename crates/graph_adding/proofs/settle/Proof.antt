@@ -1,0 +1,31 @@
+-- `graph_adding::settle` meets its contract: its stores are the plan's.
+-- Assumes nothing.
+use Rattle.words.specs.Words.{applied}
+use borrow.Author.Needs.{needs}
+use Rattle.graph_adding.proofs.settle.Statement.{statement}
+use Rattle.graph_adding.proofs.settle.Tie as tie
+
+put-job-requires : tie.Need-put-job-requires
+put-job-requires c κs = search needs
+
+idle-worker-requires : tie.Need-idle-worker-requires
+idle-worker-requires c κs = search needs
+
+same-length : tie.Need-same-length
+same-length c = search needs
+
+same-length-2 : tie.Need-same-length-2
+same-length-2 c = search needs
+
+returns : tie.Need-returns
+unfolding applied
+returns c =
+    λ arcs buckets queue.
+    rw (
+      c .before .before .idle-worker .ensures,
+      c .before .before .before .before .before .before .put-job .ensures,
+    )
+
+pub settle-spec : {M : Type 1} → statement M
+settle-spec =
+    tie.close (tie.spec put-job-requires idle-worker-requires same-length same-length-2 returns)

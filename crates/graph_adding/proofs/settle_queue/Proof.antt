@@ -1,0 +1,46 @@
+-- `graph_adding::settle_queue` meets its contract: its stores are the plan's.
+-- Assumes nothing.
+use Rattle.words.specs.Words.{applied}
+use borrow.Author.Needs.{needs}
+use Rattle.graph_adding.proofs.settle_queue.Statement.{statement}
+use Rattle.graph_adding.proofs.settle_queue.Tie as tie
+
+put-job-requires : tie.Need-put-job-requires
+put-job-requires c κs = search needs
+
+queue-job-requires : tie.Need-queue-job-requires
+queue-job-requires c κs = search needs
+
+idle-worker-requires : tie.Need-idle-worker-requires
+idle-worker-requires c κs = search needs
+
+same-length : tie.Need-same-length
+same-length c = search needs
+
+same-length-2 : tie.Need-same-length-2
+same-length-2 c = search needs
+
+same-length-3 : tie.Need-same-length-3
+same-length-3 c = search needs
+
+returns : tie.Need-returns
+unfolding applied
+returns c =
+    λ h arcs buckets.
+    rw (
+      c .before .before .idle-worker .ensures,
+      c .before .before .before .before .before .before .queue-job .ensures h,
+      c .before .before .before .before .before .before .before .before .before .before .put-job .ensures,
+    )
+
+pub settle-queue-spec : {M : Type 1} → statement M
+settle-queue-spec =
+    tie.close
+    (tie.spec
+    put-job-requires
+    queue-job-requires
+    idle-worker-requires
+    same-length
+    same-length-2
+    same-length-3
+    returns)

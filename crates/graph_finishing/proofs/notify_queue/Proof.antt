@@ -1,0 +1,46 @@
+-- `graph_finishing::notify_queue` meets its contract: its stores are the plan's.
+-- Assumes nothing.
+use Rattle.words.specs.Words.{applied}
+use borrow.Author.Needs.{needs}
+use Rattle.graph_finishing.proofs.notify_queue.Statement.{statement}
+use Rattle.graph_finishing.proofs.notify_queue.Tie as tie
+
+put-job-requires : tie.Need-put-job-requires
+put-job-requires c κs = search needs
+
+queue-job-requires : tie.Need-queue-job-requires
+queue-job-requires c κs = search needs
+
+arcs-from-requires : tie.Need-arcs-from-requires
+arcs-from-requires c κs = search needs
+
+same-length : tie.Need-same-length
+same-length c = search needs
+
+same-length-2 : tie.Need-same-length-2
+same-length-2 c = search needs
+
+same-length-3 : tie.Need-same-length-3
+same-length-3 c = search needs
+
+returns : tie.Need-returns
+unfolding applied
+returns c =
+    λ h arcs buckets.
+    rw (
+      c .before .before .arcs-from .ensures,
+      c .before .before .before .before .before .before .queue-job .ensures h,
+      c .before .before .before .before .before .before .before .before .before .before .put-job .ensures,
+    )
+
+pub notify-queue-spec : {M : Type 1} → statement M
+notify-queue-spec =
+    tie.close
+    (tie.spec
+    put-job-requires
+    queue-job-requires
+    arcs-from-requires
+    same-length
+    same-length-2
+    same-length-3
+    returns)

@@ -1,0 +1,110 @@
+// What the plans of a finish and of a get store in the tables. Follows document 01, "Steps" and "Tables and their
+// measures". Nothing is required of a table, a worker or a plan; tables that a function is not lent stay, whatever they
+// are. Assumes nothing.
+ghost use mathlib.Core.Path.{_≡_};
+ghost use mathlib.Core.List.{List};
+ghost use Prim.Native.Nat.{ℕ, _<_};
+ghost use Rattle.words.specs.Layout.{none, tables};
+ghost use Rattle.words.specs.Words.{applied, appliedGet};
+ghost use Rattle.words.specs.declared.Plan.the-variants.{Mark, Notify, NotifyQueue};
+ghost use Rattle.words.specs.declared.GetPlan.the-variants.{Take};
+ghost use Rattle.fitting.specs.Kinds.{Finishing, Stored};
+use graph_lists::queue_job;
+use graph_lists::take_job;
+use graph_words::layout::*;
+use graph_words::put_job;
+use graph_words::put_worker;
+use graph_worker_words::arcs_from;
+use graph_worker_words::mark_worker;
+use words::Plan;
+
+// The finish marks its job.
+fn mark(jobs: &mut [u32], workers: &mut [u32], worker: u32, job: u32, first: u32)
+    ensures { λ _. ⌜ ((arcs buckets queue : List ℕ) →
+        tables (now (jobs .exit)) arcs buckets queue (now (workers .exit))
+        ≡ applied (Mark job first)
+        (tables (now (jobs .entry)) arcs buckets queue (now (workers .entry))) worker) ⌝ }
+{
+    put_job(jobs, job, LABEL, FINISHED);
+    mark_worker(workers, worker, first);
+}
+
+// The finish tells a dependent, which still waits.
+fn notify(jobs: &mut [u32], workers: &mut [u32], worker: u32, job: u32, count: u32, next: u32)
+    ensures { λ _. ⌜ ((arcs buckets queue : List ℕ) →
+        tables (now (jobs .exit)) arcs buckets queue (now (workers .exit))
+        ≡ applied (Notify job count next)
+        (tables (now (jobs .entry)) arcs buckets queue (now (workers .entry))) worker) ⌝ }
+{
+    put_job(jobs, job, COUNT, count);
+    arcs_from(workers, worker, next);
+}
+
+// The finish tells a dependent, which is queued.
+fn notify_queue(
+    jobs: &mut [u32],
+    queue: &mut [u32],
+    workers: &mut [u32],
+    worker: u32,
+    job: u32,
+    count: u32,
+    next: u32,
+    cell: u32,
+)
+    ensures { λ _. ⌜ (cell < none →
+        (arcs buckets : List ℕ) →
+        tables (now (jobs .exit)) arcs buckets (now (queue .exit)) (now (workers .exit))
+        ≡ applied (NotifyQueue job count next cell)
+        (tables (now (jobs .entry)) arcs buckets (now (queue .entry)) (now (workers .entry))) worker) ⌝ }
+{
+    put_job(jobs, job, COUNT, count);
+    queue_job(queue, cell, job);
+    arcs_from(workers, worker, next);
+}
+
+// The plans of a finish.
+pub fn apply_finish(
+    jobs: &mut [u32],
+    queue: &mut [u32],
+    workers: &mut [u32],
+    worker: u32,
+    plan: Plan,
+)
+    ensures { λ _. ⌜ (Finishing plan →
+        (arcs buckets : List ℕ) →
+        Stored plan worker
+        (tables (now (jobs .entry)) arcs buckets (now (queue .entry)) (now (workers .entry)))
+        (tables (now (jobs .exit)) arcs buckets (now (queue .exit)) (now (workers .exit)))) ⌝ }
+{
+    match plan {
+        Plan::Mark { job, first } => mark(jobs, workers, worker, job, first),
+        Plan::Notify { job, count, next } => notify(jobs, workers, worker, job, count, next),
+        Plan::NotifyQueue {
+            job,
+            count,
+            next,
+            cell,
+        } => notify_queue(jobs, queue, workers, worker, job, count, next, cell),
+        _ => {}
+    }
+}
+
+// The job at the head of the queue is handed to the worker.
+pub fn take(
+    jobs: &mut [u32],
+    queue: &mut [u32],
+    workers: &mut [u32],
+    worker: u32,
+    job: u32,
+    cell: u32,
+)
+    ensures { λ _. ⌜ (cell < none →
+        (name : ℕ) (arcs buckets : List ℕ) →
+        tables (now (jobs .exit)) arcs buckets (now (queue .exit)) (now (workers .exit))
+        ≡ appliedGet (Take job name cell)
+        (tables (now (jobs .entry)) arcs buckets (now (queue .entry)) (now (workers .entry))) worker) ⌝ }
+{
+    put_job(jobs, job, LABEL, EXECUTING);
+    take_job(queue, cell);
+    put_worker(workers, worker, HELD, job);
+}

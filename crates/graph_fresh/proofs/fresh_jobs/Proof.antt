@@ -1,0 +1,52 @@
+-- `graph_fresh::fresh_jobs` meets its contract: the counters, then the records.
+-- Assumes nothing.
+use Rattle.words.specs.Columns.{putHeader}
+use borrow.Author.Needs.{needs}
+use Rattle.graph_fresh.proofs.fresh_jobs.Statement.{statement}
+use Rattle.graph_fresh.proofs.fresh_jobs.Tie as tie
+
+put-header-requires : tie.Need-put-header-requires
+put-header-requires c κs = search needs
+
+put-header-requires-2 : tie.Need-put-header-requires-2
+put-header-requires-2 c κs = search needs
+
+put-header-requires-3 : tie.Need-put-header-requires-3
+put-header-requires-3 c κs = search needs
+
+put-header-requires-4 : tie.Need-put-header-requires-4
+put-header-requires-4 c κs = search needs
+
+put-header-requires-5 : tie.Need-put-header-requires-5
+put-header-requires-5 c κs = search needs
+
+fresh-job-records-requires : tie.Need-fresh-job-records-requires
+fresh-job-records-requires c κs = search needs
+
+same-length : tie.Need-same-length
+same-length c = search needs
+
+returns : tie.Need-returns
+unfolding putHeader
+returns c =
+    rw (
+      c .before .before .fresh-job-records .ensures,
+      c .before .before .before .before .before .before .put-header5 .ensures,
+      c .before .before .before .before .before .before .before .before .before .before .put-header4 .ensures,
+      c .before .before .before .before .before .before .before .before .before .before .before .before .before .before .put-header3 .ensures,
+      c .before .before .before .before .before .before .before .before .before .before .before .before .before .before .before .before .before .before .put-header2 .ensures,
+      c .before .before .before .before .before .before .before .before .before .before .before .before .before .before .before .before .before .before .before .before .before .before .put-header .ensures,
+    )
+
+pub fresh-jobs-spec : {M : Type 1} → statement M
+fresh-jobs-spec =
+    tie.close
+    (tie.spec
+    put-header-requires
+    put-header-requires-2
+    put-header-requires-3
+    put-header-requires-4
+    put-header-requires-5
+    fresh-job-records-requires
+    same-length
+    returns)

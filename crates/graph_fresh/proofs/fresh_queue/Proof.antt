@@ -1,0 +1,45 @@
+-- `graph_fresh::fresh_queue` meets its contract: the counters, then one run.
+-- Assumes nothing.
+use Rattle.words.specs.Columns.{putHeader}
+use borrow.Author.Needs.{needs}
+use Rattle.graph_fresh.proofs.fresh_queue.Statement.{statement}
+use Rattle.graph_fresh.proofs.fresh_queue.Tie as tie
+
+put-header-requires : tie.Need-put-header-requires
+put-header-requires c κs = search needs
+
+put-header-requires-2 : tie.Need-put-header-requires-2
+put-header-requires-2 c κs = search needs
+
+cast-fill : tie.Need-cast-fill
+cast-fill c = search needs
+
+cast-fill-2 : tie.Need-cast-fill-2
+cast-fill-2 c = search needs
+
+fill-requires : tie.Need-fill-requires
+fill-requires c κs = search needs
+
+same-length : tie.Need-same-length
+same-length c = search needs
+
+returns : tie.Need-returns
+unfolding putHeader
+returns c =
+    rw (
+      c .before .before .fill .ensures,
+      c .before .before .before .before .before .before .before .put-header2 .ensures,
+      c .before .before .before .before .before .before .before .before .before .before .before .put-header .ensures,
+    )
+
+pub fresh-queue-spec : {M : Type 1} → statement M
+fresh-queue-spec =
+    tie.close
+    (tie.spec
+    put-header-requires
+    put-header-requires-2
+    cast-fill
+    cast-fill-2
+    fill-requires
+    same-length
+    returns)

@@ -1,0 +1,39 @@
+// A get over five lent tables: planned, stored, answered.
+// Follows document 01, "Steps" and "Turned-away calls". Nothing is required: a get answers for all tables.
+ghost use mathlib.Core.Path.{_≡_};
+ghost use Rattle.terms.specs.Runs.{outcome};
+ghost use Rattle.words.specs.Layout.{lent};
+ghost use Rattle.words.specs.Words.{answerGet, getWords};
+use graph_apply::apply_get;
+use graph_plan::plan_get;
+use terms::Answer;
+use terms::Sizes;
+use words::GetPlan;
+
+// What a get answers.
+fn answer_get(plan: GetPlan) -> Answer
+    ensures { λ r. ⌜ r ≡ answerGet plan ⌝ }
+{
+    match plan {
+        GetPlan::RefuseGet { number } => Answer::Refused { number, place: 0 },
+        GetPlan::Wait => Answer::NoneReady,
+        GetPlan::Take { job, name, .. } => Answer::Handed { job, name },
+    }
+}
+
+// Hands the worker the job at the head of the queue.
+pub fn get(
+    sizes: Sizes,
+    jobs: &mut [u32],
+    arcs: &mut [u32],
+    buckets: &mut [u32],
+    queue: &mut [u32],
+    workers: &mut [u32],
+    worker: u32,
+) -> Answer
+    ensures { λ r. ⌜ outcome r (lent (jobs .exit) (arcs .exit) (buckets .exit) (queue .exit) (workers .exit)) ≡ getWords sizes (lent (jobs .entry) (arcs .entry) (buckets .entry) (queue .entry) (workers .entry)) worker ⌝ }
+{
+    let plan = plan_get(sizes, jobs, arcs, buckets, queue, workers, worker);
+    apply_get(jobs, queue, workers, worker, plan);
+    answer_get(plan)
+}

@@ -1,0 +1,76 @@
+// How long the five tables must be for given sizes, and laying them out for a fresh graph.
+// Follows document 01, "Tables and their measures" and "Turned-away calls".
+// Nothing is required: both answer for all sizes and tables.
+ghost use mathlib.Core.Path.{_≡_};
+ghost use Rattle.terms.specs.Runs.{outcome};
+ghost use Rattle.words.specs.Layout.{lent};
+ghost use Rattle.words.specs.Words.{layOut};
+ghost use Rattle.graph_layout.specs.Needed.{wordsNeeded};
+use graph_fresh::buckets_of;
+use graph_fresh::fresh_tables;
+use graph_words::layout::*;
+use graph_words::need;
+use graph_words::numbers::*;
+use graph_words::room_for;
+use graph_words::within_limits;
+use terms::Answer;
+use terms::Sizes;
+
+// How many words each table must have, or the number that refuses the sizes.
+#[repr(C)]
+pub struct Need {
+    pub number: u32,
+    pub jobs: usize,
+    pub arcs: usize,
+    pub buckets: usize,
+    pub queue: usize,
+    pub workers: usize,
+}
+
+pub fn words_needed(sizes: Sizes) -> Need
+    ensures { λ r. ⌜ r ≡ wordsNeeded sizes ⌝ }
+{
+    let within = within_limits(sizes);
+    if within {
+        Need {
+            number: 0,
+            jobs: need(JOB_HEAD, JOB_WIDTH, sizes.jobs),
+            arcs: need(ARC_HEAD, ARC_WIDTH, sizes.arcs),
+            buckets: buckets_of(sizes.bits),
+            queue: need(QUEUE_HEAD, QUEUE_WIDTH, sizes.jobs),
+            workers: need(WORKER_HEAD, WORKER_WIDTH, sizes.workers),
+        }
+    } else {
+        Need {
+            number: WRONG_SIZES,
+            jobs: 0,
+            arcs: 0,
+            buckets: 0,
+            queue: 0,
+            workers: 0,
+        }
+    }
+}
+
+// Lays the tables out for a fresh graph of these sizes.
+pub fn lay_out(
+    sizes: Sizes,
+    jobs: &mut [u32],
+    arcs: &mut [u32],
+    buckets: &mut [u32],
+    queue: &mut [u32],
+    workers: &mut [u32],
+) -> Answer
+    ensures { λ r. ⌜ outcome r (lent (jobs .exit) (arcs .exit) (buckets .exit) (queue .exit) (workers .exit)) ≡ layOut sizes (lent (jobs .entry) (arcs .entry) (buckets .entry) (queue .entry) (workers .entry)) ⌝ }
+{
+    let room = room_for(sizes, jobs, arcs, buckets, queue, workers);
+    if room {
+        fresh_tables(sizes, jobs, arcs, buckets, queue, workers);
+        Answer::Laid
+    } else {
+        Answer::Refused {
+            number: WRONG_SIZES,
+            place: 0,
+        }
+    }
+}

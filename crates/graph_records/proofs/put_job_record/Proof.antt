@@ -1,0 +1,64 @@
+-- `graph_records::put_job_record` meets its contract: stores field by field are one run.
+-- Assumes nothing.
+use mathlib.Core.List.{[], _∷_}
+use Rattle.words.specs.Layout.{jobShape}
+use Rattle.graph_records.proofs.Laws.{puts-sets}
+use borrow.Author.Needs.{needs}
+use Rattle.graph_records.proofs.put_job_record.Statement.{statement}
+use Rattle.graph_records.proofs.put_job_record.Tie as tie
+
+put-job-requires : tie.Need-put-job-requires
+put-job-requires c κs = search needs
+
+put-job-requires-2 : tie.Need-put-job-requires-2
+put-job-requires-2 c κs = search needs
+
+put-job-requires-3 : tie.Need-put-job-requires-3
+put-job-requires-3 c κs = search needs
+
+put-job-requires-4 : tie.Need-put-job-requires-4
+put-job-requires-4 c κs = search needs
+
+put-job-requires-5 : tie.Need-put-job-requires-5
+put-job-requires-5 c κs = search needs
+
+put-job-requires-6 : tie.Need-put-job-requires-6
+put-job-requires-6 c κs = search needs
+
+put-job-requires-7 : tie.Need-put-job-requires-7
+put-job-requires-7 c κs = search needs
+
+put-job-requires-8 : tie.Need-put-job-requires-8
+put-job-requires-8 c κs = search needs
+
+same-length : tie.Need-same-length
+same-length c = search needs
+
+returns : tie.Need-returns
+returns c =
+    rw (
+      c .before .before .put-job8 .ensures,
+      c .before .before .before .before .before .before .put-job7 .ensures,
+      c .before .before .before .before .before .before .before .before .before .before .put-job6 .ensures,
+      c .before .before .before .before .before .before .before .before .before .before .before .before .before .before .put-job5 .ensures,
+      c .before .before .before .before .before .before .before .before .before .before .before .before .before .before .before .before .before .before .put-job4 .ensures,
+      c .before .before .before .before .before .before .before .before .before .before .before .before .before .before .before .before .before .before .before .before .before .before .put-job3 .ensures,
+      c .before .before .before .before .before .before .before .before .before .before .before .before .before .before .before .before .before .before .before .before .before .before .before .before .before .before .put-job2 .ensures,
+      c .before .before .before .before .before .before .before .before .before .before .before .before .before .before .before .before .before .before .before .before .before .before .before .before .before .before .before .before .before .before .put-job .ensures,
+    )
+    (puts-sets jobShape _ _ 0 (_ ∷ _ ∷ _ ∷ _ ∷ _ ∷ _ ∷ _ ∷ _ ∷ []))
+
+pub put-job-record-spec : {M : Type 1} → statement M
+put-job-record-spec =
+    tie.close
+    (tie.spec
+    put-job-requires
+    put-job-requires-2
+    put-job-requires-3
+    put-job-requires-4
+    put-job-requires-5
+    put-job-requires-6
+    put-job-requires-7
+    put-job-requires-8
+    same-length
+    returns)

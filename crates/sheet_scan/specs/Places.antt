@@ -1,0 +1,14 @@
+-- How long an entry can be, and where its last fields stand (document 01, "Job sheets"). Assumes nothing.
+use Prim.Native.Nat.{ℕ, _+_, _*_, _/_, _%_}
+use Rattle.sheet_format.specs.Job.{mostNames, nameBytes, countBytes, classBytes, growerBytes}
+
+-- the most bytes of an entry
+abbrev pub longestEntry : ℕ
+longestEntry = 1 + nameBytes + (countBytes + nameBytes * mostNames) + classBytes + growerBytes
+
+-- where the class and the grower of the entry at an offset stand, by its map byte and its count
+abbrev pub classPlace : ℕ → ℕ → ℕ → ℕ
+classPlace at map count = at + (1 + nameBytes) + countBytes * (map / 2 % 2) + nameBytes * count
+
+abbrev pub growerPlace : ℕ → ℕ → ℕ → ℕ
+growerPlace at map count = classPlace at map count + classBytes * (map / 4 % 2)

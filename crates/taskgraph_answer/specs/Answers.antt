@@ -1,0 +1,46 @@
+-- The struct of the C interface for the calls of the graph: for each case of an answer the number and the values that document 01, "Turned-away
+-- calls" and "Steps", has for it. What does not belong to a case is 0.
+-- Assumes nothing.
+use Prim.Native.Nat.{ℕ}
+use Rattle.terms.specs.declared.Answer.{Answer}
+use Rattle.taskgraph_answer.specs.declared.GraphAnswer.{GraphAnswer}
+
+-- the list of refusals starts at 1, so 0 says that nothing was refused
+abbrev pub accepted : ℕ
+accepted = 0
+
+-- the kinds of answers of a call or a step of the graph
+abbrev pub kindRefused : ℕ
+kindRefused = 0
+
+abbrev pub kindLaidOut : ℕ
+kindLaidOut = 1
+
+abbrev pub kindPosted : ℕ
+kindPosted = 2
+
+abbrev pub kindGoingOn : ℕ
+kindGoingOn = 3
+
+abbrev pub kindEnded : ℕ
+kindEnded = 4
+
+abbrev pub kindNoneReady : ℕ
+kindNoneReady = 5
+
+abbrev pub kindHandedOut : ℕ
+kindHandedOut = 6
+
+-- an answer that has nothing but its kind
+abbrev pub plain : ℕ → GraphAnswer
+plain kind = record { kind = kind; number = accepted; place = 0; job = 0; name = 0 }
+
+-- a get hands out a job's place and name. A refusal has its number, and 6 also the "place in the list from 0"
+abbrev pub graphAnswer : Answer → GraphAnswer
+graphAnswer Answer.Laid = plain kindLaidOut
+graphAnswer Answer.Posted = plain kindPosted
+graphAnswer Answer.Going = plain kindGoingOn
+graphAnswer Answer.Ended = plain kindEnded
+graphAnswer Answer.NoneReady = plain kindNoneReady
+graphAnswer (Answer.Handed j name) = record { kind = kindHandedOut; number = accepted; place = 0; job = j; name = name }
+graphAnswer (Answer.Refused number place) = record { kind = kindRefused; number = number; place = place; job = 0; name = 0 }

@@ -1,0 +1,11 @@
+-- From what a call of the graph ensures to what its function of the C interface does: one law for all of them.
+-- Assumes nothing.
+use mathlib.Core.Path.{_≡_, ap, _∙_}
+use Rattle.terms.specs.Runs.{Outcome}
+use Rattle.words.specs.Layout.{Tables}
+use Rattle.taskgraph_answer.specs.Answers.{graphAnswer}
+use Rattle.taskgraph_answer.specs.declared.GraphAnswer.{GraphAnswer}
+
+pub in-c : {made said : Outcome Tables} {r : GraphAnswer} → made ≡ said → r ≡ graphAnswer (made .answer)
+    → (r ≡ graphAnswer (said .answer)) × (made .state ≡ said .state)
+in-c told e = (e ∙ ap (λ (o : Outcome Tables). graphAnswer (o .answer)) told, ap (λ (o : Outcome Tables). o .state) told)

@@ -1,0 +1,71 @@
+// What a call or a step of the graph answers, as C has it: a struct by value. include/taskgraph.h declares it.
+// Follows document 01, "Steps" and "Turned-away calls". Assumes nothing.
+ghost use mathlib.Core.Path.{_≡_};
+ghost use Rattle.taskgraph_answer.specs.Answers.{plain, graphAnswer};
+use terms::Answer;
+
+// The kinds of answers.
+const REFUSED: u32 = 0;
+
+const LAID_OUT: u32 = 1;
+
+const POSTED: u32 = 2;
+
+const GOING_ON: u32 = 3;
+
+const ENDED: u32 = 4;
+
+const NONE_READY: u32 = 5;
+
+const HANDED_OUT: u32 = 6;
+
+// What a call or a step answers. A refusal has its number, 6 also the place in the list; a job handed out has its
+// place and its name. What does not belong to a kind is 0.
+#[repr(C)]
+pub struct GraphAnswer {
+    pub kind: u32,
+    pub number: u32,
+    pub place: u32,
+    pub job: u32,
+    pub name: u32,
+}
+
+// An answer that has nothing but its kind.
+fn plain(kind: u32) -> GraphAnswer
+    ensures { λ r. ⌜ r ≡ plain kind ⌝ }
+{
+    GraphAnswer {
+        kind,
+        number: 0,
+        place: 0,
+        job: 0,
+        name: 0,
+    }
+}
+
+// An answer of the graph, as C has it.
+pub fn answered(answer: Answer) -> GraphAnswer
+    ensures { λ r. ⌜ r ≡ graphAnswer answer ⌝ }
+{
+    match answer {
+        Answer::Laid => plain(LAID_OUT),
+        Answer::Posted => plain(POSTED),
+        Answer::Going => plain(GOING_ON),
+        Answer::Ended => plain(ENDED),
+        Answer::NoneReady => plain(NONE_READY),
+        Answer::Handed { job, name } => GraphAnswer {
+            kind: HANDED_OUT,
+            number: 0,
+            place: 0,
+            job,
+            name,
+        },
+        Answer::Refused { number, place } => GraphAnswer {
+            kind: REFUSED,
+            number,
+            place,
+            job: 0,
+            name: 0,
+        },
+    }
+}

@@ -1,0 +1,36 @@
+// The words that the five tables need, and laying them out, as C has them: the sizes, then the lent tables.
+// A slice is a pointer and a count of elements in C; answers are structs by value. include/taskgraph.h declares them.
+// Follows document 01, "Tables and their measures" and "Turned-away calls".
+// Assumes nothing but that a pointer with a count points to that many elements.
+ghost use mathlib.Core.Path.{_≡_};
+ghost use Rattle.words.specs.Layout.{lent};
+ghost use Rattle.words.specs.Words.{layOut};
+ghost use Rattle.graph_layout.specs.Needed.{wordsNeeded};
+ghost use Rattle.taskgraph_answer.specs.Answers.{graphAnswer};
+use graph_layout::Need;
+use taskgraph_answer::GraphAnswer;
+use taskgraph_answer::answered;
+use terms::Sizes;
+
+// How long the tables must be for these sizes.
+#[no_mangle]
+pub extern "C" fn tg_words_needed(sizes: Sizes) -> Need
+    ensures { λ r. ⌜ r ≡ wordsNeeded sizes ⌝ }
+{
+    graph_layout::words_needed(sizes)
+}
+
+// Lays the tables out for a fresh graph.
+#[no_mangle]
+pub extern "C" fn tg_lay_out(
+    sizes: Sizes,
+    jobs: &mut [u32],
+    arcs: &mut [u32],
+    buckets: &mut [u32],
+    queue: &mut [u32],
+    workers: &mut [u32],
+) -> GraphAnswer
+    ensures { λ r. ⌜ r ≡ graphAnswer (layOut sizes (lent (jobs .entry) (arcs .entry) (buckets .entry) (queue .entry) (workers .entry)) .answer) × lent (jobs .exit) (arcs .exit) (buckets .exit) (queue .exit) (workers .exit) ≡ layOut sizes (lent (jobs .entry) (arcs .entry) (buckets .entry) (queue .entry) (workers .entry)) .state ⌝ }
+{
+    answered(graph_layout::lay_out(sizes, jobs, arcs, buckets, queue, workers))
+}

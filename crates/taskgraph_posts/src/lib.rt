@@ -1,0 +1,62 @@
+// The posts of an add and of a finish as C has them: the sizes, the five lent tables, then the worker and what
+// the call is about. A slice is a pointer and a count of elements in C; answers are structs by value.
+// include/taskgraph.h declares all of this.
+// Follows document 01, "Steps" and "Turned-away calls".
+// Assumes nothing but that a pointer with a count points to that many elements.
+ghost use mathlib.Core.Path.{_≡_};
+ghost use Rattle.words.specs.Layout.{lent};
+ghost use Rattle.words.specs.Words.{addWords, finishWords};
+ghost use Rattle.taskgraph_answer.specs.Answers.{graphAnswer};
+ghost use Rattle.taskgraph_posts.specs.Arguments.{argumentsOf};
+use sheet_format::Entry;
+use taskgraph_answer::GraphAnswer;
+use taskgraph_answer::answered;
+use terms::Sizes;
+
+// Posts an add of the entry's job.
+#[no_mangle]
+pub extern "C" fn tg_post_add(
+    sizes: Sizes,
+    jobs: &mut [u32],
+    arcs: &mut [u32],
+    buckets: &mut [u32],
+    queue: &mut [u32],
+    workers: &mut [u32],
+    worker: u32,
+    entry: Entry,
+) -> GraphAnswer
+    ensures { λ r. ⌜ r ≡ graphAnswer (addWords sizes (lent (jobs .entry) (arcs .entry) (buckets .entry) (queue .entry) (workers .entry)) worker (argumentsOf entry) .answer) × lent (jobs .exit) (arcs .exit) (buckets .exit) (queue .exit) (workers .exit) ≡ addWords sizes (lent (jobs .entry) (arcs .entry) (buckets .entry) (queue .entry) (workers .entry)) worker (argumentsOf entry) .state ⌝ }
+{
+    let names = entry.names;
+    answered(graph_posts::post_add(
+        sizes,
+        jobs,
+        arcs,
+        buckets,
+        queue,
+        workers,
+        worker,
+        entry.name,
+        names,
+        entry.count,
+        entry.class,
+        entry.grower,
+    ))
+}
+
+// Posts a finish of the held job of this name.
+#[no_mangle]
+pub extern "C" fn tg_post_finish(
+    sizes: Sizes,
+    jobs: &mut [u32],
+    arcs: &mut [u32],
+    buckets: &mut [u32],
+    queue: &mut [u32],
+    workers: &mut [u32],
+    worker: u32,
+    name: u32,
+) -> GraphAnswer
+    ensures { λ r. ⌜ r ≡ graphAnswer (finishWords sizes (lent (jobs .entry) (arcs .entry) (buckets .entry) (queue .entry) (workers .entry)) worker name .answer) × lent (jobs .exit) (arcs .exit) (buckets .exit) (queue .exit) (workers .exit) ≡ finishWords sizes (lent (jobs .entry) (arcs .entry) (buckets .entry) (queue .entry) (workers .entry)) worker name .state ⌝ }
+{
+    answered(graph_posts::post_finish(sizes, jobs, arcs, buckets, queue, workers, worker, name))
+}

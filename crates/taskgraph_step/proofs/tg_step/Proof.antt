@@ -1,0 +1,43 @@
+-- `taskgraph_step::tg_step` meets its contract: what `step` answers, as C has it, and the tables that it leaves.
+-- Assumes nothing.
+use borrow.Author.Needs.{needs}
+use Rattle.taskgraph_answer.specs.InC.{in-c}
+use Rattle.taskgraph_step.proofs.tg_step.Statement.{statement}
+use Rattle.taskgraph_step.proofs.tg_step.Tie as tie
+
+step-requires : tie.Need-step-requires
+step-requires c κs = search needs
+
+answered-requires : tie.Need-answered-requires
+answered-requires c κs = search needs
+
+same-length : tie.Need-same-length
+same-length c = search needs
+
+same-length-2 : tie.Need-same-length-2
+same-length-2 c = search needs
+
+same-length-3 : tie.Need-same-length-3
+same-length-3 c = search needs
+
+same-length-4 : tie.Need-same-length-4
+same-length-4 c = search needs
+
+same-length-5 : tie.Need-same-length-5
+same-length-5 c = search needs
+
+returns : tie.Need-returns
+returns c = in-c (c .before .before .before .before .before .before .before .before .before .before .before .step .ensures) (c .answered .ensures)
+
+pub tg-step-spec : {M : Type 1} → statement M
+tg-step-spec =
+    tie.close
+    (tie.spec
+    step-requires
+    answered-requires
+    same-length
+    same-length-2
+    same-length-3
+    same-length-4
+    same-length-5
+    returns)

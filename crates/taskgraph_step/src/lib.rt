@@ -1,0 +1,27 @@
+// A step of a worker's call as C has it: the sizes, the five lent tables, then the worker.
+// A slice is a pointer and a count of elements in C; the answer is a struct by value. include/taskgraph.h declares it.
+// Follows document 01, "Steps" and "Turned-away calls".
+// Assumes nothing but that a pointer with a count points to that many elements.
+ghost use mathlib.Core.Path.{_≡_};
+ghost use Rattle.words.specs.Layout.{lent};
+ghost use Rattle.words.specs.Words.{stepWords};
+ghost use Rattle.taskgraph_answer.specs.Answers.{graphAnswer};
+use taskgraph_answer::GraphAnswer;
+use taskgraph_answer::answered;
+use terms::Sizes;
+
+// Makes one step of the worker's call.
+#[no_mangle]
+pub extern "C" fn tg_step(
+    sizes: Sizes,
+    jobs: &mut [u32],
+    arcs: &mut [u32],
+    buckets: &mut [u32],
+    queue: &mut [u32],
+    workers: &mut [u32],
+    worker: u32,
+) -> GraphAnswer
+    ensures { λ r. ⌜ r ≡ graphAnswer (stepWords sizes (lent (jobs .entry) (arcs .entry) (buckets .entry) (queue .entry) (workers .entry)) worker .answer) × lent (jobs .exit) (arcs .exit) (buckets .exit) (queue .exit) (workers .exit) ≡ stepWords sizes (lent (jobs .entry) (arcs .entry) (buckets .entry) (queue .entry) (workers .entry)) worker .state ⌝ }
+{
+    answered(graph_step::step(sizes, jobs, arcs, buckets, queue, workers, worker))
+}
