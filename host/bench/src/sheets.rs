@@ -44,8 +44,8 @@ pub fn all() -> [Workload; 4] {
     let longest =
         repeated(|| Entry { count: MAX_NAMES as u32, names: names(&mut random, MAX_NAMES), ..name(&mut random) });
     [
-        workload("random mixes in turn", in_turn, Some([1.6, 1.0])),
-        workload("the smallest entries", vec![smallest], Some([1.2, 1.0])),
+        workload("random mixes in turn", in_turn, Some([1.7, 1.0])),
+        workload("the smallest entries", vec![smallest], Some([1.3, 1.0])),
         workload("the longest lists", vec![longest], Some([1.4, 1.2])),
         workload("one random mix again and again", vec![one_mixed], None),
     ]

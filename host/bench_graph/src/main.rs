@@ -30,7 +30,7 @@ const ROUNDS: usize = 100;
 const TURNS: usize = 3;
 
 /// The most instructions that the library may take, as a multiple of unproved Rust's (docs/SPEED.md).
-const MOST: f64 = 1.1;
+const MOST: f64 = 1.2;
 
 const BITS: u32 = 8;
 
