@@ -2,12 +2,14 @@
 -- ("The plain book", by the rules). Assumes nothing.
 use mathlib.Core.Path.{_≡_, refl, sym, ap, _∙_}
 use mathlib.Core.Logic.{_≢_}
-use mathlib.Core.List.{List}
-use Prim.Native.Nat.{ℕ, _≤_, _<_}
+use mathlib.Core.Bool.{Bool, true, false, _||_}
+use mathlib.Core.List.{List, [], _∷_}
+use Prim.Native.Nat.{ℕ, _+_, _≤_, _<_}
 use native.Mathlib.Omega.{arith}
 use native.Mathlib.Decide.{ℕ-discrete, decLt}
 use lib.ListN.{length, List·getD-eq-default}
-use Rattle.terms.specs.Base.{occurrences}
+use lib.Dec.{eqb}
+use Rattle.terms.specs.Base.{pick, contains, occurrences}
 use Rattle.terms.specs.Terms.{Label, unexecuted, executing, finished}
 use Rattle.terms.specs.Runs.{Item, events}
 use Rattle.terms.specs.declared.Sizes.{Sizes}
@@ -102,3 +104,14 @@ finishes (then story i) =
 pub finished-once : (s : Sizes) (items : List Item) (name : ℕ)
     → occurrences name (acceptedFinishes (reading (events (perform s) empty items) .calls)) ≤ 1
 finished-once s items name = finishes (onward s start items) .once name
+
+-- what occurs in a list is there
+occurs-later : (b : Bool) (x : ℕ) (l : List ℕ) → (0 < occurrences x l → contains x l ≡ true)
+    → 0 < pick b 1 0 + occurrences x l → b || contains x l ≡ true
+occurs-later true x l rest h = refl
+occurs-later false x l rest h = rest (omega arith)
+
+pub occurs-there : (x : ℕ) (l : List ℕ) → 0 < occurrences x l → contains x l ≡ true
+unfolding occurrences contains
+occurs-there x [] = λ h. absurd (omega arith)
+occurs-there x (y ∷ l) = occurs-later (eqb x y) x l (occurs-there x l)

@@ -16,7 +16,7 @@ use Rattle.terms.specs.Runs.{Outcome}
 use Rattle.terms.specs.declared.Sizes.{Sizes}
 use Rattle.terms.specs.declared.Answer.{Answer}
 use Rattle.terms.specs.declared.Answer.the-variants.{Ended, Refused}
-use Rattle.words.specs.Layout.{Tables, view}
+use Rattle.words.specs.Layout.{Tables, LABEL, view}
 use Rattle.rules.specs.Rules.{idle}
 use Rattle.tables_rep.specs.Stand.{limits-of}
 use Rattle.bookkeeping.specs.Base.{pick-by}
@@ -28,7 +28,9 @@ use Rattle.sheet_format.specs.Decode.{Sheet, jobs, broken, decodeSheet, cut}
 use Rattle.day_format.specs.Text.{digits, decimal, leftWord, _␣_, line}
 use Rattle.day_format.specs.Whole.{wholeAdd, wholeFinish}
 use Rattle.day_format.specs.Day.{Day, day, freshDay, argumentsOf, addAll, Holder, getRound, finishAll, rounds, jobsLine}
-use Rattle.day_format.specs.Day.{dayOf, daySizes, daySheet, dayText, mostBytes, printing, dayList}
+use Rattle.day_format.specs.Day.{dayOf, daySizes, daySheet, dayText, mostBytes, printing, dayList, unfinished}
+use Rattle.tables_rep.specs.Queue.{waiting-queue}
+use Rattle.words.specs.Observed.{waiting}
 use Rattle.day_format.specs.declared.DayAnswer.the-variants.{Printed}
 use Rattle.day_history.specs.Digits.{digitsBelow, more-digits}
 use Rattle.day_history.specs.Lines.{refusedBytes, handedBytes, LineWithin, any-within, word-within}
@@ -156,6 +158,16 @@ module _ (s : Sizes) (limits : withinLimits s ≡ true) where
   pub the-rounds-suffice : (js : List Job) (k : ℕ)
       → rounds (k + (s .jobs + 1)) s (afterAdds js .state) (withFirst js) 0 ≡ afterRounds js
   the-rounds-suffice js k = enough 43 nameless js (any-names js) k
+
+  -- because then nothing waits,
+  pub nothing-waits : (js : List Job) → waiting (afterRounds js .state) ≡ []
+  nothing-waits js =
+      let O = over 43 nameless js (any-names js) in waiting-queue (O .now .at .stands) ∙ O .empty
+
+  -- and every job is finished
+  pub none-is-unfinished : (js : List Job)
+      → unfinished (view (afterRounds js .state) .job LABEL) (view (afterRounds js .state) .made) ≡ 0
+  none-is-unfinished js = let O = over 43 nameless js (any-names js) in all-finished (O .now) (O .empty)
 
   -- "The last gives jobs not finished": it is left 0
   pub nothing-is-left : (js : List Job) → dayOf s js ≡ afterRounds js .text ++ line (leftWord ␣ decimal 0)

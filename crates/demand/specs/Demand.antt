@@ -22,7 +22,9 @@ use Rattle.rules.specs.Rules.{empty}
 use Rattle.rules.specs.Rules as rules
 use Rattle.rules.specs.Observed as rules-seen
 use Rattle.reference.specs.Book.{Book, blank, entry, remaining, Ready, Follows}
+use Rattle.reference.specs.Book as book
 use Rattle.reading.specs.Reading.{Pending, idle, adding, finishing, Reading, reading, Quiet, acceptedAdds}
+use Rattle.reading.specs.Reading.{acceptedFinishes}
 
 -- ---- the prerequisites of a job: "the jobs of the listed names", among the accepted adds
 abbrev pub noArguments : Arguments
@@ -43,13 +45,21 @@ abbrev pub PrerequisitesFinished : Seen → List Arguments → ℕ → Type 0
 PrerequisitesFinished x adds j =
     (i : ℕ) → i < addOf adds j .count → MarkedFinished x adds (getD (listed (addOf adds j)) i 0)
 
--- a job that is handed out, by what was seen just before: it is that of an accepted add, under its own name; it was not
--- handed out yet; each of its prerequisites is marked finished
-pub record HandedRightly (x : Seen) (adds : List Arguments) (j name : ℕ) : Type 0 where
-  pub there : j < length adds
-  pub named : name ≡ addOf adds j .name
+-- a job that is handed out, by what was seen just before and by the calls decided so far: it is that of an accepted
+-- add, under its own name; it was not handed out yet; each of its prerequisites is marked finished, and an accepted
+-- finish of each was made
+pub record HandedRightly (x : Seen) (calls : List book.Ended) (j name : ℕ) : Type 0 where
+  pub there : j < length (acceptedAdds calls)
+  pub named : name ≡ addOf (acceptedAdds calls) j .name
   pub unexecuted : x .job j .label ≡ labelNumber unexecuted
-  pub prerequisites : PrerequisitesFinished x adds j
+  pub prerequisites : PrerequisitesFinished x (acceptedAdds calls) j
+  pub finishes : (i : ℕ) → i < addOf (acceptedAdds calls) j .count
+      → contains (getD (listed (addOf (acceptedAdds calls) j)) i 0) (acceptedFinishes calls) ≡ true
+
+-- a job that is finished: it is labelled so, and an accepted finish of it was made
+pub record JobFinished (x : Seen) (calls : List book.Ended) (j : ℕ) : Type 0 where
+  pub label : x .job j .label ≡ labelNumber finished
+  pub finish : contains (addOf (acceptedAdds calls) j .name) (acceptedFinishes calls) ≡ true
 
 -- ---- the equality with the book
 pub record JobShown (x : Seen) (b : Book) (j : ℕ) : Type 0 where

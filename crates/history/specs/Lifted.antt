@@ -3,13 +3,13 @@
 use mathlib.Core.Path.{_≡_, refl, sym, ap, _∙_}
 use mathlib.Core.Logic.{_↔_, _≢_}
 use mathlib.Core.Bool.{true}
-use mathlib.Core.List.{List, []}
+use mathlib.Core.List.{List, [], _∷_}
 use mathlib.Core.Option.{none}
 use Prim.Native.Nat.{ℕ, _+_, _^_, _≤_, _<_}
 use native.Mathlib.Omega.{arith}
 use lib.ListN.{length, getD}
 use Rattle.bucket.specs.Bucket.{bucketOf}
-use Rattle.terms.specs.Base.{occurrences}
+use Rattle.terms.specs.Base.{contains, occurrences}
 use Rattle.terms.specs.Terms.{Arguments, listed, sameSizes, mostNames, labelNumber, unexecuted, finished}
 use Rattle.terms.specs.Runs.{Item, step, get, after, events}
 use Rattle.terms.specs.Seen.{JobSeen, CallSeen, Same}
@@ -19,8 +19,8 @@ use Rattle.terms.specs.declared.Answer.the-variants.{Laid, NoneReady, Handed}
 use Rattle.words.specs.Layout.{Tables, view, workerShape, NAME, HELD, LIST-COUNT, NAMES, IDLE, bareWorker}
 use Rattle.words.specs.Layout as words
 use Rattle.words.specs.Words.{perform, layOut}
-use Rattle.words.specs.Observed.{chainFrom, newestFirst, seen}
-use Rattle.rules.specs.Rules.{Call, idle, looking, linking, marking, notifying, Graph, empty, job}
+use Rattle.words.specs.Observed.{bucketFrom, newestFirst, seen}
+use Rattle.rules.specs.Rules.{Call, idle, looking, linking, marking, notifying, Graph, empty, job, takeNext}
 use Rattle.rules.specs.Rules as rules
 use Rattle.rules.specs.Observed as rules-seen
 use Rattle.rules.specs.Sound.{Sound, Finished}
@@ -28,21 +28,24 @@ use Rattle.reading.specs.Reading.{Pending, adding, finishing, Reading, reading,
 use Rattle.reading.specs.Reading as reading
 use Rattle.story.specs.Story.{Story, start, Paced, Booked}
 use Rattle.story.specs.Onward.{entriesBy, onward}
-use Rattle.demand.specs.Demand.{addOf, MarkedFinished, HandedRightly, handedOut}
+use Rattle.demand.specs.Demand.{addOf, MarkedFinished, HandedRightly, JobFinished, handedOut}
 use Rattle.demand.specs.Ends.{AddStep, FinishStep, FinishOf}
 use Rattle.refinement.specs.Rep.{Stands}
 use Rattle.tables_rep.specs.Find.{found-there}
+use Rattle.tables_rep.specs.Arcs.{few-arcs}
 use Rattle.tables_rep.specs.Chains.{chains}
 use Rattle.refines.specs.Items.{item}
 use Rattle.refines.specs.Reset.{idle-fresh, past-count}
+use Rattle.bookkeeping.specs.Base.{head-occurs}
 use Rattle.bookkeeping.specs.Entries.{listed-length}
+use Rattle.bookkeeping.specs.Settled.{get-answer}
 use Rattle.bookkeeping.specs.Paced.{paced, worker-idle, all-idle}
 use Rattle.bookkeeping.specs.Steps.{add-step, finish-step, pending-there}
 use Rattle.invariant.specs.Sound.{sound}
 use Rattle.audit.specs.Gets.{handed-ready}
 use Rattle.audit.specs.Gets as gets
 use Rattle.audit.specs.Handed.{handed-once}
-use Rattle.audit.specs.Finishes.{finished-once}
+use Rattle.audit.specs.Finishes.{finishedBy, finishes, occurs-there, finished-once}
 use Rattle.audit.specs.Drained as audit
 use Rattle.history.specs.Theorem.{Reached, after-items, same-events, demand}
 
@@ -130,27 +133,42 @@ module _ (s : Sizes) (t : Tables) (laid : layOut s t .answer ≡ Laid) (items : 
         marked = ap (λ (x : JobSeen). x .label) (does .jobs (f .job) (at .0)) ∙ ap labelNumber (f .finished);
       }
 
+  -- a finished job's name is among the accepted finishes
+  finishes-of : (j : ℕ) → j < length (g .jobs) → job g j .label ≡ finished
+      → contains (job g j .name) (acceptedFinishes (r .calls)) ≡ true
+  finishes-of j h e = occurs-there _ _ (omega (arith, finishes story .of-job j h ∙ ap finishedBy e))
+
+  finished-name : (name : ℕ) → Finished g name → contains name (acceptedFinishes (r .calls)) ≡ true
+  finished-name name f =
+      let at = found-there g name (f .job) (f .found) in rw (at .1) at (finishes-of (f .job) (at .0) (f .finished))
+
   pub rightly-handed : (q : Sizes) (w j name : ℕ) → perform T (get q w) .answer ≡ Handed j name
-      → HandedRightly (seen T) (acceptedAdds (read .calls)) j name
+      → HandedRightly (seen T) (read .calls) j name
   rightly-handed q w j name = rw (told, next (get q w)) (λ e.
       let h = handed-ready story q w j name e in
       let same = K .added j (h .there) in
-      let n : addOf adds j .count ≡ length (job g j .list) = sym (listed-length (addOf adds j)) ∙ ap length (same .list) in
+      let n : addOf adds j .count ≡ length (job g j .list) =
+      sym (listed-length (addOf adds j)) ∙ ap length (same .list) in
       record {
         there = omega (arith, h .there, K .adds);
         named = h .named ∙ sym (same .name);
         unexecuted = ap (λ (x : JobSeen). x .label) (does .jobs j (h .there)) ∙ ap labelNumber (h .unexecuted);
         prerequisites = λ i l. rw (same .list) (marked _ (h .prerequisites i (omega (arith, n))));
+        finishes = λ i l. rw (same .list) (finished-name _ (h .prerequisites i (omega (arith, n))));
       })
 
   pub drained : Quiet read → ((w : ℕ) → w < s .workers → seen T .held w ≡ none) → seen T .waiting ≡ []
-      → (j : ℕ) → j < seen T .made → seen T .job j .label ≡ labelNumber finished
+      → (j : ℕ) → j < length (acceptedAdds (read .calls)) → JobFinished (seen T) (read .calls) j
   drained = rw told (λ quiet free empty-queue j h.
-      let there : j < length (g .jobs) = rw (does .made) at h in
-      ap (λ (x : JobSeen). x .label) (does .jobs j there)
-      ∙ ap labelNumber (audit.drained story (all-idle g r pacing quiet) (λ w b. sym (does .held w b) ∙ free w b) (sym (does .waiting) ∙ empty-queue) j there))
+      let there : j < length (g .jobs) = omega (arith, K .adds) in
+      let done = audit.drained story (all-idle g r pacing quiet) (λ w b. sym (does .held w b) ∙ free w b)
+      (sym (does .waiting) ∙ empty-queue) j there in
+      record {
+        label = ap (λ (x : JobSeen). x .label) (does .jobs j there) ∙ ap labelNumber done;
+        finish = rw (K .added j there .name) (finishes-of j there done);
+      })
 
-  -- ---- "With an empty queue it says none ready, and then only"
+  -- a call that is seen as none is none
   seen-idle : (c : Call) → rules-seen.callSeen g c ≡ seen-as.idle → c ≡ idle
   seen-idle idle e = refl
   seen-idle (looking a i) e = cc
@@ -158,6 +176,19 @@ module _ (s : Sizes) (t : Tables) (laid : layOut s t .answer ≡ Laid) (items : 
   seen-idle marking e = cc
   seen-idle (notifying p k) e = cc
 
+  -- ---- a worker that is idle and jobless is handed the job longest in the queue
+  pub hands-out : (w j : ℕ) (rest : List ℕ) → w < s .workers → seen T .call w ≡ seen-as.idle → seen T .held w ≡ none
+      → seen T .waiting ≡ j ∷ rest → perform T (get s w) .answer ≡ Handed j (seen T .job j .name)
+  unfolding takeNext
+  hands-out w j rest h c f q =
+      let queue : g .queue ≡ j ∷ rest = sym (does .waiting) ∙ q in
+      let there : j < length (g .jobs) = R .sound .queue-there j (rw queue (head-occurs j rest)) in
+      let named : seen T .job j .name ≡ job g j .name = ap (λ (x : JobSeen). x .name) (does .jobs j there) in
+      next (get s w)
+      ∙ ap (λ o. o .answer) (get-answer s g w h (seen-idle _ (sym (does .calls w h) ∙ c)) (sym (does .held w h) ∙ f))
+      ∙ rw (queue, named)
+
+  -- ---- "With an empty queue it says none ready, and then only"
   pub none-ready : (q : Sizes) (w : ℕ) → (perform T (get q w) .answer ≡ NoneReady)
       ↔ ((sameSizes q s ≡ true) × (w < s .workers) × (seen T .call w ≡ seen-as.idle) × (seen T .held w ≡ none) × (seen T .waiting ≡ []))
   none-ready q w = (
@@ -194,7 +225,19 @@ module _ (s : Sizes) (t : Tables) (laid : layOut s t .answer ≡ Laid) (items : 
       R .sound .names i j a b
       (sym (ap (λ (x : JobSeen). x .name) (does .jobs i a)) ∙ e ∙ ap (λ (x : JobSeen). x .name) (does .jobs j b))
 
+  pub one-add-of-a-name : (i j : ℕ) → i < length (acceptedAdds (read .calls)) → j < length (acceptedAdds (read .calls))
+      → addOf (acceptedAdds (read .calls)) i .name ≡ addOf (acceptedAdds (read .calls)) j .name → i ≡ j
+  one-add-of-a-name i j = rw told (λ h l e.
+      let a : i < length (g .jobs) = omega (arith, K .adds) in
+      let b : j < length (g .jobs) = omega (arith, K .adds) in
+      R .sound .names i j a b (sym (K .added i a .name) ∙ e ∙ K .added j b .name))
+
+  pub arcs-fit : (j : ℕ) → j < seen T .made → length (seen T .job j .arcs) ≤ s .arcs
+  arcs-fit j h =
+      let there : j < length (g .jobs) = rw (does .made) at h in
+      rw (ap (λ (x : JobSeen). x .arcs) (does .jobs j there)) (omega (arith, few-arcs (R .stands) j, R .sound .arcs))
+
   pub newest-first : (k : ℕ) → k < 2 ^ s .bits
-      → chainFrom (view T .made) (view T) (view T .bucket 0 k)
+      → bucketFrom (view T) (view T .bucket 0 k)
       ≡ newestFirst (λ j. bucketOf (view T .job NAME j) (s .bits)) k (view T .made)
   newest-first = chains (R .stands) (R .sound)

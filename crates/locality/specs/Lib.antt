@@ -4,3 +4,4 @@ pub mod Stores
 pub mod Within
 pub mod Refusals
 pub mod Laying
+pub mod Numbers

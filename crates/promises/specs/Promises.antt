@@ -1,15 +1,15 @@
 -- THE PROMISES. Every theorem that the three demands rest on, as far as they concern the graph, each with a one-line
 -- proof that names where it was shown. (Those about job sheets stand in crate sheet_format, specs/Promises.antt.) To
 -- believe a statement, read the definitions that it names:
---   the words of the tables   words: specs/Layout.antt, specs/Words.antt   (the code's contracts cite them, for ALL tables)
+--   the words of the tables   words: specs/Layout.antt, specs/Words.antt   (the contracts cite them, for ALL tables)
 --   what is seen in a state   terms: specs/Seen.antt; words, rules: specs/Observed.antt
 --   the rules                 rules: specs/Rules.antt                      (Johnson's task graph, as corrected)
 --   the plain book            reference: specs/Book.antt
 --   whole calls               reading: specs/Reading.antt                  (read off items and answers alone)
---   demand 3                  demand: specs/Demand.antt                    (of any machine; Wrong*.antt: those that fail it)
+--   demand 3                  demand: specs/Demand.antt                    (of any machine; wrong ones in Wrong*.antt)
 --   how calls end             demand: specs/Ends.antt
 --   the board                 graph_board: specs/Board.antt, specs/Accounted.antt
---   words needed, and rest    locality: specs/Parts.antt, specs/Refusals.antt
+--   words needed, and rest    locality: specs/Parts.antt, specs/Refusals.antt, specs/Numbers.antt
 -- An item is a post, a step or a get, by any worker, with any sizes and arguments, right or wrong; `events` are the
 -- items with their answers, and `after` is the state that they leave. "Laid out" means: `layOut s t` answered so,
 -- whatever the tables t held before. Assumes nothing.
@@ -20,28 +20,33 @@ use mathlib.Core.List.{List, [], _∷_, _++_}
 use mathlib.Core.Option.{none}
 use Prim.Native.Nat.{ℕ, _+_, _^_, _≤_, _<_}
 use lib.ListN.{length, getD}
+use lib.Seq.{sets}
 use Rattle.bucket.specs.Bucket.{bucketOf}
 use Rattle.terms.specs.Base.{pick, occurrences}
-use Rattle.terms.specs.Terms.{Arguments, withinLimits, sameSizes, wrongSizes, damaged, mostNames, labelNumber, finished}
+use Rattle.terms.specs.Terms.{Arguments, withinLimits, sameSizes, wrongSizes, damaged, mostNames}
+use Rattle.terms.specs.Terms.{mostWorkers}
 use Rattle.terms.specs.Runs.{Item, step, get, sizesOf, workerOf, outcome, after, events}
 use Rattle.terms.specs.Seen.{Same, idle}
 use Rattle.terms.specs.declared.Sizes.{Sizes}
 use Rattle.terms.specs.declared.Answer.the-variants.{Laid, Ended, NoneReady, Handed, Refused}
-use Rattle.words.specs.Layout.{Tables, view, workerShape, NAME, HELD, LIST-COUNT, NAMES, IDLE, bareWorker, roomFor}
+use Rattle.words.specs.Layout.{Tables, view, workerShape, NAME, LABEL, HELD, LIST-COUNT, NAMES, IDLE, bareWorker}
+use Rattle.words.specs.Layout.{roomFor}
 use Rattle.words.specs.Layout as words
 use Rattle.words.specs.Words.{putWorker, perform, layOut}
-use Rattle.words.specs.Observed.{waiting, chainFrom, newestFirst, seen}
+use Rattle.words.specs.Observed.{waiting, bucketFrom, newestFirst, seen}
 use Rattle.rules.specs.Rules.{empty}
 use Rattle.rules.specs.Rules as rules
 use Rattle.rules.specs.Observed as rules-seen
 use Rattle.reading.specs.Reading.{adding, finishing, Reading, reading, Quiet, acceptedAdds, acceptedFinishes}
 use Rattle.reading.specs.Reading as reading
-use Rattle.demand.specs.Demand.{Demand, HandedRightly, gives, handedOut}
+use Rattle.demand.specs.Demand.{Demand, addOf, HandedRightly, JobFinished, gives, handedOut}
 use Rattle.demand.specs.Ends.{AddStep, FinishOf}
 use Rattle.history.specs.Theorem as shown
 use Rattle.history.specs.Lifted as lifted
 use Rattle.locality.specs.Parts.{needed, rest, joined, lengths, laidOut}
 use Rattle.locality.specs.Plans.{quitsBy}
+use Rattle.locality.specs.Numbers.{Fits}
+use Rattle.locality.specs.Numbers as list
 use Rattle.locality.specs.Refusals.{idled, ends, wordsOf, holdAfter}
 use Rattle.locality.specs.Refusals as refusals
 use Rattle.locality.specs.Within as within
@@ -51,7 +56,10 @@ use Rattle.sheet_format.specs.Job.{Job}
 use Rattle.sheet_format.specs.NumberLaws.{Bytes}
 use Rattle.day_format.specs.Text.{decimal, leftWord, line, _␣_}
 use Rattle.day_format.specs.Whole.{wholeAdd, wholeFinish}
-use Rattle.day_format.specs.Day.{argumentsOf, Holder, getRound, finishAll, rounds, dayOf, dayText}
+use Rattle.day_format.specs.Day.{daySizes, argumentsOf, Holder, getRound, finishAll, rounds, dayOf, dayText, dayList}
+use Rattle.day_format.specs.Day.{unfinished}
+use Rattle.day_format.specs.Day.{printing}
+use Rattle.day_format.specs.declared.DayAnswer.the-variants.{Printed}
 use Rattle.day_history.specs.Theorem.{AddAnswer, Begins, afterAdds, withFirst, afterRounds, mostPrinted}
 use Rattle.day_history.specs.Theorem as ends-of-day
 use Rattle.graph_board.specs.Board.{graphTotals}
@@ -69,24 +77,39 @@ module _ (s : Sizes) (t : Tables) (laid : layOut s t .answer ≡ Laid) (items : 
   read = reading (events perform (layOut s t .state) items)
 
   -- ---- the auditor's question: "could a sheet, or the moment at which a worker happens to run, bring a canal split
-  -- forward of the reach it rests on, or have it worked twice?" Each job is handed out at most once.
+  -- forward of the reach it rests on, or have it worked twice?" In short; demand 3, below, says all of it.
+  -- Each job is handed out at most once, and no two accepted adds have one name.
   pub no-job-is-handed-out-twice : (j : ℕ)
       → occurrences j (handedOut (events perform (layOut s t .state) items)) ≤ 1
   no-job-is-handed-out-twice = lifted.once-handed s t laid items
 
-  -- When it is, every prerequisite is marked finished.
+  pub a-name-is-added-once : (i j : ℕ) → i < length (acceptedAdds (read .calls))
+      → j < length (acceptedAdds (read .calls))
+      → addOf (acceptedAdds (read .calls)) i .name ≡ addOf (acceptedAdds (read .calls)) j .name
+      → i ≡ j
+  a-name-is-added-once = lifted.one-add-of-a-name s t laid items
+
+  -- When it is handed out, which only a get does, every prerequisite is marked finished, and a finish of it was
+  -- accepted.
   pub none-is-handed-out-early : (q : Sizes) (w j name : ℕ) → perform at-end (get q w) .answer ≡ Handed j name
-      → HandedRightly (seen at-end) (acceptedAdds (read .calls)) j name
+      → HandedRightly (seen at-end) (read .calls) j name
   none-is-handed-out-early = lifted.rightly-handed s t laid items
 
-  -- At most one finish of each job is accepted.
+  -- At most one finish of each name is accepted.
   pub no-job-is-finished-twice : (name : ℕ) → occurrences name (acceptedFinishes (read .calls)) ≤ 1
   no-job-is-finished-twice = lifted.once-finished s t laid items
 
-  -- And none is forgotten: with no call half done, no hold and nothing waiting, every job that entered is finished.
+  -- And none is forgotten: a worker that is idle and jobless is handed the job longest in the queue, if one is there;
+  pub a-waiting-job-is-handed-out : (w j : ℕ) (rest : List ℕ) → w < s .workers → seen at-end .call w ≡ idle
+      → seen at-end .held w ≡ none
+      → seen at-end .waiting ≡ j ∷ rest
+      → perform at-end (get s w) .answer ≡ Handed j (seen at-end .job j .name)
+  a-waiting-job-is-handed-out = lifted.hands-out s t laid items
+
+  -- and with no call half done, no hold and nothing waiting, every job that entered is finished.
   pub what-is-drained-is-finished : Quiet read → ((w : ℕ) → w < s .workers → seen at-end .held w ≡ none)
       → seen at-end .waiting ≡ []
-      → (j : ℕ) → j < seen at-end .made → seen at-end .job j .label ≡ labelNumber finished
+      → (j : ℕ) → j < length (acceptedAdds (read .calls)) → JobFinished (seen at-end) (read .calls) j
   what-is-drained-is-finished = lifted.drained s t laid items
 
   -- ---- DEMAND 3, whole: each item does and answers what the rules say; no job enters the ready queue twice, none
@@ -119,6 +142,10 @@ module _ (s : Sizes) (t : Tables) (laid : layOut s t .answer ≡ Laid) (items : 
   pub a-finish-takes-1-step-more-than-arcs : (w name k : ℕ) → read .pending w ≡ finishing name k
       → FinishOf (seen at-end) name k (perform at-end (step s w) .answer)
   a-finish-takes-1-step-more-than-arcs = lifted.finish-ends s t laid items
+
+  -- No job has more arcs than the table, so that no finish goes on for ever.
+  pub a-job-has-at-most-A-arcs : (j : ℕ) → j < seen at-end .made → length (seen at-end .job j .arcs) ≤ s .arcs
+  a-job-has-at-most-A-arcs = lifted.arcs-fit s t laid items
 
   -- ---- gets. "None ready" exactly if the sizes and the worker are right, the worker is idle and jobless and nothing
   -- waits.
@@ -156,7 +183,7 @@ module _ (s : Sizes) (t : Tables) (laid : layOut s t .answer ≡ Laid) (items : 
 
   -- and a bucket's list holds exactly the jobs of its names, newest first.
   pub a-bucket-holds-its-jobs : (k : ℕ) → k < 2 ^ s .bits
-      → chainFrom (view at-end .made) (view at-end) (view at-end .bucket 0 k)
+      → bucketFrom (view at-end) (view at-end .bucket 0 k)
       ≡ newestFirst (λ j. bucketOf (view at-end .job NAME j) (s .bits)) k (view at-end .made)
   a-bucket-holds-its-jobs = lifted.newest-first s t laid items
 
@@ -169,6 +196,14 @@ module _ (s : Sizes) (t : Tables) (laid : layOut s t .answer ≡ Laid) (items : 
 
 -- ---- of ALL tables, damaged ones too, and every item
 module _ (t : Tables) (i : Item) where
+  -- DEMAND 1: "either served or turned away by a number from the paper's list", by kind of item. (Which, and when, is
+  -- settled by the words' definitions, which the code's contracts cite.)
+  pub every-answer-is-on-the-list : Fits i (perform t i .answer)
+  every-answer-is-on-the-list = list.fits t i
+
+  pub only-a-get-hands-out : (j name : ℕ) → perform t i .answer ≡ Handed j name → (q : Sizes) × (w : ℕ) × (i ≡ get q w)
+  only-a-get-hands-out = list.handed-by-get t i
+
   -- A refusal changes nothing, but for 6, 7 and 8: "worker idle, nothing else changed".
   pub a-refusal-changes-nothing : (n p : ℕ) → perform t i .answer ≡ Refused n p
       → perform t i .state ≡ pick (quitsBy n) (idled t (workerOf i)) t
@@ -212,9 +247,15 @@ pub laying-out-makes-a-fresh-graph : (s : Sizes) (t : Tables)
     ≡ pick (roomFor s t) (outcome Laid (joined (fresh s) (rest s t))) (outcome (Refused wrongSizes 0) t)
 laying-out-makes-a-fresh-graph = laying.laid-out
 
--- ---- the day list, of any entries at any sizes within their limits: no call that it runs whole is cut short by its budget
--- of steps, nor the rounds by theirs, and no job is left
-module _ (s : Sizes) (limits : withinLimits s ≡ true) (js : List Job) where
+-- ---- the day list, of any entries, with 1 to 16 workers: no call that it runs whole is cut short by its budget of
+-- steps, and more rounds than it has would change nothing;
+module _ (workers : ℕ) (some : 1 ≤ workers) (few : workers ≤ mostWorkers) (js : List Job) where
+  abbrev pub s : Sizes
+  s = daySizes workers
+
+  pub limits : withinLimits (daySizes workers) ≡ true
+  limits = ends-of-day.day-limits workers some few
+
   pub no-add-is-cut-short : (j : Job) → AddAnswer (wholeAdd s (afterAdds s limits js .state) 0 (argumentsOf j) .answer)
   no-add-is-cut-short = ends-of-day.no-add-is-cut-short s limits js
 
@@ -227,12 +268,25 @@ module _ (s : Sizes) (limits : withinLimits s ≡ true) (js : List Job) where
       → rounds (k + (s .jobs + 1)) s (afterAdds s limits js .state) (withFirst s limits js) 0 ≡ afterRounds s limits js
   the-rounds-suffice = ends-of-day.the-rounds-suffice s limits js
 
+  -- at the end nothing waits, and every job is finished;
+  pub nothing-waits-at-the-end : waiting (afterRounds s limits js .state) ≡ []
+  nothing-waits-at-the-end = ends-of-day.nothing-waits s limits js
+
+  pub none-is-unfinished-at-the-end :
+      unfinished (view (afterRounds s limits js .state) .job LABEL) (view (afterRounds s limits js .state) .made) ≡ 0
+  none-is-unfinished-at-the-end = ends-of-day.none-is-unfinished s limits js
+
+  -- so the last line is left 0
   pub the-day-list-leaves-nothing : dayOf s js ≡ afterRounds s limits js .text ++ line (leftWord ␣ decimal 0)
   the-day-list-leaves-nothing = ends-of-day.nothing-is-left s limits js
 
--- and with two workers no sheet prints more than 97,979 bytes.
+-- With two workers no sheet prints more than 97,979 bytes, so an output of so many is never refused.
 pub the-day-list-fits : (sheet : List ℕ) → Bytes sheet → length (dayText 2 sheet) ≤ mostPrinted
 the-day-list-fits = ends-of-day.the-day-list-fits
+
+pub no-day-list-is-refused : (sheet out : List ℕ) → Bytes sheet → mostPrinted ≤ length out
+    → dayList 2 sheet out ≡ printing (Printed (length (dayText 2 sheet))) (sets out 0 (dayText 2 sheet))
+no-day-list-is-refused = ends-of-day.nothing-is-refused
 
 -- ---- the starred cases of document 01, "Checked by hand".
 pub the-starred-cases-hold : Starred

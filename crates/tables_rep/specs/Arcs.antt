@@ -117,4 +117,4 @@ module _ (s : Sizes) (t : Tables) (g : Graph) (G : Ghost) (S : Stands s t g G) (
   ]
 
   pub arcs-seen : (p k : ℕ) → arcsFrom (view t) (getD (G .via p) k none) ≡ drop k (job g p .dependents)
-  arcs-seen p k = along (view t .reserved) p k (omega (arith, R .reserved, few-arcs S p))
+  arcs-seen p k = along (view t .reserved + 1) p k (omega (arith, R .reserved, few-arcs S p))

@@ -2,7 +2,7 @@
 use mathlib.Core.Path.{_≡_, refl, sym, ap, _∙_, subst}
 use mathlib.Core.Bool.{Bool, true, false}
 use mathlib.Core.List.{[], _∷_}
-use Prim.Native.Nat.{ℕ, zero, suc, _^_, _≤_, _<_}
+use Prim.Native.Nat.{ℕ, zero, suc, _+_, _^_, _≤_, _<_}
 use native.Mathlib.Omega.{arith}
 use lib.Dec.{eqb}
 use borrow.Author.Tests.{ne-eqb}
@@ -10,7 +10,7 @@ use Rattle.bucket.specs.Bucket.{bucketOf}
 use Rattle.terms.specs.Base.{pick}
 use Rattle.terms.specs.declared.Sizes.{Sizes}
 use Rattle.words.specs.Layout.{none, NAME, NEXT, View, view, Tables}
-use Rattle.words.specs.Observed.{chainFrom, newestFirst}
+use Rattle.words.specs.Observed.{chainFrom, bucketFrom, newestFirst}
 use Rattle.rules.specs.Rules.{Graph}
 use Rattle.rules.specs.Sound.{Sound}
 use Rattle.refinement.specs.Rep.{Ghost, Bucket, Stands}
@@ -44,10 +44,10 @@ module _ (v : View) (bucket : ℕ → ℕ) (k : ℕ) where
   listed (suc n) m h b = longer m n h b (λ l z. listed n l z (omega arith))
 
 pub chains : {s : Sizes} {t : Tables} {g : Graph} {G : Ghost} → Stands s t g G → Sound s g → (k : ℕ) → k < 2 ^ s .bits
-    → chainFrom (view t .made) (view t) (view t .bucket 0 k)
+    → bucketFrom (view t) (view t .bucket 0 k)
     ≡ newestFirst (λ j. bucketOf (view t .job NAME j) (s .bits)) k (view t .made)
 chains {s} {t} {g} S O k h =
     let few : view t .made ≤ none = omega (arith, S .rep .made, O .jobs, limits-of s (S .limits) .jobs) in
     let bucket : ℕ → ℕ = λ j. bucketOf (view t .job NAME j) (s .bits) in
-    listed (view t) bucket k (view t .made) (view t .made) (omega arith) few (view t .bucket 0 k)
+    listed (view t) bucket k (view t .made) (view t .made + 1) (omega arith) few (view t .bucket 0 k)
     (subst (λ n. Bucket (view t .job NEXT) bucket k (view t .bucket 0 k) n) (sym (S .rep .made)) (S .rep .buckets k h))

@@ -26,14 +26,18 @@ unfoldable pub dependentsFrom : ℕ → View → ℕ → List ℕ
 dependentsFrom zero v x = []
 dependentsFrom (suc n) v x = pick (eqb x none) [] (v .arc DEPENDENT x ∷ dependentsFrom n v (v .arc AFTER x))
 
--- no list has more arcs than were reserved
+-- no list has more arcs than were reserved, so that one step more comes to its end
 abbrev pub arcsFrom : View → ℕ → List ℕ
-arcsFrom v x = dependentsFrom (v .reserved) v x
+arcsFrom v x = dependentsFrom (v .reserved + 1) v x
 
 -- the jobs of a bucket along its list from the job j on, which are at most n
 unfoldable pub chainFrom : ℕ → View → ℕ → List ℕ
 chainFrom zero v j = []
 chainFrom (suc n) v j = pick (eqb j none) [] (j ∷ chainFrom n v (v .job NEXT j))
+
+-- and no bucket more jobs than were made
+abbrev pub bucketFrom : View → ℕ → List ℕ
+bucketFrom v j = chainFrom (v .made + 1) v j
 
 -- "at the head of its bucket": of the first n jobs those of the bucket k, newest first
 unfoldable pub newestFirst : (ℕ → ℕ) → ℕ → ℕ → List ℕ
