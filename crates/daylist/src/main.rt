@@ -1,14 +1,13 @@
 // The day list as a program: a sheet from standard input, the list to standard output. A read or a write that fails is
 // said on standard error; after a failed read nothing is printed.
-// Follows document 01, "The board and the day list" (R 256, A 1,024, b 4, P 2). What it prints is the library's: day_list says it.
-mod two;
-
+// Follows document 01, "The board and the day list" (R 256, A 1,024, b 4, P 2). What it prints is the library's:
+// day_of_two says it.
 ghost use Rattle.io.specs.Counts.{Counts};
+use day_of_two::OUT_BYTES;
+use day_of_two::day_list_of_two;
 use libc::STDERR_FILENO;
 use libc::STDIN_FILENO;
 use libc::STDOUT_FILENO;
-use two::OUT_BYTES;
-use two::day_list_of_two;
 
 // One byte more than the longest sheet, so that a longer one is seen.
 const SHEET_BYTES: usize = 32769;

@@ -7,8 +7,8 @@ use borrow.Author.Needs.{needs}
 use Rattle.sheet_format.specs.NumberLaws.{Bytes}
 use Rattle.day_format.specs.Day.{Printing}
 use Rattle.day_history.specs.Theorem.{nothing-is-refused}
-use Rattle.daylist.proofs.two.day_list_of_two.Statement.{statement}
-use Rattle.daylist.proofs.two.day_list_of_two.Tie as tie
+use Rattle.day_of_two.proofs.day_list_of_two.Statement.{statement}
+use Rattle.day_of_two.proofs.day_list_of_two.Tie as tie
 
 day-list-requires : tie.Need-day-list-requires
 day-list-requires c κs = search needs
