@@ -66,10 +66,10 @@ module _ (s : Sizes)
 
   -- ---- the claim
   module _ (t : Tables) (G : Ghost) (S : Stands s t empty G) (items : List Item) where
-    abbrev g : Graph
+    abbrev pub g : Graph
     g = after (rules.perform s) empty items
 
-    abbrev r : Reading
+    abbrev pub r : Reading
     r = reading (events (rules.perform s) empty items)
 
     abbrev e : ℕ → ℕ
@@ -81,7 +81,7 @@ module _ (s : Sizes)
     walk : Along t empty items
     walk = along t empty G unread (λ j. 0) S start items
 
-    abbrev T : Tables
+    abbrev pub T : Tables
     T = after words.perform t items
 
     told : reading (events words.perform t items) ≡ r
@@ -99,7 +99,7 @@ module _ (s : Sizes)
     entered : (j : ℕ) → entriesInto words.perform seen s t items j ≡ e j
     entered j = omega (arith, walk .entered j)
 
-    abbrev adds : List Arguments
+    abbrev pub adds : List Arguments
     adds = acceptedAdds (r .calls)
 
     -- the listed names of job j's add are the job's list
@@ -110,7 +110,7 @@ module _ (s : Sizes)
     does : Same s (seen T) (rules-seen.seen g)
     does = shown (walk .stands) O
 
-    marked : (name : ℕ) → Finished g name → MarkedFinished (seen T) adds name
+    pub marked : (name : ℕ) → Finished g name → MarkedFinished (seen T) adds name
     marked name f =
         let at = found-there g name (f .job) (f .found) in
         record {

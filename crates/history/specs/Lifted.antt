@@ -28,7 +28,7 @@ use Rattle.reading.specs.Reading.{Pending, adding, finishing, Reading, reading,
 use Rattle.reading.specs.Reading as reading
 use Rattle.story.specs.Story.{Story, start, Paced, Booked}
 use Rattle.story.specs.Onward.{entriesBy, onward}
-use Rattle.demand.specs.Demand.{addOf, MarkedFinished, HandedRightly, JobFinished, handedOut}
+use Rattle.demand.specs.Demand.{addOf, HandedRightly, JobFinished, handedOut}
 use Rattle.demand.specs.Ends.{AddStep, FinishStep, FinishOf}
 use Rattle.refinement.specs.Rep.{Stands}
 use Rattle.tables_rep.specs.Find.{found-there}
@@ -47,7 +47,7 @@ use Rattle.audit.specs.Gets as gets
 use Rattle.audit.specs.Handed.{handed-once}
 use Rattle.audit.specs.Finishes.{finishedBy, finishes, occurs-there, finished-once}
 use Rattle.audit.specs.Drained as audit
-use Rattle.history.specs.Theorem.{Reached, after-items, same-events, demand}
+use Rattle.history.specs.Theorem.{Reached, after-items, marked-finished, same-events, demand}
 
 module _ (s : Sizes) (t : Tables) (laid : layOut s t .answer ≡ Laid) (items : List Item) where
   abbrev T : Tables
@@ -123,16 +123,6 @@ module _ (s : Sizes) (t : Tables) (laid : layOut s t .answer ≡ Laid) (items : 
   abbrev adds : List Arguments
   adds = acceptedAdds (r .calls)
 
-  marked : (name : ℕ) → Finished g name → MarkedFinished (seen T) adds name
-  marked name f =
-      let at = found-there g name (f .job) (f .found) in
-      record {
-        job = f .job;
-        there = omega (arith, at .0, K .adds);
-        named = K .added (f .job) (at .0) .name ∙ at .1;
-        marked = ap (λ (x : JobSeen). x .label) (does .jobs (f .job) (at .0)) ∙ ap labelNumber (f .finished);
-      }
-
   -- a finished job's name is among the accepted finishes
   finishes-of : (j : ℕ) → j < length (g .jobs) → job g j .label ≡ finished
       → contains (job g j .name) (acceptedFinishes (r .calls)) ≡ true
@@ -153,7 +143,7 @@ module _ (s : Sizes) (t : Tables) (laid : layOut s t .answer ≡ Laid) (items : 
         there = omega (arith, h .there, K .adds);
         named = h .named ∙ sym (same .name);
         unexecuted = ap (λ (x : JobSeen). x .label) (does .jobs j (h .there)) ∙ ap labelNumber (h .unexecuted);
-        prerequisites = λ i l. rw (same .list) (marked _ (h .prerequisites i (omega (arith, n))));
+        prerequisites = λ i l. rw (same .list) (marked-finished s t laid items _ (h .prerequisites i (omega (arith, n))));
         finishes = λ i l. rw (same .list) (finished-name _ (h .prerequisites i (omega (arith, n))));
       })
 

@@ -17,10 +17,10 @@ use Rattle.words.specs.Words.{perform, layOut}
 use Rattle.words.specs.Observed.{waiting, seen}
 use Rattle.rules.specs.Rules.{Graph, empty, job, find, at}
 use Rattle.rules.specs.Rules as rules
-use Rattle.rules.specs.Sound.{Sound}
-use Rattle.reading.specs.Reading.{Reading, unread, reading, Quiet, adding, finishing}
+use Rattle.rules.specs.Sound.{Sound, Finished}
+use Rattle.reading.specs.Reading.{Reading, unread, reading, Quiet, acceptedAdds}
 use Rattle.story.specs.Story.{Story, start, Counted, Booked, Balanced, AllIdle}
-use Rattle.demand.specs.Demand.{Demand, gives, handedOut}
+use Rattle.demand.specs.Demand.{MarkedFinished, Demand, gives, handedOut}
 use Rattle.refinement.specs.Rep.{Ghost, Stands}
 use Rattle.tables_rep.specs.Fresh.{noGhost, fresh-stands}
 use Rattle.tables_rep.specs.Queue.{waiting-queue}
@@ -32,7 +32,7 @@ use Rattle.invariant.specs.Sound.{sound}
 use Rattle.invariant.specs.Counted.{counted}
 use Rattle.invariant.specs.Balanced.{balanced}
 use Rattle.story.specs.Onward.{onward}
-use Rattle.history.specs.Holds.{Along, along, holds}
+use Rattle.history.specs.Holds.{Along, along, marked, holds}
 use Rattle.history.specs.InOrder.{Moved, in-order, kth}
 
 laid-stands : (s : Sizes) (t : Tables) → roomFor s t ≡ true → Stands s (layOut s t .state) empty noGhost
@@ -80,6 +80,13 @@ module _ (s : Sizes) where
 
     pub demand : (items : List Item) → Demand perform seen s T items
     demand items = holds s soundly countedly bookedly quietly T noGhost fresh items
+
+    -- what is finished by the rules is marked finished in the words
+    pub marked-finished : (items : List Item) (name : ℕ) → Finished (after (rules.perform s) empty items) name
+        → MarkedFinished (seen (after perform T items))
+        (acceptedAdds (reading (events (rules.perform s) empty items) .calls))
+        name
+    marked-finished items = marked s soundly countedly bookedly quietly T noGhost fresh items
 
     walked : (items : List Item) → Along s soundly countedly bookedly quietly T empty items
     walked items = along s soundly countedly bookedly quietly T empty noGhost unread (λ j. 0) fresh start items

@@ -8,7 +8,7 @@ use native.Mathlib.Omega.{arith}
 use lib.ListN.{getD, getD-replicate, List·getD-eq-default}
 use Rattle.terms.specs.Terms.{mostNames, Arguments, listed}
 use Rattle.terms.specs.declared.Sizes.{Sizes}
-use Rattle.words.specs.Layout.{none, workerShape, PHASE, HELD, LIST-COUNT, NAMES, IDLE, bareWorker, view, Tables}
+use Rattle.words.specs.Layout.{none, workerShape, HELD, LIST-COUNT, NAMES, IDLE, bareWorker, view, Tables}
 use Rattle.rules.specs.Rules.{Call, idle, looking, linking, marking, notifying, Graph}
 use Rattle.refinement.specs.Rep.{Ghost, AddWords, BareWords, CallRep, Stands}
 use Rattle.tables_rep.specs.Lists.{length-prefix}
@@ -47,26 +47,7 @@ module _ {s : Sizes} {t : Tables} {g : Graph} {G : Ghost} (S : Stands s t g G) (
       → view t .worker k w ≡ getD (bareWorker IDLE none) k 0
   idle-fresh e = bare-fresh f w none (rw e at (S .calls w hw .call))
 
-  -- the names past the count of an add's list
-  pub looking-past : (a : Arguments) (i : ℕ) → g .workers w .call ≡ looking a i
-      → (q : ℕ) → a .count ≤ q → q < mostNames → view t .worker (NAMES + q) w ≡ 0
-  looking-past a i e = add-past f w a _ _ _ _ _ (rw e at (S .calls w hw .call))
-
-  pub linking-past : (a : Arguments) (j i u : ℕ) → g .workers w .call ≡ linking a j i u
-      → (q : ℕ) → a .count ≤ q → q < mostNames → view t .worker (NAMES + q) w ≡ 0
-  linking-past a j i u e = let r = rw e at (S .calls w hw .call) in add-past f w a _ _ _ _ _ (r .0)
-
-  -- ---- told from the words alone
-  pub phase-idle : view t .worker PHASE w ≡ IDLE → g .workers w .call ≡ idle
-  phase-idle e = go (g .workers w .call) (S .calls w hw .call)
-    where
-      go : (c : Call) → CallRep f G w c → c ≡ idle
-      go idle r = refl
-      go (looking a i) r = absurd (omega (arith, r .phase))
-      go (linking a j i u) r = absurd (omega (arith, r .0 .phase))
-      go marking r = absurd (omega (arith, r .phase))
-      go (notifying p k) r = absurd (omega (arith, r .phase))
-
+  -- the names past the count of a call's list, told from the words alone
   pub past-count : (q : ℕ) → view t .worker LIST-COUNT w ≤ q → q < mostNames → view t .worker (NAMES + q) w ≡ 0
   past-count q h b = go (g .workers w .call) (S .calls w hw .call)
     where
