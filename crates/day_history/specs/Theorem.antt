@@ -1,7 +1,7 @@
 -- The history of a day ("The board and the day list"): its calls end within the steps and its rounds within the rounds
 -- that the list gives them, nothing is left at its end, and what it prints is short. Of all sizes within the limits,
 -- and so of R 256, A 1,024, b 4 with 1 to 16 workers. Assumes nothing.
-use mathlib.Core.Path.{_≡_, refl, _∙_}
+use mathlib.Core.Path.{_≡_, refl, sym, _∙_}
 use mathlib.Core.Bool.{true}
 use mathlib.Core.List.{List, [], _∷_, _++_}
 use Prim.Native.Nat.{ℕ, _+_, _*_, _≤_, _<_}
@@ -164,7 +164,14 @@ module _ (s : Sizes) (limits : withinLimits s ≡ true) where
   nothing-waits js =
       let O = over 43 nameless js (any-names js) in waiting-queue (O .now .at .stands) ∙ O .empty
 
-  -- and every job is finished
+  -- the jobs are as many as after the adds,
+  pub no-job-is-lost : (js : List Job) → view (afterRounds js .state) .made ≡ view (afterAdds js .state) .made
+  no-job-is-lost js =
+      let E = entered 43 nameless js (any-names js) in
+      let O = over 43 nameless js (any-names js) in
+      O .now .at .stands .rep .made ∙ O .now .jobs .made ∙ sym (E .now .at .stands .rep .made ∙ E .now .jobs .made)
+
+  -- and every one is finished
   pub none-is-unfinished : (js : List Job)
       → unfinished (view (afterRounds js .state) .job LABEL) (view (afterRounds js .state) .made) ≡ 0
   none-is-unfinished js = let O = over 43 nameless js (any-names js) in all-finished (O .now) (O .empty)

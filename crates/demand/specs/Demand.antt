@@ -46,7 +46,7 @@ PrerequisitesFinished x adds j =
     (i : ℕ) → i < addOf adds j .count → MarkedFinished x adds (getD (listed (addOf adds j)) i 0)
 
 -- a job that is handed out, by what was seen just before and by the calls decided so far: it is that of an accepted
--- add, under its own name; it was not handed out yet; each of its prerequisites is marked finished, and an accepted
+-- add, under its own name; it is labelled unexecuted; each of its prerequisites is marked finished, and an accepted
 -- finish of each was made
 pub record HandedRightly (x : Seen) (calls : List book.Ended) (j name : ℕ) : Type 0 where
   pub there : j < length (acceptedAdds calls)

@@ -222,10 +222,11 @@ module _ (s : Sizes) (t : Tables) (laid : layOut s t .answer ≡ Laid) (items : 
       let b : j < length (g .jobs) = omega (arith, K .adds) in
       R .sound .names i j a b (sym (K .added i a .name) ∙ e ∙ K .added j b .name))
 
-  pub arcs-fit : (j : ℕ) → j < seen T .made → length (seen T .job j .arcs) ≤ s .arcs
+  pub arcs-fit : (j : ℕ) → j < seen T .made
+      → (length (seen T .job j .arcs) ≤ seen T .reserved) × (seen T .reserved ≤ s .arcs)
   arcs-fit j h =
       let there : j < length (g .jobs) = rw (does .made) at h in
-      rw (ap (λ (x : JobSeen). x .arcs) (does .jobs j there)) (omega (arith, few-arcs (R .stands) j, R .sound .arcs))
+      rw (ap (λ (x : JobSeen). x .arcs) (does .jobs j there), does .reserved) (few-arcs (R .stands) j, R .sound .arcs)
 
   pub newest-first : (k : ℕ) → k < 2 ^ s .bits
       → bucketFrom (view T) (view T .bucket 0 k)

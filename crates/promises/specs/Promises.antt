@@ -143,8 +143,9 @@ module _ (s : Sizes) (t : Tables) (laid : layOut s t .answer ≡ Laid) (items : 
       → FinishOf (seen at-end) name k (perform at-end (step s w) .answer)
   a-finish-takes-1-step-more-than-arcs = lifted.finish-ends s t laid items
 
-  -- No job has more arcs than the table, so that no finish goes on for ever.
-  pub a-job-has-at-most-A-arcs : (j : ℕ) → j < seen at-end .made → length (seen at-end .job j .arcs) ≤ s .arcs
+  -- No job has more arcs than were reserved, and no more than A are: its list ends, and so does its finish.
+  pub a-job-has-at-most-A-arcs : (j : ℕ) → j < seen at-end .made
+      → (length (seen at-end .job j .arcs) ≤ seen at-end .reserved) × (seen at-end .reserved ≤ s .arcs)
   a-job-has-at-most-A-arcs = lifted.arcs-fit s t laid items
 
   -- ---- gets. "None ready" exactly if the sizes and the worker are right, the worker is idle and jobless and nothing
@@ -201,6 +202,7 @@ module _ (t : Tables) (i : Item) where
   pub every-answer-is-on-the-list : Fits i (perform t i .answer)
   every-answer-is-on-the-list = list.fits t i
 
+  -- Only a get answers that it hands a job out.
   pub only-a-get-hands-out : (j name : ℕ) → perform t i .answer ≡ Handed j name → (q : Sizes) × (w : ℕ) × (i ≡ get q w)
   only-a-get-hands-out = list.handed-by-get t i
 
@@ -268,9 +270,12 @@ module _ (workers : ℕ) (some : 1 ≤ workers) (few : workers ≤ mostWorkers) 
       → rounds (k + (s .jobs + 1)) s (afterAdds s limits js .state) (withFirst s limits js) 0 ≡ afterRounds s limits js
   the-rounds-suffice = ends-of-day.the-rounds-suffice s limits js
 
-  -- at the end nothing waits, and every job is finished;
+  -- at the end nothing waits, the jobs are as many as after the adds, and every one is finished;
   pub nothing-waits-at-the-end : waiting (afterRounds s limits js .state) ≡ []
   nothing-waits-at-the-end = ends-of-day.nothing-waits s limits js
+
+  pub no-job-is-lost : view (afterRounds s limits js .state) .made ≡ view (afterAdds s limits js .state) .made
+  no-job-is-lost = ends-of-day.no-job-is-lost s limits js
 
   pub none-is-unfinished-at-the-end :
       unfinished (view (afterRounds s limits js .state) .job LABEL) (view (afterRounds s limits js .state) .made) ≡ 0
