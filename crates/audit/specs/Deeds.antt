@@ -18,21 +18,23 @@ use Rattle.rules.specs.Rules as rules
 use Rattle.rules.specs.Rules.{Job, noJob, idle, notifying, Worker, Graph, job, withLabel, newJob}
 use Rattle.rules.specs.Rules.{marked, handedOut, entered, perform}
 use Rattle.rules.specs.Sound.{Named, Looking, Sound}
-use Rattle.reference.specs.Book.{Entry, Ended, Call, add, get, finish, End, accepted, noneReady, handed, refused}
-use Rattle.reading.specs.Reading.{Reading, decided, note, acceptedFinishes}
-use Rattle.story.specs.Story.{Story, entryOf}
-use Rattle.demand.specs.Demand.{orHanded}
-use Rattle.invariant.specs.Relation.{snoc-all}
-use Rattle.invariant.specs.Sound.{sound}
-use Rattle.bookkeeping.specs.Base.{never, update-same, update-other, kept-field, head-occurs}
-use Rattle.bookkeeping.specs.Change.{Change, nothing, addWrong, addPosted, finishWrong, finishPosted, lookedUp}
-use Rattle.bookkeeping.specs.Change.{nameUnknown, nameThere, roomLacking, jobEntered, tallied, arcAppended, jobSettled}
-use Rattle.bookkeeping.specs.Change.{markedLast, markedGoing, arcNotified, lastNotified, getHolding, getNone, getHanded}
+use Rattle.sequential_model.specs.Book.{Entry, Ended, Call, add, get, finish, End, accepted, noneReady, handed, refused}
+use Rattle.linearization.specs.Calls.{Reading, decided, note, acceptedFinishes}
+use Rattle.rules_history.specs.History.{History, entryOf}
+use Rattle.linearizability.specs.Demand.{orHanded}
+use Rattle.rules_invariant.specs.Relation.{snoc-all}
+use Rattle.rules_invariant.specs.Sound.{sound}
+use Rattle.rules_follow_model.specs.Base.{never, update-same, update-other, kept-field, head-occurs}
+use Rattle.rules_follow_model.specs.Change.{Change, nothing, addWrong, addPosted, finishWrong, finishPosted, lookedUp}
+use Rattle.rules_follow_model.specs.Change.{nameUnknown, nameThere, roomLacking, jobEntered, tallied, arcAppended}
+use Rattle.rules_follow_model.specs.Change.{jobSettled}
+use Rattle.rules_follow_model.specs.Change.{markedLast, markedGoing, arcNotified, lastNotified, getHolding, getNone}
+use Rattle.rules_follow_model.specs.Change.{getHanded}
 use Rattle.terms.specs.Runs.{workerOf}
-use Rattle.bookkeeping.specs.Changes.{changes}
-use Rattle.bookkeeping.specs.Paced.{paced}
-use Rattle.bookkeeping.specs.Booked.{held-kept}
-use Rattle.bookkeeping.specs.Entries.{listed-length}
+use Rattle.rules_follow_model.specs.Changes.{changes}
+use Rattle.rules_follow_model.specs.Paced.{paced}
+use Rattle.rules_follow_model.specs.Booked.{held-kept}
+use Rattle.rules_follow_model.specs.Entries.{listed-length}
 use Rattle.audit.specs.Gets.{worker-below}
 
 -- ---- what is kept and what is done
@@ -217,9 +219,9 @@ module _ (s : Sizes) (g : Graph) (r : Reading) (S : Sound s g) (w : ℕ) where
   did x h q b (getNone e) = alone x h q (λ l. refl) refl (λ v. refl) (no-finish (r .calls) _ refl)
   did x h q b (getHanded j {q = l} e f z) = handing j l (b j (job g j .name) refl) e z
 
--- every item of a story does one of these
-pub deeds : {s : Sizes} {g : Graph} {r : Reading} {e : ℕ → ℕ} → Story s g r e → (i : Item)
+-- every item of a history does one of these
+pub deeds : {s : Sizes} {g : Graph} {r : Reading} {e : ℕ → ℕ} → History s g r e → (i : Item)
     → Did s g r (workerOf i) (perform s g i .answer) (perform s g i .state) (note r i (perform s g i .answer))
-deeds {s} {g} {r} story i = did s g r (sound story) (workerOf i) _ _ _
+deeds {s} {g} {r} history i = did s g r (sound history) (workerOf i) _ _ _
     (λ j name z. worker-below s g i (λ n k e. never (cc)))
-    (changes s g r (sound story) (paced (λ g r e t. sound t) story) i)
+    (changes s g r (sound history) (paced (λ g r e t. sound t) history) i)

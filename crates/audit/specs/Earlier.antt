@@ -6,9 +6,9 @@ use native.Mathlib.Decide.{decLt}
 use lib.ListN.{length, getD}
 use Rattle.terms.specs.declared.Sizes.{Sizes}
 use Rattle.rules.specs.Rules.{Graph, empty, job}
-use Rattle.reading.specs.Reading.{Reading}
-use Rattle.story.specs.Story.{Story, start, then}
-use Rattle.bookkeeping.specs.Entries.{found-name}
+use Rattle.linearization.specs.Calls.{Reading}
+use Rattle.rules_history.specs.History.{History, start, then}
+use Rattle.rules_follow_model.specs.Entries.{found-name}
 use Rattle.audit.specs.Deeds.{Grown, deeds}
 
 -- the job of a name, numbered below j
@@ -35,8 +35,8 @@ earlier-on {g} {h} G E j k i l = elim (decLt j (length (g .jobs))) [
 ]
 
 -- each listed name of a job is that of a job entered before it
-pub earlier : {s : Sizes} {g : Graph} {r : Reading} {e : ℕ → ℕ} → Story s g r e → (j : ℕ) → j < length (g .jobs)
+pub earlier : {s : Sizes} {g : Graph} {r : Reading} {e : ℕ → ℕ} → History s g r e → (j : ℕ) → j < length (g .jobs)
     → (i : ℕ) → i < length (job g j .list) → Earlier g j (getD (job g j .list) i 0)
 unfolding empty
 earlier start = λ j h. absurd (omega arith)
-earlier (then story x) = earlier-on (deeds story x .grown) (earlier story)
+earlier (then history x) = earlier-on (deeds history x .grown) (earlier history)

@@ -16,11 +16,11 @@ use Rattle.terms.specs.declared.Sizes.{Sizes}
 use Rattle.terms.specs.declared.Answer.{Answer}
 use Rattle.rules.specs.Rules.{Job, noJob, Graph, empty, job, perform}
 use Rattle.rules.specs.Sound.{Sound}
-use Rattle.reading.specs.Reading.{Reading, unread, reading, acceptedFinishes}
-use Rattle.story.specs.Story.{Story, start, then}
-use Rattle.story.specs.Onward.{onward}
-use Rattle.invariant.specs.Base.{hit-same, hit-other, occurrences-nil, occurrences-snoc}
-use Rattle.invariant.specs.Sound.{sound}
+use Rattle.linearization.specs.Calls.{Reading, unread, reading, acceptedFinishes}
+use Rattle.rules_history.specs.History.{History, start, then}
+use Rattle.rules_history.specs.Onward.{onward}
+use Rattle.rules_invariant.specs.Base.{hit-same, hit-other, occurrences-nil, occurrences-snoc}
+use Rattle.rules_invariant.specs.Sound.{sound}
 use Rattle.audit.specs.Deeds.{Grown, Deed, plain, marks, hands, deeds}
 
 -- 1 for a finished job
@@ -88,7 +88,7 @@ module _ {s : Sizes} {g : Graph} {before : List ℕ} (S : Sound s g) (F : Finish
       }
 
 -- of a job that was made there is one accepted finish if it is marked finished, and else none; of any other name none
-pub finishes : {s : Sizes} {g : Graph} {r : Reading} {e : ℕ → ℕ} → Story s g r e
+pub finishes : {s : Sizes} {g : Graph} {r : Reading} {e : ℕ → ℕ} → History s g r e
     → Finishes g (acceptedFinishes (r .calls))
 unfolding empty unread acceptedFinishes
 finishes start = record {
@@ -96,9 +96,9 @@ finishes start = record {
   of-none = λ name f. occurrences-nil name;
   once = λ name. omega (arith, occurrences-nil name);
 }
-finishes (then story i) =
-    let d = deeds story i in
-    finishes-on (sound story) (finishes story) _ _ _ (sound (then story i)) (d .grown) (d .deed)
+finishes (then history i) =
+    let d = deeds history i in
+    finishes-on (sound history) (finishes history) _ _ _ (sound (then history i)) (d .grown) (d .deed)
 
 -- at most one finish of each name is accepted
 pub finished-once : (s : Sizes) (items : List Item) (name : ℕ)

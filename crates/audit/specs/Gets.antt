@@ -18,11 +18,11 @@ use Rattle.terms.specs.declared.Answer.the-variants.{NoneReady, Handed, Refused
 use Rattle.rules.specs.Rules.{Call, idle, looking, linking, marking, notifying, Graph, job}
 use Rattle.rules.specs.Rules.{takeNext, getJob, whenIdle, admitted, perform}
 use Rattle.rules.specs.Sound.{Sound, Finished}
-use Rattle.reading.specs.Reading.{Reading}
-use Rattle.story.specs.Story.{Story}
-use Rattle.bookkeeping.specs.Base.{never, head-occurs}
+use Rattle.linearization.specs.Calls.{Reading}
+use Rattle.rules_history.specs.History.{History}
+use Rattle.rules_follow_model.specs.Base.{never, head-occurs}
 use Rattle.terms.specs.Runs.{workerOf}
-use Rattle.invariant.specs.Sound.{sound}
+use Rattle.rules_invariant.specs.Sound.{sound}
 
 abbrev pub NotRefused : Answer → Type 0
 NotRefused x = (n i : ℕ) → x ≢ Refused n i
@@ -115,7 +115,8 @@ taken-ready s g S w j name (k ∷ l) e z =
     }
 
 -- it was made, has this name and was not handed out before, and the job of each name in its list is finished
-pub handed-ready : {s : Sizes} {g : Graph} {r : Reading} {e : ℕ → ℕ} → Story s g r e → (q : Sizes) (w j name : ℕ)
+pub handed-ready : {s : Sizes} {g : Graph} {r : Reading} {e : ℕ → ℕ} → History s g r e → (q : Sizes) (w j name : ℕ)
     → perform s g (get q w) .answer ≡ Handed j name → HandedReady g j name
-handed-ready {s} {g} story q w j name z =
-    taken-ready s g (sound story) w j name (g .queue) refl (got s q g w (Handed j name) (λ n i e. never (cc)) z .taken)
+handed-ready {s} {g} history q w j name z =
+    taken-ready s g (sound history) w j name (g .queue) refl
+    (got s q g w (Handed j name) (λ n i e. never (cc)) z .taken)

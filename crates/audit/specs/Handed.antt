@@ -11,11 +11,11 @@ use Rattle.terms.specs.declared.Sizes.{Sizes}
 use Rattle.terms.specs.declared.Answer.{Answer}
 use Rattle.rules.specs.Rules.{Graph, empty, job, perform}
 use Rattle.rules.specs.Sound.{startedBy, Sound}
-use Rattle.reading.specs.Reading.{Reading}
-use Rattle.story.specs.Story.{Story, start, then}
-use Rattle.demand.specs.Demand.{orHanded, handedOut}
-use Rattle.invariant.specs.Base.{hit-same, hit-other, occurrences-nil, occurrences-cons}
-use Rattle.invariant.specs.Sound.{sound}
+use Rattle.linearization.specs.Calls.{Reading}
+use Rattle.rules_history.specs.History.{History, start, then}
+use Rattle.linearizability.specs.Demand.{orHanded, handedOut}
+use Rattle.rules_invariant.specs.Base.{hit-same, hit-other, occurrences-nil, occurrences-cons}
+use Rattle.rules_invariant.specs.Sound.{sound}
 use Rattle.audit.specs.Deeds.{Deed, plain, marks, hands, deeds}
 
 started-once : (l : Label) → startedBy l ≤ 1
@@ -37,16 +37,17 @@ starts x h later S (hands k b queued held L now o) j l = elim (ℕ-discrete j k)
   | no z ↦ omega (arith, occurrences-cons j k l, hit-other j k z, ap startedBy (L .others j z))
 ]
 
--- what a story goes on to hand out it has not handed out so far
-not-again : {s : Sizes} {g : Graph} {r : Reading} {e : ℕ → ℕ} → Story s g r e → (items : List Item) (j : ℕ)
+-- what a history goes on to hand out it has not handed out so far
+not-again : {s : Sizes} {g : Graph} {r : Reading} {e : ℕ → ℕ} → History s g r e → (items : List Item) (j : ℕ)
     → startedBy (job g j .label) + occurrences j (handedOut (events (perform s) g items)) ≤ 1
 unfolding events handedOut
-not-again {s} {g} story [] j = omega (arith, occurrences-nil j, started-once (job g j .label))
-not-again {s} {g} story (i ∷ items) j =
+not-again {s} {g} history [] j = omega (arith, occurrences-nil j, started-once (job g j .label))
+not-again {s} {g} history (i ∷ items) j =
     omega (
       arith,
-      starts _ _ _ (sound story) (deeds story i .deed) j (handedOut (events (perform s) (perform s g i .state) items)),
-      not-again (then story i) items j,
+      starts _ _ _ (sound history) (deeds history i .deed) j
+          (handedOut (events (perform s) (perform s g i .state) items)),
+      not-again (then history i) items j,
     )
 
 -- a job is handed out at most once

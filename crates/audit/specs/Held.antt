@@ -8,9 +8,9 @@ use Rattle.terms.specs.Terms.{executing}
 use Rattle.terms.specs.declared.Sizes.{Sizes}
 use Rattle.terms.specs.declared.Answer.{Answer}
 use Rattle.rules.specs.Rules.{Graph, empty, job}
-use Rattle.reading.specs.Reading.{Reading}
-use Rattle.story.specs.Story.{Story, start, then}
-use Rattle.bookkeeping.specs.Base.{never}
+use Rattle.linearization.specs.Calls.{Reading}
+use Rattle.rules_history.specs.History.{History, start, then}
+use Rattle.rules_follow_model.specs.Base.{never}
 use Rattle.audit.specs.Deeds.{Deed, plain, marks, hands, deeds}
 
 pub record Holder (s : Sizes) (g : Graph) (j : ℕ) : Type 0 where
@@ -42,8 +42,8 @@ holders-on {w = w} x h later H (hands k below queued none L now others) j e = el
 ]
 
 -- a job labelled executing is held by one of the workers
-pub holders : {s : Sizes} {g : Graph} {r : Reading} {e : ℕ → ℕ} → Story s g r e → (j : ℕ) → job g j .label ≡ executing
+pub holders : {s : Sizes} {g : Graph} {r : Reading} {e : ℕ → ℕ} → History s g r e → (j : ℕ) → job g j .label ≡ executing
     → Holder s g j
 unfolding empty
 holders start = λ j e. never (cc)
-holders (then story i) = holders-on _ _ _ (holders story) (deeds story i .deed)
+holders (then history i) = holders-on _ _ _ (holders history) (deeds history i .deed)

@@ -16,12 +16,12 @@ use Rattle.terms.specs.declared.Answer.the-variants.{Ended, Refused}
 use Rattle.rules.specs.Rules.{Call, idle, looking, linking, marking, notifying, Graph, Found, at, missing, job, find}
 use Rattle.rules.specs.Rules.{lookUp, enter, linkTo, link, settled, mark, markDependents, notify, stepCall, whenIdle}
 use Rattle.rules.specs.Rules.{addPosted, finishPosted, takeNext, getJob, admitted, perform}
-use Rattle.reading.specs.Reading.{Pending, adding, finishing, Reading}
-use Rattle.reading.specs.Reading as reading
-use Rattle.story.specs.Story.{Story, PacedCall}
-use Rattle.demand.specs.Demand.{isIdle, byCall, turningAway, turnedAwayBy}
-use Rattle.bookkeeping.specs.Paced.{paced}
-use Rattle.invariant.specs.Sound.{sound}
+use Rattle.linearization.specs.Calls.{Pending, adding, finishing, Reading}
+use Rattle.linearization.specs.Calls as reading
+use Rattle.rules_history.specs.History.{History, PacedCall}
+use Rattle.linearizability.specs.Demand.{isIdle, byCall, turningAway, turnedAwayBy}
+use Rattle.rules_follow_model.specs.Paced.{paced}
+use Rattle.rules_invariant.specs.Sound.{sound}
 
 -- an answer by none of the four
 abbrev Passed : Outcome Graph → Type 0
@@ -88,7 +88,8 @@ module _ (s : Sizes) (g : Graph) (w : ℕ) where
   steps h (looking a i) p e =
       rw e (either (ltb i (a .count)) _ _ (looks a i (find g (getD (listed a) i 0))) (enters a (find g (a .name))))
   steps h (linking a j i t) p e =
-      rw (e .0) (either (ltb i (a .count)) _ (outcome Ended (settled g w j t (a .count))) (links a j i t (find g (getD (listed a) i 0))) refl)
+      rw (e .0) (either (ltb i (a .count)) _ (outcome Ended (settled g w j t (a .count)))
+      (links a j i t (find g (getD (listed a) i 0))) refl)
   steps none marking p e = absurd e
   steps (some j) marking p e = rw e (marks (g .workers w .held))
   steps h (notifying j k) p e = rw e (either (ltb (suc k) (length (job g j .dependents))) _ _ refl refl)
@@ -105,7 +106,8 @@ module _ (s : Sizes) (g : Graph) (w : ℕ) where
 
 -- ---- 1 and 2 come first
 admits : (s q : Sizes) (g : Graph) (w n : ℕ) (o : Outcome Graph) → turnedAwayBy (o .answer) ≡ n
-    → turnedAwayBy (admitted s q g w o .answer) ≡ pick (sameSizes q s) (pick (ltb w (s .workers)) n noSuchWorker) wrongSizes
+    → turnedAwayBy (admitted s q g w o .answer)
+    ≡ pick (sameSizes q s) (pick (ltb w (s .workers)) n noSuchWorker) wrongSizes
 unfolding admitted
 admits s q g w n o e = by (sameSizes q s) (ltb w (s .workers))
   where
@@ -118,16 +120,17 @@ admits s q g w n o e = by (sameSizes q s) (ltb w (s .workers))
     by true false = refl
     by false y = refl
 
-pub turned-away : {s : Sizes} {g : Graph} {r : Reading} {e : ℕ → ℕ} → Story s g r e → (i : Item)
+pub turned-away : {s : Sizes} {g : Graph} {r : Reading} {e : ℕ → ℕ} → History s g r e → (i : Item)
     → turnedAwayBy (perform s g i .answer) ≡ turningAway s r i
 unfolding perform
-turned-away {s} {g} {r} story i = by i
+turned-away {s} {g} {r} history i = by i
   where
     P : (w : ℕ) → PacedCall g (g .workers w .held) (g .workers w .call) (r .pending w)
-    P = paced (λ g r e story. sound story) story
+    P = paced (λ g r e history. sound history) history
 
     by : (i : Item) → turnedAwayBy (perform s g i .answer) ≡ turningAway s r i
     by (postAdd q w a) = admits s q g w _ _ (waits s g w _ _ _ (P w) _ (posts-add s g w a))
-    by (postFinish q w name) = admits s q g w _ _ (waits s g w _ _ _ (P w) _ (posts-finish s g w name (g .workers w .held)))
+    by (postFinish q w name) = admits s q g w _ _
+        (waits s g w _ _ _ (P w) _ (posts-finish s g w name (g .workers w .held)))
     by (step q w) = admits s q g w _ _ (steps s g w _ _ _ (P w))
     by (get q w) = admits s q g w _ _ (waits s g w _ _ _ (P w) _ (gets s g w (g .workers w .held)))

@@ -20,20 +20,21 @@ use Rattle.words.specs.Words.{perform, layOut}
 use Rattle.rules.specs.Rules.{Graph, empty, job}
 use Rattle.rules.specs.Rules as rules
 use Rattle.rules.specs.Sound.{Sound}
-use Rattle.reference.specs.Book.{Book, blank, Call, add, get, finish, End, accepted, noneReady, handed, refused, addEnd}
-use Rattle.reference.specs.Book.{addKnown, firstUnknown, Follows, done, feed}
-use Rattle.reference.specs.Book as book
-use Rattle.reading.specs.Reading.{reading, acceptedAdds}
-use Rattle.story.specs.Story.{noArguments, Added, Booked}
-use Rattle.refinement.specs.Rep.{Ghost, Stands}
-use Rattle.tables_rep.specs.Stand.{limits-of}
+use Rattle.sequential_model.specs.Book.{Book, blank, Call, add, get, finish, End, accepted, noneReady, handed, refused}
+use Rattle.sequential_model.specs.Book.{addEnd}
+use Rattle.sequential_model.specs.Book.{addKnown, firstUnknown, Follows, done, feed}
+use Rattle.sequential_model.specs.Book as book
+use Rattle.linearization.specs.Calls.{reading, acceptedAdds}
+use Rattle.rules_history.specs.History.{noArguments, Added, Booked}
+use Rattle.representation.specs.Rep.{Ghost, Stands}
+use Rattle.representation_kept.specs.Stand.{limits-of}
 use Rattle.totals.specs.Board.{sumOver, itsMinutes, minutesOfAll, wellFormed, allWellFormed, mostRecords, served}
 use Rattle.totals.specs.Board.{totalsOf, counted}
 use Rattle.totals.specs.AllJobs.{all-jobs}
 use Rattle.totals.specs.declared.JobRecord.{JobRecord}
 use Rattle.graph_board.specs.Board.{rowsFrom, graphRows, jobsFit, graphTotals, minutesEntered}
 use Rattle.graph_board.specs.Accounted.{Accounted, graph-counts}
-use Rattle.history.specs.Theorem.{Reached, after-items}
+use Rattle.words_history.specs.Theorem.{Reached, after-items}
 
 -- ---- an accepted add had right arguments
 never : {A : Type 0} → _≡_ {A = ℕ} 0 1 → A
@@ -44,7 +45,8 @@ unfolding addEnd
 add-right s b a e = go (argumentsWrong a) e
   where
     go : (wrong : Bool)
-        → accepted ≡ pick wrong (refused 5 0) (addKnown s b a (firstUnknown (b .jobs) (Rattle.terms.specs.Terms.listed a) 0)) → wrong ≡ false
+        → accepted ≡ pick wrong (refused 5 0)
+        (addKnown s b a (firstUnknown (b .jobs) (Rattle.terms.specs.Terms.listed a) 0)) → wrong ≡ false
     go true e = never (cc)
     go false e = refl
 
@@ -95,7 +97,8 @@ rows-well f j zero h = refl
 rows-well f j (suc n) h =
     let z : j + 0 ≡ j = omega arith in
     let here = rw z at (h 0 (omega arith)) in
-    let rest = rows-well f (suc j) n (λ k l. let e : suc j + k ≡ j + suc k = omega arith in rw e (h (suc k) (omega arith))) in
+    let rest = rows-well f (suc j) n (λ k l. let e : suc j + k ≡ j + suc k = omega arith in
+    rw e (h (suc k) (omega arith))) in
     rw (le-leb (f LABEL j) 2 (here .0), lt-ltb (f CLASS j) 16 (omega (arith, here .1)), rest)
 
 rows-minutes : (table : List ℕ) (f : ℕ → ℕ → ℕ) (l : List Arguments) (j : ℕ)
@@ -106,7 +109,8 @@ rows-minutes table f [] j h = refl
 rows-minutes table f (a ∷ l) j h =
     let z : j + 0 ≡ j = omega arith in
     let here : f CLASS j ≡ a .class = ap (f CLASS) (sym z) ∙ h 0 (omega arith) in
-    let rest = rows-minutes table f l (suc j) (λ k q. let e : suc j + k ≡ j + suc k = omega arith in ap (f CLASS) e ∙ h (suc k) (omega arith)) in
+    let rest = rows-minutes table f l (suc j) (λ k q. let e : suc j + k ≡ j + suc k = omega arith in
+    ap (f CLASS) e ∙ h (suc k) (omega arith)) in
     rw (here, rest)
 
 -- ---- the theorem
@@ -133,7 +137,11 @@ module _ (table : List ℕ) (s : Sizes) (t : Tables) (laid : layOut s t .answer 
 
   well : (k : ℕ) → k < length adds → (f LABEL k ≤ 2) × (f CLASS k ≤ 15)
   well k h = (
-    omega (arith, R .stands .rep .rows k (omega (arith, R .booked .adds, R .sound .jobs)) .label, label-small (job g k .label)),
+    omega (
+      arith,
+      R .stands .rep .rows k (omega (arith, R .booked .adds, R .sound .jobs)) .label,
+      label-small (job g k .label),
+    ),
     omega (arith, class-of k h, class-right (getD adds k noArguments) (adds-right (R .booked .follows) k h)),
   )
 
@@ -158,7 +166,8 @@ module _ (table : List ℕ) (s : Sizes) (t : Tables) (laid : layOut s t .answer 
   unfolding totalsOf counted
   answers =
       let n = rows-length f 0 (length adds) in
-      let small : length (rowsFrom f 0 (length adds)) ≤ mostRecords = omega (arith, few, limits-of s (R .stands .limits) .jobs) in
+      let small : length (rowsFrom f 0 (length adds)) ≤ mostRecords =
+      omega (arith, few, limits-of s (R .stands .limits) .jobs) in
       rw (le-ltb mostRecords (length (rowsFrom f 0 (length adds))) small, formed)
 
   is-served : graphTotals table s (T .jobs) .number ≡ served

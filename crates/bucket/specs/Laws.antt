@@ -19,7 +19,8 @@ pub below : (name bits : ℕ) → bucketOf name bits < 2 ^ bits
 unfolding bucketOf
 below name bits =
     shr-lt bits (wordBits - bits)
-    (lt-of-lt-of-le (product-below name multiplier) (pow-mono {i = wordBits} {j = bits + (wordBits - bits)} (omega arith)))
+    (lt-of-lt-of-le (product-below name multiplier)
+    (pow-mono {i = wordBits} {j = bits + (wordBits - bits)} (omega arith)))
 
 -- no bits: the one bucket, 0
 pub no-bits : (name : ℕ) → bucketOf name 0 ≡ 0

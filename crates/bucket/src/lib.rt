@@ -1,5 +1,6 @@
 // The bucket of a name.
-// Follows document 01, "Tables and their measures": "The bucket of a name is the top b bits of its product with 2654435769, kept to 32 bits".
+// Follows document 01, "Tables and their measures": "The bucket of a name is the top b bits of its product with
+// 2654435769, kept to 32 bits".
 // Assumes nothing.
 ghost use mathlib.Core.Path.{_≡_};
 ghost use Rattle.bucket.specs.Bucket.{productOf, bucketOf};
@@ -18,7 +19,8 @@ pub fn product(x: u32, y: u32) -> u32
     ((x as u64) * (y as u64) % WORD_COUNT) as u32
 }
 
-// The top bits of a name's product with the multiplier. The shift is one of 64 bits, so that no bits, a shift by 32, need no test of their own.
+// The top bits of a name's product with the multiplier. The shift is one of 64 bits, so that no bits, a shift by 32,
+// need no test of their own.
 pub fn bucket(name: u32, bits: u32) -> u32
     ensures { λ r. ⌜ r ≡ bucketOf name bits ⌝ }
 {

@@ -1,4 +1,5 @@
--- What the day list prints for a sheet, with a number of workers (document 01, "The board and the day list"). It is said over the words of the
+-- What the day list prints for a sheet, with a number of workers (document 01, "The board and the day list"). It is
+-- said over the words of the
 -- tables, by the definitions that the calls' contracts cite. Assumes nothing.
 use mathlib.Core.Bool.{Bool, true, false, _&&_}
 use mathlib.Core.List.{List, [], _∷_, _++_}
@@ -12,7 +13,8 @@ use Rattle.terms.specs.Runs.{Outcome, outcome}
 use Rattle.terms.specs.declared.Sizes.{Sizes}
 use Rattle.terms.specs.declared.Answer.{Answer}
 use Rattle.terms.specs.declared.Answer.the-variants.{Laid, Posted, Going, Ended, NoneReady, Handed, Refused}
-use Rattle.words.specs.Layout.{Tables, tables, view, need, jobShape, arcShape, bucketShape, queueShape, workerShape, LABEL}
+use Rattle.words.specs.Layout.{Tables, tables, view, need, jobShape, arcShape, bucketShape, queueShape, workerShape}
+use Rattle.words.specs.Layout.{LABEL}
 use Rattle.words.specs.Words.{getWords, layOut}
 use Rattle.sheet_format.specs.Job.{Job}
 use Rattle.sheet_format.specs.Decode.{Sheet, jobs, broken, decodeSheet, cut, noRoom}
@@ -42,7 +44,13 @@ freshDay s = layOut s (blankTables s) .state
 
 -- ---- "Worker 0 adds every entry, each run whole"
 abbrev pub argumentsOf : Job → Arguments
-argumentsOf j = record { name = j .name; count = length (j .list); names = j .list; class = j .class; grower = j .grower }
+argumentsOf j = record {
+  name = j .name;
+  count = length (j .list);
+  names = j .list;
+  class = j .class;
+  grower = j .grower;
+}
 
 -- the text so far, and the tables
 pub record Day : Type 0 where
@@ -66,7 +74,8 @@ unfoldable pub addAll : Sizes → ℕ → List Job → Day → Day
 addAll s i [] d = d
 addAll s i (j ∷ js) d =
     addAll s (suc i) js
-    (day (wholeAdd s (d .state) 0 (argumentsOf j) .state) (d .text ++ refusal i (wholeAdd s (d .state) 0 (argumentsOf j) .answer)))
+    (day (wholeAdd s (d .state) 0 (argumentsOf j) .state)
+    (d .text ++ refusal i (wholeAdd s (d .state) 0 (argumentsOf j) .answer)))
 
 -- ---- "Then rounds: worker 0 gets, worker 1 gets, then each holder in that order finishes, run whole"
 -- a worker with the name of the job it holds
@@ -84,7 +93,12 @@ pub record Round : Type 0 where
 -- "Each middle line gives the hand-out number, name and worker"
 abbrev pub handOut : ℕ → Round → Answer → Tables → Round
 handOut w r (Handed j name) t =
-    record { state = t; text = r .text ++ line (decimal (r .handed) ␣ (decimal name ␣ decimal w)); handed = r .handed + 1; holders = r .holders ++ (record { worker = w; name = name } ∷ []) }
+    record {
+      state = t;
+      text = r .text ++ line (decimal (r .handed) ␣ (decimal name ␣ decimal w));
+      handed = r .handed + 1;
+      holders = r .holders ++ (record { worker = w; name = name } ∷ []);
+    }
 handOut w r Laid t = record { state = t; text = r .text; handed = r .handed; holders = r .holders }
 handOut w r Posted t = record { state = t; text = r .text; handed = r .handed; holders = r .holders }
 handOut w r Going t = record { state = t; text = r .text; handed = r .handed; holders = r .holders }
@@ -105,7 +119,8 @@ finishAll s (h ∷ hs) t = finishAll s hs (wholeFinish s t (h .worker) (h .name)
 abbrev pub getRound : Sizes → Tables → List ℕ → ℕ → Round
 getRound s t text handed = getAll s (s .workers) 0 (record { state = t; text = text; handed = handed; holders = [] })
 
--- "A round that hands out nothing ends it": at most k rounds; each before the last hands out a job, and there are at most R
+-- "A round that hands out nothing ends it": at most k rounds; each before the last hands out a job, and there are at
+-- most R
 abbrev pub anyHolder : List Holder → Bool
 anyHolder [] = false
 anyHolder (h ∷ hs) = true
@@ -114,7 +129,8 @@ unfoldable pub rounds : ℕ → Sizes → Tables → List ℕ → ℕ → Day
 rounds zero s t text handed = day t text
 rounds (suc k) s t text handed =
     let r = getRound s t text handed in
-    pick (anyHolder (r .holders)) (rounds k s (finishAll s (r .holders) (r .state)) (r .text) (r .handed)) (day (r .state) (r .text))
+    pick (anyHolder (r .holders)) (rounds k s (finishAll s (r .holders) (r .state)) (r .text) (r .handed))
+    (day (r .state) (r .text))
 
 -- ---- the first line, and the last: "jobs not finished"
 unfoldable pub unfinished : (ℕ → ℕ) → ℕ → ℕ

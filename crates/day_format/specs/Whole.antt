@@ -24,7 +24,8 @@ unfoldable pub stepsOf : ℕ → Sizes → ℕ → Tables → Outcome Tables
 stepsOf zero s w t = outcome Going t
 stepsOf (suc k) s w t = andThen (stepWords s t w .answer) (stepWords s t w .state) (stepsOf k s w)
 
--- "An accepted add takes exactly 2d + 2 steps", and a finish "1 step more than it has arcs", of which there are at most A
+-- "An accepted add takes exactly 2d + 2 steps", and a finish "1 step more than it has arcs", of which there are at most
+-- A
 unfoldable pub wholeAdd : Sizes → Tables → ℕ → Arguments → Outcome Tables
 wholeAdd s t w a =
     andThen (addWords s t w a .answer) (addWords s t w a .state) (stepsOf (2 * a .count + 2) s w)

@@ -9,27 +9,35 @@ use Rattle.words.specs.Words as words
 use Rattle.rules.specs.Rules.{Graph}
 use Rattle.rules.specs.Rules as rules
 use Rattle.rules.specs.Sound.{Sound}
-use Rattle.reading.specs.Reading.{Reading}
-use Rattle.story.specs.Story.{Story, then}
-use Rattle.refinement.specs.Rep.{Ghost, Stands}
-use Rattle.refines.specs.Items.{item}
-use Rattle.invariant.specs.Sound.{sound}
+use Rattle.linearization.specs.Calls.{Reading}
+use Rattle.rules_history.specs.History.{History, then}
+use Rattle.representation.specs.Rep.{Ghost, Stands}
+use Rattle.words_refine_rules.specs.Items.{item}
+use Rattle.rules_invariant.specs.Sound.{sound}
 
 pub record At (s : Sizes) (t : Tables) (g : Graph) : Type 0 where
   pub ghost : Ghost
   pub stands : Stands s t g ghost
   pub reading : Reading
   pub entries : ℕ → ℕ
-  pub story : Story s g reading entries
+  pub history : History s g reading entries
 
 module _ {s : Sizes} {t : Tables} {g : Graph} (A : At s t g) where
   pub sound-at : Sound s g
-  sound-at = sound (A .story)
+  sound-at = sound (A .history)
 
   -- an item: the words answer as the rules do, and the tables stand for the graph left
   pub onward : (i : Item)
       → (words.perform t i .answer ≡ rules.perform s g i .answer)
       × At s (words.perform t i .state) (rules.perform s g i .state)
   onward i =
-      let a = item s t g (A .ghost) (A .stands) sound-at i in
-      (a .answer, record { ghost = a .ghost; stands = a .stands; reading = _; entries = _; story = then (A .story) i })
+      let a = item s t g (A .ghost) (A .stands) sound-at i in (
+        a .answer,
+        record {
+          ghost = a .ghost;
+          stands = a .stands;
+          reading = _;
+          entries = _;
+          history = then (A .history) i;
+        },
+      )

@@ -25,11 +25,11 @@ use Rattle.rules.specs.Rules.{addPosted, finishPosted, getJob, takeNext, withDe
 use Rattle.rules.specs.Rules as rules
 use Rattle.rules.specs.Sound.{startedBy, Linking, Notifying}
 use Rattle.day_format.specs.Whole.{andThen, stepsOf, wholeAdd, wholeFinish}
-use Rattle.whole.specs.Last.{own-step}
-use Rattle.whole.specs.Arcs.{arcs-within}
-use Rattle.bookkeeping.specs.Base.{pick-by, kept-field, head-occurs}
-use Rattle.bookkeeping.specs.Own.{performed}
-use Rattle.bookkeeping.specs.Change.{noPlace}
+use Rattle.whole_calls.specs.Last.{own-step}
+use Rattle.whole_calls.specs.Arcs.{arcs-within}
+use Rattle.rules_follow_model.specs.Base.{pick-by, kept-field, head-occurs}
+use Rattle.rules_follow_model.specs.Own.{performed}
+use Rattle.rules_follow_model.specs.Change.{noPlace}
 use Rattle.day_history.specs.Jobs.{Jobs, All, changed, handed, withNew, entered, entered-all}
 use Rattle.day_history.specs.Team.{Team, replaced, turned, all-rest}
 use Rattle.day_history.specs.At.{At, sound-at, onward}
@@ -299,7 +299,7 @@ module _ (s : Sizes) (w : ℕ) (hw : w < s .workers) where
           jobs = D .jobs;
           team = turned (g .workers) hold w idle (D .team) marking;
         })
-        (arcs-within (D .at .story) w p (D .team .held w ∙ holds))))
+        (arcs-within (D .at .history) w p (D .team .held w ∙ holds))))
 
   -- ---- a get
   module _ (n h : ℕ) (hold : ℕ → Option ℕ) (name : ℕ → ℕ) (free : hold w ≡ none) where

@@ -15,11 +15,11 @@ use Rattle.words.specs.Layout.{longEnough, roomFor}
 use Rattle.words.specs.Words.{layOut}
 use Rattle.rules.specs.Rules.{empty, idle}
 use Rattle.rules.specs.Sound.{started}
-use Rattle.reading.specs.Reading.{unread}
-use Rattle.story.specs.Story.{start}
-use Rattle.refinement.specs.Rep.{Stands}
-use Rattle.tables_rep.specs.Stand.{limits-of}
-use Rattle.tables_rep.specs.Fresh.{noGhost, fresh-stands}
+use Rattle.linearization.specs.Calls.{unread}
+use Rattle.rules_history.specs.History.{start}
+use Rattle.representation.specs.Rep.{Stands}
+use Rattle.representation_kept.specs.Stand.{limits-of}
+use Rattle.representation_kept.specs.Fresh.{noGhost, fresh-stands}
 use Rattle.audit.specs.Drained.{drained}
 use Rattle.day_format.specs.Day.{freshDay, blankTables, unfinished}
 use Rattle.day_history.specs.At.{sound-at}
@@ -57,7 +57,7 @@ fresh-day s e = record {
     stands = laid s (blankTables s) (blank-room s e);
     reading = unread;
     entries = λ j. 0;
-    story = start;
+    history = start;
   };
   jobs = record { made = refl; given = refl; named = λ j. refl };
   team = record { held = λ v. refl; own = refl; others = λ v z. refl };
@@ -80,4 +80,4 @@ all-finished {s} {t = t} D e =
     rw (R .made)
     (none-unfinished (view t .job LABEL) (length (g .jobs)) λ j h.
     R .rows j (omega (arith, sound-at (D .at) .jobs)) .label
-    ∙ ap labelNumber (drained (D .at .story) rest (λ w l. D .team .held w) e j h))
+    ∙ ap labelNumber (drained (D .at .history) rest (λ w l. D .team .held w) e j h))

@@ -8,8 +8,8 @@ use native.Mathlib.Decide.{ℕ-discrete}
 use lib.Dec.{eqb}
 use Rattle.terms.specs.Base.{pick, update}
 use Rattle.rules.specs.Rules.{Call, idle, Worker}
-use Rattle.bookkeeping.specs.Base.{update-same, update-other}
-use Rattle.bookkeeping.specs.Booked.{held-kept}
+use Rattle.rules_follow_model.specs.Base.{update-same, update-other}
+use Rattle.rules_follow_model.specs.Booked.{held-kept}
 
 -- worker w is in the call c, and every other in none
 pub record Team (f : ℕ → Worker) (hold : ℕ → Option ℕ) (w : ℕ) (c : Call) : Type 0 where

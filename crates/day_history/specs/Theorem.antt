@@ -18,8 +18,8 @@ use Rattle.terms.specs.declared.Answer.{Answer}
 use Rattle.terms.specs.declared.Answer.the-variants.{Ended, Refused}
 use Rattle.words.specs.Layout.{Tables, LABEL, view}
 use Rattle.rules.specs.Rules.{idle}
-use Rattle.tables_rep.specs.Stand.{limits-of}
-use Rattle.bookkeeping.specs.Base.{pick-by}
+use Rattle.representation_kept.specs.Stand.{limits-of}
+use Rattle.rules_follow_model.specs.Base.{pick-by}
 use Rattle.sheet_format.specs.Job.{Job, Valid}
 use Rattle.sheet_format.specs.NumberLaws.{Bytes}
 use Rattle.sheet_format.specs.SheetTrip.{Each, none, more, sheet-back}
@@ -29,7 +29,7 @@ use Rattle.day_format.specs.Text.{digits, decimal, leftWord, _␣_, line}
 use Rattle.day_format.specs.Whole.{wholeAdd, wholeFinish}
 use Rattle.day_format.specs.Day.{Day, day, freshDay, argumentsOf, addAll, Holder, getRound, finishAll, rounds, jobsLine}
 use Rattle.day_format.specs.Day.{dayOf, daySizes, daySheet, dayText, mostBytes, printing, dayList, unfinished}
-use Rattle.tables_rep.specs.Queue.{waiting-queue}
+use Rattle.representation_kept.specs.Queue.{waiting-queue}
 use Rattle.words.specs.Observed.{waiting}
 use Rattle.day_format.specs.declared.DayAnswer.the-variants.{Printed}
 use Rattle.day_history.specs.Digits.{digitsBelow, more-digits}

@@ -1,4 +1,5 @@
--- Entries added one after the other: the names of an entry, the sheet from an offset on, and the text from the entries' own start on.
+-- Entries added one after the other: the names of an entry, the sheet from an offset on, and the text from the entries'
+-- own start on.
 -- Assumes nothing.
 use mathlib.Core.Path.{_≡_, refl, sym, ap, _∙_}
 use mathlib.Core.Bool.{true, false}
@@ -12,7 +13,8 @@ use Rattle.terms.specs.declared.Sizes.{Sizes}
 use Rattle.words.specs.Layout.{Tables}
 use Rattle.words.specs.Words.{addWords}
 use Rattle.sheet_format.specs.Job.{Job}
-use Rattle.sheet_format.specs.Decode.{Sheet, jobs, broken, before, onward, Decoded, job, end, refused, decode, decodeFrom, decodeSheet, entryOf, readingOf, scanSheet}
+use Rattle.sheet_format.specs.Decode.{Sheet, jobs, broken, before, onward, Decoded, job, end, refused, decode}
+use Rattle.sheet_format.specs.Decode.{decodeFrom, decodeSheet, entryOf, readingOf, scanSheet}
 use Rattle.sheet_format.specs.CodeLaws.{entry-bounds, sheet-from}
 use Rattle.sheet_format.specs.declared.Reading.{Reading}
 use Rattle.sheet_format.specs.declared.Read.{Read}
@@ -37,7 +39,8 @@ prefix-padded (suc n) k [] = prefix-zeros (suc n) k
 prefix-padded (suc n) k (x ∷ l) = ap (λ (m : List ℕ). x ∷ m) (prefix-padded n k l)
 
 -- an entry as it was read stands for its job
-pub entry-added : (s : Sizes) (t : Tables) (w : ℕ) (j : Job) → wholeAdd s t w (argumentsIn (entryOf j)) ≡ wholeAdd s t w (argumentsOf j)
+pub entry-added : (s : Sizes) (t : Tables) (w : ℕ) (j : Job)
+    → wholeAdd s t w (argumentsIn (entryOf j)) ≡ wholeAdd s t w (argumentsOf j)
 unfolding wholeAdd addWords argumentsWrong
 entry-added s t w j = rw (prefix-padded (length (j .list)) _ (j .list))
 
@@ -52,14 +55,16 @@ rest-start s = refl
 pub rest-on : (s : List ℕ) (at : ℕ) (d : Decoded) → decode s at ≡ d → restOf s at ≡ onward d (restOf s)
 rest-on s at d e = rw (← e) (sheet-from s at)
 
-pub whole-before : (j : Job) (t : Sheet) → isWhole (before j t) ≡ true → (isWhole t ≡ true) × (jobsOf (before j t) ≡ j ∷ jobsOf t)
+pub whole-before : (j : Job) (t : Sheet) → isWhole (before j t) ≡ true
+    → (isWhole t ≡ true) × (jobsOf (before j t) ≡ j ∷ jobsOf t)
 whole-before j (jobs js) e = (refl, refl)
 whole-before j (broken n o) e = never (sym e)
 
 -- what a reading says of the sheet
 pub read-job : (d : Decoded) (r : Reading) (n : ℕ) {P : Type 0} → r ≡ readingOf d → r .answer ≡ Read.Job n
     → ((j : Job) → d ≡ job j n → r .entry ≡ entryOf j → P) → P
-read-job (job j m) r n e h k = k j (ap (job j) (let a = ap (λ (x : Reading). x .answer) e in cc)) (ap (λ (x : Reading). x .entry) e)
+read-job (job j m) r n e h k =
+    k j (ap (job j) (let a = ap (λ (x : Reading). x .answer) e in cc)) (ap (λ (x : Reading). x .entry) e)
 read-job end r n e h k = let a = ap (λ (x : Reading). x .answer) e in never (cc)
 read-job (refused c o) r n e h k = let a = ap (λ (x : Reading). x .answer) e in never (cc)
 
@@ -68,7 +73,8 @@ read-end (job j m) r e h = let a = ap (λ (x : Reading). x .answer) e in never (
 read-end end r e h = refl
 read-end (refused c o) r e h = let a = ap (λ (x : Reading). x .answer) e in never (cc)
 
-pub read-refused : (d : Decoded) (r : Reading) (n o : ℕ) → r ≡ readingOf d → r .answer ≡ Read.Refused n o → d ≡ refused n o
+pub read-refused : (d : Decoded) (r : Reading) (n o : ℕ) → r ≡ readingOf d → r .answer ≡ Read.Refused n o
+    → d ≡ refused n o
 read-refused (job j m) r n o e h = let a = ap (λ (x : Reading). x .answer) e in never (cc)
 read-refused end r n o e h = let a = ap (λ (x : Reading). x .answer) e in never (cc)
 read-refused (refused c p) r n o e h = let a = ap (λ (x : Reading). x .answer) e in cc
@@ -80,7 +86,8 @@ unfolding addAll
 addAll-after s i [] t a b = refl
 addAll-after s i (j ∷ js) t a b =
     rw (append-assoc a b (refusal i (wholeAdd s t 0 (argumentsOf j) .answer)))
-    (addAll-after s (suc i) js (wholeAdd s t 0 (argumentsOf j) .state) a (b ++ refusal i (wholeAdd s t 0 (argumentsOf j) .answer)))
+    (addAll-after s (suc i) js (wholeAdd s t 0 (argumentsOf j) .state) a
+    (b ++ refusal i (wholeAdd s t 0 (argumentsOf j) .answer)))
 
 -- the first entry, then the others
 pub add-first : (limit : ℕ) (s : Sizes) (i : ℕ) (j : Job) (js : List Job) (t : Tables) (p : Page) (x : Printout)
@@ -90,7 +97,10 @@ unfolding addAll entered
 add-first limit s i j js t p x e =
     let a = refusal i (wholeAdd s t 0 (argumentsOf j) .answer) in
     let u = wholeAdd s t 0 (argumentsOf j) .state in
-    rw e (ap (wrote limit p) (ap (λ (l : List ℕ). addAll s (suc i) js (day u l)) (sym (append-nil a)) ∙ addAll-after s (suc i) js u a []) ∙ ap (printout (addAll s (suc i) js (day u []) .state)) (sym (print-append limit p a (addAll s (suc i) js (day u []) .text))))
+    rw e (ap (wrote limit p) (ap (λ (l : List ℕ). addAll s (suc i) js (day u l)) (sym (append-nil a))
+    ∙ addAll-after s (suc i) js u a [])
+    ∙ ap (printout (addAll s (suc i) js (day u []) .state))
+    (sym (print-append limit p a (addAll s (suc i) js (day u []) .text))))
 
 -- a line for an entry is short
 pub entered-place : (limit : ℕ) (s : Sizes) (i : ℕ) (t : Tables) (a : Arguments) (p : Page) (x : Printout)
@@ -107,14 +117,16 @@ unfolding entered
 entered-as limit s i t j p = rw (entry-added s t 0 j)
 
 -- an entry that was read, and the rest of the sheet
-pub record Next (limit : ℕ) (s : Sizes) (sheet : List ℕ) (at i : ℕ) (t : Tables) (p : Page) (n : ℕ) (x : Printout) : Type 0 where
+pub record Next (limit : ℕ) (s : Sizes) (sheet : List ℕ) (at i : ℕ) (t : Tables) (p : Page) (n : ℕ)
+    (x : Printout) : Type 0 where
   pub inside : n ≤ length sheet
   pub past : at < n
   pub unbroken : isWhole (restOf sheet n) ≡ true
   pub same : wrote limit (x .paper) (addAll s (suc i) (jobsOf (restOf sheet n)) (day (x .state) []))
       ≡ wrote limit p (addAll s i (jobsOf (restOf sheet at)) (day t []))
 
-pub next-entry : (limit : ℕ) (s : Sizes) (sheet : List ℕ) (at i : ℕ) (t : Tables) (p : Page) (r : Reading) (n : ℕ) (x : Printout)
+pub next-entry : (limit : ℕ) (s : Sizes) (sheet : List ℕ) (at i : ℕ) (t : Tables) (p : Page) (r : Reading) (n : ℕ)
+    (x : Printout)
     → r ≡ readingOf (decode sheet at) → r .answer ≡ Read.Job n → isWhole (restOf sheet at) ≡ true
     → x ≡ wrote limit p (entered s i t (argumentsIn (r .entry)))
     → Next limit s sheet at i t p n x
@@ -124,7 +136,12 @@ next-entry limit s sheet at i t p r n x e h w f =
     let o = rest-on sheet at (job j n) d in
     let u = whole-before j (restOf sheet n) (rw o at w) in
     let f′ = f ∙ rw k (entered-as limit s i t j p) in
-    record { inside = b .inside; past = omega (arith, b .least); unbroken = u .0; same = rw (o, u .1) (sym (add-first limit s i j (jobsOf (restOf sheet n)) t p x f′)) }
+    record {
+      inside = b .inside;
+      past = omega (arith, b .least);
+      unbroken = u .0;
+      same = rw (o, u .1) (sym (add-first limit s i j (jobsOf (restOf sheet n)) t p x f′));
+    }
 
 -- the end of the sheet
 pub last-entry : (limit : ℕ) (s : Sizes) (sheet : List ℕ) (at i : ℕ) (t : Tables) (p : Page) (r : Reading)
@@ -135,7 +152,8 @@ last-entry limit s sheet at i t p r e h =
     rw (rest-on sheet at end (read-end (decode sheet at) r e h), print-nothing)
 
 -- a sheet that is not broken refuses no entry
-pub no-refusal : {A : Type 0} (sheet : List ℕ) (at : ℕ) (r : Reading) (n o : ℕ) → r ≡ readingOf (decode sheet at) → r .answer ≡ Read.Refused n o
+pub no-refusal : {A : Type 0} (sheet : List ℕ) (at : ℕ) (r : Reading) (n o : ℕ) → r ≡ readingOf (decode sheet at)
+    → r .answer ≡ Read.Refused n o
     → isWhole (restOf sheet at) ≡ true → A
 no-refusal sheet at r n o e h w =
     let b = rest-on sheet at (refused n o) (read-refused (decode sheet at) r n o e h) in

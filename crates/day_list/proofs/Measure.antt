@@ -29,11 +29,13 @@ measured n left out text e =
     (ap (λ (p : Page). p .place) e ∙ omega arith, ap (λ (p : Page). p .out) e ∙ emitted-none out 0 text)
 
 -- below the text's own length all of it is stored
-stored : (n m : ℕ) (left out text : List ℕ) → n ≡ length text → page m left ≡ print n (page 0 out) text → left ≡ sets out 0 text
+stored : (n m : ℕ) (left out text : List ℕ) → n ≡ length text → page m left ≡ print n (page 0 out) text
+    → left ≡ sets out 0 text
 unfolding print
 stored n m left out text k e = ap (λ (p : Page). p .out) e ∙ emitted-whole n text out 0 (omega arith)
 
-module _ (w : ℕ) (sheet out left : List ℕ) (n : ℕ) (few : (leb 1 w && leb w mostWorkers) ≡ true) (measure : page n left ≡ print 0 (page 0 out) (dayText w sheet)) where
+module _ (w : ℕ) (sheet out left : List ℕ) (n : ℕ) (few : (leb 1 w && leb w mostWorkers) ≡ true)
+    (measure : page n left ≡ print 0 (page 0 out) (dayText w sheet)) where
   pub too-short : length left < n → printing (DayAnswer.Refused noRoom) left ≡ dayList w sheet out
   unfolding dayList
   too-short h =

@@ -1,4 +1,5 @@
--- Rounds: gets one after the other, the holders kept in two rows, the finishes, and the text from the rounds' own start on. Assumes nothing.
+-- Rounds: gets one after the other, the holders kept in two rows, the finishes, and the text from the rounds' own start
+-- on. Assumes nothing.
 use mathlib.Core.Path.{_≡_, refl, sym, ap, _∙_}
 use mathlib.Core.Logic.{_≢_}
 use mathlib.Core.Bool.{Bool, true, false}
@@ -18,9 +19,11 @@ use Rattle.words.specs.Words.{getWords, layOut}
 use Rattle.sheet_format.specs.Job.{Job}
 use Rattle.day_format.specs.Text.{decimal, _␣_, line}
 use Rattle.day_format.specs.Whole.{wholeFinish}
-use Rattle.day_format.specs.Day.{Day, day, addAll, Holder, Round, handOut, getAll, finishAll, getRound, anyHolder, rounds, jobsLine, leftLine}
+use Rattle.day_format.specs.Day.{Day, day, addAll, Holder, Round, handOut, getAll, finishAll, getRound, anyHolder}
+use Rattle.day_format.specs.Day.{rounds, jobsLine, leftLine}
 use Rattle.day_text.specs.Page.{Page, page, print, print-append, print-nothing, print-place, printLine, mostPlace}
-use Rattle.day_list.specs.Printout.{lineBytes, Printout, printout, wrote, handedOf, holdersIn, holding, Held, Shown, shown, showing, unprinted, gotten, dayFrom}
+use Rattle.day_list.specs.Printout.{lineBytes, Printout, printout, wrote, handedOf, holdersIn, holding, Held}
+use Rattle.day_list.specs.Printout.{Shown, shown, showing, unprinted, gotten, dayFrom}
 use Rattle.day_list.specs.declared.Gets.{Gets}
 use Rattle.day_list.specs.declared.Told.{Told}
 use Rattle.day_list.proofs.Telling.{handed-some, handed-none, handed-length}
@@ -29,8 +32,10 @@ use Rattle.day_list.proofs.Telling.{handed-some, handed-none, handed-le
 abbrev pub onto : List ℕ → Round → Round
 onto a r = record { state = r .state; text = a ++ r .text; handed = r .handed; holders = r .holders }
 
-handOut-onto : (w : ℕ) (a : List ℕ) (r : Round) (x : Answer) (t : Tables) → handOut w (onto a r) x t ≡ onto a (handOut w r x t)
-handOut-onto w a r (Handed j name) t = rw (append-assoc a (r .text) (line (decimal (r .handed) ␣ (decimal name ␣ decimal w))))
+handOut-onto : (w : ℕ) (a : List ℕ) (r : Round) (x : Answer) (t : Tables)
+    → handOut w (onto a r) x t ≡ onto a (handOut w r x t)
+handOut-onto w a r (Handed j name) t =
+    rw (append-assoc a (r .text) (line (decimal (r .handed) ␣ (decimal name ␣ decimal w))))
 handOut-onto w a r Laid t = refl
 handOut-onto w a r Posted t = refl
 handOut-onto w a r Going t = refl
@@ -45,19 +50,24 @@ getAll-onto s (suc n) w a r =
     ap (getAll s n (suc w)) (handOut-onto w a r (getWords s (r .state) w .answer) (getWords s (r .state) w .state))
     ∙ getAll-onto s n (suc w) a (handOut w r (getWords s (r .state) w .answer) (getWords s (r .state) w .state))
 
-shown-onto : (limit : ℕ) (p : Page) (a : List ℕ) (r : Round) → shown limit (print limit p a) r ≡ shown limit p (onto a r)
+shown-onto : (limit : ℕ) (p : Page) (a : List ℕ) (r : Round)
+    → shown limit (print limit p a) r ≡ shown limit p (onto a r)
 shown-onto limit p a r = rw (print-append limit p a (r .text))
 
 -- a round that has printed goes on as one that has not
 resume : (limit : ℕ) (s : Sizes) (n w : ℕ) (p : Page) (r : Round)
-    → shown limit (print limit p (r .text)) (getAll s n w (unprinted (r .state) (r .handed) (r .holders))) ≡ shown limit p (getAll s n w r)
+    → shown limit (print limit p (r .text)) (getAll s n w (unprinted (r .state) (r .handed) (r .holders)))
+    ≡ shown limit p (getAll s n w r)
 resume limit s n w p r =
     shown-onto limit p (r .text) (getAll s n w (unprinted (r .state) (r .handed) (r .holders)))
-    ∙ ap (shown limit p) (sym (getAll-onto s n w (r .text) (unprinted (r .state) (r .handed) (r .holders))) ∙ ap (λ (l : List ℕ). getAll s n w (record { state = r .state; text = l; handed = r .handed; holders = r .holders })) (append-nil (r .text)))
+    ∙ ap (shown limit p) (sym (getAll-onto s n w (r .text) (unprinted (r .state) (r .handed) (r .holders)))
+    ∙ ap (λ (l : List ℕ). getAll s n w
+    (record { state = r .state; text = l; handed = r .handed; holders = r .holders })) (append-nil (r .text)))
 
 -- the first worker, then the others
 pub get-first : (limit : ℕ) (s : Sizes) (n w : ℕ) (p : Page) (r : Round) (x : Shown) → x ≡ shown limit p (gotten s w r)
-    → shown limit (x .paper) (getAll s n (suc w) (unprinted (x .state) (x .handed) (x .holders))) ≡ shown limit p (getAll s (suc n) w r)
+    → shown limit (x .paper) (getAll s n (suc w) (unprinted (x .state) (x .handed) (x .holders)))
+    ≡ shown limit p (getAll s (suc n) w r)
 unfolding getAll gotten
 get-first limit s n w p r x e =
     rw e (resume limit s n (suc w) p (handOut w r (getWords s (r .state) w .answer) (getWords s (r .state) w .state)))
@@ -105,7 +115,8 @@ finish-last s [] h t = refl
 finish-last s (x ∷ hs) h t = finish-last s hs h (wholeFinish s t (x .worker) (x .name) .state)
 
 pub finish-next : (s : Sizes) (i : ℕ) (ws ns : List ℕ) (t : Tables)
-    → finishAll s (holdersIn (suc i) ws ns) t ≡ wholeFinish s (finishAll s (holdersIn i ws ns) t) (getD ws i 0) (getD ns i 0) .state
+    → finishAll s (holdersIn (suc i) ws ns) t
+    ≡ wholeFinish s (finishAll s (holdersIn i ws ns) t) (getD ws i 0) (getD ns i 0) .state
 unfolding holdersIn
 finish-next s i ws ns t = finish-last s (holdersIn i ws ns) _ t
 
@@ -117,7 +128,8 @@ finish-none s ws ns t = refl
 abbrev afterText : List ℕ → Day → Day
 afterText a d = day (d .state) (a ++ d .text)
 
-rounds-after : (k : ℕ) (s : Sizes) (t : Tables) (a b : List ℕ) (h : ℕ) → rounds k s t (a ++ b) h ≡ afterText a (rounds k s t b h)
+rounds-after : (k : ℕ) (s : Sizes) (t : Tables) (a b : List ℕ) (h : ℕ)
+    → rounds k s t (a ++ b) h ≡ afterText a (rounds k s t b h)
 unfolding rounds
 rounds-after zero s t a b h = refl
 rounds-after (suc k) s t a b h =
@@ -125,9 +137,12 @@ rounds-after (suc k) s t a b h =
     rw (getAll-onto s (s .workers) 0 a (record { state = t; text = b; handed = h; holders = [] }))
     (go (anyHolder (r .holders)) r (rounds-after k s (finishAll s (r .holders) (r .state)) a (r .text) (r .handed)))
   where
-    go : (c : Bool) (r : Round) → rounds k s (finishAll s (r .holders) (r .state)) (a ++ r .text) (r .handed) ≡ afterText a (rounds k s (finishAll s (r .holders) (r .state)) (r .text) (r .handed))
-        → pick c (rounds k s (finishAll s (r .holders) (r .state)) (a ++ r .text) (r .handed)) (day (r .state) (a ++ r .text))
-        ≡ afterText a (pick c (rounds k s (finishAll s (r .holders) (r .state)) (r .text) (r .handed)) (day (r .state) (r .text)))
+    go : (c : Bool) (r : Round) → rounds k s (finishAll s (r .holders) (r .state)) (a ++ r .text) (r .handed)
+        ≡ afterText a (rounds k s (finishAll s (r .holders) (r .state)) (r .text) (r .handed))
+        → pick c (rounds k s (finishAll s (r .holders) (r .state)) (a ++ r .text) (r .handed))
+        (day (r .state) (a ++ r .text))
+        ≡ afterText a (pick c (rounds k s (finishAll s (r .holders) (r .state)) (r .text) (r .handed))
+        (day (r .state) (r .text)))
     go true r e = e
     go false r e = refl
 
@@ -140,7 +155,8 @@ rounds-print limit k s t a h p =
 -- a round with holders goes on; one without is the last
 pub round-on : (limit : ℕ) (k : ℕ) (s : Sizes) (t : Tables) (h : ℕ) (p : Page) (x : Shown)
     → x ≡ shown limit p (getAll s (s .workers) 0 (unprinted t h [])) → anyHolder (x .holders) ≡ true
-    → wrote limit p (rounds (suc k) s t [] h) ≡ wrote limit (x .paper) (rounds k s (finishAll s (x .holders) (x .state)) [] (x .handed))
+    → wrote limit p (rounds (suc k) s t [] h)
+    ≡ wrote limit (x .paper) (rounds k s (finishAll s (x .holders) (x .state)) [] (x .handed))
 unfolding rounds
 round-on limit k s t h p x e some =
     let r = getAll s (s .workers) 0 (unprinted t h []) in
@@ -156,7 +172,8 @@ round-last limit k s t h p x e none =
     let none′ : anyHolder (r .holders) ≡ false = rw e at none in
     rw (e, none′)
 
-pub no-round : (limit : ℕ) (s : Sizes) (t : Tables) (h : ℕ) (p : Page) → wrote limit p (rounds 0 s t [] h) ≡ printout t (print limit p [])
+pub no-round : (limit : ℕ) (s : Sizes) (t : Tables) (h : ℕ) (p : Page)
+    → wrote limit p (rounds 0 s t [] h) ≡ printout t (print limit p [])
 unfolding rounds
 no-round limit s t h p = refl
 
@@ -173,22 +190,27 @@ whole-day limit s t js p d r q l ed eq er el =
     let first = a .text ++ jobsLine (a .state) (s .workers) in
     let whole = rounds (s .jobs + 1) s (a .state) first 0 in
     let q′ : q ≡ print limit p first = eq ∙ rw ed (print-append limit p (a .text) (jobsLine (a .state) (s .workers))) in
-    let r′ : r ≡ wrote limit p whole = er ∙ rw (ed, q′) (sym (rounds-print limit (s .jobs + 1) s (a .state) first 0 p)) in
+    let r′ : r ≡ wrote limit p whole =
+    er ∙ rw (ed, q′) (sym (rounds-print limit (s .jobs + 1) s (a .state) first 0 p)) in
     el ∙ rw r′ (print-append limit p (whole .text) (leftLine (whole .state)))
 
 -- a get that hands a job out, and one that does not
-pub got-some : (limit : ℕ) (s : Sizes) (w : ℕ) (t u : Tables) (p : Page) (g r : Gets) (a : Answer) (q : ℕ) (o : List ℕ) (x : Told)
+pub got-some : (limit : ℕ) (s : Sizes) (w : ℕ) (t u : Tables) (p : Page) (g r : Gets) (a : Answer) (q : ℕ) (o : List ℕ)
+    (x : Told)
     → outcome a u ≡ getWords s t w → x ≡ handedOf a → x .some ≡ true → p .place ≤ mostPlace
     → page q o ≡ printLine limit p (line (decimal (g .handed) ␣ (decimal (x .value) ␣ decimal w)))
     → Held g q w (x .value) r
-    → (showing r u o ≡ shown limit p (gotten s w (unprinted t (g .handed) (holding g)))) × (r .place ≤ p .place + lineBytes)
+    → (showing r u o ≡ shown limit p (gotten s w (unprinted t (g .handed) (holding g))))
+    × (r .place ≤ p .place + lineBytes)
 unfolding gotten
 got-some limit s w t u p g r a q o x e f some near k h =
     let some′ : handedOf a .some ≡ true = sym (ap (λ (y : Told). y .some) f) ∙ some in
     let l = line (decimal (g .handed) ␣ (decimal (x .value) ␣ decimal w)) in
     let k′ : page (r .place) o ≡ print limit p l = rw (h .place) (rw (le-leb (p .place) mostPlace near) at k) in
-    let m : r .place ≡ p .place + length l = ap (λ (y : Page). y .place) k′ ∙ print-place limit p l in
-    (rw (← e, handed-some w (unprinted t (g .handed) (holding g)) a u some′, ← f, k′, h .handed, h .holders), omega (arith, handed-length (g .handed) (x .value) w))
+    let m : r .place ≡ p .place + length l = ap (λ (y : Page). y .place) k′ ∙ print-place limit p l in (
+      rw (← e, handed-some w (unprinted t (g .handed) (holding g)) a u some′, ← f, k′, h .handed, h .holders),
+      omega (arith, handed-length (g .handed) (x .value) w),
+    )
 
 pub got-none : (limit : ℕ) (s : Sizes) (w : ℕ) (t u : Tables) (g : Gets) (a : Answer) (o : List ℕ) (x : Told)
     → outcome a u ≡ getWords s t w → x ≡ handedOf a → x .some ≡ false

@@ -39,12 +39,18 @@ refusal-none i (Handed j name) e = refl
 -- the round after a job was handed out, and after none was
 abbrev pub handedTo : ℕ → ℕ → Round → Tables → Round
 handedTo w name r t =
-    record { state = t; text = r .text ++ line (decimal (r .handed) ␣ (decimal name ␣ decimal w)); handed = r .handed + 1; holders = r .holders ++ (record { worker = w; name = name } ∷ []) }
+    record {
+      state = t;
+      text = r .text ++ line (decimal (r .handed) ␣ (decimal name ␣ decimal w));
+      handed = r .handed + 1;
+      holders = r .holders ++ (record { worker = w; name = name } ∷ []);
+    }
 
 abbrev pub noneTo : Round → Tables → Round
 noneTo r t = record { state = t; text = r .text; handed = r .handed; holders = r .holders }
 
-pub handed-some : (w : ℕ) (r : Round) (a : Answer) (t : Tables) → handedOf a .some ≡ true → handOut w r a t ≡ handedTo w (handedOf a .value) r t
+pub handed-some : (w : ℕ) (r : Round) (a : Answer) (t : Tables) → handedOf a .some ≡ true
+    → handOut w r a t ≡ handedTo w (handedOf a .value) r t
 handed-some w r (Handed j name) t e = refl
 handed-some w r Laid t e = never (sym e)
 handed-some w r Posted t e = never (sym e)
@@ -53,7 +59,8 @@ handed-some w r Ended t e = never (sym e)
 handed-some w r NoneReady t e = never (sym e)
 handed-some w r (Refused n p) t e = never (sym e)
 
-pub handed-none : (w : ℕ) (r : Round) (a : Answer) (t : Tables) → handedOf a .some ≡ false → handOut w r a t ≡ noneTo r t
+pub handed-none : (w : ℕ) (r : Round) (a : Answer) (t : Tables) → handedOf a .some ≡ false
+    → handOut w r a t ≡ noneTo r t
 handed-none w r (Handed j name) t e = never e
 handed-none w r Laid t e = refl
 handed-none w r Posted t e = refl
@@ -79,19 +86,27 @@ refusal-length i (Handed j name) = omega arith
 
 pub handed-length : (h name w : ℕ) → length (line (decimal h ␣ (decimal name ␣ decimal w))) ≤ lineBytes
 handed-length h name w =
-    rw (length-append (decimal h ␣ (decimal name ␣ decimal w)) (10 ∷ []), length-append (decimal h) (32 ∷ (decimal name ␣ decimal w)))
+    rw (
+      length-append (decimal h ␣ (decimal name ␣ decimal w)) (10 ∷ []),
+      length-append (decimal h) (32 ∷ (decimal name ␣ decimal w)),
+    )
     (omega (arith, decimal-length h, numbers-length name w))
 
 -- where a line ends
 pub jobs-length : (n w : ℕ) → length (line (jobsWord ␣ (decimal n ␣ (workersWord ␣ decimal w)))) ≤ lineBytes
 jobs-length n w =
-    rw (length-append (jobsWord ␣ (decimal n ␣ (workersWord ␣ decimal w))) (10 ∷ []), length-append (decimal n) (32 ∷ (workersWord ␣ decimal w)))
+    rw (
+      length-append (jobsWord ␣ (decimal n ␣ (workersWord ␣ decimal w))) (10 ∷ []),
+      length-append (decimal n) (32 ∷ (workersWord ␣ decimal w)),
+    )
     (omega (arith, decimal-length n, decimal-length w))
 
-pub line-printed : (limit : ℕ) (p q : Page) (l : List ℕ) → q ≡ printLine limit p l → p .place ≤ mostPlace → q ≡ print limit p l
+pub line-printed : (limit : ℕ) (p q : Page) (l : List ℕ) → q ≡ printLine limit p l → p .place ≤ mostPlace
+    → q ≡ print limit p l
 line-printed limit p q l e near = rw (le-leb (p .place) mostPlace near) at e
 
-pub line-place : (limit : ℕ) (p q : Page) (l : List ℕ) → q ≡ printLine limit p l → p .place ≤ mostPlace → length l ≤ lineBytes → q .place ≤ p .place + lineBytes
+pub line-place : (limit : ℕ) (p q : Page) (l : List ℕ) → q ≡ printLine limit p l → p .place ≤ mostPlace
+    → length l ≤ lineBytes → q .place ≤ p .place + lineBytes
 line-place limit p q l e near short =
     let m = ap (λ (y : Page). y .place) (line-printed limit p q l e near) ∙ print-place limit p l in
     omega arith

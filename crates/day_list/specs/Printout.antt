@@ -1,4 +1,5 @@
--- What the parts of the day list leave: the tables, and the page that was printed on (document 01, "The board and the day list"). Every text is
+-- What the parts of the day list leave: the tables, and the page that was printed on (document 01, "The board and the
+-- day list"). Every text is
 -- that of Day, from the part's own start on. Assumes nothing.
 use mathlib.Core.Path.{_≡_}
 use mathlib.Core.Bool.{Bool, true, false}

@@ -7,11 +7,14 @@ ghost use Prim.Native.Nat.{_+_, _*_, _≤_, _<_};
 ghost use lib.ListN.{length};
 ghost use Rattle.terms.specs.Terms.{mostJobs, mostWorkers};
 ghost use Rattle.words.specs.Columns.{columns, header};
-ghost use Rattle.words.specs.Layout.{lent, jobShape, LABEL, MADE};
+ghost use Rattle.words.specs.Layout.{atEntry, atExit, jobShape, LABEL, MADE};
 ghost use Rattle.sheet_format.specs.Decode.{decodeSheet};
-ghost use Rattle.day_format.specs.Day.{day, refusal, addAll, finishAll, getAll, rounds, unfinished, daySizes, dayOf, dayText, printing, dayList, mostBytes};
+ghost use Rattle.day_format.specs.Day.{day, refusal, addAll, finishAll, getAll, rounds, unfinished, daySizes, dayOf};
+ghost use Rattle.day_format.specs.Day.{dayText, printing, dayList, mostBytes};
 ghost use Rattle.day_text.specs.Page.{page, print, mostPlace};
-ghost use Rattle.day_list.specs.Printout.{lineBytes, mostHanded, printout, wrote, refusedOf, handedOf, isWhole, jobsOf, argumentsIn, entered, holding, Held, Grown, shown, showing, unprinted, gotten, dayFrom};
+ghost use Rattle.day_list.specs.Printout.{lineBytes, mostHanded, printout, wrote, refusedOf, handedOf, isWhole};
+ghost use Rattle.day_list.specs.Printout.{jobsOf, argumentsIn, entered, holding, Held, Grown, shown, showing};
+ghost use Rattle.day_list.specs.Printout.{unprinted, gotten, dayFrom};
 use day_format::DayAnswer;
 use day_text::broken_line;
 use day_text::handed_line;
@@ -77,7 +80,8 @@ struct Told {
     value: u32,
 }
 
-// The gets of a round: the place printed up to, the jobs handed out so far, and the holders, each with the name of its job.
+// The gets of a round: the place printed up to, the jobs handed out so far, and the holders, each with the name of its
+// job.
 struct Gets {
     place: usize,
     handed: u32,
@@ -189,7 +193,9 @@ fn add_entry(
     entry: Entry,
 ) -> usize
     requires { ⌜ at ≤ mostPlace ⌝ }
-    ensures { λ r. ⌜ printout (lent (jobs .exit) (arcs .exit) (buckets .exit) (queue .exit) (workers .exit)) (page r (now (out .exit))) ≡ wrote limit (page at (now (out .entry))) (entered sizes number (lent (jobs .entry) (arcs .entry) (buckets .entry) (queue .entry) (workers .entry)) (argumentsIn entry)) ⌝ }
+    ensures { λ r. ⌜ printout (atExit jobs arcs buckets queue workers) (page r (now (out .exit)))
+        ≡ wrote limit (page at (now (out .entry)))
+        (entered sizes number (atEntry jobs arcs buckets queue workers) (argumentsIn entry)) ⌝ }
 {
     let names = entry.names;
     let answer = add_whole(
@@ -222,7 +228,10 @@ fn add_all(
     limit: usize,
 ) -> usize
     requires { ⌜ (isWhole (decodeSheet (now sheet)) ≡ true) × (length (now sheet) ≤ mostBytes) ⌝ }
-    ensures { λ r. ⌜ (printout (lent (jobs .exit) (arcs .exit) (buckets .exit) (queue .exit) (workers .exit)) (page r (now (out .exit))) ≡ wrote limit (page 0 (now (out .entry))) (addAll sizes 0 (jobsOf (decodeSheet (now (sheet .entry)))) (day (lent (jobs .entry) (arcs .entry) (buckets .entry) (queue .entry) (workers .entry)) []))) × (r ≤ lineBytes * mostBytes) ⌝ }
+    ensures { λ r. ⌜ (printout (atExit jobs arcs buckets queue workers) (page r (now (out .exit)))
+        ≡ wrote limit (page 0 (now (out .entry)))
+        (addAll sizes 0 (jobsOf (decodeSheet (now (sheet .entry))))
+        (day (atEntry jobs arcs buckets queue workers) []))) × (r ≤ lineBytes * mostBytes) ⌝ }
 {
     let mut at: usize = 0;
     let mut number: u32 = 0;
@@ -288,7 +297,10 @@ fn get_one(
     gets: Gets,
 ) -> Gets
     requires { ⌜ (gets .place ≤ mostPlace) × (gets .count < mostWorkers) × (gets .handed < mostHanded) ⌝ }
-    ensures { λ r. ⌜ (showing r (lent (jobs .exit) (arcs .exit) (buckets .exit) (queue .exit) (workers .exit)) (now (out .exit)) ≡ shown limit (page (gets .place) (now (out .entry))) (gotten sizes worker (unprinted (lent (jobs .entry) (arcs .entry) (buckets .entry) (queue .entry) (workers .entry)) (gets .handed) (holding gets)))) × Grown gets r ⌝ }
+    ensures { λ r. ⌜ (showing r (atExit jobs arcs buckets queue workers) (now (out .exit))
+        ≡ shown limit (page (gets .place) (now (out .entry)))
+        (gotten sizes worker (unprinted (atEntry jobs arcs buckets queue workers) (gets .handed) (holding gets))))
+        × Grown gets r ⌝ }
 {
     let told = name_of(get(sizes, jobs, arcs, buckets, queue, workers, worker));
     let some = told.some;
@@ -312,8 +324,12 @@ fn get_all(
     at: usize,
     handed: u32,
 ) -> Gets
-    requires { ⌜ (sizes .workers ≤ mostWorkers) × (at + lineBytes * mostWorkers ≤ mostPlace) × (handed + mostWorkers ≤ mostHanded) ⌝ }
-    ensures { λ r. ⌜ (showing r (lent (jobs .exit) (arcs .exit) (buckets .exit) (queue .exit) (workers .exit)) (now (out .exit)) ≡ shown limit (page at (now (out .entry))) (getAll sizes (sizes .workers) 0 (unprinted (lent (jobs .entry) (arcs .entry) (buckets .entry) (queue .entry) (workers .entry)) handed []))) × (r .place ≤ at + lineBytes * mostWorkers) × (r .handed ≤ handed + mostWorkers) × (r .count ≤ mostWorkers) ⌝ }
+    requires { ⌜ (sizes .workers ≤ mostWorkers) × (at + lineBytes * mostWorkers ≤ mostPlace)
+        × (handed + mostWorkers ≤ mostHanded) ⌝ }
+    ensures { λ r. ⌜ (showing r (atExit jobs arcs buckets queue workers) (now (out .exit))
+        ≡ shown limit (page at (now (out .entry)))
+        (getAll sizes (sizes .workers) 0 (unprinted (atEntry jobs arcs buckets queue workers) handed [])))
+        × (r .place ≤ at + lineBytes * mostWorkers) × (r .handed ≤ handed + mostWorkers) × (r .count ≤ mostWorkers) ⌝ }
 {
     let holders = [0u32; MOST_HOLDERS];
     let names = [0u32; MOST_HOLDERS];
@@ -354,7 +370,8 @@ fn finish_all(
     gets: Gets,
 )
     requires { ⌜ gets .count ≤ mostWorkers ⌝ }
-    ensures { λ _. ⌜ (lent (jobs .exit) (arcs .exit) (buckets .exit) (queue .exit) (workers .exit)) ≡ finishAll sizes (holding gets) (lent (jobs .entry) (arcs .entry) (buckets .entry) (queue .entry) (workers .entry)) ⌝ }
+    ensures { λ _. ⌜ (atExit jobs arcs buckets queue workers)
+        ≡ finishAll sizes (holding gets) (atEntry jobs arcs buckets queue workers) ⌝ }
 {
     let holders = gets.holders;
     let names = gets.names;
@@ -387,8 +404,11 @@ fn run_rounds(
     limit: usize,
     at: usize,
 ) -> usize
-    requires { ⌜ (sizes .workers ≤ mostWorkers) × (sizes .jobs ≤ mostJobs) × (at ≤ lineBytes * mostBytes + lineBytes) ⌝ }
-    ensures { λ r. ⌜ (printout (lent (jobs .exit) (arcs .exit) (buckets .exit) (queue .exit) (workers .exit)) (page r (now (out .exit))) ≡ wrote limit (page at (now (out .entry))) (rounds (sizes .jobs + 1) sizes (lent (jobs .entry) (arcs .entry) (buckets .entry) (queue .entry) (workers .entry)) [] 0)) × (r ≤ mostPlace) ⌝ }
+    requires { ⌜ (sizes .workers ≤ mostWorkers) × (sizes .jobs ≤ mostJobs)
+        × (at ≤ lineBytes * mostBytes + lineBytes) ⌝ }
+    ensures { λ r. ⌜ (printout (atExit jobs arcs buckets queue workers) (page r (now (out .exit)))
+        ≡ wrote limit (page at (now (out .entry)))
+        (rounds (sizes .jobs + 1) sizes (atEntry jobs arcs buckets queue workers) [] 0)) × (r ≤ mostPlace) ⌝ }
 {
     let mut left = sizes.jobs + 1;
     let mut place = at;
@@ -444,8 +464,11 @@ fn print_day(
     out: &mut [u8],
     limit: usize,
 ) -> usize
-    requires { ⌜ (isWhole (decodeSheet (now sheet)) ≡ true) × (length (now sheet) ≤ mostBytes) × (sizes .workers ≤ mostWorkers) × (sizes .jobs ≤ mostJobs) ⌝ }
-    ensures { λ r. ⌜ page r (now (out .exit)) ≡ print limit (page 0 (now (out .entry))) (dayFrom sizes (lent (jobs .entry) (arcs .entry) (buckets .entry) (queue .entry) (workers .entry)) (jobsOf (decodeSheet (now (sheet .entry))))) ⌝ }
+    requires { ⌜ (isWhole (decodeSheet (now sheet)) ≡ true) × (length (now sheet) ≤ mostBytes)
+        × (sizes .workers ≤ mostWorkers) × (sizes .jobs ≤ mostJobs) ⌝ }
+    ensures { λ r. ⌜ page r (now (out .exit))
+        ≡ print limit (page 0 (now (out .entry)))
+        (dayFrom sizes (atEntry jobs arcs buckets queue workers) (jobsOf (decodeSheet (now (sheet .entry))))) ⌝ }
 {
     lay_out(sizes, jobs, arcs, buckets, queue, workers);
     let added = add_all(
@@ -478,8 +501,11 @@ fn print_day(
 
 // The day of a sheet that is not broken, on tables of its own that just suffice.
 fn print_fresh_day(sheet: &[u8], workers: u32, out: &mut [u8], limit: usize) -> usize
-    requires { ⌜ (isWhole (decodeSheet (now sheet)) ≡ true) × (length (now sheet) ≤ mostBytes) × (workers ≤ mostWorkers) ⌝ }
-    ensures { λ r. ⌜ page r (now (out .exit)) ≡ print limit (page 0 (now (out .entry))) (dayOf (daySizes workers) (jobsOf (decodeSheet (now (sheet .entry))))) ⌝ }
+    requires { ⌜ (isWhole (decodeSheet (now sheet)) ≡ true) × (length (now sheet) ≤ mostBytes)
+        × (workers ≤ mostWorkers) ⌝ }
+    ensures { λ r. ⌜ page r (now (out .exit))
+        ≡ print limit (page 0 (now (out .entry)))
+        (dayOf (daySizes workers) (jobsOf (decodeSheet (now (sheet .entry))))) ⌝ }
 {
     let sizes = Sizes {
         jobs: JOBS,
@@ -505,10 +531,12 @@ fn print_fresh_day(sheet: &[u8], workers: u32, out: &mut [u8], limit: usize) -> 
     )
 }
 
-// What the day list prints, stored below a limit. "A sheet that cannot be read prints only broken O N"; a longer sheet is cut.
+// What the day list prints, stored below a limit. "A sheet that cannot be read prints only broken O N"; a longer sheet
+// is cut.
 fn print_list(sheet: &[u8], workers: u32, out: &mut [u8], limit: usize) -> usize
     requires { ⌜ workers ≤ mostWorkers ⌝ }
-    ensures { λ r. ⌜ page r (now (out .exit)) ≡ print limit (page 0 (now (out .entry))) (dayText workers (now (sheet .entry))) ⌝ }
+    ensures { λ r. ⌜ page r (now (out .exit))
+        ≡ print limit (page 0 (now (out .entry))) (dayText workers (now (sheet .entry))) ⌝ }
 {
     if MOST_BYTES < sheet.len() {
         return broken_line(out, limit, 0, MOST_BYTES, CUT);
@@ -519,7 +547,8 @@ fn print_list(sheet: &[u8], workers: u32, out: &mut [u8], limit: usize) -> usize
     }
 }
 
-// The day list of a sheet with a number of workers. It is measured first, so that an output that is too short is left as it was.
+// The day list of a sheet with a number of workers. It is measured first, so that an output that is too short is left
+// as it was.
 pub fn day_list(sheet: &[u8], workers: u32, out: &mut [u8]) -> DayAnswer
     ensures { λ r. ⌜ printing r (now (out .exit)) ≡ dayList workers (now (sheet .entry)) (now (out .entry)) ⌝ }
 {

@@ -34,5 +34,6 @@ pub numbered : (limit : ℕ) (p q : Page) (n : ℕ) → q ≡ print limit p (dec
 numbered limit p q n e = omega (arith, placed limit p q (decimal n) e, decimal-length n)
 
 -- a text after a text
-pub next : (limit : ℕ) (p q r : Page) (a b : List ℕ) → q ≡ print limit p a → r ≡ print limit q b → r ≡ print limit p (a ++ b)
+pub next : (limit : ℕ) (p q r : Page) (a b : List ℕ) → q ≡ print limit p a → r ≡ print limit q b
+    → r ≡ print limit p (a ++ b)
 next limit p q r a b e f = f ∙ rw e (print-append limit p a b)

@@ -1,4 +1,5 @@
--- A text printed into a lent output from a place on (document 01, "The board and the day list"): only places below a limit are stored, so that a
+-- A text printed into a lent output from a place on (document 01, "The board and the day list"): only places below a
+-- limit are stored, so that a
 -- text can be measured with the limit 0 before it is stored. Assumes nothing.
 use mathlib.Core.Path.{_≡_, refl, _∙_}
 use mathlib.Core.Bool.{Bool, true, false}
@@ -73,7 +74,8 @@ emitted-none out at [] = refl
 emitted-none out at (b ∷ bs) = rw (le-ltb at 0 (omega arith)) (emitted-none out (suc at) bs)
 
 -- a text that ends below the limit is stored whole
-pub emitted-whole : (limit : ℕ) (text out : List ℕ) (at : ℕ) → at + length text ≤ limit → emitted limit out at text ≡ sets out at text
+pub emitted-whole : (limit : ℕ) (text out : List ℕ) (at : ℕ) → at + length text ≤ limit
+    → emitted limit out at text ≡ sets out at text
 unfolding emitted
 emitted-whole limit [] out at h = refl
 emitted-whole limit (b ∷ bs) out at h =
@@ -83,7 +85,8 @@ emitted-whole limit (b ∷ bs) out at h =
 pub length-emitted : (limit : ℕ) (text out : List ℕ) (at : ℕ) → length (emitted limit out at text) ≡ length out
 unfolding emitted
 length-emitted limit [] out at = refl
-length-emitted limit (b ∷ bs) out at = length-emitted limit bs (pick (ltb at limit) (set out at b) out) (suc at) ∙ kept (ltb at limit)
+length-emitted limit (b ∷ bs) out at =
+    length-emitted limit bs (pick (ltb at limit) (set out at b) out) (suc at) ∙ kept (ltb at limit)
   where
     kept : (t : Bool) → length (pick t (set out at b) out) ≡ length out
     kept true = length-set out at b

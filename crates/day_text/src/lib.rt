@@ -37,7 +37,8 @@ fn emit(out: &mut [u8], limit: usize, at: usize, byte: u8) -> usize
 // The bytes of a text from one on.
 fn emit_from(out: &mut [u8], limit: usize, at: usize, text: &[u8], from: usize) -> usize
     requires { ⌜ (from ≤ length (now text)) × Roomy at (length (now text)) ⌝ }
-    ensures { λ r. ⌜ page r (now (out .exit)) ≡ print limit (page at (now (out .entry))) (drop from (now (text .entry))) ⌝ }
+    ensures { λ r. ⌜ page r (now (out .exit))
+        ≡ print limit (page at (now (out .entry))) (drop from (now (text .entry))) ⌝ }
 {
     let mut next = at;
     let mut i = from;
@@ -95,7 +96,8 @@ fn emit_last(out: &mut [u8], limit: usize, at: usize, number: u64) -> usize
 // Two numbers that end a line.
 fn emit_two(out: &mut [u8], limit: usize, at: usize, first: u64, second: u64) -> usize
     requires { ⌜ Roomy at 42 ⌝ }
-    ensures { λ r. ⌜ page r (now (out .exit)) ≡ print limit (page at (now (out .entry))) (line (decimal first ␣ decimal second)) ⌝ }
+    ensures { λ r. ⌜ page r (now (out .exit))
+        ≡ print limit (page at (now (out .entry))) (line (decimal first ␣ decimal second)) ⌝ }
 {
     let next = emit_number(out, limit, at, first);
     let last = emit(out, limit, next, b' ');
@@ -104,7 +106,9 @@ fn emit_two(out: &mut [u8], limit: usize, at: usize, first: u64, second: u64) ->
 
 // "The first line gives jobs entered and workers."
 pub fn jobs_line(out: &mut [u8], limit: usize, at: usize, made: u32, workers: u32) -> usize
-    ensures { λ r. ⌜ page r (now (out .exit)) ≡ printLine limit (page at (now (out .entry))) (line (jobsWord ␣ (decimal made ␣ (workersWord ␣ decimal workers)))) ⌝ }
+    ensures { λ r. ⌜ page r (now (out .exit))
+        ≡ printLine limit (page at (now (out .entry)))
+        (line (jobsWord ␣ (decimal made ␣ (workersWord ␣ decimal workers)))) ⌝ }
 {
     if MOST_PLACE < at {
         return at;
@@ -124,7 +128,8 @@ pub fn handed_line(
     name: u32,
     worker: u32,
 ) -> usize
-    ensures { λ r. ⌜ page r (now (out .exit)) ≡ printLine limit (page at (now (out .entry))) (line (decimal handed ␣ (decimal name ␣ decimal worker))) ⌝ }
+    ensures { λ r. ⌜ page r (now (out .exit))
+        ≡ printLine limit (page at (now (out .entry))) (line (decimal handed ␣ (decimal name ␣ decimal worker))) ⌝ }
 {
     if MOST_PLACE < at {
         return at;
@@ -136,7 +141,8 @@ pub fn handed_line(
 
 // "The last gives jobs not finished."
 pub fn left_line(out: &mut [u8], limit: usize, at: usize, left: u32) -> usize
-    ensures { λ r. ⌜ page r (now (out .exit)) ≡ printLine limit (page at (now (out .entry))) (line (leftWord ␣ decimal left)) ⌝ }
+    ensures { λ r. ⌜ page r (now (out .exit))
+        ≡ printLine limit (page at (now (out .entry))) (line (leftWord ␣ decimal left)) ⌝ }
 {
     if MOST_PLACE < at {
         return at;
@@ -147,7 +153,8 @@ pub fn left_line(out: &mut [u8], limit: usize, at: usize, left: u32) -> usize
 
 // "A refused entry puts refused I N before the first line."
 pub fn refused_line(out: &mut [u8], limit: usize, at: usize, entry: u32, number: u32) -> usize
-    ensures { λ r. ⌜ page r (now (out .exit)) ≡ printLine limit (page at (now (out .entry))) (line (refusedWord ␣ (decimal entry ␣ decimal number))) ⌝ }
+    ensures { λ r. ⌜ page r (now (out .exit))
+        ≡ printLine limit (page at (now (out .entry))) (line (refusedWord ␣ (decimal entry ␣ decimal number))) ⌝ }
 {
     if MOST_PLACE < at {
         return at;
@@ -158,7 +165,8 @@ pub fn refused_line(out: &mut [u8], limit: usize, at: usize, entry: u32, number:
 
 // "A sheet that cannot be read prints only broken O N."
 pub fn broken_line(out: &mut [u8], limit: usize, at: usize, offset: usize, number: u32) -> usize
-    ensures { λ r. ⌜ page r (now (out .exit)) ≡ printLine limit (page at (now (out .entry))) (line (brokenWord ␣ (decimal offset ␣ decimal number))) ⌝ }
+    ensures { λ r. ⌜ page r (now (out .exit))
+        ≡ printLine limit (page at (now (out .entry))) (line (brokenWord ␣ (decimal offset ␣ decimal number))) ⌝ }
 {
     if MOST_PLACE < at {
         return at;

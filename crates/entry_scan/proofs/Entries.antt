@@ -8,8 +8,10 @@ use native.Mathlib.Omega.{arith}
 use lib.ListN.{length}
 use lib.Dec.{ltb}
 use borrow.Author.Tests.{ltb-true}
-use Rattle.sheet_format.specs.Job.{Job, mostNames, mostClass, mostGrower, nameBytes, countBytes, classBytes, growerBytes}
-use Rattle.sheet_format.specs.Decode.{pick, mapAt, nameAt, limitedAt, listAt, ifBit, namesAt, Decoded, job, end, refused, thenDecoded, decode, scanOf}
+use Rattle.sheet_format.specs.Job.{Job, mostNames, mostClass, mostGrower, nameBytes, countBytes, classBytes}
+use Rattle.sheet_format.specs.Job.{growerBytes}
+use Rattle.sheet_format.specs.Decode.{pick, mapAt, nameAt, limitedAt, listAt, ifBit, namesAt, Decoded, job, end}
+use Rattle.sheet_format.specs.Decode.{refused, thenDecoded, decode, scanOf}
 use Rattle.sheet_format.specs.declared.Field.{Field}
 use Rattle.sheet_format.specs.declared.Field.the-variants.{Got, Refused}
 use Rattle.sheet_format.specs.declared.Scan.{Scan}
@@ -27,7 +29,8 @@ pub record Stands (s : List ℕ) (at count n : ℕ) : Type 0 where
   pub from : at < n
   pub within : n ≤ length s
 
-pub decoded : (f : Field) (k : ℕ → ℕ → Decoded) (j : Job) (n : ℕ) {P : Type 0} → thenDecoded f k ≡ job j n → ((v m : ℕ) → f ≡ Got v m → k v m ≡ job j n → P) → P
+pub decoded : (f : Field) (k : ℕ → ℕ → Decoded) (j : Job) (n : ℕ) {P : Type 0} → thenDecoded f k ≡ job j n
+    → ((v m : ℕ) → f ≡ Got v m → k v m ≡ job j n → P) → P
 decoded (Got v m) k j n h onward = onward v m refl h
 decoded (Refused c a) k j n h onward = never (cc)
 
@@ -35,7 +38,8 @@ pub inside : (b : Bool) (d : Decoded) (j : Job) (n : ℕ) → pick b d end ≡ j
 inside true d j n h = (refl, h)
 inside false d j n h = never (cc)
 
-pub stands : (s : List ℕ) (at : ℕ) (j : Job) (n : ℕ) → decode s at ≡ job j n → (j .list ≡ namesAt nameBytes s (at + 6) (length (j .list))) × Stands s at (length (j .list)) n
+pub stands : (s : List ℕ) (at : ℕ) (j : Job) (n : ℕ) → decode s at ≡ job j n
+    → (j .list ≡ namesAt nameBytes s (at + 6) (length (j .list))) × Stands s at (length (j .list)) n
 unfolding decode
 stands s at j n h =
     let b = inside (ltb at (length s)) _ j n h in
@@ -48,8 +52,10 @@ stands s at j n h =
     let p₀ = map-next s at map n₀ e₀ in
     let p₁ = number-passed nameBytes s n₀ name n₁ e₁ in
     let p₂ = listed nameBytes (map / 2 % 2) s n₁ count n₂ (p₁ .within) e₂ in
-    let p₃ = number-behind classBytes (map / 4 % 2) _ s n₂ class n₃ (λ e. limited-got classBytes mostClass s n₂ class n₃ e .0) (p₂ .within) e₃ in
-    let p₄ = number-behind growerBytes (map / 8 % 2) _ s n₃ grower n₄ (λ e. limited-got growerBytes mostGrower s n₃ grower n₄ e .0) (p₃ .within) e₄ in
+    let p₃ = number-behind classBytes (map / 4 % 2) _ s n₂ class n₃
+    (λ e. limited-got classBytes mostClass s n₂ class n₃ e .0) (p₂ .within) e₃ in
+    let p₄ = number-behind growerBytes (map / 8 % 2) _ s n₃ grower n₄
+    (λ e. limited-got growerBytes mostGrower s n₃ grower n₄ e .0) (p₃ .within) e₄ in
     let e : n₄ ≡ n = cc in
     let q : n₁ + countBytes ≡ at + 6 = omega arith in
     let x : namesAt nameBytes s (n₁ + countBytes) count ≡ j .list = cc in
@@ -67,7 +73,8 @@ pub record Scanned (s : List ℕ) (at name count class grower n : ℕ) : Type 0 
   pub entry : decode s at ≡ job (scanned s at name count class grower) n
   pub reach : Stands s at count n
 
-scanned-job : (s : List ℕ) (at name count class grower n : ℕ) (d : Decoded) → decode s at ≡ d → scanOf d ≡ Scan.Fields name count class grower n → d ≡ job (scanned s at name count class grower) n
+scanned-job : (s : List ℕ) (at name count class grower n : ℕ) (d : Decoded) → decode s at ≡ d
+    → scanOf d ≡ Scan.Fields name count class grower n → d ≡ job (scanned s at name count class grower) n
 scanned-job s at name count class grower n (job j m) e h =
     let l = stands s at j m e .0 in
     let c : length (j .list) ≡ count = cc in
@@ -80,7 +87,8 @@ scanned-job s at name count class grower n (job j m) e h =
 scanned-job s at name count class grower n end e h = never (cc)
 scanned-job s at name count class grower n (refused c a) e h = never (cc)
 
-pub scan-job : {s : List ℕ} {at : ℕ} {r : Scan} {name count class grower n : ℕ} → r ≡ scanOf (decode s at) → r ≡ Scan.Fields name count class grower n → Scanned s at name count class grower n
+pub scan-job : {s : List ℕ} {at : ℕ} {r : Scan} {name count class grower n : ℕ} → r ≡ scanOf (decode s at)
+    → r ≡ Scan.Fields name count class grower n → Scanned s at name count class grower n
 scan-job {s} {at} {r} {name} {count} {class} {grower} {n} e h =
     let j = scanned-job s at name count class grower n (decode s at) refl (sym e ∙ h) in
     record { entry = j; reach = rw names-length at (stands s at _ n j .1) }
@@ -93,7 +101,8 @@ scan-end s at e h = go (decode s at) (sym e ∙ h)
     go end h = refl
     go (refused c a) h = never (cc)
 
-pub scan-refused : (s : List ℕ) (at : ℕ) {r : Scan} {c a : ℕ} → r ≡ scanOf (decode s at) → r ≡ Scan.Refused c a → decode s at ≡ refused c a
+pub scan-refused : (s : List ℕ) (at : ℕ) {r : Scan} {c a : ℕ} → r ≡ scanOf (decode s at) → r ≡ Scan.Refused c a
+    → decode s at ≡ refused c a
 scan-refused s at {r} {c} {a} e h = go (decode s at) (sym e ∙ h)
   where
     go : (d : Decoded) → scanOf d ≡ Scan.Refused c a → d ≡ refused c a

@@ -10,7 +10,8 @@ use lib.Dec.{ltb, leb, eqb, eqb·suc-zero}
 use borrow.Author.Tests.{leb-true}
 use Rattle.sheet_format.specs.Number.{numberAt}
 use Rattle.sheet_format.specs.Job.{mostNames, mostClass, mostGrower, countBytes, classBytes, growerBytes}
-use Rattle.sheet_format.specs.Decode.{pick, cut, offLimits, mapAt, nameAt, limitedAt, listAt, then, ifBit, Decoded, job, refused, thenDecoded}
+use Rattle.sheet_format.specs.Decode.{pick, cut, offLimits, mapAt, nameAt, limitedAt, listAt, then, ifBit, Decoded, job}
+use Rattle.sheet_format.specs.Decode.{refused, thenDecoded}
 use Rattle.sheet_format.specs.declared.Field.{Field}
 use Rattle.sheet_format.specs.declared.Field.the-variants.{Got, Refused}
 use Rattle.entry_scan.specs.Stages.{judgedThen, fromGrower, fromClass}
@@ -28,7 +29,8 @@ pub number2-at : (s : List ℕ) (at : ℕ) → numberAt 2 s at ≡ getD s at 0 +
 unfolding numberAt
 number2-at s at = omega arith
 
-pub number4-at : (s : List ℕ) (at : ℕ) → numberAt 4 s at ≡ getD s at 0 + 256 * (getD s (at + 1) 0 + 256 * (getD s (at + 2) 0 + 256 * getD s (at + 3) 0))
+pub number4-at : (s : List ℕ) (at : ℕ)
+    → numberAt 4 s at ≡ getD s at 0 + 256 * (getD s (at + 1) 0 + 256 * (getD s (at + 2) 0 + 256 * getD s (at + 3) 0))
 unfolding numberAt
 number4-at s at =
     let two : at + 1 + 1 ≡ at + 2 = omega arith in
@@ -66,7 +68,8 @@ number-passed w s at v n h =
     record { next = e; within = omega arith }
 
 -- a number with limits is a number
-pub limited-got : (w most : ℕ) (s : List ℕ) (at v n : ℕ) → limitedAt w most s at ≡ Got v n → (nameAt w s at ≡ Got v n) × (v ≤ most)
+pub limited-got : (w most : ℕ) (s : List ℕ) (at v n : ℕ) → limitedAt w most s at ≡ Got v n
+    → (nameAt w s at ≡ Got v n) × (v ≤ most)
 unfolding limitedAt nameAt
 limited-got w most s at v n h =
     let x = numberAt w s at in
@@ -78,7 +81,8 @@ limited-got w most s at v n h =
     (rw (g .0) y, omega arith)
 
 -- by its bit a field was left out or read
-bit-cases : (bit at : ℕ) (f : Field) (v n : ℕ) {P : Type 0} → ifBit bit at f ≡ Got v n → (0 ≡ v → at ≡ n → P) → (f ≡ Got v n → P) → P
+bit-cases : (bit at : ℕ) (f : Field) (v n : ℕ) {P : Type 0} → ifBit bit at f ≡ Got v n → (0 ≡ v → at ≡ n → P)
+    → (f ≡ Got v n → P) → P
 bit-cases zero at f v n h out there = out (cc) (cc)
 bit-cases (suc b) at f v n h out there = there (rw eqb·suc-zero at h)
 
@@ -87,7 +91,8 @@ pub record Behind (s : List ℕ) (at n : ℕ) : Type 0 where
   pub from : at ≤ n
   pub within : n ≤ length s
 
-pub number-behind : (w bit : ℕ) (f : Field) (s : List ℕ) (at v n : ℕ) → (f ≡ Got v n → nameAt w s at ≡ Got v n) → at ≤ length s → ifBit bit at f ≡ Got v n → Behind s at n
+pub number-behind : (w bit : ℕ) (f : Field) (s : List ℕ) (at v n : ℕ) → (f ≡ Got v n → nameAt w s at ≡ Got v n)
+    → at ≤ length s → ifBit bit at f ≡ Got v n → Behind s at n
 number-behind w bit f s at v n number i h =
     bit-cases bit at f v n h (λ z e. record { from = omega arith; within = omega arith }) λ e.
     let p = number-passed w s at v n (number e) in
@@ -101,7 +106,8 @@ pub record Listed (w : ℕ) (s : List ℕ) (at count n : ℕ) : Type 0 where
   -- where there is no name there is no count byte either
   pub names : at + countBytes + w * count ≤ length s + (1 - count)
 
-pub through : (f : Field) (k : ℕ → ℕ → Field) (v n : ℕ) {P : Type 0} → then f k ≡ Got v n → ((u m : ℕ) → f ≡ Got u m → k u m ≡ Got v n → P) → P
+pub through : (f : Field) (k : ℕ → ℕ → Field) (v n : ℕ) {P : Type 0} → then f k ≡ Got v n
+    → ((u m : ℕ) → f ≡ Got u m → k u m ≡ Got v n → P) → P
 through (Got u m) k v n h onward = onward u m refl h
 through (Refused c a) k v n h onward = never (cc)
 
@@ -119,7 +125,8 @@ list-there w s at v n h =
     let q : w * u ≡ w * v = ap (λ (k : ℕ). w * k) e₀ in
     record { from = omega arith; within = omega arith; most = omega arith; names = omega arith }
 
-pub listed : (w bit : ℕ) (s : List ℕ) (at v n : ℕ) → at ≤ length s → ifBit bit at (listAt w s at) ≡ Got v n → Listed w s at v n
+pub listed : (w bit : ℕ) (s : List ℕ) (at v n : ℕ) → at ≤ length s → ifBit bit at (listAt w s at) ≡ Got v n
+    → Listed w s at v n
 listed w bit s at v n i h = bit-cases bit at (listAt w s at) v n h left-out (list-there w s at v n)
   where
     left-out : 0 ≡ v → at ≡ n → Listed w s at v n
@@ -129,20 +136,29 @@ listed w bit s at v n i h = bit-cases bit at (listAt w s at) v n h left-out (lis
 
 -- JUDGING A NUMBER ONCE IT IS READ
 
-judged : (w most bit : ℕ) (s : List ℕ) (at : ℕ) (onward : ℕ → ℕ → Decoded) → judgedThen w most bit s at onward ≡ thenDecoded (ifBit bit at (limitedAt w most s at)) onward
+judged : (w most bit : ℕ) (s : List ℕ) (at : ℕ) (onward : ℕ → ℕ → Decoded)
+    → judgedThen w most bit s at onward ≡ thenDecoded (ifBit bit at (limitedAt w most s at)) onward
 unfolding judgedThen limitedAt nameAt
 judged w most zero s at onward = refl
 judged w most (suc b) s at onward = rw eqb·suc-zero (there (leb (at + w) (length s)))
   where
-    right : (y : Bool) → pick y (onward (numberAt w s at) (at + w)) (refused offLimits at) ≡ thenDecoded (pick y (Got (numberAt w s at) (at + w)) (Refused offLimits at)) onward
+    right : (y : Bool) → pick y (onward (numberAt w s at) (at + w)) (refused offLimits at)
+        ≡ thenDecoded (pick y (Got (numberAt w s at) (at + w)) (Refused offLimits at)) onward
     right true = refl
     right false = refl
 
-    there : (x : Bool) → thenDecoded (pick x (Got (numberAt w s at) (at + w)) (Refused cut at)) (λ v n. pick (leb 1 v && leb v most) (onward v n) (refused offLimits at)) ≡ thenDecoded (pick x (pick (leb 1 (numberAt w s at) && leb (numberAt w s at) most) (Got (numberAt w s at) (at + w)) (Refused offLimits at)) (Refused cut at)) onward
+    there : (x : Bool) → thenDecoded (pick x (Got (numberAt w s at) (at + w)) (Refused cut at))
+        (λ v n. pick (leb 1 v && leb v most) (onward v n) (refused offLimits at))
+        ≡ thenDecoded (pick x (pick (leb 1 (numberAt w s at) && leb (numberAt w s at) most)
+        (Got (numberAt w s at) (at + w)) (Refused offLimits at)) (Refused cut at)) onward
     there true = right (leb 1 (numberAt w s at) && leb (numberAt w s at) most)
     there false = refl
 
 -- the last two fields as `decode` has them
-pub from-class-is : (s : List ℕ) (at map name : ℕ) (list : List ℕ) → fromClass s at map name list ≡ (thenDecoded (ifBit (map / 4 % 2) at (limitedAt classBytes mostClass s at)) λ class n₃. thenDecoded (ifBit (map / 8 % 2) n₃ (limitedAt growerBytes mostGrower s n₃)) λ grower n₄. job (record { name = name; list = list; class = class; grower = grower }) n₄)
+pub from-class-is : (s : List ℕ) (at map name : ℕ) (list : List ℕ)
+    → fromClass s at map name list
+    ≡ (thenDecoded (ifBit (map / 4 % 2) at (limitedAt classBytes mostClass s at)) λ class n₃.
+    thenDecoded (ifBit (map / 8 % 2) n₃ (limitedAt growerBytes mostGrower s n₃)) λ grower n₄.
+    job (record { name = name; list = list; class = class; grower = grower }) n₄)
 unfolding fromClass fromGrower
 from-class-is s at map name list = simp judged

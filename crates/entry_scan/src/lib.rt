@@ -157,7 +157,8 @@ pub fn within_if(bit: u32, value: u32, most: u32) -> bool
 // The grower, the last field. The list counts by its length alone.
 fn from_grower(s: &[u8], at: usize, map: u32, name: u32, count: u32, class: u32) -> Scan
     requires { ⌜ at ≤ length (now s) ⌝ }
-    ensures { λ r. ⌜ ((list : List ℕ) → length list ≡ count → r ≡ scanOf (fromGrower (now (s .entry)) at map name list class)) ⌝ }
+    ensures { λ r. ⌜ ((list : List ℕ) → length list ≡ count
+        → r ≡ scanOf (fromGrower (now (s .entry)) at map name list class)) ⌝ }
 {
     let bit = map / 8 % 2;
     match number2_if(s, at, bit) {
@@ -187,7 +188,8 @@ fn from_grower(s: &[u8], at: usize, map: u32, name: u32, count: u32, class: u32)
 // The class and the grower.
 fn from_class(s: &[u8], at: usize, map: u32, name: u32, count: u32) -> Scan
     requires { ⌜ at ≤ length (now s) ⌝ }
-    ensures { λ r. ⌜ ((list : List ℕ) → length list ≡ count → r ≡ scanOf (fromClass (now (s .entry)) at map name list)) ⌝ }
+    ensures { λ r. ⌜ ((list : List ℕ) → length list ≡ count
+        → r ≡ scanOf (fromClass (now (s .entry)) at map name list)) ⌝ }
 {
     let bit = map / 4 % 2;
     match number1_if(s, at, bit) {

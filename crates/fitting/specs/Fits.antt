@@ -1,4 +1,5 @@
--- Every plan of a step and of a get is a fitting one: the sizes' limits and the worker's own words bound what is counted. Follows document 01,
+-- Every plan of a step and of a get is a fitting one: the sizes' limits and the worker's own words bound what is
+-- counted. Follows document 01,
 -- "Tables and their measures" and "Turned-away calls". Assumes nothing.
 use mathlib.Core.Path.{_≡_, refl}
 use mathlib.Core.Bool.{Bool, true, false, _&&_, _||_}
@@ -9,12 +10,17 @@ use borrow.Author.Tests.{ltb-true, ltb-false, leb-true, leb-false}
 use Rattle.terms.specs.Base.{pick}
 use Rattle.terms.specs.Terms.{mostJobs, mostArcs, mostBits, mostWorkers, mostNames, mostClass, mostGrower, withinLimits}
 use Rattle.terms.specs.declared.Sizes.{Sizes}
-use Rattle.words.specs.Layout.{none, LABEL, COUNT, FIRST, LAST, DEPENDENT, AFTER, PHASE, HELD, LIST-COUNT, OWN-CLASS, OWN-GROWER, TALLY, PLACE, OWN-JOB, OWN-ARC, IDLE, LOOKING, LINKING, MARKING, NOTIFYING, Tables, View, view, longEnough, sizesKept, roomFor, sizesFit}
-use Rattle.words.specs.Words.{placeOk, isPlace, settles, countersOk, ownOk, planLookUp, planEnter, planAppend, planLink, withCell, planSettle, planMark, planNotify, planAdd, planLinks, planCall, planPhase, admitted, planStep, planTake, planQueue, planGet, planGetOf}
+use Rattle.words.specs.Layout.{none, LABEL, COUNT, FIRST, LAST, DEPENDENT, AFTER, PHASE, HELD, LIST-COUNT, OWN-CLASS}
+use Rattle.words.specs.Layout.{OWN-GROWER, TALLY, PLACE, OWN-JOB, OWN-ARC, IDLE, LOOKING, LINKING, MARKING, NOTIFYING}
+use Rattle.words.specs.Layout.{Tables, View, view, longEnough, sizesKept, roomFor, sizesFit}
+use Rattle.words.specs.Words.{placeOk, isPlace, settles, countersOk, ownOk, planLookUp, planEnter, planAppend, planLink}
+use Rattle.words.specs.Words.{withCell, planSettle, planMark, planNotify, planAdd, planLinks, planCall, planPhase}
+use Rattle.words.specs.Words.{admitted, planStep, planTake, planQueue, planGet, planGetOf}
 use Rattle.words.specs.declared.Found.{Found}
 use Rattle.words.specs.declared.Found.the-variants.{At, Missing, Damaged}
 use Rattle.words.specs.declared.Plan.{Plan}
-use Rattle.words.specs.declared.Plan.the-variants.{Refuse, Quit, Pass, Enter, Tally, LinkFirst, LinkAfter, Settle, SettleQueue, Mark, Notify, NotifyQueue}
+use Rattle.words.specs.declared.Plan.the-variants.{Refuse, Quit, Pass, Enter, Tally, LinkFirst, LinkAfter, Settle}
+use Rattle.words.specs.declared.Plan.the-variants.{SettleQueue, Mark, Notify, NotifyQueue}
 use Rattle.words.specs.declared.GetPlan.the-variants.{RefuseGet, Wait, Take}
 use Rattle.fitting.specs.Fitting.{Fitting, FittingGet}
 
@@ -46,7 +52,8 @@ limits a b c d e h =
     let k = and-left (a && b && c) d (and-left (a && b && c && d) e h) in
     (and-right a b (and-left (a && b) c k), and-right (a && b) c k)
 
-counts : (a b c d e f g h i : Bool) → (a && b && c && d && e && f && g && h && i) ≡ true → (c ≡ true) × (f ≡ true) × (g ≡ true)
+counts : (a b c d e f g h i : Bool) → (a && b && c && d && e && f && g && h && i) ≡ true
+    → (c ≡ true) × (f ≡ true) × (g ≡ true)
 counts a b c d e f g h i k =
     let m = and-left (a && b && c && d && e && f && g) h (and-left (a && b && c && d && e && f && g && h) i k) in
     let n = and-left (a && b && c && d && e && f) g m in
@@ -57,7 +64,8 @@ counts a b c d e f g h i k =
 pub few : (s : Sizes) → withinLimits s ≡ true → (s .jobs ≤ mostJobs) × (s .arcs ≤ mostArcs)
 unfolding withinLimits
 few s e =
-    let h = limits (leb 1 (s .jobs)) (leb (s .jobs) mostJobs) (leb (s .arcs) mostArcs) (leb 1 (s .bits) && leb (s .bits) mostBits)
+    let h = limits (leb 1 (s .jobs)) (leb (s .jobs) mostJobs) (leb (s .arcs) mostArcs)
+    (leb 1 (s .bits) && leb (s .bits) mostBits)
     (leb 1 (s .workers) && leb (s .workers) mostWorkers) e in
     (leb-true (s .jobs) mostJobs (h .0), leb-true (s .arcs) mostArcs (h .1))
 
@@ -65,11 +73,14 @@ fit-within : (s : Sizes) (t : Tables) → sizesFit s t ≡ true → withinLimits
 fit-within s t e = and-left (withinLimits s) (longEnough s t) (and-left (roomFor s t) (sizesKept s (t .jobs)) e)
 
 -- ---- and so are the counts of sound own words
-own-small : (s : Sizes) (v : View) (w : ℕ) → ownOk s v w ≡ true → (v .worker PLACE w < none) × (v .worker TALLY w < none)
+own-small : (s : Sizes) (v : View) (w : ℕ) → ownOk s v w ≡ true
+    → (v .worker PLACE w < none) × (v .worker TALLY w < none)
 unfolding ownOk
 own-small s v w e =
-    let h = counts (leb (v .worker PHASE w) NOTIFYING) (placeOk (v .worker HELD w) (v .made) (s .jobs)) (leb (v .worker LIST-COUNT w) mostNames)
-    (leb (v .worker OWN-CLASS w) mostClass) (leb (v .worker OWN-GROWER w) mostGrower) (leb (v .worker TALLY w) (v .worker LIST-COUNT w))
+    let h = counts (leb (v .worker PHASE w) NOTIFYING) (placeOk (v .worker HELD w) (v .made) (s .jobs))
+    (leb (v .worker LIST-COUNT w) mostNames)
+    (leb (v .worker OWN-CLASS w) mostClass) (leb (v .worker OWN-GROWER w) mostGrower)
+    (leb (v .worker TALLY w) (v .worker LIST-COUNT w))
     (leb (v .worker PLACE w) (v .worker LIST-COUNT w)) (placeOk (v .worker OWN-JOB w) (v .made) (s .jobs))
     (placeOk (v .worker OWN-ARC w) (v .reserved) (s .arcs)) e in
     let a = leb-true (v .worker LIST-COUNT w) mostNames (h .0) in
@@ -78,7 +89,8 @@ own-small s v w e =
     (omega arith, omega arith)
 
 -- ---- a step's plans
-module _ (s : Sizes) (v : View) (w : ℕ) (jobs : s .jobs ≤ mostJobs) (arcs : s .arcs ≤ mostArcs) (place : v .worker PLACE w < none) (tally : v .worker TALLY w < none) where
+module _ (s : Sizes) (v : View) (w : ℕ) (jobs : s .jobs ≤ mostJobs) (arcs : s .arcs ≤ mostArcs)
+    (place : v .worker PLACE w < none) (tally : v .worker TALLY w < none) where
   abbrev Fine : Plan → Type 0
   Fine p = Fitting p v w
 
@@ -173,7 +185,8 @@ module _ (s : Sizes) (v : View) (w : ℕ) (jobs : s .jobs ≤ mostJobs) (arcs : 
   unfolding withCell
   cell plan f =
       choice Fine (leb (v .taken) (v .put) && ltb (v .put) (s .jobs)) _ _
-      (λ h. let a = ltb-true (v .put) (s .jobs) (and-right (leb (v .taken) (v .put)) (ltb (v .put) (s .jobs)) h) in f (v .put) (omega arith))
+      (λ h. let a = ltb-true (v .put) (s .jobs) (and-right (leb (v .taken) (v .put)) (ltb (v .put) (s .jobs)) h) in
+      f (v .put) (omega arith))
       (λ _. refuse _)
 
   settle : (j t d : ℕ) → Fine (planSettle s v j t d)
@@ -226,11 +239,13 @@ module _ (s : Sizes) (v : View) (w : ℕ) (jobs : s .jobs ≤ mostJobs) (arcs : 
       (λ _. refuse _))
 
 -- what is admitted, and what refuses it, is fine: so is the answer to both
-let-in : {A : Type 0} (P : A → Type 0) (s : Sizes) (t : Tables) (w : ℕ) (refused : ℕ → A) (x : A) → ((n : ℕ) → P (refused n)) → (sizesFit s t ≡ true → ownOk s (view t) w ≡ true → P x) → P (admitted s t w refused x)
+let-in : {A : Type 0} (P : A → Type 0) (s : Sizes) (t : Tables) (w : ℕ) (refused : ℕ → A) (x : A)
+    → ((n : ℕ) → P (refused n)) → (sizesFit s t ≡ true → ownOk s (view t) w ≡ true → P x) → P (admitted s t w refused x)
 unfolding admitted
 let-in P s t w refused x f g =
     choice P (sizesFit s t) _ _
-    (λ fit. choice P (ltb w (s .workers)) _ _ (λ _. choice P (ownOk s (view t) w) _ _ (λ own. g fit own) (λ _. f _)) (λ _. f _))
+    (λ fit. choice P (ltb w (s .workers)) _ _ (λ _. choice P (ownOk s (view t) w) _ _ (λ own. g fit own) (λ _. f _))
+    (λ _. f _))
     (λ _. f _)
 
 pub planStep-fits : (s : Sizes) (t : Tables) (w : ℕ) → Fitting (planStep s t w) (view t) w
@@ -266,7 +281,8 @@ queue-fits s v jobs =
     let ordered = and-right (countersOk s v) (leb (v .taken) (v .put)) (and-left start (leb (v .put) (s .jobs)) h) in
     let a = leb-true (v .taken) (v .put) ordered in
     let b = leb-true (v .put) (s .jobs) (and-right start (leb (v .put) (s .jobs)) h) in
-    choice FittingGet (eqb (v .taken) (v .put)) _ _ (λ _. waits) (λ _. take-fits s v (v .cell 0 (v .taken)) (omega arith)))
+    choice FittingGet (eqb (v .taken) (v .put)) _ _ (λ _. waits)
+    (λ _. take-fits s v (v .cell 0 (v .taken)) (omega arith)))
     (λ _. refuse-get _)
 
 get-fits : (s : Sizes) (v : View) (w : ℕ) → s .jobs ≤ mostJobs → FittingGet (planGet s v w)
@@ -278,4 +294,5 @@ get-fits s v w jobs =
 
 pub planGet-fits : (s : Sizes) (t : Tables) (w : ℕ) → FittingGet (planGetOf s t w)
 planGet-fits s t w =
-    let-in FittingGet s t w RefuseGet (planGet s (view t) w) refuse-get (λ fit _. get-fits s (view t) w (few s (fit-within s t fit) .0))
+    let-in FittingGet s t w RefuseGet (planGet s (view t) w) refuse-get
+    (λ fit _. get-fits s (view t) w (few s (fit-within s t fit) .0))

@@ -1,9 +1,11 @@
--- The plans whose stores are words: every counter that a plan raises stays at most the largest word. Follows document 01, "Tables and their measures";
+-- The plans whose stores are words: every counter that a plan raises stays at most the largest word. Follows document
+-- 01, "Tables and their measures";
 -- specs/Fits shows that every plan of a step and of a get is one. Assumes nothing.
 use Prim.Native.Nat.{ℕ, _+_, _<_, _≤_}
 use Rattle.words.specs.Layout.{none, PLACE, TALLY, LIST-COUNT, View}
 use Rattle.words.specs.declared.Plan.{Plan}
-use Rattle.words.specs.declared.Plan.the-variants.{Refuse, Quit, Pass, Enter, Tally, LinkFirst, LinkAfter, Settle, SettleQueue, Mark, Notify, NotifyQueue}
+use Rattle.words.specs.declared.Plan.the-variants.{Refuse, Quit, Pass, Enter, Tally, LinkFirst, LinkAfter, Settle}
+use Rattle.words.specs.declared.Plan.the-variants.{SettleQueue, Mark, Notify, NotifyQueue}
 use Rattle.words.specs.declared.GetPlan.{GetPlan}
 use Rattle.words.specs.declared.GetPlan.the-variants.{RefuseGet, Wait, Take}
 

@@ -29,7 +29,12 @@ use words::Plan;
 
 // The entered job's words, and the count of jobs made.
 fn enter_job(jobs: &mut [u32], workers: &[u32], worker: u32, job: u32, head: u32)
-    ensures { λ _. ⌜ (job < none → now (jobs .exit) ≡ putHeader (sets (now (jobs .entry)) (place jobShape job 0) (columns workerShape (now (workers .entry)) OWN-NAME worker ∷ 0 ∷ columns workerShape (now (workers .entry)) LIST-COUNT worker ∷ columns workerShape (now (workers .entry)) OWN-CLASS worker ∷ columns workerShape (now (workers .entry)) OWN-GROWER worker ∷ none ∷ none ∷ head ∷ [])) MADE (job + 1)) ⌝ }
+    ensures { λ _. ⌜ (job < none → now (jobs .exit)
+        ≡ putHeader (sets (now (jobs .entry)) (place jobShape job 0)
+        (columns workerShape (now (workers .entry)) OWN-NAME worker ∷ 0
+        ∷ columns workerShape (now (workers .entry)) LIST-COUNT worker
+        ∷ columns workerShape (now (workers .entry)) OWN-CLASS worker
+        ∷ columns workerShape (now (workers .entry)) OWN-GROWER worker ∷ none ∷ none ∷ head ∷ [])) MADE (job + 1)) ⌝ }
 {
     let name = worker_word(workers, worker, OWN_NAME);
     let count = worker_word(workers, worker, LIST_COUNT);
@@ -41,7 +46,9 @@ fn enter_job(jobs: &mut [u32], workers: &[u32], worker: u32, job: u32, head: u32
 
 // The arcs that the add reserves.
 fn reserve(arcs: &mut [u32], workers: &[u32], worker: u32, arc: u32)
-    ensures { λ _. ⌜ (arc + columns workerShape (now (workers .entry)) LIST-COUNT worker ≤ none → now (arcs .exit) ≡ putHeader (now (arcs .entry)) RESERVED (arc + columns workerShape (now (workers .entry)) LIST-COUNT worker)) ⌝ }
+    ensures { λ _. ⌜ (arc + columns workerShape (now (workers .entry)) LIST-COUNT worker ≤ none
+        → now (arcs .exit) ≡ putHeader (now (arcs .entry)) RESERVED
+        (arc + columns workerShape (now (workers .entry)) LIST-COUNT worker)) ⌝ }
 {
     put_header(
         arcs,

@@ -1,10 +1,11 @@
 // The stores of a plan, by its kind. Follows document 01, "Steps" and "Tables and their measures". Nothing is required
-// of a table, a worker or a plan; where a counter would pass the largest word, which no plan of sound sizes asks, nothing
+// of a table, a worker or a plan; where a counter would pass the largest word, which no plan of sound sizes asks,
+// nothing
 // is promised.
 ghost use mathlib.Core.Path.{_≡_};
 ghost use mathlib.Core.List.{List};
 ghost use Prim.Native.Nat.{ℕ};
-ghost use Rattle.words.specs.Layout.{tables, lent, view};
+ghost use Rattle.words.specs.Layout.{tables, atEntry, atExit, view};
 ghost use Rattle.words.specs.Words.{applied, appliedGet};
 ghost use Rattle.fitting.specs.Fitting.{Fitting, FittingGet};
 ghost use Rattle.fitting.specs.Kinds.{Own, Stored};
@@ -46,9 +47,9 @@ pub fn apply(
     plan: Plan,
 )
     ensures { λ _. ⌜ (Fitting plan
-        (view (lent (jobs .entry) (arcs .entry) (buckets .entry) (queue .entry) (workers .entry))) worker →
-        lent (jobs .exit) (arcs .exit) (buckets .exit) (queue .exit) (workers .exit)
-        ≡ applied plan (lent (jobs .entry) (arcs .entry) (buckets .entry) (queue .entry) (workers .entry)) worker) ⌝ }
+        (view (atEntry jobs arcs buckets queue workers)) worker →
+        atExit jobs arcs buckets queue workers
+        ≡ applied plan (atEntry jobs arcs buckets queue workers) worker) ⌝ }
 {
     match plan {
         Plan::Refuse { .. } => {}
@@ -94,7 +95,8 @@ pub fn apply_get(
     ensures { λ _. ⌜ (FittingGet plan →
         (arcs buckets : List ℕ) →
         tables (now (jobs .exit)) arcs buckets (now (queue .exit)) (now (workers .exit))
-        ≡ appliedGet plan (tables (now (jobs .entry)) arcs buckets (now (queue .entry)) (now (workers .entry))) worker) ⌝ }
+        ≡ appliedGet plan (tables (now (jobs .entry)) arcs buckets (now (queue .entry)) (now (workers .entry)))
+        worker) ⌝ }
 {
     match plan {
         GetPlan::RefuseGet { .. } => {}

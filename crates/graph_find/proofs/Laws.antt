@@ -1,4 +1,5 @@
--- The walk along a bucket, one job at a time, for a number of jobs that is known only to be above 0 or not. Assumes nothing.
+-- The walk along a bucket, one job at a time, for a number of jobs that is known only to be above 0 or not. Assumes
+-- nothing.
 use mathlib.Core.Path.{_≡_}
 use Prim.Native.Nat.{ℕ, zero, suc, _≤_, _<_, _-_}
 use native.Mathlib.Omega.{arith}

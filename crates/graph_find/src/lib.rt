@@ -1,5 +1,6 @@
 // The job of a name: the walk along the name's bucket.
-// Follows document 01, "Tables and their measures" and, for number 9, "Turned-away calls". Nothing is required of a table: the walk
+// Follows document 01, "Tables and their measures" and, for number 9, "Turned-away calls". Nothing is required of a
+// table: the walk
 // passes at most as many jobs as were made, and says where it met a damaged word.
 ghost use mathlib.Core.Path.{_≡_};
 ghost use mathlib.Core.List.{List};
@@ -45,7 +46,8 @@ fn walk_from(jobs: &[u32], made: u32, name: u32, newest: u32) -> Found
 
 // The arcs, the queue and the workers are not read: it holds with any.
 pub fn find(sizes: Sizes, jobs: &[u32], buckets: &[u32], name: u32) -> Found
-    ensures { λ r. ⌜ ((arcs queue workers : List ℕ) → r ≡ findOf sizes (view (tables (now (jobs .entry)) arcs (now (buckets .entry)) queue workers)) name) ⌝ }
+    ensures { λ r. ⌜ ((arcs queue workers : List ℕ)
+        → r ≡ findOf sizes (view (tables (now (jobs .entry)) arcs (now (buckets .entry)) queue workers)) name) ⌝ }
 {
     let made = header(jobs, MADE);
     let newest = bucket_word(buckets, bucket(name, sizes.bits));

@@ -4,7 +4,8 @@ ghost use mathlib.Core.Path.{_≡_};
 ghost use Prim.Native.Nat.{_+_, _*_, _^_, _≤_};
 ghost use lib.Seq.{sets};
 ghost use Rattle.words.specs.Columns.{place};
-ghost use Rattle.words.specs.Layout.{none, jobShape, workerShape, IDLE, bareWorker, repeated, freshJob, freshJobs, freshArcs, freshBuckets, freshQueue, freshTables, lent};
+ghost use Rattle.words.specs.Layout.{none, jobShape, workerShape, IDLE, bareWorker, repeated, freshJob, freshJobs};
+ghost use Rattle.words.specs.Layout.{freshArcs, freshBuckets, freshQueue, freshTables, atEntry, atExit};
 use graph_records::fill;
 use graph_records::put_bare_worker;
 use graph_records::put_job_record;
@@ -26,7 +27,8 @@ fn fresh_job_records(jobs: &mut [u32], count: u32)
 
 // The records of the workers.
 fn fresh_workers(workers: &mut [u32], count: u32)
-    ensures { λ _. ⌜ now (workers .exit) ≡ sets (now (workers .entry)) (place workerShape 0 0) (repeated count (bareWorker IDLE none)) ⌝ }
+    ensures { λ _. ⌜ now (workers .exit)
+        ≡ sets (now (workers .entry)) (place workerShape 0 0) (repeated count (bareWorker IDLE none)) ⌝ }
 {
     let mut i = 0;
     while i < count {
@@ -89,7 +91,8 @@ pub fn fresh_tables(
     queue: &mut [u32],
     workers: &mut [u32],
 )
-    ensures { λ _. ⌜ (sizes .bits ≤ 8 → lent (jobs .exit) (arcs .exit) (buckets .exit) (queue .exit) (workers .exit) ≡ freshTables sizes (lent (jobs .entry) (arcs .entry) (buckets .entry) (queue .entry) (workers .entry))) ⌝ }
+    ensures { λ _. ⌜ (sizes .bits ≤ 8
+        → atExit jobs arcs buckets queue workers ≡ freshTables sizes (atEntry jobs arcs buckets queue workers)) ⌝ }
 {
     fresh_jobs(sizes, jobs);
     fresh_arcs(sizes, arcs);

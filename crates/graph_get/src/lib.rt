@@ -2,7 +2,7 @@
 // Follows document 01, "Steps" and "Turned-away calls". Nothing is required: a get answers for all tables.
 ghost use mathlib.Core.Path.{_≡_};
 ghost use Rattle.terms.specs.Runs.{outcome};
-ghost use Rattle.words.specs.Layout.{lent};
+ghost use Rattle.words.specs.Layout.{atEntry, atExit};
 ghost use Rattle.words.specs.Words.{answerGet, getWords};
 use graph_apply::apply_get;
 use graph_plan::plan_get;
@@ -31,7 +31,8 @@ pub fn get(
     workers: &mut [u32],
     worker: u32,
 ) -> Answer
-    ensures { λ r. ⌜ outcome r (lent (jobs .exit) (arcs .exit) (buckets .exit) (queue .exit) (workers .exit)) ≡ getWords sizes (lent (jobs .entry) (arcs .entry) (buckets .entry) (queue .entry) (workers .entry)) worker ⌝ }
+    ensures { λ r. ⌜ outcome r (atExit jobs arcs buckets queue workers)
+        ≡ getWords sizes (atEntry jobs arcs buckets queue workers) worker ⌝ }
 {
     let plan = plan_get(sizes, jobs, arcs, buckets, queue, workers, worker);
     apply_get(jobs, queue, workers, worker, plan);

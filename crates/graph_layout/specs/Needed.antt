@@ -1,4 +1,5 @@
--- How long the five tables must be for given sizes, so that a host can lend them, and that tables so long are long enough. Follows document 01,
+-- How long the five tables must be for given sizes, so that a host can lend them, and that tables so long are long
+-- enough. Follows document 01,
 -- "Tables and their measures": the counters and the records of each. Assumes nothing.
 use mathlib.Core.Path.{_≡_, refl}
 use mathlib.Core.Bool.{Bool, true, false}
@@ -32,7 +33,8 @@ wordsNeeded s =
 -- tables of the lengths that the answer names
 unfoldable pub AsLong : Need → Tables → Type 0
 AsLong n t =
-    (n .jobs ≤ length (t .jobs)) × (n .arcs ≤ length (t .arcs)) × (n .buckets ≤ length (t .buckets)) × (n .queue ≤ length (t .queue))
+    (n .jobs ≤ length (t .jobs)) × (n .arcs ≤ length (t .arcs)) × (n .buckets ≤ length (t .buckets))
+    × (n .queue ≤ length (t .queue))
     × (n .workers ≤ length (t .workers))
 
 -- such tables have room for the sizes

@@ -3,7 +3,7 @@
 // Nothing is required: both answer for all sizes and tables.
 ghost use mathlib.Core.Path.{_≡_};
 ghost use Rattle.terms.specs.Runs.{outcome};
-ghost use Rattle.words.specs.Layout.{lent};
+ghost use Rattle.words.specs.Layout.{atEntry, atExit};
 ghost use Rattle.words.specs.Words.{layOut};
 ghost use Rattle.graph_layout.specs.Needed.{wordsNeeded};
 use graph_fresh::buckets_of;
@@ -61,7 +61,8 @@ pub fn lay_out(
     queue: &mut [u32],
     workers: &mut [u32],
 ) -> Answer
-    ensures { λ r. ⌜ outcome r (lent (jobs .exit) (arcs .exit) (buckets .exit) (queue .exit) (workers .exit)) ≡ layOut sizes (lent (jobs .entry) (arcs .entry) (buckets .entry) (queue .entry) (workers .entry)) ⌝ }
+    ensures { λ r. ⌜ outcome r (atExit jobs arcs buckets queue workers)
+        ≡ layOut sizes (atEntry jobs arcs buckets queue workers) ⌝ }
 {
     let room = room_for(sizes, jobs, arcs, buckets, queue, workers);
     if room {

@@ -1,4 +1,5 @@
-// The stores of the lists that run through the tables: a job's list of arcs, and the queue. Follows document 01, "Steps"
+// The stores of the lists that run through the tables: a job's list of arcs, and the queue. Follows document 01,
+// "Steps"
 // and "Tables and their measures". Assumes nothing.
 ghost use mathlib.Core.Path.{_≡_};
 ghost use Prim.Native.Nat.{_+_, _<_};
@@ -46,7 +47,8 @@ pub fn queue_job(queue: &mut [u32], cell: u32, job: u32)
 
 // The head of the queue, taken.
 pub fn take_job(queue: &mut [u32], cell: u32)
-    ensures { λ _. ⌜ (cell < none → now (queue .exit) ≡ putHeader (put queueShape (now (queue .entry)) cell 0 none) TAKEN (cell + 1)) ⌝ }
+    ensures { λ _. ⌜ (cell < none
+        → now (queue .exit) ≡ putHeader (put queueShape (now (queue .entry)) cell 0 none) TAKEN (cell + 1)) ⌝ }
 {
     put_cell(queue, cell, NONE);
     put_header(queue, TAKEN, sum(cell, 1));

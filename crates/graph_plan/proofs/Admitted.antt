@@ -1,4 +1,5 @@
--- The tests that come first, for a worker that is known: the code looks at its own words only within the table, where they always are.
+-- The tests that come first, for a worker that is known: the code looks at its own words only within the table, where
+-- they always are.
 -- Assumes nothing.
 use mathlib.Core.Path.{_≡_, refl, sym, _∙_}
 use mathlib.Core.Bool.{Bool, true, false, _&&_}
@@ -11,7 +12,8 @@ use Rattle.terms.specs.Base.{pick}
 use Rattle.terms.specs.Terms.{damaged, withinLimits}
 use Rattle.terms.specs.declared.Sizes.{Sizes}
 use Rattle.words.specs.Columns.{place}
-use Rattle.words.specs.Layout.{jobShape, arcShape, bucketShape, queueShape, workerShape, NAMES, need, longEnough, sizesKept, Tables, view, sizesFit}
+use Rattle.words.specs.Layout.{jobShape, arcShape, bucketShape, queueShape, workerShape, NAMES, need, longEnough}
+use Rattle.words.specs.Layout.{sizesKept, Tables, view, sizesFit}
 use Rattle.words.specs.Words.{ownOk, admitted}
 
 and-left : (a b : Bool) → (a && b) ≡ true → a ≡ true
@@ -27,7 +29,8 @@ own-within : (s : Sizes) (t : Tables) (w : ℕ) → sizesFit s t ≡ true → lt
     → leb (place workerShape w NAMES) (length (t .workers)) ≡ true
 unfolding longEnough
 own-within s t w fit known =
-    let room = and-right (withinLimits s) (longEnough s t) (and-left (withinLimits s && longEnough s t) (sizesKept s (t .jobs)) fit) in
+    let room = and-right (withinLimits s) (longEnough s t)
+    (and-left (withinLimits s && longEnough s t) (sizesKept s (t .jobs)) fit) in
     let rest =
     leb (need jobShape (s .jobs)) (length (t .jobs)) && leb (need arcShape (s .arcs)) (length (t .arcs))
     && leb (need bucketShape (2 ^ s .bits)) (length (t .buckets))
@@ -49,5 +52,6 @@ pub admits-known : (s : Sizes) (t : Tables) (w : ℕ) (fit r : Bool)
 unfolding admitted
 admits-known s t w fit r f e taken known refuse plan =
     let fits = sym f ∙ taken in
-    let own = and-known r (leb (place workerShape w NAMES) (length (t .workers))) (ownOk s (view t) w) e (own-within s t w fits known) in
+    let own = and-known r (leb (place workerShape w NAMES) (length (t .workers))) (ownOk s (view t) w) e
+    (own-within s t w fits known) in
     rw (fits, known, own)

@@ -40,7 +40,8 @@ module _ (count : ℕ) (names : List ℕ) (i : ℕ) where
   unfolding contains
   found name h e = rw (next h, eq-eqb name (getD names i 0) (sym e))
 
-  pub passed : (name : ℕ) → i < count → (getD names i 0 ≡ name → ⊥) → contains name (drop (i + 1) (prefix count names)) ≡ contains name (drop i (prefix count names))
+  pub passed : (name : ℕ) → i < count → (getD names i 0 ≡ name → ⊥)
+      → contains name (drop (i + 1) (prefix count names)) ≡ contains name (drop i (prefix count names))
   unfolding contains
   passed name h e = rw (next h, ne-eqb name (getD names i 0) (λ q. e (sym q)))
 
@@ -48,11 +49,13 @@ module _ (count : ℕ) (names : List ℕ) (i : ℕ) where
   unfolding contains
   not-found name h k = rw (none-left h k)
 
-  pub again : i < count → contains (getD names i 0) (drop (i + 1) (prefix count names)) ≡ true → true ≡ repeats (drop i (prefix count names))
+  pub again : i < count → contains (getD names i 0) (drop (i + 1) (prefix count names)) ≡ true
+      → true ≡ repeats (drop i (prefix count names))
   unfolding repeats
   again h e = rw (next h, e)
 
-  pub once : i < count → contains (getD names i 0) (drop (i + 1) (prefix count names)) ≡ false → repeats (drop (i + 1) (prefix count names)) ≡ repeats (drop i (prefix count names))
+  pub once : i < count → contains (getD names i 0) (drop (i + 1) (prefix count names)) ≡ false
+      → repeats (drop (i + 1) (prefix count names)) ≡ repeats (drop i (prefix count names))
   unfolding repeats
   once h e = rw (next h, e)
 

@@ -41,7 +41,8 @@ fn any_repeats(names: &[u32; 32], count: usize) -> bool
 }
 
 pub fn arguments_wrong(name: u32, names: [u32; 32], count: u32, class: u32, grower: u32) -> bool
-    ensures { λ r. ⌜ r ≡ argumentsWrong (record { name = name; count = count; names = names; class = class; grower = grower }) ⌝ }
+    ensures { λ r. ⌜ r ≡ argumentsWrong
+        (record { name = name; count = count; names = names; class = class; grower = grower }) ⌝ }
 {
     let over = (MOST_CLASS < class) | (MOST_GROWER < grower) | (MOST_NAMES < count);
     if over {

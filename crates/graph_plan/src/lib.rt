@@ -1,5 +1,6 @@
 // What a call is to do with the tables: it reads and judges, and stores nothing.
-// Follows document 01, "Steps" and "Turned-away calls". Assumes nothing: each definition holds of all tables and arguments.
+// Follows document 01, "Steps" and "Turned-away calls". Assumes nothing: each definition holds of all tables and
+// arguments.
 ghost use mathlib.Core.Path.{_≡_};
 ghost use mathlib.Core.List.{List};
 ghost use Prim.Native.Nat.{ℕ};
@@ -7,8 +8,9 @@ ghost use lib.Dec.{eqb};
 ghost use Rattle.terms.specs.Base.{pick};
 ghost use Rattle.terms.specs.Terms.{argumentsWrong, halfDone, wrongArguments, damaged, notHeld};
 ghost use Rattle.words.specs.Columns.{columns};
-ghost use Rattle.words.specs.Layout.{workerShape, PHASE, IDLE, tables, lent, view};
-ghost use Rattle.words.specs.Words.{planPhase, admitted, refusal, planStep, planQueue, planGet, planGetOf, judgedAdd, holdsName, judgedFinish};
+ghost use Rattle.words.specs.Layout.{workerShape, PHASE, IDLE, tables, atEntry, view};
+ghost use Rattle.words.specs.Words.{planPhase, admitted, refusal, planStep, planQueue, planGet, planGetOf, judgedAdd};
+ghost use Rattle.words.specs.Words.{holdsName, judgedFinish};
 
 pub mod arguments;
 
@@ -40,7 +42,7 @@ fn plan_phase(
     workers: &[u32],
     worker: u32,
 ) -> Plan
-    ensures { λ r. ⌜ r ≡ planPhase sizes (view (lent (jobs .entry) (arcs .entry) (buckets .entry) (queue .entry) (workers .entry))) worker ⌝ }
+    ensures { λ r. ⌜ r ≡ planPhase sizes (view (atEntry jobs arcs buckets queue workers)) worker ⌝ }
 {
     let phase = worker_word(workers, worker, PHASE);
     let idle = phase == IDLE;
@@ -75,7 +77,8 @@ fn plan_phase(
     }
 }
 
-// The tests that come first are written out in each call, as in its definition, and not a function of their own: where their outcome is
+// The tests that come first are written out in each call, as in its definition, and not a function of their own: where
+// their outcome is
 // known, the compiler sees that what the call reads and stores lies within the tables (docs/SPEED.md).
 pub fn plan_step(
     sizes: Sizes,
@@ -86,7 +89,7 @@ pub fn plan_step(
     workers: &[u32],
     worker: u32,
 ) -> Plan
-    ensures { λ r. ⌜ r ≡ planStep sizes (lent (jobs .entry) (arcs .entry) (buckets .entry) (queue .entry) (workers .entry)) worker ⌝ }
+    ensures { λ r. ⌜ r ≡ planStep sizes (atEntry jobs arcs buckets queue workers) worker ⌝ }
 {
     let fit = sizes_fit(sizes, jobs, arcs, buckets, queue, workers);
     if fit {
@@ -112,7 +115,9 @@ pub fn plan_step(
 
 // The job's label is read only where its number is that of a job.
 fn plan_queue(sizes: Sizes, jobs: &[u32], arcs: &[u32], queue: &[u32]) -> GetPlan
-    ensures { λ r. ⌜ ((buckets workers : List ℕ) → r ≡ planQueue sizes (view (tables (now (jobs .entry)) (now (arcs .entry)) buckets (now (queue .entry)) workers))) ⌝ }
+    ensures { λ r. ⌜ ((buckets workers : List ℕ)
+        → r ≡ planQueue sizes (view (tables (now (jobs .entry)) (now (arcs .entry)) buckets
+        (now (queue .entry)) workers))) ⌝ }
 {
     let taken = header(queue, TAKEN);
     let put = header(queue, PUT);
@@ -149,7 +154,9 @@ fn plan_admitted_get(
     workers: &[u32],
     worker: u32,
 ) -> GetPlan
-    ensures { λ r. ⌜ ((buckets : List ℕ) → r ≡ planGet sizes (view (tables (now (jobs .entry)) (now (arcs .entry)) buckets (now (queue .entry)) (now (workers .entry)))) worker) ⌝ }
+    ensures { λ r. ⌜ ((buckets : List ℕ)
+        → r ≡ planGet sizes (view (tables (now (jobs .entry)) (now (arcs .entry)) buckets (now (queue .entry))
+        (now (workers .entry)))) worker) ⌝ }
 {
     let idle = worker_word(workers, worker, PHASE) == IDLE;
     if idle {
@@ -175,7 +182,7 @@ pub fn plan_get(
     workers: &[u32],
     worker: u32,
 ) -> GetPlan
-    ensures { λ r. ⌜ r ≡ planGetOf sizes (lent (jobs .entry) (arcs .entry) (buckets .entry) (queue .entry) (workers .entry)) worker ⌝ }
+    ensures { λ r. ⌜ r ≡ planGetOf sizes (atEntry jobs arcs buckets queue workers) worker ⌝ }
 {
     let fit = sizes_fit(sizes, jobs, arcs, buckets, queue, workers);
     if fit {
@@ -210,7 +217,9 @@ fn judge_admitted_add(
     class: u32,
     grower: u32,
 ) -> u32
-    ensures { λ r. ⌜ r ≡ pick (eqb (columns workerShape (now (workers .entry)) PHASE worker) IDLE) (pick (argumentsWrong (record { name = name; count = count; names = names; class = class; grower = grower })) wrongArguments (pick counted 0 damaged)) halfDone ⌝ }
+    ensures { λ r. ⌜ r ≡ pick (eqb (columns workerShape (now (workers .entry)) PHASE worker) IDLE)
+        (pick (argumentsWrong (record { name = name; count = count; names = names; class = class; grower = grower }))
+        wrongArguments (pick counted 0 damaged)) halfDone ⌝ }
 {
     let idle = worker_word(workers, worker, PHASE) == IDLE;
     if idle {
@@ -242,7 +251,9 @@ pub fn judge_add(
     class: u32,
     grower: u32,
 ) -> u32
-    ensures { λ r. ⌜ r ≡ admitted sizes (lent (jobs .entry) (arcs .entry) (buckets .entry) (queue .entry) (workers .entry)) worker refusal (judgedAdd sizes (view (lent (jobs .entry) (arcs .entry) (buckets .entry) (queue .entry) (workers .entry))) worker (record { name = name; count = count; names = names; class = class; grower = grower })) ⌝ }
+    ensures { λ r. ⌜ r ≡ admitted sizes (atEntry jobs arcs buckets queue workers) worker refusal
+        (judgedAdd sizes (view (atEntry jobs arcs buckets queue workers)) worker
+        (record { name = name; count = count; names = names; class = class; grower = grower })) ⌝ }
 {
     let fit = sizes_fit(sizes, jobs, arcs, buckets, queue, workers);
     if fit {
@@ -271,7 +282,10 @@ fn judge_admitted_finish(
     counted: bool,
     name: u32,
 ) -> u32
-    ensures { λ r. ⌜ ((arcs buckets queue : List ℕ) → r ≡ pick (eqb (columns workerShape (now (workers .entry)) PHASE worker) IDLE) (pick (holdsName (view (tables (now (jobs .entry)) arcs buckets queue (now (workers .entry)))) worker name) (pick counted 0 damaged) notHeld) halfDone) ⌝ }
+    ensures { λ r. ⌜ ((arcs buckets queue : List ℕ)
+        → r ≡ pick (eqb (columns workerShape (now (workers .entry)) PHASE worker) IDLE)
+        (pick (holdsName (view (tables (now (jobs .entry)) arcs buckets queue (now (workers .entry)))) worker name)
+        (pick counted 0 damaged) notHeld) halfDone) ⌝ }
 {
     let idle = worker_word(workers, worker, PHASE) == IDLE;
     if idle {
@@ -302,7 +316,8 @@ pub fn judge_finish(
     worker: u32,
     name: u32,
 ) -> u32
-    ensures { λ r. ⌜ r ≡ admitted sizes (lent (jobs .entry) (arcs .entry) (buckets .entry) (queue .entry) (workers .entry)) worker refusal (judgedFinish sizes (view (lent (jobs .entry) (arcs .entry) (buckets .entry) (queue .entry) (workers .entry))) worker name) ⌝ }
+    ensures { λ r. ⌜ r ≡ admitted sizes (atEntry jobs arcs buckets queue workers) worker refusal
+        (judgedFinish sizes (view (atEntry jobs arcs buckets queue workers)) worker name) ⌝ }
 {
     let fit = sizes_fit(sizes, jobs, arcs, buckets, queue, workers);
     if fit {

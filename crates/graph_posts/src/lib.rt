@@ -3,7 +3,7 @@
 // Follows document 01, "Steps" and "Turned-away calls". Nothing is required: both answer for all tables and arguments.
 ghost use mathlib.Core.Path.{_≡_};
 ghost use Rattle.terms.specs.Runs.{outcome};
-ghost use Rattle.words.specs.Layout.{lent};
+ghost use Rattle.words.specs.Layout.{atEntry, atExit};
 ghost use Rattle.words.specs.Words.{addWords, finishWords};
 use graph_plan::judge_add;
 use graph_plan::judge_finish;
@@ -29,7 +29,9 @@ pub fn post_add(
     class: u32,
     grower: u32,
 ) -> Answer
-    ensures { λ r. ⌜ outcome r (lent (jobs .exit) (arcs .exit) (buckets .exit) (queue .exit) (workers .exit)) ≡ addWords sizes (lent (jobs .entry) (arcs .entry) (buckets .entry) (queue .entry) (workers .entry)) worker (record { name = name; count = count; names = names; class = class; grower = grower }) ⌝ }
+    ensures { λ r. ⌜ outcome r (atExit jobs arcs buckets queue workers)
+        ≡ addWords sizes (atEntry jobs arcs buckets queue workers) worker
+        (record { name = name; count = count; names = names; class = class; grower = grower }) ⌝ }
 {
     let number = judge_add(
         sizes,
@@ -65,7 +67,8 @@ pub fn post_finish(
     worker: u32,
     name: u32,
 ) -> Answer
-    ensures { λ r. ⌜ outcome r (lent (jobs .exit) (arcs .exit) (buckets .exit) (queue .exit) (workers .exit)) ≡ finishWords sizes (lent (jobs .entry) (arcs .entry) (buckets .entry) (queue .entry) (workers .entry)) worker name ⌝ }
+    ensures { λ r. ⌜ outcome r (atExit jobs arcs buckets queue workers)
+        ≡ finishWords sizes (atEntry jobs arcs buckets queue workers) worker name ⌝ }
 {
     let number = judge_finish(sizes, jobs, arcs, buckets, queue, workers, worker, name);
     if number == 0 {

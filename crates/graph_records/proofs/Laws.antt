@@ -17,7 +17,8 @@ sets-append l [] ws i k e = let z : k ≡ i = omega arith in rw z
 sets-append l (v ∷ vs) ws i k e = sets-append (set l i v) vs ws (suc i) k (omega arith)
 
 -- a store before a run
-pub put-sets : (s : Shape) (l : List ℕ) (i k v : ℕ) (vs : List ℕ) → sets (put s l i k v) (place s i (k + 1)) vs ≡ sets l (place s i k) (v ∷ vs)
+pub put-sets : (s : Shape) (l : List ℕ) (i k v : ℕ) (vs : List ℕ)
+    → sets (put s l i k v) (place s i (k + 1)) vs ≡ sets l (place s i k) (v ∷ vs)
 unfolding put
 put-sets s l i k v vs = let z : place s i (k + 1) ≡ suc (place s i k) = omega arith in rw z
 
@@ -35,13 +36,16 @@ pub sets-out : (vs l : List ℕ) (i : ℕ) → length l ≤ i → sets l i vs �
 sets-out [] l i h = refl
 sets-out (v ∷ vs) l i h = rw (set-out l i v h) (sets-out vs l (suc i) (omega arith))
 
-pub fill-clipped : (k n : ℕ) (l : List ℕ) (i v : ℕ) → k ≤ n → length l ≤ i + k → sets l i (replicate k v) ≡ sets l i (replicate n v)
+pub fill-clipped : (k n : ℕ) (l : List ℕ) (i v : ℕ) → k ≤ n → length l ≤ i + k
+    → sets l i (replicate k v) ≡ sets l i (replicate n v)
 fill-clipped zero n l i v a b = sym (sets-out (replicate n v) l i (omega arith))
 fill-clipped (suc k) zero l i v a b = absurd (omega arith)
-fill-clipped (suc k) (suc n) l i v a b = fill-clipped k n (set l i v) (suc i) v (omega arith) (rw (length-set l i v) (omega arith))
+fill-clipped (suc k) (suc n) l i v a b =
+    fill-clipped k n (set l i v) (suc i) v (omega arith) (rw (length-set l i v) (omega arith))
 
 -- ---- one word of a run that is left to store
-pub fill-one : (l : List ℕ) (i e v : ℕ) → i < e → sets (set l i v) (i + 1) (replicate (e - (i + 1)) v) ≡ sets l i (replicate (e - i) v)
+pub fill-one : (l : List ℕ) (i e v : ℕ) → i < e
+    → sets (set l i v) (i + 1) (replicate (e - (i + 1)) v) ≡ sets l i (replicate (e - i) v)
 fill-one l i e v h = let z : e - i ≡ suc (e - (i + 1)) = omega arith in rw (z, add-one i)
 
 pub fill-none : (l : List ℕ) (i e v : ℕ) → e ≤ i → l ≡ sets l i (replicate (e - i) v)
@@ -67,14 +71,23 @@ prefix-at (suc n) [] (suc i) h = prefix-at n [] i (omega arith)
 prefix-at (suc n) (x ∷ l) zero h = refl
 prefix-at (suc n) (x ∷ l) (suc i) h = prefix-at n l i (omega arith)
 
-pub names-one : (n d : ℕ) (names l : List ℕ) (at i : ℕ) → i < n → i < d → sets (set l (at + i) (getD names i 0)) (at + (i + 1)) (drop (i + 1) (prefix n (prefix d names))) ≡ sets l (at + i) (drop i (prefix n (prefix d names)))
+pub names-one : (n d : ℕ) (names l : List ℕ) (at i : ℕ) → i < n → i < d
+    → sets (set l (at + i) (getD names i 0)) (at + (i + 1)) (drop (i + 1) (prefix n (prefix d names)))
+    ≡ sets l (at + i) (drop i (prefix n (prefix d names)))
 names-one n d names l at i a b =
     let z : at + (i + 1) ≡ suc (at + i) = omega arith in
     let q : i < length (prefix n (prefix d names)) = rw (prefix-length n (prefix d names)) a in
-    rw (drop-cons (prefix n (prefix d names)) i 0 q, prefix-at n (prefix d names) i a, prefix-at d names i b, z, add-one i)
+    rw (
+      drop-cons (prefix n (prefix d names)) i 0 q,
+      prefix-at n (prefix d names) i a,
+      prefix-at d names i b,
+      z,
+      add-one i,
+    )
 
 -- after the last listed name there are only 0
-pub names-rest : (n d r : ℕ) (names : List ℕ) → r ≤ n → r ≤ d → (r < n → r ≡ d) → drop r (prefix n (prefix d names)) ≡ replicate (n - r) 0
+pub names-rest : (n d r : ℕ) (names : List ℕ) → r ≤ n → r ≤ d → (r < n → r ≡ d)
+    → drop r (prefix n (prefix d names)) ≡ replicate (n - r) 0
 unfolding prefix
 names-rest zero d zero names a b e = refl
 names-rest (suc n) zero zero names a b e = let z : suc n - 0 ≡ suc n = omega arith in rw z (prefix-none (suc n))
@@ -92,21 +105,28 @@ names-rest (suc n) (suc d) (suc r) (x ∷ l) a b e =
 set-before : (l vs : List ℕ) (i k v : ℕ) → i < k → set (sets l k vs) i v ≡ sets (set l i v) k vs
 set-before l [] i k v h = refl
 set-before l (w ∷ vs) i k v h =
-    set-before (set l k w) vs i (suc k) v (omega arith) ∙ ap (λ (m : List ℕ). sets m (suc k) vs) (set-comm l k i w v λ e. omega arith)
+    set-before (set l k w) vs i (suc k) v (omega arith)
+    ∙ ap (λ (m : List ℕ). sets m (suc k) vs) (set-comm l k i w v λ e. omega arith)
 
 set-in : (l vs : List ℕ) (i k v : ℕ) → k < length vs → set (sets l i vs) (i + k) v ≡ sets l i (set vs k v)
 set-in l [] i k v h = absurd (omega arith)
 set-in l (x ∷ vs) i zero v h =
     let z : i + 0 ≡ i = omega arith in
     rw (z, set-before (set l i x) vs i (suc i) v (omega arith), set-set l i x v)
-set-in l (x ∷ vs) i (suc k) v h = let z : i + suc k ≡ suc i + k = omega arith in rw z (set-in (set l i x) vs (suc i) k v (omega arith))
+set-in l (x ∷ vs) i (suc k) v h = let z : i + suc k ≡ suc i + k = omega arith in
+    rw z (set-in (set l i x) vs (suc i) k v (omega arith))
 
-put-in : (l vs : List ℕ) (w k v : ℕ) → k < length vs → put workerShape (sets l (place workerShape w 0) vs) w k v ≡ sets l (place workerShape w 0) (set vs k v)
+put-in : (l vs : List ℕ) (w k v : ℕ) → k < length vs
+    → put workerShape (sets l (place workerShape w 0) vs) w k v ≡ sets l (place workerShape w 0) (set vs k v)
 unfolding put
-put-in l vs w k v h = let z : place workerShape w k ≡ place workerShape w 0 + k = omega arith in rw z (set-in l vs (place workerShape w 0) k v h)
+put-in l vs w k v h = let z : place workerShape w k ≡ place workerShape w 0 + k = omega arith in
+    rw z (set-in l vs (place workerShape w 0) k v h)
 
 -- a worker's record of 0, and the words of it that are not
-pub bare-record : (l : List ℕ) (w p h : ℕ) → put workerShape (put workerShape (put workerShape (put workerShape (sets l (place workerShape w 0) (replicate 42 0)) w PHASE p) w HELD h) w OWN-JOB none) w OWN-ARC none ≡ sets l (place workerShape w 0) (bareWorker p h)
+pub bare-record : (l : List ℕ) (w p h : ℕ)
+    → put workerShape (put workerShape
+    (put workerShape (put workerShape (sets l (place workerShape w 0) (replicate 42 0)) w PHASE p) w HELD h) w OWN-JOB
+    none) w OWN-ARC none ≡ sets l (place workerShape w 0) (bareWorker p h)
 bare-record l w p h =
     rw (
       put-in l (replicate 42 0) w PHASE p (lit< tt),
@@ -116,7 +136,9 @@ bare-record l w p h =
     )
 
 -- ---- a worker's record in three runs
-pub worker-record : (l : List ℕ) (w : ℕ) (xs ys zs : List ℕ) → length xs ≡ 6 → length ys ≡ 4 → sets (sets (sets l (place workerShape w 0) xs) (place workerShape w 6) ys) (place workerShape w 10) zs ≡ sets l (place workerShape w 0) (xs ++ (ys ++ zs))
+pub worker-record : (l : List ℕ) (w : ℕ) (xs ys zs : List ℕ) → length xs ≡ 6 → length ys ≡ 4
+    → sets (sets (sets l (place workerShape w 0) xs) (place workerShape w 6) ys) (place workerShape w 10) zs
+    ≡ sets l (place workerShape w 0) (xs ++ (ys ++ zs))
 worker-record l w xs ys zs a b =
     sets-append (sets l (place workerShape w 0) xs) ys zs (place workerShape w 6) (place workerShape w 10) (omega arith)
     ∙ sets-append l xs (ys ++ zs) (place workerShape w 0) (place workerShape w 6) (omega arith)

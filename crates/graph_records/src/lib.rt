@@ -53,7 +53,9 @@ pub fn put_job_record(
     grower: u32,
     next: u32,
 )
-    ensures { λ _. ⌜ now (jobs .exit) ≡ sets (now (jobs .entry)) (place jobShape job 0) (name ∷ 0 ∷ count ∷ class ∷ grower ∷ none ∷ none ∷ next ∷ []) ⌝ }
+    ensures { λ _. ⌜ now (jobs .exit)
+        ≡ sets (now (jobs .entry)) (place jobShape job 0)
+        (name ∷ 0 ∷ count ∷ class ∷ grower ∷ none ∷ none ∷ next ∷ []) ⌝ }
 {
     put_job(jobs, job, NAME, name);
     put_job(jobs, job, LABEL, UNEXECUTED);
@@ -76,7 +78,9 @@ fn put_arguments(
     class: u32,
     grower: u32,
 )
-    ensures { λ _. ⌜ now (workers .exit) ≡ sets (now (workers .entry)) (place workerShape worker PHASE) (phase ∷ held ∷ name ∷ count ∷ class ∷ grower ∷ []) ⌝ }
+    ensures { λ _. ⌜ now (workers .exit)
+        ≡ sets (now (workers .entry)) (place workerShape worker PHASE)
+        (phase ∷ held ∷ name ∷ count ∷ class ∷ grower ∷ []) ⌝ }
 {
     put_worker(workers, worker, PHASE, phase);
     put_worker(workers, worker, HELD, held);
@@ -88,7 +92,8 @@ fn put_arguments(
 
 // A call at its beginning.
 fn put_start(workers: &mut [u32], worker: u32)
-    ensures { λ _. ⌜ now (workers .exit) ≡ sets (now (workers .entry)) (place workerShape worker TALLY) (0 ∷ 0 ∷ none ∷ none ∷ []) ⌝ }
+    ensures { λ _. ⌜ now (workers .exit)
+        ≡ sets (now (workers .entry)) (place workerShape worker TALLY) (0 ∷ 0 ∷ none ∷ none ∷ []) ⌝ }
 {
     put_worker(workers, worker, TALLY, 0);
     put_worker(workers, worker, PLACE, 0);
@@ -134,7 +139,8 @@ fn listed_of(count: u32) -> usize
 
 // The listed names, and 0 past them.
 fn put_names(workers: &mut [u32], worker: u32, names: [u32; 32], count: u32)
-    ensures { λ _. ⌜ now (workers .exit) ≡ sets (now (workers .entry)) (place workerShape worker NAMES) (prefix mostNames (prefix count names)) ⌝ }
+    ensures { λ _. ⌜ now (workers .exit)
+        ≡ sets (now (workers .entry)) (place workerShape worker NAMES) (prefix mostNames (prefix count names)) ⌝ }
 {
     let from = names_at(worker);
     let listed = listed_of(count);
@@ -157,7 +163,9 @@ pub fn put_adding_worker(
     class: u32,
     grower: u32,
 )
-    ensures { λ _. ⌜ now (workers .exit) ≡ putWorker (now (workers .entry)) worker (addingWorker held (record { name = name; count = count; names = names; class = class; grower = grower })) ⌝ }
+    ensures { λ _. ⌜ now (workers .exit)
+        ≡ putWorker (now (workers .entry)) worker
+        (addingWorker held (record { name = name; count = count; names = names; class = class; grower = grower })) ⌝ }
 {
     put_arguments(workers, worker, LOOKING, held, name, count, class, grower);
     put_start(workers, worker);

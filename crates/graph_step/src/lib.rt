@@ -2,7 +2,7 @@
 // Follows document 01, "Steps" and "Turned-away calls". Nothing is required: a step answers for all tables.
 ghost use mathlib.Core.Path.{_≡_};
 ghost use Rattle.terms.specs.Runs.{outcome};
-ghost use Rattle.words.specs.Layout.{lent};
+ghost use Rattle.words.specs.Layout.{atEntry, atExit};
 ghost use Rattle.words.specs.Words.{goingUnless, answerOf, stepWords};
 use graph_apply::apply;
 use graph_plan::plan_step;
@@ -48,7 +48,8 @@ pub fn step(
     workers: &mut [u32],
     worker: u32,
 ) -> Answer
-    ensures { λ r. ⌜ outcome r (lent (jobs .exit) (arcs .exit) (buckets .exit) (queue .exit) (workers .exit)) ≡ stepWords sizes (lent (jobs .entry) (arcs .entry) (buckets .entry) (queue .entry) (workers .entry)) worker ⌝ }
+    ensures { λ r. ⌜ outcome r (atExit jobs arcs buckets queue workers)
+        ≡ stepWords sizes (atEntry jobs arcs buckets queue workers) worker ⌝ }
 {
     let plan = plan_step(sizes, jobs, arcs, buckets, queue, workers, worker);
     apply(jobs, arcs, buckets, queue, workers, worker, plan);

@@ -1,10 +1,11 @@
 // What the steps of an add plan: the look-ups, the entry, the links and the settling.
-// Follows document 01, "Steps" and "Turned-away calls". Assumes nothing: each definition holds of all tables, and where a table
+// Follows document 01, "Steps" and "Turned-away calls". Assumes nothing: each definition holds of all tables, and where
+// a table
 // is not read the contract holds with any.
 ghost use mathlib.Core.Path.{_≡_};
 ghost use mathlib.Core.List.{List};
 ghost use Prim.Native.Nat.{ℕ};
-ghost use Rattle.words.specs.Layout.{tables, lent, view};
+ghost use Rattle.words.specs.Layout.{tables, atEntry, view};
 ghost use Rattle.words.specs.Words.{planLookUp, planEnter, planAppend, planLink, planSettle, planAdd, planLinks};
 use super::queueing::less;
 use super::queueing::settle_queue;
@@ -45,7 +46,9 @@ fn plan_enter(
     count: u32,
     found: Found,
 ) -> Plan
-    ensures { λ r. ⌜ ((queue workers : List ℕ) → r ≡ planEnter sizes (view (tables (now (jobs .entry)) (now (arcs .entry)) (now (buckets .entry)) queue workers)) name count found) ⌝ }
+    ensures { λ r. ⌜ ((queue workers : List ℕ)
+        → r ≡ planEnter sizes (view (tables (now (jobs .entry)) (now (arcs .entry))
+        (now (buckets .entry)) queue workers)) name count found) ⌝ }
 {
     match found {
         Found::At { job: _ } => Plan::Quit {
@@ -85,7 +88,9 @@ fn plan_append(
     arc: u64,
     job: u32,
 ) -> Plan
-    ensures { λ r. ⌜ ((buckets queue workers : List ℕ) → r ≡ planAppend sizes (view (tables (now (jobs .entry)) (now (arcs .entry)) buckets queue workers)) prerequisite arc job) ⌝ }
+    ensures { λ r. ⌜ ((buckets queue workers : List ℕ)
+        → r ≡ planAppend sizes (view (tables (now (jobs .entry)) (now (arcs .entry)) buckets queue workers))
+        prerequisite arc job) ⌝ }
 {
     let made = header(jobs, MADE);
     let reserved = header(arcs, RESERVED);
@@ -115,7 +120,9 @@ fn plan_append(
 }
 
 fn plan_link(sizes: Sizes, jobs: &[u32], arcs: &[u32], arc: u64, job: u32, found: Found) -> Plan
-    ensures { λ r. ⌜ ((buckets queue workers : List ℕ) → r ≡ planLink sizes (view (tables (now (jobs .entry)) (now (arcs .entry)) buckets queue workers)) arc job found) ⌝ }
+    ensures { λ r. ⌜ ((buckets queue workers : List ℕ)
+        → r ≡ planLink sizes (view (tables (now (jobs .entry)) (now (arcs .entry)) buckets queue workers)) arc job
+        found) ⌝ }
 {
     match found {
         Found::At { job: prerequisite } => {
@@ -139,7 +146,9 @@ fn plan_link(sizes: Sizes, jobs: &[u32], arcs: &[u32], arc: u64, job: u32, found
 
 // The job's count is read only where it is one: a read of none would lie past the table.
 fn plan_settle(sizes: Sizes, jobs: &[u32], queue: &[u32], job: u32, tally: u32, listed: u32) -> Plan
-    ensures { λ r. ⌜ ((arcs buckets workers : List ℕ) → r ≡ planSettle sizes (view (tables (now (jobs .entry)) arcs buckets (now (queue .entry)) workers)) job tally listed) ⌝ }
+    ensures { λ r. ⌜ ((arcs buckets workers : List ℕ)
+        → r ≡ planSettle sizes (view (tables (now (jobs .entry)) arcs buckets (now (queue .entry)) workers)) job tally
+        listed) ⌝ }
 {
     let none = job == NONE;
     if none {
@@ -169,7 +178,9 @@ pub fn plan_add(
     workers: &[u32],
     worker: u32,
 ) -> Plan
-    ensures { λ r. ⌜ ((queue : List ℕ) → r ≡ planAdd sizes (view (tables (now (jobs .entry)) (now (arcs .entry)) (now (buckets .entry)) queue (now (workers .entry)))) worker) ⌝ }
+    ensures { λ r. ⌜ ((queue : List ℕ)
+        → r ≡ planAdd sizes (view (tables (now (jobs .entry)) (now (arcs .entry)) (now (buckets .entry)) queue
+        (now (workers .entry)))) worker) ⌝ }
 {
     let place = worker_word(workers, worker, PLACE);
     let count = worker_word(workers, worker, LIST_COUNT);
@@ -195,7 +206,7 @@ pub fn plan_links(
     workers: &[u32],
     worker: u32,
 ) -> Plan
-    ensures { λ r. ⌜ r ≡ planLinks sizes (view (lent (jobs .entry) (arcs .entry) (buckets .entry) (queue .entry) (workers .entry))) worker ⌝ }
+    ensures { λ r. ⌜ r ≡ planLinks sizes (view (atEntry jobs arcs buckets queue workers)) worker ⌝ }
 {
     let place = worker_word(workers, worker, PLACE);
     let count = worker_word(workers, worker, LIST_COUNT);

@@ -1,5 +1,6 @@
 // What the steps of a finish plan: the mark, and the notice along each arc.
-// Follows document 01, "Steps" and "Turned-away calls". Assumes nothing: each definition holds of all tables, and where a table
+// Follows document 01, "Steps" and "Turned-away calls". Assumes nothing: each definition holds of all tables, and where
+// a table
 // is not read the contract holds with any.
 ghost use mathlib.Core.Path.{_≡_};
 ghost use mathlib.Core.List.{List};
@@ -19,7 +20,8 @@ use words::Plan;
 
 // The job's words are read only where it is one: a read of none would lie past the table.
 pub fn plan_mark(sizes: Sizes, jobs: &[u32], arcs: &[u32], job: u32) -> Plan
-    ensures { λ r. ⌜ ((buckets queue workers : List ℕ) → r ≡ planMark sizes (view (tables (now (jobs .entry)) (now (arcs .entry)) buckets queue workers)) job) ⌝ }
+    ensures { λ r. ⌜ ((buckets queue workers : List ℕ)
+        → r ≡ planMark sizes (view (tables (now (jobs .entry)) (now (arcs .entry)) buckets queue workers)) job) ⌝ }
 {
     let none = job == NONE;
     if none {
@@ -38,7 +40,9 @@ pub fn plan_mark(sizes: Sizes, jobs: &[u32], arcs: &[u32], job: u32) -> Plan
 
 // The dependent's count is read only where its number is that of a job.
 pub fn plan_notify(sizes: Sizes, jobs: &[u32], arcs: &[u32], queue: &[u32], arc: u32) -> Plan
-    ensures { λ r. ⌜ ((buckets workers : List ℕ) → r ≡ planNotify sizes (view (tables (now (jobs .entry)) (now (arcs .entry)) buckets (now (queue .entry)) workers)) arc) ⌝ }
+    ensures { λ r. ⌜ ((buckets workers : List ℕ)
+        → r ≡ planNotify sizes (view (tables (now (jobs .entry)) (now (arcs .entry)) buckets
+        (now (queue .entry)) workers)) arc) ⌝ }
 {
     let none = arc == NONE;
     if none {

@@ -23,7 +23,9 @@ pub fn less(x: u32, y: u32) -> u32
 }
 
 pub fn settle_queue(sizes: Sizes, queue: &[u32], job: u32, count: u32) -> Plan
-    ensures { λ r. ⌜ ((jobs arcs buckets workers : List ℕ) → r ≡ withCell sizes (view (tables jobs arcs buckets (now (queue .entry)) workers)) (Plan.SettleQueue job count)) ⌝ }
+    ensures { λ r. ⌜ ((jobs arcs buckets workers : List ℕ)
+        → r ≡ withCell sizes (view (tables jobs arcs buckets (now (queue .entry)) workers))
+        (Plan.SettleQueue job count)) ⌝ }
 {
     let cell = header(queue, PUT);
     let free = (header(queue, TAKEN) <= cell) & (cell < sizes.jobs);
@@ -35,7 +37,9 @@ pub fn settle_queue(sizes: Sizes, queue: &[u32], job: u32, count: u32) -> Plan
 }
 
 pub fn notify_queue(sizes: Sizes, queue: &[u32], job: u32, count: u32, next: u32) -> Plan
-    ensures { λ r. ⌜ ((jobs arcs buckets workers : List ℕ) → r ≡ withCell sizes (view (tables jobs arcs buckets (now (queue .entry)) workers)) (Plan.NotifyQueue job count next)) ⌝ }
+    ensures { λ r. ⌜ ((jobs arcs buckets workers : List ℕ)
+        → r ≡ withCell sizes (view (tables jobs arcs buckets (now (queue .entry)) workers))
+        (Plan.NotifyQueue job count next)) ⌝ }
 {
     let cell = header(queue, PUT);
     let free = (header(queue, TAKEN) <= cell) & (cell < sizes.jobs);

@@ -30,6 +30,7 @@ unfolding withinLimits
 bits-within s h =
     leb-true (s .bits) mostBits
     (and-right (leb 1 (s .bits)) (leb (s .bits) mostBits)
-    (within (leb 1 (s .jobs)) (leb (s .jobs) mostJobs) (leb (s .arcs) mostArcs) (leb 1 (s .bits) && leb (s .bits) mostBits)
+    (within (leb 1 (s .jobs)) (leb (s .jobs) mostJobs) (leb (s .arcs) mostArcs)
+    (leb 1 (s .bits) && leb (s .bits) mostBits)
     (leb 1 (s .workers) && leb (s .workers) mostWorkers)
     h))

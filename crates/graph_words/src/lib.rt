@@ -1,5 +1,7 @@
-// The words of the five tables, each read and stored by its table, record and field, and the tests that every call makes first.
-// Follows document 01, "Tables and their measures" and "Turned-away calls". Nothing is required of a table: past its end a read
+// The words of the five tables, each read and stored by its table, record and field, and the tests that every call
+// makes first.
+// Follows document 01, "Tables and their measures" and "Turned-away calls". Nothing is required of a table: past its
+// end a read
 // answers 0 and a store does nothing.
 ghost use mathlib.Core.Path.{_≡_};
 ghost use mathlib.Core.Bool.{true, _&&_};
@@ -9,7 +11,8 @@ ghost use lib.Dec.{leb};
 ghost use lib.ListN.{length, getD, set};
 ghost use Rattle.terms.specs.Terms.{mostBits, withinLimits};
 ghost use Rattle.words.specs.Columns.{place, columns, put, header, putHeader};
-ghost use Rattle.words.specs.Layout.{jobShape, arcShape, bucketShape, queueShape, workerShape, NAMES, tables, lent, view, need, longEnough, sizesKept, roomFor, sizesFit};
+ghost use Rattle.words.specs.Layout.{jobShape, arcShape, bucketShape, queueShape, workerShape, NAMES, tables, atEntry};
+ghost use Rattle.words.specs.Layout.{view, need, longEnough, sizesKept, roomFor, sizesFit};
 ghost use Rattle.words.specs.Words.{placeOk, countersOk, ownOk};
 
 pub mod layout;
@@ -175,7 +178,7 @@ fn long_enough(
     workers: &[u32],
 ) -> bool
     requires { ⌜ withinLimits sizes ≡ true ⌝ }
-    ensures { λ r. ⌜ r ≡ longEnough sizes (lent (jobs .entry) (arcs .entry) (buckets .entry) (queue .entry) (workers .entry)) ⌝ }
+    ensures { λ r. ⌜ r ≡ longEnough sizes (atEntry jobs arcs buckets queue workers) ⌝ }
 {
     (need(JOB_HEAD, JOB_WIDTH, sizes.jobs) <= jobs.len())
         & (need(ARC_HEAD, ARC_WIDTH, sizes.arcs) <= arcs.len())
@@ -193,7 +196,7 @@ pub fn room_for(
     queue: &[u32],
     workers: &[u32],
 ) -> bool
-    ensures { λ r. ⌜ r ≡ roomFor sizes (lent (jobs .entry) (arcs .entry) (buckets .entry) (queue .entry) (workers .entry)) ⌝ }
+    ensures { λ r. ⌜ r ≡ roomFor sizes (atEntry jobs arcs buckets queue workers) ⌝ }
 {
     let within = within_limits(sizes);
     if within {
@@ -221,7 +224,7 @@ pub fn sizes_fit(
     queue: &[u32],
     workers: &[u32],
 ) -> bool
-    ensures { λ r. ⌜ r ≡ sizesFit sizes (lent (jobs .entry) (arcs .entry) (buckets .entry) (queue .entry) (workers .entry)) ⌝ }
+    ensures { λ r. ⌜ r ≡ sizesFit sizes (atEntry jobs arcs buckets queue workers) ⌝ }
 {
     let room = room_for(sizes, jobs, arcs, buckets, queue, workers);
     if room { sizes_kept(sizes, jobs) } else { false }
@@ -241,14 +244,17 @@ pub fn place_ok(place: u32, counter: u32, size: u32) -> bool
 
 // How many jobs were made and arcs reserved is within the sizes. A call tests it once, before what its step reads.
 pub fn counters_ok(sizes: Sizes, jobs: &[u32], arcs: &[u32]) -> bool
-    ensures { λ r. ⌜ ((buckets queue workers : List ℕ) → r ≡ countersOk sizes (view (tables (now (jobs .entry)) (now (arcs .entry)) buckets queue workers))) ⌝ }
+    ensures { λ r. ⌜ ((buckets queue workers : List ℕ)
+        → r ≡ countersOk sizes (view (tables (now (jobs .entry)) (now (arcs .entry)) buckets queue workers))) ⌝ }
 {
     (header(jobs, MADE) <= sizes.jobs) & (header(arcs, RESERVED) <= sizes.arcs)
 }
 
 // The worker's own words are sound. The tests of its places are branches: what follows a call knows their outcome.
 fn own_sound(sizes: Sizes, jobs: &[u32], arcs: &[u32], workers: &[u32], worker: u32) -> bool
-    ensures { λ r. ⌜ ((buckets queue : List ℕ) → r ≡ ownOk sizes (view (tables (now (jobs .entry)) (now (arcs .entry)) buckets queue (now (workers .entry)))) worker) ⌝ }
+    ensures { λ r. ⌜ ((buckets queue : List ℕ)
+        → r ≡ ownOk sizes (view (tables (now (jobs .entry)) (now (arcs .entry)) buckets queue (now (workers .entry))))
+        worker) ⌝ }
 {
     let made = header(jobs, MADE);
     let count = worker_word(workers, worker, LIST_COUNT);
@@ -283,10 +289,14 @@ fn own_sound(sizes: Sizes, jobs: &[u32], arcs: &[u32], workers: &[u32], worker: 
     }
 }
 
-// The worker's own words are sound, whatever its phase, and all are within the table. The buckets and the queue are not read: it
+// The worker's own words are sound, whatever its phase, and all are within the table. The buckets and the queue are not
+// read: it
 // holds with any.
 pub fn own_ok(sizes: Sizes, jobs: &[u32], arcs: &[u32], workers: &[u32], worker: u32) -> bool
-    ensures { λ r. ⌜ ((buckets queue : List ℕ) → r ≡ (leb (place workerShape worker NAMES) (length (now (workers .entry))) && ownOk sizes (view (tables (now (jobs .entry)) (now (arcs .entry)) buckets queue (now (workers .entry)))) worker)) ⌝ }
+    ensures { λ r. ⌜ ((buckets queue : List ℕ)
+        → r ≡ (leb (place workerShape worker NAMES) (length (now (workers .entry)))
+        && ownOk sizes (view (tables (now (jobs .entry)) (now (arcs .entry)) buckets queue (now (workers .entry))))
+        worker)) ⌝ }
 {
     let within = (WORKER_HEAD as usize)
         + (WORKER_WIDTH as usize) * (worker as usize)

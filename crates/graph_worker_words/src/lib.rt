@@ -5,7 +5,8 @@ ghost use Prim.Native.Nat.{_+_, _<_, _≤_};
 ghost use lib.Dec.{eqb};
 ghost use Rattle.terms.specs.Base.{pick};
 ghost use Rattle.words.specs.Columns.{columns, put};
-ghost use Rattle.words.specs.Layout.{none, workerShape, PHASE, HELD, LIST-COUNT, TALLY, PLACE, OWN-JOB, OWN-ARC, IDLE, LINKING, NOTIFYING, bareWorker};
+ghost use Rattle.words.specs.Layout.{none, workerShape, PHASE, HELD, LIST-COUNT, TALLY, PLACE, OWN-JOB, OWN-ARC, IDLE};
+ghost use Rattle.words.specs.Layout.{LINKING, NOTIFYING, bareWorker};
 ghost use Rattle.words.specs.Words.{putWorker, firstArc, markedWorker};
 use graph_records::put_bare_worker;
 use graph_words::layout::*;
@@ -21,7 +22,9 @@ pub fn sum(a: u32, b: u32) -> u32
 
 // The call ends: the worker is idle, and its hold stays.
 pub fn idle_worker(workers: &mut [u32], worker: u32)
-    ensures { λ _. ⌜ now (workers .exit) ≡ putWorker (now (workers .entry)) worker (bareWorker IDLE (columns workerShape (now (workers .entry)) HELD worker)) ⌝ }
+    ensures { λ _. ⌜ now (workers .exit)
+        ≡ putWorker (now (workers .entry)) worker
+        (bareWorker IDLE (columns workerShape (now (workers .entry)) HELD worker)) ⌝ }
 {
     let held = worker_word(workers, worker, HELD);
     put_bare_worker(workers, worker, IDLE, held);
@@ -29,7 +32,9 @@ pub fn idle_worker(workers: &mut [u32], worker: u32)
 
 // The call goes on to the next name of its list.
 pub fn count_place(workers: &mut [u32], worker: u32)
-    ensures { λ _. ⌜ (columns workerShape (now (workers .entry)) PLACE worker < none → now (workers .exit) ≡ put workerShape (now (workers .entry)) worker PLACE (columns workerShape (now (workers .entry)) PLACE worker + 1)) ⌝ }
+    ensures { λ _. ⌜ (columns workerShape (now (workers .entry)) PLACE worker < none
+        → now (workers .exit) ≡ put workerShape (now (workers .entry)) worker PLACE
+        (columns workerShape (now (workers .entry)) PLACE worker + 1)) ⌝ }
 {
     let place = worker_word(workers, worker, PLACE);
     put_worker(workers, worker, PLACE, sum(place, 1));
@@ -37,7 +42,12 @@ pub fn count_place(workers: &mut [u32], worker: u32)
 
 // The same, and one more finished prerequisite.
 pub fn count_tally(workers: &mut [u32], worker: u32)
-    ensures { λ _. ⌜ (columns workerShape (now (workers .entry)) PLACE worker < none → columns workerShape (now (workers .entry)) TALLY worker < none → now (workers .exit) ≡ put workerShape (put workerShape (now (workers .entry)) worker PLACE (columns workerShape (now (workers .entry)) PLACE worker + 1)) worker TALLY (columns workerShape (now (workers .entry)) TALLY worker + 1)) ⌝ }
+    ensures { λ _. ⌜ (columns workerShape (now (workers .entry)) PLACE worker < none
+        → columns workerShape (now (workers .entry)) TALLY worker < none
+        → now (workers .exit) ≡ put workerShape
+        (put workerShape (now (workers .entry)) worker PLACE
+        (columns workerShape (now (workers .entry)) PLACE worker + 1)) worker TALLY
+        (columns workerShape (now (workers .entry)) TALLY worker + 1)) ⌝ }
 {
     let tally = worker_word(workers, worker, TALLY);
     count_place(workers, worker);
@@ -54,7 +64,10 @@ fn first_arc(count: u32, arc: u32) -> u32
 
 // The add has entered its job, and links from the first name on.
 pub fn enter_worker(workers: &mut [u32], worker: u32, job: u32, arc: u32)
-    ensures { λ _. ⌜ now (workers .exit) ≡ put workerShape (put workerShape (put workerShape (put workerShape (now (workers .entry)) worker PHASE LINKING) worker PLACE 0) worker OWN-JOB job) worker OWN-ARC (firstArc (columns workerShape (now (workers .entry)) LIST-COUNT worker) arc) ⌝ }
+    ensures { λ _. ⌜ now (workers .exit)
+        ≡ put workerShape (put workerShape
+        (put workerShape (put workerShape (now (workers .entry)) worker PHASE LINKING) worker PLACE 0) worker OWN-JOB
+        job) worker OWN-ARC (firstArc (columns workerShape (now (workers .entry)) LIST-COUNT worker) arc) ⌝ }
 {
     let first = first_arc(worker_word(workers, worker, LIST_COUNT), arc);
     put_worker(workers, worker, PHASE, LINKING);
@@ -79,7 +92,10 @@ pub fn mark_worker(workers: &mut [u32], worker: u32, first: u32)
 
 // The finish goes on to its next arc, or ends.
 pub fn arcs_from(workers: &mut [u32], worker: u32, next: u32)
-    ensures { λ _. ⌜ now (workers .exit) ≡ pick (eqb next none) (putWorker (now (workers .entry)) worker (bareWorker IDLE (columns workerShape (now (workers .entry)) HELD worker))) (put workerShape (now (workers .entry)) worker OWN-ARC next) ⌝ }
+    ensures { λ _. ⌜ now (workers .exit)
+        ≡ pick (eqb next none) (putWorker (now (workers .entry)) worker
+        (bareWorker IDLE (columns workerShape (now (workers .entry)) HELD worker)))
+        (put workerShape (now (workers .entry)) worker OWN-ARC next) ⌝ }
 {
     let ends = next == NONE;
     if ends {

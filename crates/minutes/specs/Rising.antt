@@ -42,7 +42,8 @@ record First (before entry : ℕ) (rest : List ℕ) : Type 0 where
 first : (before entry : ℕ) (rest : List ℕ) → risesAbove before (entry ∷ rest) ≡ true → First before entry rest
 unfolding risesAbove
 first before entry rest passes =
-    let both : (ltb before entry && leb entry mostMinutes ≡ true) × (risesAbove entry rest ≡ true) = and-eq-true-iff _ _ .0 passes in
+    let both : (ltb before entry && leb entry mostMinutes ≡ true) × (risesAbove entry rest ≡ true) =
+    and-eq-true-iff _ _ .0 passes in
     let entry-passes : (ltb before entry ≡ true) × (leb entry mostMinutes ≡ true) = and-eq-true-iff _ _ .0 (both .0) in
     record {
       above = ltb-true before entry (entry-passes .0);

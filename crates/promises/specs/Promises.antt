@@ -1,13 +1,13 @@
 -- THE PROMISES. Every theorem that the three demands rest on, as far as they concern the graph, each with a one-line
--- proof that names where it was shown. (Those about job sheets stand in crate sheet_format, specs/Promises.antt.) To
+-- proof that names where it was shown. (Those about job sheets: sheet_format, specs/SheetPromises.antt.) To
 -- believe a statement, read the definitions that it names:
 --   the words of the tables   words: specs/Layout.antt, specs/Words.antt   (the contracts cite them, for ALL tables)
 --   what is seen in a state   terms: specs/Seen.antt; words, rules: specs/Observed.antt
 --   the rules                 rules: specs/Rules.antt                      (Johnson's task graph, as corrected)
---   the plain book            reference: specs/Book.antt
---   whole calls               reading: specs/Reading.antt                  (read off items and answers alone)
---   demand 3                  demand: specs/Demand.antt                    (of any machine; wrong ones in Wrong*.antt)
---   how calls end             demand: specs/Ends.antt
+--   the plain book            sequential_model: specs/Book.antt
+--   whole calls               linearization: specs/Calls.antt              (read off items and answers alone)
+--   demand 3                  linearizability: specs/Demand.antt           (of any machine; wrong ones in Wrong*.antt)
+--   how calls end             linearizability: specs/Ends.antt
 --   the board                 graph_board: specs/Board.antt, specs/Accounted.antt
 --   words needed, and rest    locality: specs/Parts.antt, specs/Refusals.antt, specs/Numbers.antt
 -- An item is a post, a step or a get, by any worker, with any sizes and arguments, right or wrong; `events` are the
@@ -37,12 +37,12 @@ use Rattle.words.specs.Observed.{waiting, bucketFrom, newestFirst, seen}
 use Rattle.rules.specs.Rules.{empty}
 use Rattle.rules.specs.Rules as rules
 use Rattle.rules.specs.Observed as rules-seen
-use Rattle.reading.specs.Reading.{adding, finishing, Reading, reading, Quiet, acceptedAdds, acceptedFinishes}
-use Rattle.reading.specs.Reading as reading
-use Rattle.demand.specs.Demand.{Demand, addOf, HandedRightly, JobFinished, gives, handedOut}
-use Rattle.demand.specs.Ends.{AddStep, FinishOf}
-use Rattle.history.specs.Theorem as shown
-use Rattle.history.specs.Lifted as lifted
+use Rattle.linearization.specs.Calls.{adding, finishing, Reading, reading, Quiet, acceptedAdds, acceptedFinishes}
+use Rattle.linearization.specs.Calls as reading
+use Rattle.linearizability.specs.Demand.{Demand, addOf, HandedRightly, JobFinished, gives, handedOut}
+use Rattle.linearizability.specs.Ends.{AddStep, FinishOf}
+use Rattle.words_history.specs.Theorem as shown
+use Rattle.words_history.specs.Lifted as lifted
 use Rattle.locality.specs.Parts.{needed, rest, joined, lengths, laidOut}
 use Rattle.locality.specs.Plans.{quitsBy}
 use Rattle.locality.specs.Numbers.{Fits}
@@ -65,7 +65,7 @@ use Rattle.day_history.specs.Theorem as ends-of-day
 use Rattle.graph_board.specs.Board.{graphTotals}
 use Rattle.graph_board.specs.Accounted.{Accounted}
 use Rattle.board_history.specs.Minutes.{accounted}
-use Rattle.cases.specs.Cases.{Starred, every-row}
+use Rattle.starred_cases.specs.StarredCases.{Starred, every-row}
 
 -- ---- of every list of items from tables that were laid out, whatever they held before
 module _ (s : Sizes) (t : Tables) (laid : layOut s t .answer ≡ Laid) (items : List Item) where

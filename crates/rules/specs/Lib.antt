@@ -1,4 +1,4 @@
 pub mod Rules
-pub mod Cases
+pub mod RuleCases
 pub mod Sound
 pub mod Observed

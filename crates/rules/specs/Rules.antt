@@ -72,19 +72,51 @@ find g name = seek name (g .jobs) 0
 -- ---- changes
 abbrev pub withLabel : Job → Label → Job
 withLabel x l =
-    record { name = x .name; label = l; count = x .count; class = x .class; grower = x .grower; list = x .list; dependents = x .dependents }
+    record {
+      name = x .name;
+      label = l;
+      count = x .count;
+      class = x .class;
+      grower = x .grower;
+      list = x .list;
+      dependents = x .dependents;
+    }
 
 abbrev pub withCount : Job → ℕ → Job
 withCount x c =
-    record { name = x .name; label = x .label; count = c; class = x .class; grower = x .grower; list = x .list; dependents = x .dependents }
+    record {
+      name = x .name;
+      label = x .label;
+      count = c;
+      class = x .class;
+      grower = x .grower;
+      list = x .list;
+      dependents = x .dependents;
+    }
 
 abbrev pub withDependent : Job → ℕ → Job
 withDependent x j =
-    record { name = x .name; label = x .label; count = x .count; class = x .class; grower = x .grower; list = x .list; dependents = x .dependents ++ (j ∷ []) }
+    record {
+      name = x .name;
+      label = x .label;
+      count = x .count;
+      class = x .class;
+      grower = x .grower;
+      list = x .list;
+      dependents = x .dependents ++ (j ∷ []);
+    }
 
 abbrev pub newJob : Arguments → Job
 newJob a =
-    record { name = a .name; label = unexecuted; count = a .count; class = a .class; grower = a .grower; list = listed a; dependents = [] }
+    record {
+      name = a .name;
+      label = unexecuted;
+      count = a .count;
+      class = a .class;
+      grower = a .grower;
+      list = listed a;
+      dependents = [];
+    }
 
 -- a worker's call becomes c, and its hold stays
 abbrev pub turn : Graph → ℕ → Call → ℕ → Worker
@@ -107,7 +139,12 @@ lookUp g w a i missing = outcome (Refused unknownName i) (withCall g w idle)
 -- entering: "makes the job with remaining count d, and reserves the next d arcs"
 abbrev pub entered : Graph → ℕ → Arguments → Graph
 entered g w a =
-    record { jobs = g .jobs ++ (newJob a ∷ []); reserved = g .reserved + a .count; queue = g .queue; workers = turn g w (linking a (length (g .jobs)) 0 0) }
+    record {
+      jobs = g .jobs ++ (newJob a ∷ []);
+      reserved = g .reserved + a .count;
+      queue = g .queue;
+      workers = turn g w (linking a (length (g .jobs)) 0 0);
+    }
 
 unfoldable pub enter : Sizes → Graph → ℕ → Arguments → Found → Outcome Graph
 enter s g w a (at j) = outcome (Refused namePresent 0) (withCall g w idle)
@@ -119,7 +156,12 @@ enter s g w a missing =
 -- one link: "a finished prerequisite adds 1 to the worker's tally, any other gets the arc appended to its list"
 abbrev pub linked : Graph → ℕ → Arguments → ℕ → ℕ → ℕ → ℕ → Graph
 linked g w a j i t p =
-    record { jobs = set (g .jobs) p (withDependent (job g p) j); reserved = g .reserved; queue = g .queue; workers = turn g w (linking a j (suc i) t) }
+    record {
+      jobs = set (g .jobs) p (withDependent (job g p) j);
+      reserved = g .reserved;
+      queue = g .queue;
+      workers = turn g w (linking a j (suc i) t);
+    }
 
 unfoldable pub linkTo : Graph → ℕ → Arguments → ℕ → ℕ → ℕ → ℕ → Label → Outcome Graph
 linkTo g w a j i t p finished = outcome Going (withCall g w (linking a j (suc i) (suc t)))
@@ -137,13 +179,23 @@ settles count t d = eqb count 0 && (ltb 0 t || eqb d 0)
 
 abbrev pub settled : Graph → ℕ → ℕ → ℕ → ℕ → Graph
 settled g w j t d =
-    record { jobs = set (g .jobs) j (withCount (job g j) (job g j .count - t)); reserved = g .reserved; queue = enqueue (settles (job g j .count - t) t d) (g .queue) j; workers = turn g w idle }
+    record {
+      jobs = set (g .jobs) j (withCount (job g j) (job g j .count - t));
+      reserved = g .reserved;
+      queue = enqueue (settles (job g j .count - t) t d) (g .queue) j;
+      workers = turn g w idle;
+    }
 
 -- ---- the steps of a finish
 -- the mark: "labels the job finished and frees the worker's hold"; with no dependents the call ends
 abbrev pub marked : Graph → ℕ → ℕ → Call → Graph
 marked g w p c =
-    record { jobs = set (g .jobs) p (withLabel (job g p) finished); reserved = g .reserved; queue = g .queue; workers = update (g .workers) w (record { held = none; call = c }) }
+    record {
+      jobs = set (g .jobs) p (withLabel (job g p) finished);
+      reserved = g .reserved;
+      queue = g .queue;
+      workers = update (g .workers) w (record { held = none; call = c });
+    }
 
 unfoldable pub markDependents : Graph → ℕ → ℕ → List ℕ → Outcome Graph
 markDependents g w p [] = outcome Ended (marked g w p idle)
@@ -156,7 +208,12 @@ mark g w none = outcome (Refused damaged 0) g
 -- one arc: "lowers that dependent's count by 1; a count that reaches 0 puts that job in the queue"
 abbrev pub notified : Graph → ℕ → ℕ → Call → Graph
 notified g w j c =
-    record { jobs = set (g .jobs) j (withCount (job g j) (job g j .count - 1)); reserved = g .reserved; queue = enqueue (eqb (job g j .count - 1) 0) (g .queue) j; workers = turn g w c }
+    record {
+      jobs = set (g .jobs) j (withCount (job g j) (job g j .count - 1));
+      reserved = g .reserved;
+      queue = enqueue (eqb (job g j .count - 1) 0) (g .queue) j;
+      workers = turn g w c;
+    }
 
 unfoldable pub notify : Graph → ℕ → ℕ → ℕ → Outcome Graph
 notify g w p k =
@@ -170,7 +227,8 @@ stepCall s g w idle = outcome (Refused nothingToStep 0) g
 stepCall s g w (looking a i) =
     pick (ltb i (a .count)) (lookUp g w a i (find g (getD (listed a) i 0))) (enter s g w a (find g (a .name)))
 stepCall s g w (linking a j i t) =
-    pick (ltb i (a .count)) (link g w a j i t (find g (getD (listed a) i 0))) (outcome Ended (settled g w j t (a .count)))
+    pick (ltb i (a .count)) (link g w a j i t (find g (getD (listed a) i 0)))
+    (outcome Ended (settled g w j t (a .count)))
 stepCall s g w marking = mark g w (g .workers w .held)
 stepCall s g w (notifying p k) = notify g w p k
 
@@ -194,7 +252,12 @@ finishPosted g w name (some p) =
 -- a get "takes the job longest in the queue, labels it executing and records it as held"
 abbrev pub handedOut : Graph → ℕ → ℕ → List ℕ → Graph
 handedOut g w j q =
-    record { jobs = set (g .jobs) j (withLabel (job g j) executing); reserved = g .reserved; queue = q; workers = update (g .workers) w (record { held = some j; call = idle }) }
+    record {
+      jobs = set (g .jobs) j (withLabel (job g j) executing);
+      reserved = g .reserved;
+      queue = q;
+      workers = update (g .workers) w (record { held = some j; call = idle });
+    }
 
 unfoldable pub takeNext : Graph → ℕ → List ℕ → Outcome Graph
 takeNext g w [] = outcome NoneReady g

@@ -1,4 +1,5 @@
--- What a test chose: the laws of `pick`, by which every definition of reading and writing chooses between an answer and a
+-- What a test chose: the laws of `pick`, by which every definition of reading and writing chooses between an answer and
+-- a
 -- refusal. Assumes nothing.
 use Prim.Native.Nat.{ℕ}
 use mathlib.Core.Path.{_≡_, refl}
@@ -15,7 +16,8 @@ both true b h = (refl, h)
 both false b h = never (cc)
 
 -- the test held if what it chose has a value that its second choice has not
-pub held : {A B : Type 0} (value : A → B) (b : B) (test : Bool) (x y : A) → (value y ≡ b → ⊥) → value (pick test x y) ≡ b
+pub held : {A B : Type 0} (value : A → B) (b : B) (test : Bool) (x y : A) → (value y ≡ b → ⊥)
+    → value (pick test x y) ≡ b
     → (test ≡ true) × (value x ≡ b)
 held value b true x y other h = (refl, h)
 held value b false x y other h = absurd (other h)
@@ -26,6 +28,7 @@ picked P true x y p q = p
 picked P false x y p q = q
 
 -- by what the test is
-pub by-test : {A X : Type 0} (test : Bool) (x y a : A) → pick test x y ≡ a → (test ≡ true → x ≡ a → X) → (test ≡ false → y ≡ a → X) → X
+pub by-test : {A X : Type 0} (test : Bool) (x y a : A) → pick test x y ≡ a → (test ≡ true → x ≡ a → X)
+    → (test ≡ false → y ≡ a → X) → X
 by-test true x y a h held-x held-y = held-x refl h
 by-test false x y a h held-x held-y = held-y refl h

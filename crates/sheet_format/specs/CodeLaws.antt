@@ -1,4 +1,5 @@
--- Laws that proofs about code cite (document 01, "Job sheets"): the bounds of what was read from any input, a sheet from an
+-- Laws that proofs about code cite (document 01, "Job sheets"): the bounds of what was read from any input, a sheet
+-- from an
 -- offset on, names one after the other, and stores one after the other. Assumes nothing.
 use Prim.Native.Nat.{ℕ, zero, suc, _+_, _*_, _-_, _≤_, _<_}
 use mathlib.Core.Path.{_≡_, refl, sym, ap, _∙_}
@@ -8,8 +9,10 @@ use native.Mathlib.Numerals.{add-one}
 use lib.ListN.{length, getD, set, take, replicate}
 use lib.Seq.{sets, set-at, take-suc, length-take-le}
 use Rattle.sheet_format.specs.Number.{numberAt, spelt}
-use Rattle.sheet_format.specs.Job.{Job, Below, none, more, bitOf, speltNames, mostNames, nameBytes, countBytes, classBytes, growerBytes}
-use Rattle.sheet_format.specs.Decode.{namesAt, Decoded, job, end, refused, decode, jobs, onward, decodeFrom, padded}
+use Rattle.sheet_format.specs.Job.{Job, Below, none, more, bitOf, speltNames, mostNames, nameBytes, countBytes}
+use Rattle.sheet_format.specs.Job.{classBytes, growerBytes}
+use Rattle.sheet_format.specs.Decode.{namesAt, Decoded, job, end, refused, decode, jobs, onward, decodeFrom}
+use Rattle.sheet_format.specs.Decode.{padded}
 use Rattle.sheet_format.specs.Write.{listBytes, listPlace, entriesFrom}
 use Rattle.sheet_format.specs.Choice.{never}
 use Rattle.sheet_format.specs.NumberLaws.{length-speltNames, length-namesAt}
@@ -27,7 +30,8 @@ leastBytes = listPlace
 pub record Bounds (s : List ℕ) (at : ℕ) (j : Job) (n : ℕ) : Type 0 where
   pub inside : n ≤ length s
   pub least : at + leastBytes ≤ n
-  pub ends : n ≡ at + (listPlace + listBytes (length (j .list)) + classBytes * bitOf (j .class) + growerBytes * bitOf (j .grower))
+  pub ends : n ≡ at + (listPlace + listBytes (length (j .list)) + classBytes * bitOf (j .class) + growerBytes * bitOf
+      (j .grower))
   pub count : Short j
   pub list : j .list ≡ namesAt nameBytes s (at + listPlace + countBytes) (length (j .list))
 
@@ -35,10 +39,17 @@ pub entry-bounds : (s : List ℕ) (at : ℕ) (j : Job) (n : ℕ) → decode s at
 entry-bounds s at j n h =
     let d = entry-stands s at j n h in
     let k = length-encode j in
-    record { inside = d .stands .inside; least = omega (arith, d .stands .ends); ends = rw k at (d .stands .ends); count = d .count; list = d .list }
+    record {
+      inside = d .stands .inside;
+      least = omega (arith, d .stands .ends);
+      ends = rw k at (d .stands .ends);
+      count = d .count;
+      list = d .list;
+    }
 
 -- two bounds on the entries that leave none out read the same
-pub any-bound : (k l : ℕ) (s : List ℕ) (at : ℕ) → length s ≤ at + k → length s ≤ at + l → decodeFrom k s at ≡ decodeFrom l s at
+pub any-bound : (k l : ℕ) (s : List ℕ) (at : ℕ) → length s ≤ at + k → length s ≤ at + l
+    → decodeFrom k s at ≡ decodeFrom l s at
 unfolding decodeFrom
 any-bound zero zero s at enough-k enough-l = refl
 any-bound zero (suc l) s at enough-k enough-l = rw (end-there s at (omega arith))
@@ -69,7 +80,8 @@ sheet-bounds zero s at js inside h =
 sheet-bounds (suc k) s at js inside h = by-entry (decode s at) refl h (sheet-bounds k s)
   where
     by-entry : (d : Decoded) → decode s at ≡ d → onward d (decodeFrom k s) ≡ jobs js
-        → ((n : ℕ) (ks : List Job) → n ≤ length s → decodeFrom k s n ≡ jobs ks → (n + leastBytes * length ks ≤ length s) × Each Short ks)
+        → ((n : ℕ) (ks : List Job) → n ≤ length s → decodeFrom k s n ≡ jobs ks
+        → (n + leastBytes * length ks ≤ length s) × Each Short ks)
         → (at + leastBytes * length js ≤ length s) × Each Short js
     by-entry (job j n) e h′ ih =
         after-entry j (decodeFrom k s n) js h′ λ ks rest same.
@@ -82,7 +94,8 @@ sheet-bounds (suc k) s at js inside h = by-entry (decode s at) refl h (sheet-bou
     by-entry (refused c a) e h′ ih = never (cc)
 
 -- one name more
-pub names-more : (w : ℕ) (s : List ℕ) (at n : ℕ) → namesAt w s at (suc n) ≡ namesAt w s at n ++ (numberAt w s (at + w * n) ∷ [])
+pub names-more : (w : ℕ) (s : List ℕ) (at n : ℕ)
+    → namesAt w s at (suc n) ≡ namesAt w s at n ++ (numberAt w s (at + w * n) ∷ [])
 unfolding namesAt
 names-more w s at zero = let q : at + w * 0 ≡ at = omega arith in rw q
 names-more w s at (suc n) =
@@ -97,7 +110,9 @@ fill-step w s at i h =
     let l′ = length-namesAt w s at (i + 1) in
     let e : mostNames - length (namesAt w s at i) ≡ suc (mostNames - suc i) = omega arith in
     let e′ : mostNames - length (namesAt w s at (i + 1)) ≡ mostNames - suc i = omega arith in
-    rw (e, e′, add-one i, names-more) (set-at (namesAt w s at i) 0 (replicate (mostNames - suc i) 0) (numberAt w s (at + w * i)) i l ∙ sym (append-assoc (namesAt w s at i) (numberAt w s (at + w * i) ∷ []) (replicate (mostNames - suc i) 0)))
+    rw (e, e′, add-one i, names-more)
+    (set-at (namesAt w s at i) 0 (replicate (mostNames - suc i) 0) (numberAt w s (at + w * i)) i l
+    ∙ sym (append-assoc (namesAt w s at i) (numberAt w s (at + w * i) ∷ []) (replicate (mostNames - suc i) 0)))
 
 -- WRITING
 
@@ -119,14 +134,17 @@ sets-append l (x ∷ xs) ys i k q = sets-append (set l i x) xs ys (suc i) k (ome
 speltNames-append : (w : ℕ) (xs ys : List ℕ) → speltNames w (xs ++ ys) ≡ speltNames w xs ++ speltNames w ys
 unfolding speltNames
 speltNames-append w [] ys = refl
-speltNames-append w (x ∷ xs) ys = rw (speltNames-append w xs ys) (sym (append-assoc (spelt w x) (speltNames w xs) (speltNames w ys)))
+speltNames-append w (x ∷ xs) ys =
+    rw (speltNames-append w xs ys) (sym (append-assoc (spelt w x) (speltNames w xs) (speltNames w ys)))
 
 -- one name more in the output
 pub store-step : (w : ℕ) (l names : List ℕ) (at i : ℕ) → i < length names
-    → sets (sets l at (speltNames w (take i names))) (at + w * i) (spelt w (getD names i 0)) ≡ sets l at (speltNames w (take (i + 1) names))
+    → sets (sets l at (speltNames w (take i names))) (at + w * i) (spelt w (getD names i 0))
+    ≡ sets l at (speltNames w (take (i + 1) names))
 unfolding speltNames
 store-step w l names at i h =
     let k = length-speltNames w (take i names) in
     let n : length (take i names) ≡ i = length-take-le i names (omega arith) in
     let q : at + w * i ≡ at + length (speltNames w (take i names)) = rw (k, n) in
-    rw (add-one i, take-suc names i 0 h, speltNames-append, append-nil) (sets-append l (speltNames w (take i names)) (spelt w (getD names i 0)) at (at + w * i) q)
+    rw (add-one i, take-suc names i 0 h, speltNames-append, append-nil)
+    (sets-append l (speltNames w (take i names)) (spelt w (getD names i 0)) at (at + w * i) q)

@@ -1,4 +1,5 @@
--- What reading answers at every offset of every input (document 01, "Job sheets" and numbers 12 to 14). Assumes nothing.
+-- What reading answers at every offset of every input (document 01, "Job sheets" and numbers 12 to 14). Assumes
+-- nothing.
 use Prim.Native.Nat.{ℕ, zero, suc, _+_, _*_, _-_, _/_, _%_}
 use mathlib.Core.List.{List, [], _∷_, _++_}
 use mathlib.Core.Bool.{Bool, true, false, _&&_}
@@ -6,7 +7,8 @@ use lib.ListN.{length, getD, replicate}
 use lib.Seq.{sets}
 use lib.Dec.{ltb, leb, eqb}
 use Rattle.sheet_format.specs.Number.{numberAt}
-use Rattle.sheet_format.specs.Job.{Job, mostNames, mostClass, mostGrower, nameBytes, countBytes, classBytes, growerBytes}
+use Rattle.sheet_format.specs.Job.{Job, mostNames, mostClass, mostGrower, nameBytes, countBytes, classBytes}
+use Rattle.sheet_format.specs.Job.{growerBytes}
 use Rattle.sheet_format.specs.declared.Entry.{Entry}
 use Rattle.sheet_format.specs.declared.Field.{Field}
 use Rattle.sheet_format.specs.declared.Field.the-variants.{Got, Refused}
@@ -19,7 +21,8 @@ abbrev pub pick {ℓ} : {A : Type ℓ} → Bool → A → A → A
 pick true a b = a
 pick false a b = b
 
--- refusals: 12, the sheet ends inside an entry; 13, the map byte; 14, a field's value off its limits; 15, no room in the output
+-- refusals: 12, the sheet ends inside an entry; 13, the map byte; 14, a field's value off its limits; 15, no room in
+-- the output
 abbrev pub cut : ℕ
 cut = 12
 
@@ -45,14 +48,16 @@ nameAt w s at = pick (leb (at + w) (length s)) (Got (numberAt w s at) (at + w)) 
 unfoldable pub limitedAt : ℕ → ℕ → List ℕ → ℕ → Field
 limitedAt w most s at =
     pick (leb (at + w) (length s))
-    (pick (leb 1 (numberAt w s at) && leb (numberAt w s at) most) (Got (numberAt w s at) (at + w)) (Refused offLimits at))
+    (pick (leb 1 (numberAt w s at) && leb (numberAt w s at) most) (Got (numberAt w s at) (at + w))
+    (Refused offLimits at))
     (Refused cut at)
 
 abbrev pub then : Field → (ℕ → ℕ → Field) → Field
 then (Got v n) k = k v n
 then (Refused c a) k = Refused c a
 
--- a list: "a list's count is judged before its names are looked for"; a cut is at the field, which starts with the count
+-- a list: "a list's count is judged before its names are looked for"; a cut is at the field, which starts with the
+-- count
 unfoldable pub listAt : ℕ → List ℕ → ℕ → Field
 listAt w s at =
     then (limitedAt countBytes mostNames s at) λ count next.

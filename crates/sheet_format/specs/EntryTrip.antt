@@ -8,12 +8,15 @@ use lib.ListN.{length, drop, length-append}
 use lib.Dec.{ltb}
 use borrow.Author.Tests.{ltb-true, ltb-false, lt-ltb, le-ltb}
 use Rattle.sheet_format.specs.Number.{spelt}
-use Rattle.sheet_format.specs.Job.{Job, Valid, bitOf, speltUnlessZero, speltList, mapByte, encode, mostNames, mostClass, mostGrower, nameBytes, countBytes, classBytes, growerBytes}
-use Rattle.sheet_format.specs.Decode.{ifBit, mapAt, nameAt, limitedAt, listAt, namesAt, Decoded, job, end, refused, thenDecoded, decode}
+use Rattle.sheet_format.specs.Job.{Job, Valid, bitOf, speltUnlessZero, speltList, mapByte, encode, mostNames}
+use Rattle.sheet_format.specs.Job.{mostClass, mostGrower, nameBytes, countBytes, classBytes, growerBytes}
+use Rattle.sheet_format.specs.Decode.{ifBit, mapAt, nameAt, limitedAt, listAt, namesAt, Decoded, job, end}
+use Rattle.sheet_format.specs.Decode.{refused, thenDecoded, decode}
 use Rattle.sheet_format.specs.Write.{listBytes, listPlace}
 use Rattle.sheet_format.specs.Choice.{never, by-test}
 use Rattle.sheet_format.specs.NumberLaws.{Bytes, first, length-spelt, length-speltNames, length-namesAt}
-use Rattle.sheet_format.specs.FieldTrip.{map-there, name-there, list-there, limited-there, Stands, join, map-back, name-back, list-back, limited-back}
+use Rattle.sheet_format.specs.FieldTrip.{map-there, name-there, list-there, limited-there, Stands, join, map-back}
+use Rattle.sheet_format.specs.FieldTrip.{name-back, list-back, limited-back}
 use Rattle.sheet_format.specs.declared.Field.{Field}
 use Rattle.sheet_format.specs.declared.Field.the-variants.{Got, Refused}
 
@@ -24,7 +27,8 @@ bit≤1 zero = omega arith
 bit≤1 (suc v) = omega arith
 
 bits : (j : Job)
-    → (mapByte j / 2 % 2 ≡ bitOf (length (j .list))) × (mapByte j / 4 % 2 ≡ bitOf (j .class)) × (mapByte j / 8 % 2 ≡ bitOf (j .grower))
+    → (mapByte j / 2 % 2 ≡ bitOf (length (j .list))) × (mapByte j / 4 % 2 ≡ bitOf (j .class))
+    × (mapByte j / 8 % 2 ≡ bitOf (j .grower))
 unfolding mapByte
 bits j =
     let a = bit≤1 (length (j .list)) in
@@ -43,11 +47,13 @@ odd-below-16 j =
     let c = bit≤1 (j .grower) in
     (omega arith, omega arith)
 
-byte-of-bits : (j : Job) (m : ℕ) → m < 16 → m % 2 ≡ 1 → bitOf (length (j .list)) ≡ m / 2 % 2 → bitOf (j .class) ≡ m / 4 % 2
+byte-of-bits : (j : Job) (m : ℕ) → m < 16 → m % 2 ≡ 1 → bitOf (length (j .list)) ≡ m / 2 % 2
+    → bitOf (j .class) ≡ m / 4 % 2
     → bitOf (j .grower) ≡ m / 8 % 2 → mapByte j ≡ m
 unfolding mapByte
 byte-of-bits j m small odd list class grower =
-    sum (m / 2) (m / 4) (m / 8) (omega arith) (let q : m / 2 / 2 ≡ m / 4 = omega arith in omega arith) (let q : m / 4 / 2 ≡ m / 8 = omega arith in omega arith) (omega arith)
+    sum (m / 2) (m / 4) (m / 8) (omega arith) (let q : m / 2 / 2 ≡ m / 4 = omega arith in
+    omega arith) (let q : m / 4 / 2 ≡ m / 8 = omega arith in omega arith) (omega arith)
   where
     sum : (x y z : ℕ) → m ≡ 2 * x + 1 → x ≡ 2 * y + bitOf (length (j .list)) → y ≡ 2 * z + bitOf (j .class)
         → bitOf (j .grower) ≡ z → mapByte j ≡ m
@@ -66,7 +72,8 @@ length-list (x ∷ xs) =
     simp (length-append, length-spelt) (omega arith)
 
 pub length-encode : (j : Job)
-    → length (encode j) ≡ listPlace + listBytes (length (j .list)) + classBytes * bitOf (j .class) + growerBytes * bitOf (j .grower)
+    → length (encode j) ≡ listPlace + listBytes (length (j .list)) + classBytes * bitOf
+    (j .class) + growerBytes * bitOf (j .grower)
 unfolding encode
 length-encode j = simp (length-append, length-spelt, length-list, length-optional) (omega arith)
 
@@ -83,15 +90,34 @@ entry-there j s rest at v h =
     let o = odd-below-16 j in
     let opening = first s _ at _ h in
     let f₀ = map-there s _ at (mapByte j) (o .0) (o .1) h in
-    let t₀ : drop (at + 1) s ≡ spelt nameBytes (j .name) ++ (list ++ (class ++ (grower ++ rest))) = f₀ .left ∙ simp append-assoc in
-    let f₁ = name-there nameBytes (j .name) (at + 1) s (list ++ (class ++ (grower ++ rest))) (v .name) (f₀ .inside) t₀ in
+    let t₀ : drop (at + 1) s ≡ spelt nameBytes (j .name) ++ (list ++ (class ++ (grower ++ rest))) =
+    f₀ .left ∙ simp append-assoc in
+    let f₁ = name-there nameBytes (j .name) (at + 1) s (list ++ (class ++ (grower ++ rest))) (v .name)
+    (f₀ .inside) t₀ in
     let n₁ = at + 1 + length (spelt nameBytes (j .name)) in
-    let f₂ = list-there nameBytes n₁ (j .list) s (class ++ (grower ++ rest)) (v .names) (v .count) (f₁ .inside) (f₁ .left) in
+    let f₂ = list-there nameBytes n₁ (j .list) s (class ++ (grower ++ rest)) (v .names) (v .count) (f₁ .inside)
+    (f₁ .left) in
     let n₂ = n₁ + length list in
-    let f₃ = limited-there classBytes mostClass (j .class) n₂ s (grower ++ rest) (v .class) (omega arith) (f₂ .0 .inside) (f₂ .0 .left) in
-    let f₄ = limited-there growerBytes mostGrower (j .grower) (n₂ + length class) s rest (v .grower) (omega arith) (f₃ .inside) (f₃ .left) in
-    let q : n₂ + length class + length grower ≡ at + length (encode j) = simp length-append (omega arith) in
-    (simp (lt-ltb at (length s) (omega arith), f₀ .got, f₁ .got, m .0, f₂ .0 .got, m .1, f₃ .got, m .2, f₄ .got, f₂ .1, q), rw (← q) (f₄ .left))
+    let f₃ = limited-there classBytes mostClass (j .class) n₂ s (grower ++ rest) (v .class) (omega arith)
+    (f₂ .0 .inside) (f₂ .0 .left) in
+    let f₄ = limited-there growerBytes mostGrower (j .grower) (n₂ + length class) s rest (v .grower) (omega arith)
+    (f₃ .inside) (f₃ .left) in
+    let q : n₂ + length class + length grower ≡ at + length (encode j) = simp length-append (omega arith) in (
+      simp (
+        lt-ltb at (length s) (omega arith),
+        f₀ .got,
+        f₁ .got,
+        m .0,
+        f₂ .0 .got,
+        m .1,
+        f₃ .got,
+        m .2,
+        f₄ .got,
+        f₂ .1,
+        q,
+      ),
+      rw (← q) (f₄ .left),
+    )
 
 -- BACK
 
@@ -106,7 +132,12 @@ fields-back : (s : List ℕ) (at m n₀ name n₁ count n₂ class n₃ grower n
     → nameAt nameBytes s n₀ ≡ Got name n₁ → ifBit (m / 2 % 2) n₁ (listAt nameBytes s n₁) ≡ Got count n₂
     → ifBit (m / 4 % 2) n₂ (limitedAt classBytes mostClass s n₂) ≡ Got class n₃
     → ifBit (m / 8 % 2) n₃ (limitedAt growerBytes mostGrower s n₃) ≡ Got grower n₄
-    → EntryStands s at (record { name = name; list = namesAt nameBytes s (n₁ + countBytes) count; class = class; grower = grower }) n₄
+    → EntryStands s at (record {
+      name = name;
+      list = namesAt nameBytes s (n₁ + countBytes) count;
+      class = class;
+      grower = grower;
+    }) n₄
 unfolding encode
 fields-back s at m n₀ name n₁ count n₂ class n₃ grower n₄ inside e₀ e₁ e₂ e₃ e₄ =
     let d₀ = map-back s at m n₀ inside e₀ in
@@ -115,18 +146,31 @@ fields-back s at m n₀ name n₁ count n₂ class n₃ grower n₄ inside e₀ 
     let d₃ = limited-back classBytes mostClass s n₂ (m / 4 % 2) class n₃ (omega arith) (d₂ .2 .inside) e₃ in
     let d₄ = limited-back growerBytes mostGrower s n₃ (m / 8 % 2) grower n₄ (omega arith) (d₃ .2 .inside) e₄ in
     let k = length-namesAt nameBytes s (n₁ + countBytes) count in
-    let j : Job = record { name = name; list = namesAt nameBytes s (n₁ + countBytes) count; class = class; grower = grower } in
+    let j : Job = record {
+      name = name;
+      list = namesAt nameBytes s (n₁ + countBytes) count;
+      class = class;
+      grower = grower;
+    } in
     let y = byte-of-bits j m (d₀ .0) (d₀ .1) (rw k (d₂ .0)) (d₃ .0) (d₄ .0) in
-    let place : n₁ + countBytes ≡ at + listPlace + countBytes = omega (arith, d₀ .2 .ends, d₁ .1 .ends, length-spelt nameBytes name) in
+    let place : n₁ + countBytes ≡ at + listPlace + countBytes =
+    omega (arith, d₀ .2 .ends, d₁ .1 .ends, length-spelt nameBytes name) in
     let fields = join s _ _ n₀ n₁ n₄ (d₁ .1) (join s _ _ n₁ n₂ n₄ (d₂ .2) (join s _ _ n₂ n₃ n₄ (d₃ .2) (d₄ .2))) in
     record {
       stands = rw y (join s _ _ at n₀ n₄ (d₀ .2) fields);
       count = rw k (d₂ .1);
       list = rw (k, place);
-      valid = λ all. record { name = d₁ .0 all; names = d₂ .3 all; count = rw k (d₂ .1); class = d₃ .1; grower = d₄ .1 };
+      valid = λ all. record {
+        name = d₁ .0 all;
+        names = d₂ .3 all;
+        count = rw k (d₂ .1);
+        class = d₃ .1;
+        grower = d₄ .1;
+      };
     }
 
-same-job : (s : List ℕ) (at : ℕ) (j j′ : Job) (n n′ : ℕ) → job j n ≡ job j′ n′ → EntryStands s at j n → EntryStands s at j′ n′
+same-job : (s : List ℕ) (at : ℕ) (j j′ : Job) (n n′ : ℕ) → job j n ≡ job j′ n′ → EntryStands s at j n
+    → EntryStands s at j′ n′
 same-job s at j j′ n n′ h d =
     let e : j ≡ j′ = cc in
     let q : n ≡ n′ = cc in
@@ -155,7 +199,8 @@ cases s at d h past broken next =
 
 pub entry-stands : (s : List ℕ) (at : ℕ) (j : Job) (n : ℕ) → decode s at ≡ job j n → EntryStands s at j n
 entry-stands s at j n h =
-    cases s at (job j n) h (λ past e. never (cc)) (λ c a e. never (cc)) (λ j′ n′ stands e. same-job s at j′ j n′ n e stands)
+    cases s at (job j n) h (λ past e. never (cc)) (λ c a e. never (cc))
+    (λ j′ n′ stands e. same-job s at j′ j n′ n e stands)
 
 pub entry-back : (s : List ℕ) (at : ℕ) (j : Job) (n : ℕ) → Bytes s → decode s at ≡ job j n
     → Valid j × (drop at s ≡ encode j ++ drop n s) × (n ≡ at + length (encode j)) × (n ≤ length s)

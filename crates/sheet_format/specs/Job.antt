@@ -74,7 +74,8 @@ unfoldable pub encode : Job → List ℕ
 encode j =
     mapByte j
     ∷ (spelt nameBytes (j .name)
-    ++ (speltList nameBytes (j .list) ++ (speltUnlessZero classBytes (j .class) ++ speltUnlessZero growerBytes (j .grower))))
+    ++ (speltList nameBytes (j .list)
+    ++ (speltUnlessZero classBytes (j .class) ++ speltUnlessZero growerBytes (j .grower))))
 
 -- a sheet: "Entries follow each other with nothing between"
 unfoldable pub encodeSheet : List Job → List ℕ

@@ -2,7 +2,7 @@ pub mod Number
 pub mod Job
 pub mod Decode
 pub mod Write
-pub mod Cases
+pub mod SheetCases
 pub mod Choice
 pub mod NumberLaws
 pub mod FieldTrip
@@ -12,4 +12,4 @@ pub mod WriteTrip
 pub mod RewriteTrip
 pub mod Refusals
 pub mod CodeLaws
-pub mod Promises
+pub mod SheetPromises

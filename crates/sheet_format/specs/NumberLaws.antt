@@ -1,4 +1,5 @@
--- Numbers of several bytes, there and back, at every width: what is spelt is read, and what is read is spelt so and in no
+-- Numbers of several bytes, there and back, at every width: what is spelt is read, and what is read is spelt so and in
+-- no
 -- other way (document 01, "Job sheets"). Assumes nothing.
 use Prim.Native.Nat.{ℕ, zero, suc, _+_, _*_, _/_, _%_, _≤_, _<_, _^_}
 use mathlib.Core.Path.{_≡_, refl, sym, ap, _∙_}
@@ -45,9 +46,11 @@ pub record NumberRead (w : ℕ) (s : List ℕ) (at n : ℕ) (rest : List ℕ) : 
   pub left : drop (at + w) s ≡ rest
 
 -- THERE
-pub number-there : (w n at : ℕ) (s rest : List ℕ) → n < 256 ^ w → at ≤ length s → drop at s ≡ spelt w n ++ rest → NumberRead w s at n rest
+pub number-there : (w n at : ℕ) (s rest : List ℕ) → n < 256 ^ w → at ≤ length s → drop at s ≡ spelt w n ++ rest
+    → NumberRead w s at n rest
 unfolding numberAt spelt
-number-there zero n at s rest small inside h = record { value = omega arith; inside = omega arith; left = rw add-zero h }
+number-there zero n at s rest small inside h =
+    record { value = omega arith; inside = omega arith; left = rw add-zero h }
 number-there (suc w) n at s rest small inside h =
     let f = first s _ at _ h in
     let ih = number-there w _ (at + 1) s rest (omega arith) (f .inside) (f .left) in
@@ -95,7 +98,8 @@ pub record NamesRead (w : ℕ) (s : List ℕ) (at : ℕ) (xs rest : List ℕ) : 
   pub left : drop (at + w * length xs) s ≡ rest
 
 -- THERE
-pub names-there : (w at : ℕ) (xs s rest : List ℕ) → Below (256 ^ w) xs → at ≤ length s → drop at s ≡ speltNames w xs ++ rest
+pub names-there : (w at : ℕ) (xs s rest : List ℕ) → Below (256 ^ w) xs → at ≤ length s
+    → drop at s ≡ speltNames w xs ++ rest
     → NamesRead w s at xs rest
 unfolding namesAt speltNames
 names-there w at [] s rest none inside h =
@@ -125,4 +129,7 @@ names-back w at (suc n) s b inside =
     let ih = names-back w (at + w) n s b (omega arith) in
     let q : at + w * suc n ≡ at + w + w * n = omega arith in
     let e = ih .bytes in
-    record { bytes = rw (q, append-assoc) (f .bytes ∙ ap (λ (t : List ℕ). spelt w (numberAt w s at) ++ t) e); small = more (f .small) (ih .small) }
+    record {
+      bytes = rw (q, append-assoc) (f .bytes ∙ ap (λ (t : List ℕ). spelt w (numberAt w s at) ++ t) e);
+      small = more (f .small) (ih .small);
+    }

@@ -1,4 +1,5 @@
--- A refusal changes nothing: the output of a refused writing and the rows of a refused reading are as they were (document 01,
+-- A refusal changes nothing: the output of a refused writing and the rows of a refused reading are as they were
+-- (document 01,
 -- "Turned-away calls", numbers 1 and 12 to 15). Assumes nothing.
 use Prim.Native.Nat.{ℕ, _+_, _*_, _%_}
 use mathlib.Core.Path.{_≡_, refl}
@@ -7,7 +8,8 @@ use lib.ListN.{length}
 use lib.Dec.{leb, eqb}
 use Rattle.sheet_format.specs.Job.{Job, encode, encodeSheet}
 use Rattle.sheet_format.specs.Decode.{Sheet, jobs, broken, rowWords, SheetRows, readSheet}
-use Rattle.sheet_format.specs.Write.{jobOf, Fault, faultOf, Written, writeJudged, writeEntry, entriesOf, SheetFault, sheetFault, SheetWritten, writeSheetJudged, writeSheet}
+use Rattle.sheet_format.specs.Write.{jobOf, Fault, faultOf, Written, writeJudged, writeEntry, entriesOf}
+use Rattle.sheet_format.specs.Write.{SheetFault, sheetFault, SheetWritten, writeSheetJudged, writeSheet}
 use Rattle.sheet_format.specs.Choice.{never, picked}
 use Rattle.sheet_format.specs.declared.Entry.{Entry}
 use Rattle.sheet_format.specs.declared.Wrote.{Wrote}
@@ -24,7 +26,8 @@ entry-refused e out start c a h = by-fault (faultOf e) h
 
     by-fault : (f : Fault) → Kept (writeJudged f (jobOf e) out start)
     by-fault (Fault.at place) = λ h′. refl
-    by-fault Fault.none = picked Kept (leb (start + length (encode (jobOf e))) (length out)) _ _ (λ h′. never (cc)) (λ h′. refl)
+    by-fault Fault.none = picked Kept (leb (start + length (encode (jobOf e))) (length out)) _ _ (λ h′. never (cc))
+        (λ h′. refl)
 
 pub sheet-refused : (rows out : List ℕ) (c i a : ℕ) → writeSheet rows out .answer ≡ SheetWrote.Refused c i a
     → writeSheet rows out .out ≡ out
@@ -40,12 +43,14 @@ sheet-refused rows out c i a h =
 
     by-fault : (f : SheetFault) → Kept (writeSheetJudged f js out)
     by-fault (SheetFault.at k place) = λ h′. refl
-    by-fault SheetFault.none = picked Kept (leb (length (encodeSheet js)) (length out)) _ _ (λ h′. never (cc)) (λ h′. refl)
+    by-fault SheetFault.none = picked Kept (leb (length (encodeSheet js)) (length out)) _ _ (λ h′. never (cc))
+        (λ h′. refl)
 
 pub rows-refused : (sheet : Sheet) (rows : List ℕ) (c a : ℕ) → readSheet sheet rows .answer ≡ SheetRead.Refused c a
     → readSheet sheet rows .rows ≡ rows
 rows-refused (broken n at) rows c a h = refl
-rows-refused (jobs js) rows c a h = picked Kept (leb (rowWords * length js) (length rows)) _ _ (λ h′. never (cc)) (λ h′. refl) h
+rows-refused (jobs js) rows c a h =
+    picked Kept (leb (rowWords * length js) (length rows)) _ _ (λ h′. never (cc)) (λ h′. refl) h
   where
     Kept : SheetRows → Type 0
     Kept r = r .answer ≡ SheetRead.Refused c a → r .rows ≡ rows

@@ -1,4 +1,5 @@
--- What was read, written again, is the same bytes: "one accepted sheet has one spelling" (demand 2), of one entry and of
+-- What was read, written again, is the same bytes: "one accepted sheet has one spelling" (demand 2), of one entry and
+-- of
 -- whole sheets through the rows that hold them. Assumes nothing.
 use Prim.Native.Nat.{ℕ, _+_, _*_, _-_, _/_, _%_, _≤_}
 use mathlib.Core.Path.{_≡_, refl, sym, ap, _∙_}
@@ -11,8 +12,10 @@ use lib.Seq.{sets, take-at, drop-at, take-all, drop-drop, getD-drop, length-sets
 use lib.Dec.{eqb}
 use borrow.Author.Tests.{le-leb, eq-eqb}
 use Rattle.sheet_format.specs.Job.{Job, Valid, encode, encodeSheet, mostNames}
-use Rattle.sheet_format.specs.Decode.{job, decode, jobs, decodeSheet, padded, entryOf, rowOf, rowsOf, rowWords, readSheet}
-use Rattle.sheet_format.specs.Write.{jobOf, Fault, faultOf, written, writeEntry, entryAt, entriesFrom, entriesOf, SheetFault, sheetFault, sheetWritten, writeSheet}
+use Rattle.sheet_format.specs.Decode.{job, decode, jobs, decodeSheet, padded, entryOf, rowOf, rowsOf, rowWords}
+use Rattle.sheet_format.specs.Decode.{readSheet}
+use Rattle.sheet_format.specs.Write.{jobOf, Fault, faultOf, written, writeEntry, entryAt, entriesFrom, entriesOf}
+use Rattle.sheet_format.specs.Write.{SheetFault, sheetFault, sheetWritten, writeSheet}
 use Rattle.sheet_format.specs.NumberLaws.{Bytes}
 use Rattle.sheet_format.specs.EntryTrip.{entry-stands}
 use Rattle.sheet_format.specs.SheetTrip.{Each, sheet-back}
@@ -32,15 +35,24 @@ job-entry j = rw (take-at (j .list) (replicate (mostNames - length (j .list)) 0)
 pub entry-faultless : (j : Job) → Valid j → faultOf (entryOf j) ≡ Fault.none
 entry-faultless j v = faultless (entryOf j) (record { count = v .count; class = v .class; grower = v .grower })
 
-pub entry-rewritten : (s : List ℕ) (at : ℕ) (j : Job) (n : ℕ) (out : List ℕ) (start : ℕ) → Bytes s → decode s at ≡ job j n
+pub entry-rewritten : (s : List ℕ) (at : ℕ) (j : Job) (n : ℕ) (out : List ℕ) (start : ℕ) → Bytes s
+    → decode s at ≡ job j n
     → start + (n - at) ≤ length out
-    → writeEntry (entryOf j) out start ≡ written (Wrote.Done (start + (n - at))) (sets out start (take (n - at) (drop at s)))
+    → writeEntry (entryOf j) out start
+    ≡ written (Wrote.Done (start + (n - at))) (sets out start (take (n - at) (drop at s)))
 unfolding writeEntry
 entry-rewritten s at j n out start all h room =
     let d = entry-stands s at j n h in
     let k : n - at ≡ length (encode j) = omega (arith, d .stands .ends) in
     let enough : start + length (encode j) ≤ length out = omega arith in
-    rw (entry-faultless j (d .valid all), job-entry j, k, d .stands .bytes all, take-at (encode j) (drop n s) (length (encode j)) refl, le-leb _ _ enough)
+    rw (
+      entry-faultless j (d .valid all),
+      job-entry j,
+      k,
+      d .stands .bytes all,
+      take-at (encode j) (drop n s) (length (encode j)) refl,
+      le-leb _ _ enough,
+    )
 
 -- A SHEET
 
@@ -64,11 +76,14 @@ length-rowsOf (j ∷ js) (Each.more h hs) =
     omega (arith, length-append (rowOf j) (rowsOf js))
 
 -- the rows of jobs hold the entries of those jobs
-row-there : (j : Job) (rows rest : List ℕ) (i : ℕ) → Short j → drop (rowWords * i) rows ≡ rowOf j ++ rest → entryAt rows i ≡ entryOf j
+row-there : (j : Job) (rows rest : List ℕ) (i : ℕ) → Short j → drop (rowWords * i) rows ≡ rowOf j ++ rest
+    → entryAt rows i ≡ entryOf j
 row-there j rows rest i short h =
-    let word : (k : ℕ) → getD rows (rowWords * i + k) 0 ≡ getD (rowOf j ++ rest) k 0 = λ k. sym (getD-drop (rowWords * i) rows k 0) ∙ ap (λ (l : List ℕ). getD l k 0) h in
+    let word : (k : ℕ) → getD rows (rowWords * i + k) 0 ≡ getD (rowOf j ++ rest) k 0 =
+    λ k. sym (getD-drop (rowWords * i) rows k 0) ∙ ap (λ (l : List ℕ). getD l k 0) h in
     let first : getD rows (rowWords * i) 0 ≡ j .name = rw add-zero at (word 0) in
-    let names : drop (rowWords * i + 4) rows ≡ padded (j .list) ++ rest = sym (drop-drop 4 (rowWords * i) rows) ∙ ap (λ (l : List ℕ). drop 4 l) h in
+    let names : drop (rowWords * i + 4) rows ≡ padded (j .list) ++ rest =
+    sym (drop-drop 4 (rowWords * i) rows) ∙ ap (λ (l : List ℕ). drop 4 l) h in
     rw (first, word 1, word 2, word 3, names, take-at (padded (j .list)) rest mostNames (length-padded (j .list) short))
 
 pub rows-there : (js : List Job) (rows : List ℕ) (i : ℕ) → Each Short js → drop (rowWords * i) rows ≡ rowsOf js
@@ -78,7 +93,8 @@ rows-there [] rows i short h = refl
 rows-there (j ∷ js) rows i (Each.more short shorts) h =
     let q : rowWords * (i + 1) ≡ rowWords * i + rowWords = omega arith in
     let rest : drop (rowWords * (i + 1)) rows ≡ rowsOf js =
-    rw q (sym (drop-drop rowWords (rowWords * i) rows) ∙ ap (λ (l : List ℕ). drop rowWords l) h ∙ drop-at (rowOf j) (rowsOf js) rowWords (length-rowOf j short)) in
+    rw q (sym (drop-drop rowWords (rowWords * i) rows) ∙ ap (λ (l : List ℕ). drop rowWords l) h
+    ∙ drop-at (rowOf j) (rowsOf js) rowWords (length-rowOf j short)) in
     rw (row-there j rows (rowsOf js) i short h, rows-there js rows (i + 1) shorts rest)
 
 jobs-entries : (js : List Job) → map jobOf (map entryOf js) ≡ js
@@ -91,7 +107,8 @@ no-faults [] i valid = refl
 no-faults (j ∷ js) i (Each.more v vs) = rw (entry-faultless j v, no-faults js (i + 1) vs)
 
 rows-rewritten : (js : List Job) (out : List ℕ) → Each Valid js → length (encodeSheet js) ≤ length out
-    → writeSheet (rowsOf js) out ≡ sheetWritten (SheetWrote.Done (length js) (length (encodeSheet js))) (sets out 0 (encodeSheet js))
+    → writeSheet (rowsOf js) out ≡ sheetWritten (SheetWrote.Done (length js) (length (encodeSheet js)))
+    (sets out 0 (encodeSheet js))
 unfolding writeSheet
 rows-rewritten js out valid room =
     let short = valid-short js valid in
@@ -104,20 +121,23 @@ rows-rewritten js out valid room =
 -- the rows that a sheet's jobs filled, written again, are the sheet
 pub sheet-rewritten : (s : List ℕ) (js : List Job) (rows out : List ℕ) → Bytes s → decodeSheet s ≡ jobs js
     → rowWords * length js ≤ length rows → length s ≤ length out
-    → writeSheet (take (rowWords * length js) (readSheet (decodeSheet s) rows .rows)) out ≡ sheetWritten (SheetWrote.Done (length js) (length s)) (sets out 0 s)
+    → writeSheet (take (rowWords * length js) (readSheet (decodeSheet s) rows .rows)) out
+    ≡ sheetWritten (SheetWrote.Done (length js) (length s)) (sets out 0 s)
 sheet-rewritten s js rows out all h fits room =
     let d = sheet-back s js all h in
     let k = length-rowsOf js (valid-short js (d .1)) in
     let e = d .0 in
     let enough : length (rowsOf js) ≤ length rows = omega arith in
-    let front : take (rowWords * length js) (sets rows 0 (rowsOf js)) ≡ rowsOf js = rw (← k) (sets-front (rowsOf js) rows enough) in
+    let front : take (rowWords * length js) (sets rows 0 (rowsOf js)) ≡ rowsOf js =
+    rw (← k) (sets-front (rowsOf js) rows enough) in
     let again = rows-rewritten js out (d .1) (rw e room) in
     rw (h, le-leb _ _ fits, front) (rw e at again)
 
 -- the same where the rows fit exactly
 pub sheet-rewritten-exactly : (s : List ℕ) (js : List Job) (rows out : List ℕ) → Bytes s → decodeSheet s ≡ jobs js
     → rowWords * length js ≡ length rows → length s ≤ length out
-    → writeSheet (readSheet (decodeSheet s) rows .rows) out ≡ sheetWritten (SheetWrote.Done (length js) (length s)) (sets out 0 s)
+    → writeSheet (readSheet (decodeSheet s) rows .rows) out
+    ≡ sheetWritten (SheetWrote.Done (length js) (length s)) (sets out 0 s)
 sheet-rewritten-exactly s js rows out all h fits room =
     let w = sheet-rewritten s js rows out all h (omega arith) room in
     let l = length-sets rows 0 (rowsOf js) in

@@ -6,7 +6,8 @@ use mathlib.Core.List.{List, [], _∷_, _++_}
 use native.Mathlib.Omega.{arith}
 use lib.ListN.{length, drop, length-append, length-drop, drop-of-length-le}
 use Rattle.sheet_format.specs.Job.{Job, Valid, encode, encodeSheet}
-use Rattle.sheet_format.specs.Decode.{Decoded, job, end, refused, decode, Sheet, jobs, broken, before, onward, decodeFrom, decodeSheet}
+use Rattle.sheet_format.specs.Decode.{Decoded, job, end, refused, decode, Sheet, jobs, broken, before, onward}
+use Rattle.sheet_format.specs.Decode.{decodeFrom, decodeSheet}
 use Rattle.sheet_format.specs.Choice.{never}
 use Rattle.sheet_format.specs.NumberLaws.{Bytes}
 use Rattle.sheet_format.specs.EntryTrip.{length-encode, entry-there, entry-stands, end-there, end-back}
@@ -34,14 +35,16 @@ from-there [] (suc k) s at none enough inside h = rw (end-there s at (omega (ari
 from-there (j ∷ js) zero s at valid enough inside h = absurd (omega arith)
 from-there (j ∷ js) (suc k) s at (more v vs) enough inside h =
     let t = entry-there j s (encodeSheet js) at v h in
-    let within : at + length (encode j) ≤ length s = omega (arith, length-drop at s, ap length h, length-append (encode j) (encodeSheet js)) in
+    let within : at + length (encode j) ≤ length s =
+    omega (arith, length-drop at s, ap length h, length-append (encode j) (encodeSheet js)) in
     let ih = from-there js k s (at + length (encode j)) vs (omega arith) within (t .1) in
     rw (t .0, ih)
 
 -- what is written is read
 pub sheet-there : (js : List Job) → Each Valid js → decodeSheet (encodeSheet js) ≡ jobs js
 unfolding decodeSheet
-sheet-there js valid = from-there js (length (encodeSheet js)) (encodeSheet js) 0 valid (length-encodeSheet js) (omega arith) refl
+sheet-there js valid = from-there js (length (encodeSheet js)) (encodeSheet js) 0 valid (length-encodeSheet js)
+    (omega arith) refl
 
 -- BACK
 
@@ -60,7 +63,8 @@ from-back zero s at js all enough h =
 from-back (suc k) s at js all enough h = by-entry (decode s at) refl h (from-back k s)
   where
     by-entry : (d : Decoded) → decode s at ≡ d → onward d (decodeFrom k s) ≡ jobs js
-        → ((n : ℕ) (ks : List Job) → Bytes s → length s ≤ n + k → decodeFrom k s n ≡ jobs ks → (drop n s ≡ encodeSheet ks) × Each Valid ks)
+        → ((n : ℕ) (ks : List Job) → Bytes s → length s ≤ n + k → decodeFrom k s n ≡ jobs ks
+        → (drop n s ≡ encodeSheet ks) × Each Valid ks)
         → (drop at s ≡ encodeSheet js) × Each Valid js
     by-entry (job j n) e h′ ih =
         after-entry j (decodeFrom k s n) js h′ λ ks rest same.
@@ -81,5 +85,6 @@ sheet-back s js all h =
     (sym (d .0), d .1)
 
 -- two accepted sheets with the same jobs are the same bytes
-pub one-spelling : (s t : List ℕ) (js : List Job) → Bytes s → Bytes t → decodeSheet s ≡ jobs js → decodeSheet t ≡ jobs js → s ≡ t
+pub one-spelling : (s t : List ℕ) (js : List Job) → Bytes s → Bytes t → decodeSheet s ≡ jobs js
+    → decodeSheet t ≡ jobs js → s ≡ t
 one-spelling s t js all-s all-t p q = sym (sheet-back s js all-s p .0) ∙ sheet-back t js all-t q .0

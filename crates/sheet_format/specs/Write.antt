@@ -1,10 +1,12 @@
--- What writing answers and leaves in the output, for every entry and every output (document 01, numbers 14 and 15). Assumes nothing.
+-- What writing answers and leaves in the output, for every entry and every output (document 01, numbers 14 and 15).
+-- Assumes nothing.
 use Prim.Native.Nat.{ℕ, zero, suc, _+_, _*_, _/_, _%_}
 use mathlib.Core.List.{List, [], _∷_, map}
 use lib.ListN.{length, getD, take, drop}
 use lib.Seq.{sets}
 use lib.Dec.{leb, eqb}
-use Rattle.sheet_format.specs.Job.{Job, bitOf, mostNames, mostClass, mostGrower, nameBytes, countBytes, classBytes, encode, encodeSheet}
+use Rattle.sheet_format.specs.Job.{Job, bitOf, mostNames, mostClass, mostGrower, nameBytes, countBytes}
+use Rattle.sheet_format.specs.Job.{classBytes, encode, encodeSheet}
 use Rattle.sheet_format.specs.Decode.{pick, offLimits, noRoom, rowWords}
 use Rattle.sheet_format.specs.declared.Entry.{Entry}
 use Rattle.sheet_format.specs.declared.Wrote.{Wrote}
@@ -65,7 +67,13 @@ writeEntry e out start = writeJudged (faultOf e) (jobOf e) out start
 -- the entry in row i
 abbrev pub entryAt : List ℕ → ℕ → Entry
 entryAt rows i =
-    record { name = getD rows (rowWords * i) 0; count = getD rows (rowWords * i + 1) 0; class = getD rows (rowWords * i + 2) 0; grower = getD rows (rowWords * i + 3) 0; names = take mostNames (drop (rowWords * i + 4) rows) }
+    record {
+      name = getD rows (rowWords * i) 0;
+      count = getD rows (rowWords * i + 1) 0;
+      class = getD rows (rowWords * i + 2) 0;
+      grower = getD rows (rowWords * i + 3) 0;
+      names = take mostNames (drop (rowWords * i + 4) rows);
+    }
 
 -- n entries from row i on
 unfoldable pub entriesFrom : List ℕ → ℕ → ℕ → List Entry

@@ -9,9 +9,12 @@ use lib.ListN.{length, getD, take, drop, replicate, length-drop}
 use lib.Seq.{sets, sets-eq, drop-at, take-at, length-take-le}
 use lib.Dec.{leb, eqb}
 use borrow.Author.Tests.{leb-true, le-leb}
-use Rattle.sheet_format.specs.Job.{Job, Below, none, more, Valid, encode, encodeSheet, mostNames, mostClass, mostGrower}
+use Rattle.sheet_format.specs.Job.{Job, Below, none, more, Valid, encode, encodeSheet, mostNames, mostClass}
+use Rattle.sheet_format.specs.Job.{mostGrower}
 use Rattle.sheet_format.specs.Decode.{pick, job, jobs, decode, decodeSheet, readingOf, rowWords}
-use Rattle.sheet_format.specs.Write.{jobOf, Fault, faultOf, Written, writeJudged, writeEntry, entryAt, entriesFrom, entriesOf, SheetFault, orElse, sheetFault, SheetWritten, writeSheetJudged, writeSheet}
+use Rattle.sheet_format.specs.Write.{jobOf, Fault, faultOf, Written, writeJudged, writeEntry, entryAt}
+use Rattle.sheet_format.specs.Write.{entriesFrom, entriesOf, SheetFault, orElse, sheetFault, SheetWritten}
+use Rattle.sheet_format.specs.Write.{writeSheetJudged, writeSheet}
 use Rattle.sheet_format.specs.Choice.{never, held}
 use Rattle.sheet_format.specs.EntryTrip.{entry-there}
 use Rattle.sheet_format.specs.SheetTrip.{Each, sheet-there}
@@ -51,9 +54,16 @@ pub record Words (e : Entry) : Type 0 where
 -- the entry with the names past its count put to 0
 abbrev pub cleared : Entry → Entry
 cleared e =
-    record { name = e .name; count = e .count; class = e .class; grower = e .grower; names = take (e .count) (e .names) ++ replicate (mostNames - e .count) 0 }
+    record {
+      name = e .name;
+      count = e .count;
+      class = e .class;
+      grower = e .grower;
+      names = take (e .count) (e .names) ++ replicate (mostNames - e .count) 0;
+    }
 
-unfaulted : (test : Bool) (rest : Fault) (place : ℕ) → pick test rest (Fault.at place) ≡ Fault.none → (test ≡ true) × (rest ≡ Fault.none)
+unfaulted : (test : Bool) (rest : Fault) (place : ℕ) → pick test rest (Fault.at place) ≡ Fault.none
+    → (test ≡ true) × (rest ≡ Fault.none)
 unfaulted test rest place h = held (λ (f : Fault). f) Fault.none test rest (Fault.at place) (λ other. never (cc)) h
 
 -- an entry without a fault keeps the limits
@@ -80,7 +90,13 @@ length-list e w l = length-take-le (e .count) (e .names) (omega arith)
 pub valid-of : (e : Entry) → Words e → Limits e → Valid (jobOf e)
 valid-of e w l =
     let k = length-list e w l in
-    record { name = w .name; names = below-take _ (e .count) (e .names) (w .names); count = rw k (l .count); class = l .class; grower = l .grower }
+    record {
+      name = w .name;
+      names = below-take _ (e .count) (e .names) (w .names);
+      count = rw k (l .count);
+      class = l .class;
+      grower = l .grower;
+    }
 
 -- what was written in the output is read there
 pub written-there : (j : Job) (out : List ℕ) (start : ℕ) → Valid j → start + length (encode j) ≤ length out
@@ -88,7 +104,8 @@ pub written-there : (j : Job) (out : List ℕ) (start : ℕ) → Valid j → sta
 written-there j out start v room =
     let rest = drop (start + length (encode j)) out in
     let t : length (take start out) ≡ start = length-take-le start out (omega arith) in
-    let d : drop start (take start out ++ (encode j ++ rest)) ≡ encode j ++ rest = drop-at (take start out) (encode j ++ rest) start t in
+    let d : drop start (take start out ++ (encode j ++ rest)) ≡ encode j ++ rest =
+    drop-at (take start out) (encode j ++ rest) start t in
     entry-there j (sets out start (encode j)) rest start v (rw (sets-eq (encode j) out start room, append-assoc) d) .0
 
 -- what a done writing tells
@@ -102,11 +119,13 @@ judged : (f : Fault) (j : Job) (out : List ℕ) (start n : ℕ) → writeJudged 
     → (f ≡ Fault.none) × (leb (start + length (encode j)) (length out) ≡ true) × (n ≡ start + length (encode j))
 judged (Fault.at place) j out start n h = never (cc)
 judged Fault.none j out start n h =
-    let p = held (λ (w : Written). w .answer) (Wrote.Done n) (leb (start + length (encode j)) (length out)) _ _ (λ other. never (cc)) h in
+    let p = held (λ (w : Written). w .answer) (Wrote.Done n) (leb (start + length (encode j)) (length out)) _ _
+    (λ other. never (cc)) h in
     let x = p .1 in
     (refl, p .0, cc)
 
-pub entry-done : (e : Entry) (out : List ℕ) (start n : ℕ) → writeEntry e out start .answer ≡ Wrote.Done n → EntryDone e out start n
+pub entry-done : (e : Entry) (out : List ℕ) (start n : ℕ) → writeEntry e out start .answer ≡ Wrote.Done n
+    → EntryDone e out start n
 unfolding writeEntry
 entry-done e out start n h =
     let d = judged (faultOf e) (jobOf e) out start n h in
@@ -135,19 +154,24 @@ entry-words rows i b whole =
       class = below-getD _ (rowWords * i + 2) rows (omega arith) b;
       grower = below-getD _ (rowWords * i + 3) rows (omega arith) b;
       names = below-take _ mostNames _ (below-drop _ (rowWords * i + 4) rows b);
-      size = length-take-le mostNames (drop (rowWords * i + 4) rows) (omega (arith, length-drop (rowWords * i + 4) rows));
+      size = length-take-le mostNames (drop (rowWords * i + 4) rows)
+          (omega (arith, length-drop (rowWords * i + 4) rows));
     }
 
-pub rows-words : (rows : List ℕ) (i n : ℕ) → Below (2 ^ 32) rows → rowWords * (i + n) ≤ length rows → Each Words (entriesFrom rows i n)
+pub rows-words : (rows : List ℕ) (i n : ℕ) → Below (2 ^ 32) rows → rowWords * (i + n) ≤ length rows
+    → Each Words (entriesFrom rows i n)
 unfolding entriesFrom
 rows-words rows i zero b whole = Each.none
-rows-words rows i (suc n) b whole = Each.more (entry-words rows i b (omega arith)) (rows-words rows (i + 1) n b (omega arith))
+rows-words rows i (suc n) b whole =
+    Each.more (entry-words rows i b (omega arith)) (rows-words rows (i + 1) n b (omega arith))
 
-no-fault : (i : ℕ) (f : Fault) (rest : SheetFault) → orElse i f rest ≡ SheetFault.none → (f ≡ Fault.none) × (rest ≡ SheetFault.none)
+no-fault : (i : ℕ) (f : Fault) (rest : SheetFault) → orElse i f rest ≡ SheetFault.none
+    → (f ≡ Fault.none) × (rest ≡ SheetFault.none)
 no-fault i Fault.none rest h = (refl, h)
 no-fault i (Fault.at place) rest h = never (cc)
 
-pub valid-jobs : (i : ℕ) (es : List Entry) → Each Words es → sheetFault i es ≡ SheetFault.none → Each Valid (map jobOf es)
+pub valid-jobs : (i : ℕ) (es : List Entry) → Each Words es → sheetFault i es ≡ SheetFault.none
+    → Each Valid (map jobOf es)
 unfolding sheetFault
 valid-jobs i [] words h = Each.none
 valid-jobs i (e ∷ es) (Each.more w ws) h =
@@ -170,21 +194,26 @@ sheet-judged : (f : SheetFault) (js : List Job) (out : List ℕ) (k n : ℕ)
     → (f ≡ SheetFault.none) × (leb (length (encodeSheet js)) (length out) ≡ true) × (n ≡ length (encodeSheet js))
 sheet-judged (SheetFault.at i place) js out k n h = never (cc)
 sheet-judged SheetFault.none js out k n h =
-    let p = held (λ (w : SheetWritten). w .answer) (SheetWrote.Done k n) (leb (length (encodeSheet js)) (length out)) _ _ (λ other. never (cc)) h in
+    let p = held (λ (w : SheetWritten). w .answer) (SheetWrote.Done k n)
+    (leb (length (encodeSheet js)) (length out)) _ _ (λ other. never (cc)) h in
     let x = p .1 in
     (refl, p .0, cc)
 
-pub sheet-done : (rows out : List ℕ) (k n : ℕ) → writeSheet rows out .answer ≡ SheetWrote.Done k n → SheetDone rows out n
+pub sheet-done : (rows out : List ℕ) (k n : ℕ) → writeSheet rows out .answer ≡ SheetWrote.Done k n
+    → SheetDone rows out n
 unfolding writeSheet
 sheet-done rows out k n h =
-    let p = held (λ (w : SheetWritten). w .answer) (SheetWrote.Done k n) (eqb (length rows % rowWords) 0) _ _ (λ other. never (cc)) h in
+    let p = held (λ (w : SheetWritten). w .answer) (SheetWrote.Done k n) (eqb (length rows % rowWords) 0) _ _
+    (λ other. never (cc)) h in
     let d = sheet-judged (sheetFault 0 (entriesOf rows)) (map jobOf (entriesOf rows)) out k n (p .1) in
     record { fault = d .0; room = leb-true _ _ (d .1); ends = d .2; left = rw (p .0, d .0, d .1) }
 
-pub sheet-written : (rows out : List ℕ) (k n : ℕ) → Below (2 ^ 32) rows → writeSheet rows out .answer ≡ SheetWrote.Done k n
+pub sheet-written : (rows out : List ℕ) (k n : ℕ) → Below (2 ^ 32) rows
+    → writeSheet rows out .answer ≡ SheetWrote.Done k n
     → decodeSheet (take n (writeSheet rows out .out)) ≡ jobs (map jobOf (entriesOf rows))
 sheet-written rows out k n b h =
     let d = sheet-done rows out k n h in
     let words = rows-words rows 0 (length rows / rowWords) b (omega arith) in
     let front = sets-front (encodeSheet (map jobOf (entriesOf rows))) out (d .room) in
-    rw (d .left, d .ends, front) (sheet-there (map jobOf (entriesOf rows)) (valid-jobs 0 (entriesOf rows) words (d .fault)))
+    rw (d .left, d .ends, front) (sheet-there (map jobOf (entriesOf rows))
+    (valid-jobs 0 (entriesOf rows) words (d .fault)))

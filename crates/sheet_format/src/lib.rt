@@ -1,6 +1,7 @@
 // The types of the job sheet's reader and writer. What they mean, and the theorems about sheets, stand in specs/.
 
-// An entry of a sheet: a job as a grower writes it. Names past the count are 0 in an entry that was read and ignored on writing.
+// An entry of a sheet: a job as a grower writes it. Names past the count are 0 in an entry that was read and ignored on
+// writing.
 #[repr(C)]
 pub struct Entry {
     pub name: u32,

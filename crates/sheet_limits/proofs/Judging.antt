@@ -23,11 +23,13 @@ module _ (e : Entry) where
       go (Fault.at p) h = cc
       go Fault.none h = cc
 
-  pub takes : (bytes : ℕ) → judged e ≡ Judged.Takes bytes → (faultOf e ≡ Fault.none) × (length (encode (jobOf e)) ≡ bytes)
+  pub takes : (bytes : ℕ) → judged e ≡ Judged.Takes bytes
+      → (faultOf e ≡ Fault.none) × (length (encode (jobOf e)) ≡ bytes)
   unfolding judged
   takes bytes h = go (faultOf e) h
     where
-      go : (f : Fault) → judgedBy f (length (encode (jobOf e))) ≡ Judged.Takes bytes → (f ≡ Fault.none) × (length (encode (jobOf e)) ≡ bytes)
+      go : (f : Fault) → judgedBy f (length (encode (jobOf e))) ≡ Judged.Takes bytes
+          → (f ≡ Fault.none) × (length (encode (jobOf e)) ≡ bytes)
       go (Fault.at p) h = (cc, cc)
       go Fault.none h = (refl, cc)
 
@@ -41,18 +43,22 @@ module _ (e : Entry) where
       go false f h = cc
 
 module _ (es : List Entry) where
-  pub sheet-refused : (i place : ℕ) → sheetJudged es ≡ SheetJudged.Refused i place → sheetFault 0 es ≡ SheetFault.at i place
+  pub sheet-refused : (i place : ℕ) → sheetJudged es ≡ SheetJudged.Refused i place
+      → sheetFault 0 es ≡ SheetFault.at i place
   unfolding sheetJudged
   sheet-refused i place h = go (sheetFault 0 es) h
     where
-      go : (f : SheetFault) → sheetJudgedBy f (length (encodeSheet (map jobOf es))) ≡ SheetJudged.Refused i place → f ≡ SheetFault.at i place
+      go : (f : SheetFault) → sheetJudgedBy f (length (encodeSheet (map jobOf es))) ≡ SheetJudged.Refused i place
+          → f ≡ SheetFault.at i place
       go (SheetFault.at j p) h = cc
       go SheetFault.none h = cc
 
-  pub sheet-takes : (bytes : ℕ) → sheetJudged es ≡ SheetJudged.Takes bytes → (sheetFault 0 es ≡ SheetFault.none) × (length (encodeSheet (map jobOf es)) ≡ bytes)
+  pub sheet-takes : (bytes : ℕ) → sheetJudged es ≡ SheetJudged.Takes bytes
+      → (sheetFault 0 es ≡ SheetFault.none) × (length (encodeSheet (map jobOf es)) ≡ bytes)
   unfolding sheetJudged
   sheet-takes bytes h = go (sheetFault 0 es) h
     where
-      go : (f : SheetFault) → sheetJudgedBy f (length (encodeSheet (map jobOf es))) ≡ SheetJudged.Takes bytes → (f ≡ SheetFault.none) × (length (encodeSheet (map jobOf es)) ≡ bytes)
+      go : (f : SheetFault) → sheetJudgedBy f (length (encodeSheet (map jobOf es))) ≡ SheetJudged.Takes bytes
+          → (f ≡ SheetFault.none) × (length (encodeSheet (map jobOf es)) ≡ bytes)
       go (SheetFault.at j p) h = (cc, cc)
       go SheetFault.none h = (refl, cc)

@@ -7,7 +7,8 @@ use lib.ListN.{length, getD, drop, length-append, length-drop}
 use lib.Seq.{length-take-le, take-take}
 use Rattle.sheet_format.specs.Job.{bitOf, mostNames, nameBytes, encode, encodeSheet}
 use Rattle.sheet_format.specs.Decode.{rowWords}
-use Rattle.sheet_format.specs.Write.{Fault, faultOf, listBytes, jobOf, entryAt, entriesFrom, SheetFault, sheetFault, orElse}
+use Rattle.sheet_format.specs.Write.{Fault, faultOf, listBytes, jobOf, entryAt, entriesFrom, SheetFault, sheetFault}
+use Rattle.sheet_format.specs.Write.{orElse}
 use Rattle.sheet_format.specs.declared.Entry.{Entry}
 use Rattle.sheet_limits.specs.Jobs.{jobWith}
 use Rattle.sheet_limits.proofs.Sizes.{encode-length}
@@ -26,7 +27,8 @@ list-small zero = omega arith
 list-small (suc n) = omega arith
 
 -- an entry takes no more bytes than its row
-pub entry-small : (e : Entry) → length (e .names) ≡ mostNames → faultOf e ≡ Fault.none → length (encode (jobOf e)) ≤ rowBytes
+pub entry-small : (e : Entry) → length (e .names) ≡ mostNames → faultOf e ≡ Fault.none
+    → length (encode (jobOf e)) ≤ rowBytes
 entry-small e all h =
     let w = few e h in
     let l = encode-length (e .names) 0 (e .count) (e .class) (e .grower) (omega arith) (e .name) in
@@ -40,7 +42,8 @@ abbrev pub restBytes : List ℕ → ℕ → ℕ → List ℕ
 restBytes rows i n = encodeSheet (map jobOf (rest rows i n))
 
 -- an entry with no fault, and no fault in the others
-no-fault : (i : ℕ) (f : Fault) (others : SheetFault) → orElse i f others ≡ SheetFault.none → (f ≡ Fault.none) × (others ≡ SheetFault.none)
+no-fault : (i : ℕ) (f : Fault) (others : SheetFault) → orElse i f others ≡ SheetFault.none
+    → (f ≡ Fault.none) × (others ≡ SheetFault.none)
 no-fault i (Fault.at place) others h = (cc, cc)
 no-fault i Fault.none others h = (refl, h)
 
@@ -54,7 +57,9 @@ module _ (rows : List ℕ) where
       length-take-le mostNames (drop (rowWords * i + 4) rows) (simp length-drop (omega arith))
 
   -- the names of a row, read where they stand
-  pub job-at : (i : ℕ) → getD rows (rowWords * i + 1) 0 ≤ mostNames → jobOf (entryAt rows i) ≡ jobWith (getD rows (rowWords * i) 0) rows (rowWords * i + 4) (getD rows (rowWords * i + 1) 0) (getD rows (rowWords * i + 2) 0) (getD rows (rowWords * i + 3) 0)
+  pub job-at : (i : ℕ) → getD rows (rowWords * i + 1) 0 ≤ mostNames
+      → jobOf (entryAt rows i) ≡ jobWith (getD rows (rowWords * i) 0) rows (rowWords * i + 4)
+      (getD rows (rowWords * i + 1) 0) (getD rows (rowWords * i + 2) 0) (getD rows (rowWords * i + 3) 0)
   job-at i few = rw (take-take (getD rows (rowWords * i + 1) 0) mostNames (drop (rowWords * i + 4) rows) few)
 
   pub entries-length : (i n : ℕ) → length (entriesFrom rows i n) ≡ n
@@ -71,15 +76,18 @@ module _ (rows : List ℕ) where
     unfolding encodeSheet
     next-bytes = rw next-entry
 
-    pub next-length : length (restBytes rows i n) ≡ length (encode (jobOf (entryAt rows i))) + length (restBytes rows (i + 1) n)
+    pub next-length : length (restBytes rows i n)
+        ≡ length (encode (jobOf (entryAt rows i))) + length (restBytes rows (i + 1) n)
     next-length =
         ap length next-bytes ∙ length-append (encode (jobOf (entryAt rows i))) (restBytes rows (i + 1) n)
 
-    pub next-fault : sheetFault i (rest rows i n) ≡ orElse i (faultOf (entryAt rows i)) (sheetFault (i + 1) (rest rows (i + 1) n))
+    pub next-fault : sheetFault i (rest rows i n)
+        ≡ orElse i (faultOf (entryAt rows i)) (sheetFault (i + 1) (rest rows (i + 1) n))
     unfolding sheetFault
     next-fault = rw next-entry
 
-    pub next-sound : sheetFault i (rest rows i n) ≡ SheetFault.none → (faultOf (entryAt rows i) ≡ Fault.none) × (sheetFault (i + 1) (rest rows (i + 1) n) ≡ SheetFault.none)
+    pub next-sound : sheetFault i (rest rows i n) ≡ SheetFault.none
+        → (faultOf (entryAt rows i) ≡ Fault.none) × (sheetFault (i + 1) (rest rows (i + 1) n) ≡ SheetFault.none)
     next-sound h =
         no-fault i (faultOf (entryAt rows i)) (sheetFault (i + 1) (rest rows (i + 1) n)) (sym next-fault ∙ h)
 

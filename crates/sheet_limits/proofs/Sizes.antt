@@ -9,7 +9,8 @@ use lib.ListN.{length, take, drop, length-append, length-drop}
 use lib.Seq.{length-take-le}
 use borrow.Author.Tests.{leb-true, leb-false, le-leb, lt-leb}
 use Rattle.sheet_format.specs.Number.{spelt}
-use Rattle.sheet_format.specs.Job.{bitOf, nameBytes, countBytes, classBytes, growerBytes, speltUnlessZero, speltNames, speltList, encode}
+use Rattle.sheet_format.specs.Job.{bitOf, nameBytes, countBytes, classBytes, growerBytes, speltUnlessZero, speltNames}
+use Rattle.sheet_format.specs.Job.{speltList, encode}
 use Rattle.sheet_format.specs.Write.{listPlace, listBytes}
 use Rattle.sheet_limits.specs.Jobs.{jobWith}
 
@@ -66,7 +67,8 @@ module _ (words : List ℕ) (from count class grower : ℕ) (named : from + coun
   pub list-bytes : length (speltList nameBytes (take count (drop from words))) ≡ listBytes count
   list-bytes = list-length (take count (drop from words)) ∙ ap listBytes (taken words from count named)
 
-  pub encode-length : (name : ℕ) → length (encode (jobWith name words from count class grower)) ≡ bytesOf count class grower
+  pub encode-length : (name : ℕ)
+      → length (encode (jobWith name words from count class grower)) ≡ bytesOf count class grower
   unfolding encode
   encode-length name =
       simp (length-append, spelt-length, list-bytes, unless-length) (omega arith)

@@ -76,7 +76,8 @@ fn list_bytes(n: u32) -> usize
 
 // Judges an entry by its count, class and grower, whatever its names are.
 pub fn judge(count: u32, class: u32, grower: u32) -> Judged
-    ensures { λ r. ⌜ ((name : ℕ) (names : List ℕ) → length names ≡ mostNames → r ≡ judged (entryWith name count class grower names)) ⌝ }
+    ensures { λ r. ⌜ ((name : ℕ) (names : List ℕ) → length names ≡ mostNames
+        → r ≡ judged (entryWith name count class grower names)) ⌝ }
 {
     if MOST_NAMES < count {
         return Judged::Refused { at: LIST_PLACE };

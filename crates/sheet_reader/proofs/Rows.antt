@@ -7,7 +7,8 @@ use lib.ListN.{length, length-append, length-replicate, replicate}
 use lib.Seq.{sets, length-sets}
 use borrow.Author.Tests.{le-leb, lt-leb}
 use Rattle.sheet_format.specs.Job.{Job, mostNames}
-use Rattle.sheet_format.specs.Decode.{job, end, refused, decode, Sheet, jobs, broken, before, decodeSheet, scanSheet, rowWords, rowOf, rowsOf, sheetRows, readSheet, noRoom}
+use Rattle.sheet_format.specs.Decode.{job, end, refused, decode, Sheet, jobs, broken, before, decodeSheet, scanSheet}
+use Rattle.sheet_format.specs.Decode.{rowWords, rowOf, rowsOf, sheetRows, readSheet, noRoom}
 use Rattle.sheet_format.specs.declared.SheetRead.{SheetRead}
 use Rattle.entry_scan.proofs.Fields.{never}
 use Rattle.entry_scan.proofs.Entries.{stands}
@@ -15,16 +16,19 @@ use Rattle.sheet_reader.proofs.Stores.{sets-append}
 use Rattle.sheet_scan.proofs.Sheets.{rest, rest-start, rest-on}
 
 -- a sheet of jobs that was counted
-pub counted-jobs : (t : Sheet) (n : ℕ) {P : Type 0} → scanSheet t ≡ SheetRead.Whole n → ((js : List Job) → t ≡ jobs js → length js ≡ n → P) → P
+pub counted-jobs : (t : Sheet) (n : ℕ) {P : Type 0} → scanSheet t ≡ SheetRead.Whole n
+    → ((js : List Job) → t ≡ jobs js → length js ≡ n → P) → P
 counted-jobs (jobs js) n h onward = onward js refl (cc)
 counted-jobs (broken c a) n h onward = never (cc)
 
 -- the answers that leave the rows as they were
-pub read-refused : (t : Sheet) (rows : List ℕ) (c a : ℕ) → scanSheet t ≡ SheetRead.Refused c a → sheetRows (SheetRead.Refused c a) rows ≡ readSheet t rows
+pub read-refused : (t : Sheet) (rows : List ℕ) (c a : ℕ) → scanSheet t ≡ SheetRead.Refused c a
+    → sheetRows (SheetRead.Refused c a) rows ≡ readSheet t rows
 read-refused (jobs js) rows c a h = never (cc)
 read-refused (broken c′ a′) rows c a h = ap (λ (r : SheetRead). sheetRows r rows) (sym h)
 
-pub read-no-room : (t : Sheet) (rows : List ℕ) (n : ℕ) → scanSheet t ≡ SheetRead.Whole n → length rows < rowWords * n → sheetRows (SheetRead.Refused noRoom 0) rows ≡ readSheet t rows
+pub read-no-room : (t : Sheet) (rows : List ℕ) (n : ℕ) → scanSheet t ≡ SheetRead.Whole n → length rows < rowWords * n
+    → sheetRows (SheetRead.Refused noRoom 0) rows ≡ readSheet t rows
 read-no-room t rows n h few =
     counted-jobs t n h λ js e k. rw (e, lt-leb (rowWords * length js) (length rows) (omega arith))
 
@@ -39,13 +43,24 @@ pub record Left (s rows₀ rows : List ℕ) (at from : ℕ) : Type 0 where
   pub same : length rows ≡ length rows₀
   pub stored : sets rows from (rowsOf left) ≡ sets rows₀ 0 (rowsOf all)
 
-pub left-start : (s rows : List ℕ) (n : ℕ) → scanSheet (decodeSheet s) ≡ SheetRead.Whole n → rowWords * n ≤ length rows → Left s rows rows 0 0
+pub left-start : (s rows : List ℕ) (n : ℕ) → scanSheet (decodeSheet s) ≡ SheetRead.Whole n → rowWords * n ≤ length rows
+    → Left s rows rows 0 0
 left-start s rows n h room =
     counted-jobs (decodeSheet s) n h λ js e k.
-    record { all = js; sheet = e; left = js; behind = rest-start s ∙ e; inside = omega arith; room = omega arith; same = refl; stored = refl }
+    record {
+      all = js;
+      sheet = e;
+      left = js;
+      behind = rest-start s ∙ e;
+      inside = omega arith;
+      room = omega arith;
+      same = refl;
+      stored = refl;
+    }
 
 -- one job more
-first : (j : Job) (t : Sheet) (js : List Job) {P : Type 0} → before j t ≡ jobs js → ((ks : List Job) → js ≡ j ∷ ks → t ≡ jobs ks → P) → P
+first : (j : Job) (t : Sheet) (js : List Job) {P : Type 0} → before j t ≡ jobs js
+    → ((ks : List Job) → js ≡ j ∷ ks → t ≡ jobs ks → P) → P
 first j (jobs ks) js h onward = onward ks (cc) refl
 first j (broken c a) js h onward = never (cc)
 
@@ -63,7 +78,8 @@ module _ {s rows₀ rows : List ℕ} {at from : ℕ} (l : Left s rows₀ rows at
     pub left-room : from + rowWords ≤ length rows
     left-room = first j (rest s n) (l .left) on λ ks k b. omega (arith, ap length k, l .room)
 
-    pub left-more : {rows′ : List ℕ} → length (j .list) ≤ mostNames → rows′ ≡ sets rows from (rowOf j) → Left s rows₀ rows′ n (from + rowWords)
+    pub left-more : {rows′ : List ℕ} → length (j .list) ≤ mostNames → rows′ ≡ sets rows from (rowOf j)
+        → Left s rows₀ rows′ n (from + rowWords)
     unfolding rowsOf
     left-more {rows′} c e′ =
         first j (rest s n) (l .left) on λ ks k b.
@@ -72,10 +88,22 @@ module _ {s rows₀ rows : List ℕ} {at from : ℕ} (l : Left s rows₀ rows at
         let m = l .same in
         let i : length rows′ ≡ length rows = ap length e′ ∙ length-sets rows from (rowOf j) in
         let x = row-length j c in
-        record { all = l .all; sheet = l .sheet; left = ks; behind = b; inside = stands s at j n e .1 .within; room = omega arith; same = omega arith; stored = rw e′ (sets-append rows (rowOf j) (rowsOf ks) from (from + rowWords) (omega arith) ∙ (rw k at (l .stored))) }
+        record {
+          all = l .all;
+          sheet = l .sheet;
+          left = ks;
+          behind = b;
+          inside = stands s at j n e .1 .within;
+          room = omega arith;
+          same = omega arith;
+          stored =
+              rw e′ (sets-append rows (rowOf j) (rowsOf ks) from (from + rowWords) (omega arith)
+              ∙ (rw k at (l .stored)));
+        }
 
   -- the whole is stored where nothing is left
-  pub left-none : {n : ℕ} → decode s at ≡ end → scanSheet (decodeSheet s) ≡ SheetRead.Whole n → rowWords * n ≤ length rows₀ → sheetRows (SheetRead.Whole n) rows ≡ readSheet (decodeSheet s) rows₀
+  pub left-none : {n : ℕ} → decode s at ≡ end → scanSheet (decodeSheet s) ≡ SheetRead.Whole n
+      → rowWords * n ≤ length rows₀ → sheetRows (SheetRead.Whole n) rows ≡ readSheet (decodeSheet s) rows₀
   unfolding rowsOf
   left-none {n} e h room =
       let r : jobs [] ≡ jobs (l .left) = rw e at (sym (rest-on s at) ∙ l .behind) in

@@ -31,7 +31,8 @@ const ROW_WORDS: usize = 36;
 // Stores so many names from an offset on.
 fn store_names(s: &[u8], at: usize, count: usize, words: &mut [u32], from: usize)
     requires { ⌜ (at + nameBytes * count ≤ length (now s) + (1 - count)) × (from + count ≤ length (now words)) ⌝ }
-    ensures { λ _. ⌜ now (words .exit) ≡ sets (now (words .entry)) from (namesAt nameBytes (now (s .entry)) at count) ⌝ }
+    ensures { λ _. ⌜ now (words .exit)
+        ≡ sets (now (words .entry)) from (namesAt nameBytes (now (s .entry)) at count) ⌝ }
 {
     let mut i = 0;
     while i < count {
@@ -119,8 +120,11 @@ fn store_row(
     rows: &mut [u32],
     from: usize,
 )
-    requires { ⌜ (count ≤ mostNames) × (at + nameBytes * count ≤ length (now s) + (1 - count)) × (from + rowWords ≤ length (now rows)) ⌝ }
-    ensures { λ _. ⌜ now (rows .exit) ≡ sets (now (rows .entry)) from (name ∷ count ∷ class ∷ grower ∷ padded (namesAt nameBytes (now (s .entry)) at count)) ⌝ }
+    requires { ⌜ (count ≤ mostNames) × (at + nameBytes * count ≤ length (now s) + (1 - count))
+        × (from + rowWords ≤ length (now rows)) ⌝ }
+    ensures { λ _. ⌜ now (rows .exit)
+        ≡ sets (now (rows .entry)) from
+        (name ∷ count ∷ class ∷ grower ∷ padded (namesAt nameBytes (now (s .entry)) at count)) ⌝ }
 {
     rows[from] = name;
     rows[from + 1] = count;
@@ -132,8 +136,10 @@ fn store_row(
 
 // Stores the rows of a sheet that was counted whole.
 fn store_sheet(s: &[u8], entries: usize, rows: &mut [u32])
-    requires { ⌜ (scanSheet (decodeSheet (now s)) ≡ SheetRead.Whole entries) × (rowWords * entries ≤ length (now rows)) ⌝ }
-    ensures { λ _. ⌜ sheetRows (SheetRead.Whole entries) (now (rows .exit)) ≡ readSheet (decodeSheet (now (s .entry))) (now (rows .entry)) ⌝ }
+    requires { ⌜ (scanSheet (decodeSheet (now s)) ≡ SheetRead.Whole entries)
+        × (rowWords * entries ≤ length (now rows)) ⌝ }
+    ensures { λ _. ⌜ sheetRows (SheetRead.Whole entries) (now (rows .exit))
+        ≡ readSheet (decodeSheet (now (s .entry))) (now (rows .entry)) ⌝ }
 {
     let mut at = 0;
     let mut from = 0;

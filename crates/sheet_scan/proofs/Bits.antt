@@ -1,4 +1,5 @@
--- Laws of an entry whose fields are multiplied by their bits: where the longest entry would fit, this comes to what `decode` says
+-- Laws of an entry whose fields are multiplied by their bits: where the longest entry would fit, this comes to what
+-- `decode` says
 -- (document 01, "Job sheets"). Assumes nothing.
 use Prim.Native.Nat.{ℕ, zero, suc, _+_, _*_, _/_, _%_, _≤_, _<_}
 use mathlib.Core.Path.{_≡_, refl, ap}
@@ -10,8 +11,10 @@ use lib.Dec.{ltb, leb, eqb}
 use borrow.Author.Tests.{leb-true, le-leb, lt-ltb}
 use Rattle.sheet_format.specs.Number.{numberAt}
 use Rattle.sheet_format.specs.Choice.{both}
-use Rattle.sheet_format.specs.Job.{Job, mostNames, mostClass, mostGrower, nameBytes, countBytes, classBytes, growerBytes}
-use Rattle.sheet_format.specs.Decode.{mapAt, nameAt, limitedAt, listAt, ifBit, namesAt, Decoded, job, end, refused, thenDecoded, decode, scanOf}
+use Rattle.sheet_format.specs.Job.{Job, mostNames, mostClass, mostGrower, nameBytes, countBytes, classBytes}
+use Rattle.sheet_format.specs.Job.{growerBytes}
+use Rattle.sheet_format.specs.Decode.{mapAt, nameAt, limitedAt, listAt, ifBit, namesAt, Decoded, job, end, refused}
+use Rattle.sheet_format.specs.Decode.{thenDecoded, decode, scanOf}
 use Rattle.sheet_format.specs.declared.Field.{Field}
 use Rattle.sheet_format.specs.declared.Field.the-variants.{Got, Refused}
 use Rattle.sheet_format.specs.declared.Scan.{Scan}
@@ -57,7 +60,8 @@ module _ (s : List ℕ) (at : ℕ) where
 
 -- WHERE EACH TEST HOLDS
 
-number-by-bit : (w bit : ℕ) (s : List ℕ) (at : ℕ) → bit ≤ 1 → at + w ≤ length s → ifBit bit at (nameAt w s at) ≡ Got (bit * numberAt w s at) (at + w * bit)
+number-by-bit : (w bit : ℕ) (s : List ℕ) (at : ℕ) → bit ≤ 1 → at + w ≤ length s
+    → ifBit bit at (nameAt w s at) ≡ Got (bit * numberAt w s at) (at + w * bit)
 unfolding nameAt
 number-by-bit w zero s at b h =
     let z : 0 * numberAt w s at ≡ 0 = omega arith in
@@ -69,7 +73,10 @@ number-by-bit w (suc zero) s at b h =
     rw (le-leb (at + w) (length s) h, z, e)
 number-by-bit w (suc (suc b)) s at b₁ h = absurd (omega arith)
 
-list-by-bit : (bit : ℕ) (s : List ℕ) (at : ℕ) → bit ≤ 1 → at + 1 + nameBytes * mostNames ≤ length s → within bit (bit * numberAt countBytes s at) mostNames ≡ true → ifBit bit at (listAt nameBytes s at) ≡ Got (bit * numberAt countBytes s at) (at + countBytes * bit + nameBytes * (bit * numberAt countBytes s at))
+list-by-bit : (bit : ℕ) (s : List ℕ) (at : ℕ) → bit ≤ 1 → at + 1 + nameBytes * mostNames ≤ length s
+    → within bit (bit * numberAt countBytes s at) mostNames ≡ true
+    → ifBit bit at (listAt nameBytes s at)
+    ≡ Got (bit * numberAt countBytes s at) (at + countBytes * bit + nameBytes * (bit * numberAt countBytes s at))
 unfolding listAt limitedAt
 list-by-bit zero s at b h t =
     let z : 0 * numberAt countBytes s at ≡ 0 = omega arith in
@@ -88,10 +95,22 @@ list-by-bit (suc (suc b)) s at b₁ h t = absurd (omega arith)
 ends-by-bits : (s : List ℕ) (at map name : ℕ) (list : List ℕ) → at + 3 ≤ length s
     → within (map / 4 % 2) ((map / 4 % 2) * numberAt classBytes s at) mostClass ≡ true
     → within (map / 8 % 2) ((map / 8 % 2) * numberAt growerBytes s (at + classBytes * (map / 4 % 2))) mostGrower ≡ true
-    → fromClass s at map name list ≡ job (record { name = name; list = list; class = (map / 4 % 2) * numberAt classBytes s at; grower = (map / 8 % 2) * numberAt growerBytes s (at + classBytes * (map / 4 % 2)) }) (at + classBytes * (map / 4 % 2) + growerBytes * (map / 8 % 2))
+    → fromClass s at map name list
+    ≡ job (record {
+      name = name;
+      list = list;
+      class = (map / 4 % 2) * numberAt classBytes s at;
+      grower = (map / 8 % 2) * numberAt growerBytes s (at + classBytes * (map / 4 % 2));
+    })
+    (at + classBytes * (map / 4 % 2) + growerBytes * (map / 8 % 2))
 unfolding fromClass fromGrower judgedThen
 ends-by-bits s at map name list h c g =
-    rw (number-by-bit classBytes (map / 4 % 2) s at (omega arith) (omega arith), c, number-by-bit growerBytes (map / 8 % 2) s (at + classBytes * (map / 4 % 2)) (omega arith) (omega arith), g)
+    rw (
+      number-by-bit classBytes (map / 4 % 2) s at (omega arith) (omega arith),
+      c,
+      number-by-bit growerBytes (map / 8 % 2) s (at + classBytes * (map / 4 % 2)) (omega arith) (omega arith),
+      g,
+    )
 
 -- the whole entry
 module _ (s : List ℕ) (at : ℕ) where
@@ -104,7 +123,18 @@ module _ (s : List ℕ) (at : ℕ) where
   sure h m l c g =
       let k = within-most (map s at / 2 % 2) (numberAt countBytes s (at + 5)) mostNames (omega arith) l in
       let n : at + 1 + nameBytes ≡ at + 5 = omega arith in
-      rw (lt-ltb at (length s) (omega arith), m, le-leb (at + 1 + nameBytes) (length s) (omega arith), n, list-by-bit (map s at / 2 % 2) s (at + 5) (omega arith) (omega arith) l, ← from-class-is s (classPlace at (map s at) (count s at)) (map s at) (numberAt nameBytes s (at + 1)) (namesAt nameBytes s (at + 5 + countBytes) (count s at)), ends-by-bits s (classPlace at (map s at) (count s at)) (map s at) (numberAt nameBytes s (at + 1)) (namesAt nameBytes s (at + 5 + countBytes) (count s at)) (omega arith) c g, names-length)
+      rw (
+        lt-ltb at (length s) (omega arith),
+        m,
+        le-leb (at + 1 + nameBytes) (length s) (omega arith),
+        n,
+        list-by-bit (map s at / 2 % 2) s (at + 5) (omega arith) (omega arith) l,
+        ← from-class-is s (classPlace at (map s at) (count s at)) (map s at) (numberAt nameBytes s (at + 1))
+            (namesAt nameBytes s (at + 5 + countBytes) (count s at)),
+        ends-by-bits s (classPlace at (map s at) (count s at)) (map s at) (numberAt nameBytes s (at + 1))
+            (namesAt nameBytes s (at + 5 + countBytes) (count s at)) (omega arith) c g,
+        names-length,
+      )
 
 -- A NAME ALONE, AND A NAME WITH A LIST
 
@@ -115,15 +145,27 @@ module _ (s : List ℕ) (at : ℕ) (fits : at + longestEntry ≤ length s) where
       let n : at + 1 + nameBytes ≡ at + 5 = omega arith in
       rw (lt-ltb at (length s) (omega arith), m, le-leb (at + 1 + nameBytes) (length s) (omega arith), n, names-length)
 
-  pub name-and-list : map s at ≡ 3 → (leb 1 (numberAt countBytes s (at + 5)) && leb (numberAt countBytes s (at + 5)) mostNames) ≡ true
-      → Scan.Fields (numberAt nameBytes s (at + 1)) (numberAt countBytes s (at + 5)) 0 0 (at + 6 + nameBytes * numberAt countBytes s (at + 5)) ≡ scanOf (decode s at)
+  pub name-and-list : map s at ≡ 3
+      → (leb 1 (numberAt countBytes s (at + 5)) && leb (numberAt countBytes s (at + 5)) mostNames) ≡ true
+      → Scan.Fields (numberAt nameBytes s (at + 1)) (numberAt countBytes s (at + 5)) 0 0
+      (at + 6 + nameBytes * numberAt countBytes s (at + 5)) ≡ scanOf (decode s at)
   unfolding decode mapAt nameAt listAt limitedAt
   name-and-list m t =
       let c = numberAt countBytes s (at + 5) in
       let k = leb-true c mostNames (both (leb 1 c) (leb c mostNames) t .1) in
       let n : at + 1 + nameBytes ≡ at + 5 = omega arith in
       let n₁ : at + 5 + countBytes ≡ at + 6 = omega arith in
-      rw (lt-ltb at (length s) (omega arith), m, le-leb (at + 1 + nameBytes) (length s) (omega arith), n, n₁, le-leb (at + 6) (length s) (omega arith), t, le-leb (at + 6 + nameBytes * c) (length s) (omega arith), names-length)
+      rw (
+        lt-ltb at (length s) (omega arith),
+        m,
+        le-leb (at + 1 + nameBytes) (length s) (omega arith),
+        n,
+        n₁,
+        le-leb (at + 6) (length s) (omega arith),
+        t,
+        le-leb (at + 6 + nameBytes * c) (length s) (omega arith),
+        names-length,
+      )
 
 -- WHERE AN ENTRY WAS READ
 
@@ -131,7 +173,8 @@ number-got : (w : ℕ) (s : List ℕ) (at v n : ℕ) → nameAt w s at ≡ Got v
 unfolding nameAt
 number-got w s at v n h = let g = got (leb (at + w) (length s)) _ _ _ _ _ h .1 in (cc, cc)
 
-bit-got : (w x bit at : ℕ) (f : Field) (v n : ℕ) → bit ≤ 1 → (f ≡ Got v n → (v ≡ x) × (n ≡ at + w)) → ifBit bit at f ≡ Got v n → (v ≡ bit * x) × (n ≡ at + w * bit)
+bit-got : (w x bit at : ℕ) (f : Field) (v n : ℕ) → bit ≤ 1 → (f ≡ Got v n → (v ≡ x) × (n ≡ at + w))
+    → ifBit bit at f ≡ Got v n → (v ≡ bit * x) × (n ≡ at + w * bit)
 bit-got w x zero at f v n b there h =
     let z : 0 ≡ v = cc in
     let e : at ≡ n = cc in
@@ -139,7 +182,8 @@ bit-got w x zero at f v n b there h =
 bit-got w x (suc zero) at f v n b there h = let g = there h in (omega (arith, g .0), omega (arith, g .1))
 bit-got w x (suc (suc b)) at f v n b₁ there h = absurd (omega arith)
 
-list-got : (bit : ℕ) (s : List ℕ) (at v n : ℕ) → bit ≤ 1 → ifBit bit at (listAt nameBytes s at) ≡ Got v n → (v ≡ bit * numberAt countBytes s at) × (n ≡ at + countBytes * bit + nameBytes * v)
+list-got : (bit : ℕ) (s : List ℕ) (at v n : ℕ) → bit ≤ 1 → ifBit bit at (listAt nameBytes s at) ≡ Got v n
+    → (v ≡ bit * numberAt countBytes s at) × (n ≡ at + countBytes * bit + nameBytes * v)
 unfolding listAt
 list-got zero s at v n b h =
     let z : 0 ≡ v = cc in
@@ -158,9 +202,11 @@ map-got : (s : List ℕ) (at v n : ℕ) → mapAt s at ≡ Got v n → (v ≡ ma
 unfolding mapAt
 map-got s at v n h = let g = got (ltb (map s at) 16 && eqb (map s at % 2) 1) _ _ _ _ _ h .1 in (cc, cc)
 
-limited-by-bit : (w most bit : ℕ) (s : List ℕ) (at v n : ℕ) → bit ≤ 1 → ifBit bit at (limitedAt w most s at) ≡ Got v n → (v ≡ bit * numberAt w s at) × (n ≡ at + w * bit)
+limited-by-bit : (w most bit : ℕ) (s : List ℕ) (at v n : ℕ) → bit ≤ 1 → ifBit bit at (limitedAt w most s at) ≡ Got v n
+    → (v ≡ bit * numberAt w s at) × (n ≡ at + w * bit)
 limited-by-bit w most bit s at v n b h =
-    bit-got w (numberAt w s at) bit at (limitedAt w most s at) v n b (λ e. number-got w s at v n (limited-got w most s at v n e .0)) h
+    bit-got w (numberAt w s at) bit at (limitedAt w most s at) v n b
+    (λ e. number-got w s at v n (limited-got w most s at v n e .0)) h
 
 read-fields : (s : List ℕ) (at : ℕ) (j : Job) (n : ℕ) → decode s at ≡ job j n → fields s at ≡ scanOf (job j n)
 unfolding decode
@@ -176,9 +222,12 @@ read-fields s at j n h =
     let q₁ : n₁ ≡ at + 5 = omega (arith, p₁ .1) in
     let p₂ = list-got (map s at / 2 % 2) s (at + 5) count₀ n₂ (omega arith) (rw (p₀ .0, q₁) at e₂) in
     let q₂ : n₂ ≡ classPlace at (map s at) (count s at) = rw (p₂ .0) at (p₂ .1) in
-    let p₃ = limited-by-bit classBytes mostClass (map s at / 4 % 2) s (classPlace at (map s at) (count s at)) class₀ n₃ (omega arith) (rw (p₀ .0, q₂) at e₃) in
-    let p₄ = limited-by-bit growerBytes mostGrower (map s at / 8 % 2) s (growerPlace at (map s at) (count s at)) grower₀ n₄ (omega arith) (rw (p₀ .0, p₃ .1) at e₄) in
-    let all : Scan.Fields name₀ (length (namesAt nameBytes s (n₁ + countBytes) count₀)) class₀ grower₀ n₄ ≡ scanOf (job j n) = ap scanOf h₄ in
+    let p₃ = limited-by-bit classBytes mostClass (map s at / 4 % 2) s (classPlace at (map s at) (count s at)) class₀ n₃
+    (omega arith) (rw (p₀ .0, q₂) at e₃) in
+    let p₄ = limited-by-bit growerBytes mostGrower (map s at / 8 % 2) s
+    (growerPlace at (map s at) (count s at)) grower₀ n₄ (omega arith) (rw (p₀ .0, p₃ .1) at e₄) in
+    let all : Scan.Fields name₀ (length (namesAt nameBytes s (n₁ + countBytes) count₀)) class₀ grower₀ n₄
+    ≡ scanOf (job j n) = ap scanOf h₄ in
     rw (names-length, p₁ .0, p₂ .0, p₃ .0, p₄ .0, p₄ .1) at all
 
 not-end : (f : Field) (k : ℕ → ℕ → Decoded) → ((v n : ℕ) → k v n ≡ end → ⊥) → thenDecoded f k ≡ end → ⊥
@@ -197,7 +246,8 @@ inside-not-end s at l h =
     (rw (lt-ltb at (length s) l) at h)
 
 -- in a sheet without a refusal
-pub unrefused : (s : List ℕ) (at : ℕ) → at < length s → ((number place : ℕ) → decode s at ≡ refused number place → ⊥) → (fields s at ≡ scanOf (decode s at)) × (count s at ≤ mostNames)
+pub unrefused : (s : List ℕ) (at : ℕ) → at < length s → ((number place : ℕ) → decode s at ≡ refused number place → ⊥)
+    → (fields s at ≡ scanOf (decode s at)) × (count s at ≤ mostNames)
 unrefused s at l sound = go (decode s at) refl
   where
     go : (d : Decoded) → decode s at ≡ d → (fields s at ≡ scanOf d) × (count s at ≤ mostNames)

@@ -6,7 +6,8 @@ use native.Mathlib.Omega.{arith}
 use lib.ListN.{length}
 use borrow.Author.Tests.{le-ltb}
 use Rattle.sheet_format.specs.Job.{Job}
-use Rattle.sheet_format.specs.Decode.{Decoded, job, end, refused, decode, Sheet, jobs, broken, before, onward, decodeFrom, decodeSheet, scanSheet}
+use Rattle.sheet_format.specs.Decode.{Decoded, job, end, refused, decode, Sheet, jobs, broken, before, onward}
+use Rattle.sheet_format.specs.Decode.{decodeFrom, decodeSheet, scanSheet}
 use Rattle.sheet_format.specs.declared.SheetRead.{SheetRead}
 use Rattle.entry_scan.proofs.Entries.{stands}
 
@@ -23,7 +24,8 @@ unfolding decode
 past s at h = rw (le-ltb at (length s) h)
 
 -- what follows an entry lies behind it
-behind : (s : List ℕ) (at : ℕ) (f g : ℕ → Sheet) → ((n : ℕ) → at < n → f n ≡ g n) → onward (decode s at) f ≡ onward (decode s at) g
+behind : (s : List ℕ) (at : ℕ) (f g : ℕ → Sheet) → ((n : ℕ) → at < n → f n ≡ g n)
+    → onward (decode s at) f ≡ onward (decode s at) g
 behind s at f g same = go (decode s at) refl
   where
     go : (d : Decoded) → decode s at ≡ d → onward d f ≡ onward d g

@@ -64,7 +64,9 @@ struct LastFields {
 // bit is guessed wrong half the time.
 fn last_fields(s: &[u8], at: usize, map: u32, count: u32) -> LastFields
     requires { ⌜ (at + longestEntry ≤ length (now s)) × (count ≤ mostNames) ⌝ }
-    ensures { λ r. ⌜ (r .class ≡ (map / 4 % 2) * numberAt 1 (now (s .entry)) (classPlace at map count)) × (r .grower ≡ (map / 8 % 2) * numberAt 2 (now (s .entry)) (growerPlace at map count)) × (r .next ≡ growerPlace at map count + 2 * (map / 8 % 2)) ⌝ }
+    ensures { λ r. ⌜ (r .class ≡ (map / 4 % 2) * numberAt 1 (now (s .entry)) (classPlace at map count))
+        × (r .grower ≡ (map / 8 % 2) * numberAt 2 (now (s .entry)) (growerPlace at map count))
+        × (r .next ≡ growerPlace at map count + 2 * (map / 8 % 2)) ⌝ }
 {
     let list_bit = map / 2 % 2;
     let class_at = at + LIST_PLACE + (list_bit as usize) + NAME_BYTES * (count as usize);

@@ -54,7 +54,8 @@ fn put_name(out: &mut [u8], place: usize, name: u32) -> usize
 // n names, the first at words[from].
 fn put_names(out: &mut [u8], place: usize, words: &[u32], from: usize, n: usize) -> usize
     requires { ⌜ (from + n ≤ length (now words)) × (place + nameBytes * n ≤ length (now out)) ⌝ }
-    ensures { λ r. ⌜ Put (speltNames nameBytes (take n (drop from (now (words .entry))))) (now (out .entry)) place (now (out .exit)) r ⌝ }
+    ensures { λ r. ⌜ Put (speltNames nameBytes (take n (drop from (now (words .entry))))) (now (out .entry)) place
+        (now (out .exit)) r ⌝ }
 {
     let mut next = place;
     let mut i: usize = 0;
@@ -68,7 +69,8 @@ fn put_names(out: &mut [u8], place: usize, words: &[u32], from: usize, n: usize)
 // A list: its count and its names, or nothing.
 fn put_list(out: &mut [u8], place: usize, words: &[u32], from: usize, n: u32) -> usize
     requires { ⌜ (from + n ≤ length (now words)) × (place + listBytes n ≤ length (now out)) ⌝ }
-    ensures { λ r. ⌜ Put (speltList nameBytes (take n (drop from (now (words .entry))))) (now (out .entry)) place (now (out .exit)) r ⌝ }
+    ensures { λ r. ⌜ Put (speltList nameBytes (take n (drop from (now (words .entry))))) (now (out .entry)) place
+        (now (out .exit)) r ⌝ }
 {
     if n == 0 {
         return place;
@@ -120,8 +122,10 @@ fn put_entry(
     class: u32,
     grower: u32,
 ) -> usize
-    requires { ⌜ (from + count ≤ length (now words)) × (place + length (encode (jobWith name (now words) from count class grower)) ≤ length (now out)) ⌝ }
-    ensures { λ r. ⌜ Put (encode (jobWith name (now (words .entry)) from count class grower)) (now (out .entry)) place (now (out .exit)) r ⌝ }
+    requires { ⌜ (from + count ≤ length (now words))
+        × (place + length (encode (jobWith name (now words) from count class grower)) ≤ length (now out)) ⌝ }
+    ensures { λ r. ⌜ Put (encode (jobWith name (now (words .entry)) from count class grower)) (now (out .entry)) place
+        (now (out .exit)) r ⌝ }
 {
     out[place] = map_byte(count, class, grower);
     let list_place = put_name(out, place + MAP_BYTES, name);
@@ -173,8 +177,10 @@ pub fn write(out: &mut [u8], at: usize, entry: Entry) -> Wrote
 
 // The entry in row i, which is within its limits and for which there is room. Its names are read where they stand.
 fn put_row(out: &mut [u8], place: usize, rows: &[u32], i: usize) -> usize
-    requires { ⌜ (rowWords * (i + 1) ≤ length (now rows)) × (faultOf (entryAt (now rows) i) ≡ Fault.none) × (place + length (encode (jobOf (entryAt (now rows) i))) ≤ length (now out)) ⌝ }
-    ensures { λ r. ⌜ Put (encode (jobOf (entryAt (now (rows .entry)) i))) (now (out .entry)) place (now (out .exit)) r ⌝ }
+    requires { ⌜ (rowWords * (i + 1) ≤ length (now rows)) × (faultOf (entryAt (now rows) i) ≡ Fault.none)
+        × (place + length (encode (jobOf (entryAt (now rows) i))) ≤ length (now out)) ⌝ }
+    ensures { λ r. ⌜ Put (encode (jobOf (entryAt (now (rows .entry)) i))) (now (out .entry)) place
+        (now (out .exit)) r ⌝ }
 {
     let row = ROW_WORDS * i;
     let name = rows[row];
@@ -195,8 +201,10 @@ fn put_row(out: &mut [u8], place: usize, rows: &[u32], i: usize) -> usize
 
 // The entries of the first n rows, which are within their limits and for which there is room.
 fn put_rows(out: &mut [u8], rows: &[u32], n: usize) -> usize
-    requires { ⌜ (rowWords * n ≤ length (now rows)) × (sheetFault 0 (entriesFrom (now rows) 0 n) ≡ SheetFault.none) × (length (encodeSheet (map jobOf (entriesFrom (now rows) 0 n))) ≤ length (now out)) ⌝ }
-    ensures { λ r. ⌜ Put (encodeSheet (map jobOf (entriesFrom (now (rows .entry)) 0 n))) (now (out .entry)) 0 (now (out .exit)) r ⌝ }
+    requires { ⌜ (rowWords * n ≤ length (now rows)) × (sheetFault 0 (entriesFrom (now rows) 0 n) ≡ SheetFault.none)
+        × (length (encodeSheet (map jobOf (entriesFrom (now rows) 0 n))) ≤ length (now out)) ⌝ }
+    ensures { λ r. ⌜ Put (encodeSheet (map jobOf (entriesFrom (now (rows .entry)) 0 n))) (now (out .entry)) 0
+        (now (out .exit)) r ⌝ }
 {
     let mut next: usize = 0;
     let mut i: usize = 0;

@@ -1,8 +1,11 @@
--- The struct of the C interface for the calls of the graph: for each case of an answer the number and the values that document 01, "Turned-away
--- calls" and "Steps", has for it. What does not belong to a case is 0.
+-- The struct of the C interface for the calls of the graph: for each case of an answer the number and the values that
+-- document 01, "Turned-away calls" and "Steps", has for it. What does not belong to a case is 0.
 -- Assumes nothing.
+use mathlib.Core.Path.{_≡_}
 use Prim.Native.Nat.{ℕ}
+use Rattle.terms.specs.Runs.{Outcome}
 use Rattle.terms.specs.declared.Answer.{Answer}
+use Rattle.words.specs.Layout.{Tables}
 use Rattle.taskgraph_answer.specs.declared.GraphAnswer.{GraphAnswer}
 
 -- the list of refusals starts at 1, so 0 says that nothing was refused
@@ -43,4 +46,9 @@ graphAnswer Answer.Going = plain kindGoingOn
 graphAnswer Answer.Ended = plain kindEnded
 graphAnswer Answer.NoneReady = plain kindNoneReady
 graphAnswer (Answer.Handed j name) = record { kind = kindHandedOut; number = accepted; place = 0; job = j; name = name }
-graphAnswer (Answer.Refused number place) = record { kind = kindRefused; number = number; place = place; job = 0; name = 0 }
+graphAnswer (Answer.Refused number place) =
+    record { kind = kindRefused; number = number; place = place; job = 0; name = 0 }
+
+-- a call answers so and leaves these tables: those of a definition's outcome, as C has them
+abbrev pub Gives : GraphAnswer → Tables → Outcome Tables → Type 0
+Gives r t said = (r ≡ graphAnswer (said .answer)) × (t ≡ said .state)

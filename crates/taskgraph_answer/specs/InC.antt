@@ -3,9 +3,12 @@
 use mathlib.Core.Path.{_≡_, ap, _∙_}
 use Rattle.terms.specs.Runs.{Outcome}
 use Rattle.words.specs.Layout.{Tables}
-use Rattle.taskgraph_answer.specs.Answers.{graphAnswer}
+use Rattle.taskgraph_answer.specs.Answers.{graphAnswer, Gives}
 use Rattle.taskgraph_answer.specs.declared.GraphAnswer.{GraphAnswer}
 
 pub in-c : {made said : Outcome Tables} {r : GraphAnswer} → made ≡ said → r ≡ graphAnswer (made .answer)
-    → (r ≡ graphAnswer (said .answer)) × (made .state ≡ said .state)
-in-c told e = (e ∙ ap (λ (o : Outcome Tables). graphAnswer (o .answer)) told, ap (λ (o : Outcome Tables). o .state) told)
+    → Gives r (made .state) said
+in-c told e = (
+  e ∙ ap (λ (o : Outcome Tables). graphAnswer (o .answer)) told,
+  ap (λ (o : Outcome Tables). o .state) told,
+)

@@ -3,10 +3,10 @@
 // Follows document 01, "Tables and their measures" and "Turned-away calls".
 // Assumes nothing but that a pointer with a count points to that many elements.
 ghost use mathlib.Core.Path.{_≡_};
-ghost use Rattle.words.specs.Layout.{lent};
+ghost use Rattle.words.specs.Layout.{atEntry, atExit};
 ghost use Rattle.words.specs.Words.{layOut};
 ghost use Rattle.graph_layout.specs.Needed.{wordsNeeded};
-ghost use Rattle.taskgraph_answer.specs.Answers.{graphAnswer};
+ghost use Rattle.taskgraph_answer.specs.Answers.{Gives};
 use graph_layout::Need;
 use taskgraph_answer::GraphAnswer;
 use taskgraph_answer::answered;
@@ -30,7 +30,8 @@ pub extern "C" fn tg_lay_out(
     queue: &mut [u32],
     workers: &mut [u32],
 ) -> GraphAnswer
-    ensures { λ r. ⌜ r ≡ graphAnswer (layOut sizes (lent (jobs .entry) (arcs .entry) (buckets .entry) (queue .entry) (workers .entry)) .answer) × lent (jobs .exit) (arcs .exit) (buckets .exit) (queue .exit) (workers .exit) ≡ layOut sizes (lent (jobs .entry) (arcs .entry) (buckets .entry) (queue .entry) (workers .entry)) .state ⌝ }
+    ensures { λ r. ⌜ Gives r (atExit jobs arcs buckets queue workers)
+        (layOut sizes (atEntry jobs arcs buckets queue workers)) ⌝ }
 {
     answered(graph_layout::lay_out(sizes, jobs, arcs, buckets, queue, workers))
 }

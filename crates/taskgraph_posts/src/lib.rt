@@ -4,9 +4,9 @@
 // Follows document 01, "Steps" and "Turned-away calls".
 // Assumes nothing but that a pointer with a count points to that many elements.
 ghost use mathlib.Core.Path.{_≡_};
-ghost use Rattle.words.specs.Layout.{lent};
+ghost use Rattle.words.specs.Layout.{atEntry, atExit};
 ghost use Rattle.words.specs.Words.{addWords, finishWords};
-ghost use Rattle.taskgraph_answer.specs.Answers.{graphAnswer};
+ghost use Rattle.taskgraph_answer.specs.Answers.{Gives};
 ghost use Rattle.taskgraph_posts.specs.Arguments.{argumentsOf};
 use sheet_format::Entry;
 use taskgraph_answer::GraphAnswer;
@@ -25,7 +25,8 @@ pub extern "C" fn tg_post_add(
     worker: u32,
     entry: Entry,
 ) -> GraphAnswer
-    ensures { λ r. ⌜ r ≡ graphAnswer (addWords sizes (lent (jobs .entry) (arcs .entry) (buckets .entry) (queue .entry) (workers .entry)) worker (argumentsOf entry) .answer) × lent (jobs .exit) (arcs .exit) (buckets .exit) (queue .exit) (workers .exit) ≡ addWords sizes (lent (jobs .entry) (arcs .entry) (buckets .entry) (queue .entry) (workers .entry)) worker (argumentsOf entry) .state ⌝ }
+    ensures { λ r. ⌜ Gives r (atExit jobs arcs buckets queue workers)
+        (addWords sizes (atEntry jobs arcs buckets queue workers) worker (argumentsOf entry)) ⌝ }
 {
     let names = entry.names;
     answered(graph_posts::post_add(
@@ -56,7 +57,8 @@ pub extern "C" fn tg_post_finish(
     worker: u32,
     name: u32,
 ) -> GraphAnswer
-    ensures { λ r. ⌜ r ≡ graphAnswer (finishWords sizes (lent (jobs .entry) (arcs .entry) (buckets .entry) (queue .entry) (workers .entry)) worker name .answer) × lent (jobs .exit) (arcs .exit) (buckets .exit) (queue .exit) (workers .exit) ≡ finishWords sizes (lent (jobs .entry) (arcs .entry) (buckets .entry) (queue .entry) (workers .entry)) worker name .state ⌝ }
+    ensures { λ r. ⌜ Gives r (atExit jobs arcs buckets queue workers)
+        (finishWords sizes (atEntry jobs arcs buckets queue workers) worker name) ⌝ }
 {
     answered(graph_posts::post_finish(sizes, jobs, arcs, buckets, queue, workers, worker, name))
 }

@@ -1,4 +1,5 @@
--- The structs of the C interface for job sheets: for each case of an answer the number and the values that document 01, "Turned-away calls" and
+-- The structs of the C interface for job sheets: for each case of an answer the number and the values that document 01,
+-- "Turned-away calls" and
 -- "Job sheets", has for it. What does not belong to a case is 0.
 -- Assumes nothing.
 use Prim.Native.Nat.{ℕ}
@@ -15,14 +16,16 @@ use Rattle.taskgraph_sheets.specs.declared.SheetWritten.{SheetWritten}
 abbrev pub accepted : ℕ
 accepted = 0
 
--- what stands at an offset of a sheet. 12 to 14: "nothing handed out for that entry", so it is blank, and the byte offset of the
+-- what stands at an offset of a sheet. 12 to 14: "nothing handed out for that entry", so it is blank, and the byte
+-- offset of the
 -- field. At the end of the sheet the offset is the one asked for.
 abbrev pub entryRead : ℕ → Decoded → EntryRead
 entryRead asked (job j next) = record { number = accepted; found = 1; at = next; entry = entryOf j }
 entryRead asked end = record { number = accepted; found = 0; at = asked; entry = blank }
 entryRead asked (refused number field) = record { number = number; found = 0; at = field; entry = blank }
 
--- the offset past the entry in the output. 14: the offset "of the first such field, from the entry's start"; 15 has none, and 0 stands there
+-- the offset past the entry in the output. 14: the offset "of the first such field, from the entry's start"; 15 has
+-- none, and 0 stands there
 abbrev pub entryWritten : Wrote → EntryWritten
 entryWritten (Wrote.Done next) = record { number = accepted; at = next }
 entryWritten (Wrote.Refused number field) = record { number = number; at = field }
@@ -36,7 +39,8 @@ sheetRead (SheetRead.Refused number field) = record { number = number; entries =
 abbrev pub sheetScanned : Sheet → SheetScanned
 sheetScanned sheet = sheetRead (scanSheet sheet)
 
--- how many entries were written, in how many bytes. 14: which entry, from 0, and the offset from its start; 1 and 15 have neither
+-- how many entries were written, in how many bytes. 14: which entry, from 0, and the offset from its start; 1 and 15
+-- have neither
 abbrev pub sheetWritten : SheetWrote → SheetWritten
 sheetWritten (SheetWrote.Done entries bytes) = record { number = accepted; entry = entries; at = bytes }
 sheetWritten (SheetWrote.Refused number entry field) = record { number = number; entry = entry; at = field }

@@ -1,5 +1,7 @@
-// Job sheets, the board, buckets and minutes as C has them. A slice is a pointer and a count of elements in C; answers are structs by
-// value. Numbers are those of document 01, "Turned-away calls", and 0 where nothing was refused. include/taskgraph.h declares all of this.
+// Job sheets, the board, buckets and minutes as C has them. A slice is a pointer and a count of elements in C; answers
+// are structs by
+// value. Numbers are those of document 01, "Turned-away calls", and 0 where nothing was refused. include/taskgraph.h
+// declares all of this.
 // Assumes nothing but that a pointer with a count points to that many elements.
 ghost use mathlib.Core.Path.{_≡_};
 ghost use Rattle.bucket.specs.Bucket.{bucketOf};
@@ -19,7 +21,8 @@ use totals::Totals;
 // The number where nothing was refused.
 const ACCEPTED: u32 = 0;
 
-// What stands at an offset of a sheet: found is 1 for a job, at the offset past it; number and found are 0 at the end of the sheet.
+// What stands at an offset of a sheet: found is 1 for a job, at the offset past it; number and found are 0 at the end
+// of the sheet.
 #[repr(C)]
 pub struct EntryRead {
     pub number: u32,
@@ -43,7 +46,8 @@ pub struct SheetScanned {
     pub at: usize,
 }
 
-// How many entries and bytes were written, or a refusal with the entry's number and the place of its field from the entry's start.
+// How many entries and bytes were written, or a refusal with the entry's number and the place of its field from the
+// entry's start.
 #[repr(C)]
 pub struct SheetWritten {
     pub number: u32,
@@ -100,7 +104,8 @@ pub extern "C" fn tg_read_entry(sheet: &[u8], at: usize) -> EntryRead
 // Stores an entry at an offset of the output. A refusal leaves the output as it was.
 #[no_mangle]
 pub extern "C" fn tg_write_entry(out: &mut [u8], at: usize, entry: Entry) -> EntryWritten
-    ensures { λ r. ⌜ r ≡ entryWritten (writeEntry entry (now (out .entry)) at .answer) × now (out .exit) ≡ writeEntry entry (now (out .entry)) at .out ⌝ }
+    ensures { λ r. ⌜ r ≡ entryWritten (writeEntry entry (now (out .entry)) at .answer)
+        × now (out .exit) ≡ writeEntry entry (now (out .entry)) at .out ⌝ }
 {
     match sheet_writer::write(out, at, entry) {
         Wrote::Done { next } => EntryWritten {
@@ -140,7 +145,8 @@ pub extern "C" fn tg_scan_sheet(sheet: &[u8]) -> SheetScanned
 // Reads a whole sheet into rows of words, one for each entry. A refusal leaves the rows as they were.
 #[no_mangle]
 pub extern "C" fn tg_read_sheet(sheet: &[u8], rows: &mut [u32]) -> SheetScanned
-    ensures { λ r. ⌜ r ≡ sheetRead (readSheet (decodeSheet (now (sheet .entry))) (now (rows .entry)) .answer) × now (rows .exit) ≡ readSheet (decodeSheet (now (sheet .entry))) (now (rows .entry)) .rows ⌝ }
+    ensures { λ r. ⌜ r ≡ sheetRead (readSheet (decodeSheet (now (sheet .entry))) (now (rows .entry)) .answer)
+        × now (rows .exit) ≡ readSheet (decodeSheet (now (sheet .entry))) (now (rows .entry)) .rows ⌝ }
 {
     scanned(sheet_reader::read_sheet(sheet, rows))
 }
@@ -148,7 +154,8 @@ pub extern "C" fn tg_read_sheet(sheet: &[u8], rows: &mut [u32]) -> SheetScanned
 // Stores the entries of all rows in the front of the output. A refusal leaves the output as it was.
 #[no_mangle]
 pub extern "C" fn tg_write_sheet(rows: &[u32], out: &mut [u8]) -> SheetWritten
-    ensures { λ r. ⌜ r ≡ sheetWritten (writeSheet (now (rows .entry)) (now (out .entry)) .answer) × now (out .exit) ≡ writeSheet (now (rows .entry)) (now (out .entry)) .out ⌝ }
+    ensures { λ r. ⌜ r ≡ sheetWritten (writeSheet (now (rows .entry)) (now (out .entry)) .answer)
+        × now (out .exit) ≡ writeSheet (now (rows .entry)) (now (out .entry)) .out ⌝ }
 {
     match sheet_writer::write_sheet(rows, out) {
         SheetWrote::Done { entries, bytes } => SheetWritten {

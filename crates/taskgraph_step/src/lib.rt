@@ -3,9 +3,9 @@
 // Follows document 01, "Steps" and "Turned-away calls".
 // Assumes nothing but that a pointer with a count points to that many elements.
 ghost use mathlib.Core.Path.{_≡_};
-ghost use Rattle.words.specs.Layout.{lent};
+ghost use Rattle.words.specs.Layout.{atEntry, atExit};
 ghost use Rattle.words.specs.Words.{stepWords};
-ghost use Rattle.taskgraph_answer.specs.Answers.{graphAnswer};
+ghost use Rattle.taskgraph_answer.specs.Answers.{Gives};
 use taskgraph_answer::GraphAnswer;
 use taskgraph_answer::answered;
 use terms::Sizes;
@@ -21,7 +21,8 @@ pub extern "C" fn tg_step(
     workers: &mut [u32],
     worker: u32,
 ) -> GraphAnswer
-    ensures { λ r. ⌜ r ≡ graphAnswer (stepWords sizes (lent (jobs .entry) (arcs .entry) (buckets .entry) (queue .entry) (workers .entry)) worker .answer) × lent (jobs .exit) (arcs .exit) (buckets .exit) (queue .exit) (workers .exit) ≡ stepWords sizes (lent (jobs .entry) (arcs .entry) (buckets .entry) (queue .entry) (workers .entry)) worker .state ⌝ }
+    ensures { λ r. ⌜ Gives r (atExit jobs arcs buckets queue workers)
+        (stepWords sizes (atEntry jobs arcs buckets queue workers) worker) ⌝ }
 {
     answered(graph_step::step(sizes, jobs, arcs, buckets, queue, workers, worker))
 }

@@ -36,7 +36,8 @@ answersOf (e ∷ es) = e .answer ∷ answersOf es
 abbrev pub telling : {S : Type 0} → (S → Item → Outcome S) → (S → List ℕ) → S → List Item → Told
 telling perform queue fresh is =
     told (answersOf (events perform fresh is)) (queue (after perform fresh is))
-    (entries perform queue fresh is 0 ∷ entries perform queue fresh is 1 ∷ entries perform queue fresh is 2 ∷ entries perform queue fresh is 3 ∷ [])
+    (entries perform queue fresh is 0 ∷ entries perform queue fresh is 1 ∷ entries perform queue fresh is 2
+    ∷ entries perform queue fresh is 3 ∷ [])
 
 -- ---- sizes, arguments, whole calls
 abbrev pub sizes : ℕ → ℕ → Sizes
@@ -96,7 +97,8 @@ together = bothUnknown (Posted ∷ Posted ∷ Refused 6 0 ∷ Refused 6 0 ∷ []
 
 abbrev pub case4 : List Row
 case4 =
-    rowsOf (orders 4 (add S 0 7 (8 ∷ []) 1) (add S 1 8 (7 ∷ []) 1)) (apart ∷ together ∷ together ∷ together ∷ together ∷ apart ∷ [])
+    rowsOf (orders 4 (add S 0 7 (8 ∷ []) 1) (add S 1 8 (7 ∷ []) 1))
+    (apart ∷ together ∷ together ∷ together ∷ together ∷ apart ∷ [])
 
 -- ---- the rows
 unfoldable pub starred : List Row
@@ -104,7 +106,8 @@ starred =
     -- 1. d = 0: two steps, then queued once
     row S (add S 0 9 [] 2) (told added (0 ∷ []) (1 ∷ 0 ∷ 0 ∷ 0 ∷ []))
     -- 2. worker 0 marks 1 (which has no arcs); link tallies 1; settling queues 4
-    ∷ row S (prepared ++ (step S 0 ∷ steps 2 S 1)) (told (preparing ++ (Ended ∷ Going ∷ Ended ∷ [])) (1 ∷ []) (1 ∷ 1 ∷ 0 ∷ 0 ∷ []))
+    ∷ row S (prepared ++ (step S 0 ∷ steps 2 S 1))
+    (told (preparing ++ (Ended ∷ Going ∷ Ended ∷ [])) (1 ∷ []) (1 ∷ 1 ∷ 0 ∷ 0 ∷ []))
     -- 3. as 2, but linked before the mark: the finish queues 4, settling adds nothing
     ∷ row S (prepared ++ (step S 1 ∷ step S 0 ∷ step S 0 ∷ step S 1 ∷ []))
     (told (preparing ++ (Going ∷ Going ∷ Ended ∷ Ended ∷ [])) (1 ∷ []) (1 ∷ 1 ∷ 0 ∷ 0 ∷ []))
@@ -113,8 +116,10 @@ starred =
     (told (added ++ (Posted ∷ Refused 8 0 ∷ [])) (0 ∷ []) (1 ∷ 0 ∷ 0 ∷ 0 ∷ []))
     -- 5. A = 2: d = 2 enters, then d = 1 gets 8, then d = 0 enters
     ∷ row (sizes 4 2)
-    (add (sizes 4 2) 0 1 [] 2 ++ (add (sizes 4 2) 0 2 [] 2 ++ (add (sizes 4 2) 0 3 (1 ∷ 2 ∷ []) 6 ++ (add (sizes 4 2) 0 4 (1 ∷ []) 2 ++ add (sizes 4 2) 0 5 [] 2))))
-    (told (added ++ (added ++ (Posted ∷ Going ∷ Going ∷ Going ∷ Going ∷ Going ∷ Ended ∷ Posted ∷ Going ∷ Refused 8 0 ∷ added))) (0 ∷ 1 ∷ 3 ∷ []) (1 ∷ 1 ∷ 0 ∷ 1 ∷ []))
+    (add (sizes 4 2) 0 1 [] 2 ++ (add (sizes 4 2) 0 2 [] 2
+    ++ (add (sizes 4 2) 0 3 (1 ∷ 2 ∷ []) 6 ++ (add (sizes 4 2) 0 4 (1 ∷ []) 2 ++ add (sizes 4 2) 0 5 [] 2))))
+    (told (added ++ (added ++ (Posted ∷ Going ∷ Going ∷ Going ∷ Going ∷ Going ∷ Ended ∷ Posted ∷ Going ∷ Refused 8 0
+    ∷ added))) (0 ∷ 1 ∷ 3 ∷ []) (1 ∷ 1 ∷ 0 ∷ 1 ∷ []))
     -- 6. two workers post the same new name: the later to enter gets 7
     ∷ row S (postAdd S 0 (job 5 []) ∷ postAdd S 1 (job 5 []) ∷ step S 1 ∷ step S 0 ∷ step S 1 ∷ [])
     (told (Posted ∷ Posted ∷ Going ∷ Refused 7 0 ∷ Ended ∷ []) (0 ∷ []) (1 ∷ 0 ∷ 0 ∷ 0 ∷ []))
@@ -137,7 +142,8 @@ oneOfTwo =
         add S 0 1 [] 2 ++ (add S 0 2 [] 2 ++ (add S 1 3 (1 ∷ 2 ∷ []) 6 ++ (get S 0 ∷ postFinish S 0 1 ∷ [])))
 
     told-twoNeeded : List Answer
-    told-twoNeeded = added ++ (added ++ (Posted ∷ Going ∷ Going ∷ Going ∷ Going ∷ Going ∷ Ended ∷ Handed 0 1 ∷ Posted ∷ []))
+    told-twoNeeded = added ++ (added
+        ++ (Posted ∷ Going ∷ Going ∷ Going ∷ Going ∷ Going ∷ Ended ∷ Handed 0 1 ∷ Posted ∷ []))
 
     -- the mark and the one arc
     finished : ℕ → ℕ → List Item

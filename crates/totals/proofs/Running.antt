@@ -26,20 +26,25 @@ module _ {table : List ℕ} {rows : List JobRecord} where
   start few e = record { upto = zero-le; few = few; totals = e }
 
   pub room : {t : Totals} {i : ℕ} → Rising table → Running table rows t i → i < length rows → (label : ℕ) → Room t label
-  room {t} {i} rising run h label = rw (run .totals) (few-room table rising (take i rows) label (rw (length-take-le i rows (run .upto)) (omega arith)))
+  room {t} {i} rising run h label =
+      rw (run .totals) (few-room table rising (take i rows) label
+      (rw (length-take-le i rows (run .upto)) (omega arith)))
 
-  pub next : (d : JobRecord) {t u : Totals} {i : ℕ} → Running table rows t i → i < length rows → u ≡ withRecord table t (getD rows i d .label) (getD rows i d .class) → Running table rows u (i + 1)
+  pub next : (d : JobRecord) {t u : Totals} {i : ℕ} → Running table rows t i → i < length rows
+      → u ≡ withRecord table t (getD rows i d .label) (getD rows i d .class) → Running table rows u (i + 1)
   next d {t} {u} {i} run h e = record {
     upto = omega arith;
     few = run .few;
     totals =
         rw (e, run .totals, add-one i, take-suc rows i d h)
-        (with-record-totals table (take i rows) (getD rows i d .label) (getD rows i d .class) (rw (length-take-le i rows (run .upto)) (omega arith)));
+        (with-record-totals table (take i rows) (getD rows i d .label) (getD rows i d .class)
+        (rw (length-take-le i rows (run .upto)) (omega arith)));
   }
 
   pub last : {t : Totals} {i : ℕ} → Running table rows t i → length rows ≤ i → t ≡ totalsOf table rows
   last {t} {i} run h = rw (take-all i rows h) at (run .totals)
 
-pub too-many : (table : List ℕ) (rows : List JobRecord) {t : Totals} → mostRecords < length rows → t ≡ refused offLimits → t ≡ totalsOf table rows
+pub too-many : (table : List ℕ) (rows : List JobRecord) {t : Totals} → mostRecords < length rows
+    → t ≡ refused offLimits → t ≡ totalsOf table rows
 unfolding totalsOf
 too-many table rows h e = rw (lt-ltb mostRecords (length rows) h) e

@@ -12,12 +12,14 @@ use lib.ListN.{length, getD, length-append}
 use Rattle.minutes.specs.Minutes.{classes, minutesIn}
 use Rattle.minutes.specs.Rising.{Rising, mostMinutes}
 use Rattle.totals.specs.declared.JobRecord.{JobRecord}
-use Rattle.totals.specs.Board.{pick, finished, served, damaged, mostRecords, sumOver, under, oneJob, itsMinutes, wellFormed, allWellFormed, refused, counted, totalsOf}
+use Rattle.totals.specs.Board.{pick, finished, served, damaged, mostRecords, sumOver, under, oneJob, itsMinutes}
+use Rattle.totals.specs.Board.{wellFormed, allWellFormed, refused, counted, totalsOf}
 use Rattle.totals.specs.Step.{raised, withRecord, Room}
 
 -- ---- one record more at the end of a row
 module _ (r : JobRecord) where
-  sum-snoc : (amount : JobRecord → ℕ) (rows : List JobRecord) → sumOver amount (rows ++ (r ∷ [])) ≡ sumOver amount rows + amount r
+  sum-snoc : (amount : JobRecord → ℕ) (rows : List JobRecord)
+      → sumOver amount (rows ++ (r ∷ [])) ≡ sumOver amount rows + amount r
   unfolding sumOver
   sum-snoc amount [] = omega arith
   sum-snoc amount (x ∷ rows) = rw (sum-snoc amount rows) (omega arith)
@@ -25,12 +27,19 @@ module _ (r : JobRecord) where
   well-formed-snoc : (rows : List JobRecord) → allWellFormed (rows ++ (r ∷ [])) ≡ (allWellFormed rows && wellFormed r)
   unfolding allWellFormed
   well-formed-snoc [] = and-true (wellFormed r)
-  well-formed-snoc (x ∷ rows) = ap (λ b. wellFormed x && b) (well-formed-snoc rows) ∙ sym (and-assoc (wellFormed x) (allWellFormed rows) (wellFormed r))
+  well-formed-snoc (x ∷ rows) =
+      ap (λ b. wellFormed x && b) (well-formed-snoc rows)
+      ∙ sym (and-assoc (wellFormed x) (allWellFormed rows) (wellFormed r))
 
 -- a well-formed record raises the entries of its label
-counted-snoc : (table : List ℕ) (rows : List JobRecord) (label class : ℕ) → wellFormed (record { label = label; class = class }) ≡ true
+counted-snoc : (table : List ℕ) (rows : List JobRecord) (label class : ℕ)
+    → wellFormed (record { label = label; class = class }) ≡ true
     → counted table (rows ++ (record { label = label; class = class } ∷ []))
-    ≡ record { number = served; jobs = raised (counted table rows .jobs) label 1; minutes = raised (counted table rows .minutes) label (minutesIn table class) }
+    ≡ record {
+      number = served;
+      jobs = raised (counted table rows .jobs) label 1;
+      minutes = raised (counted table rows .minutes) label (minutesIn table class);
+    }
 unfolding counted
 counted-snoc table rows zero class h = simp (sum-snoc, add-zero)
 counted-snoc table rows (suc zero) class h = simp (sum-snoc, add-zero)
@@ -38,7 +47,8 @@ counted-snoc table rows (suc (suc zero)) class h = simp (sum-snoc, add-zero)
 counted-snoc table rows (suc (suc (suc label))) class h =
     let z : _≡_ {A = ℕ} 0 1 = cc (lt-leb (suc (suc (suc label))) finished (omega arith)) in absurd (omega arith)
 
-few-totals : (table : List ℕ) (rows : List JobRecord) → length rows ≤ mostRecords → totalsOf table rows ≡ pick (allWellFormed rows) (counted table rows) (refused damaged)
+few-totals : (table : List ℕ) (rows : List JobRecord) → length rows ≤ mostRecords
+    → totalsOf table rows ≡ pick (allWellFormed rows) (counted table rows) (refused damaged)
 unfolding totalsOf
 few-totals table rows few = rw (le-ltb mostRecords (length rows) few)
 
@@ -48,31 +58,40 @@ module _ (table : List ℕ) (rows : List JobRecord) (label class : ℕ) where
   more = rows ++ (record { label = label; class = class } ∷ [])
 
   judged : (a b : Bool) → wellFormed (record { label = label; class = class }) ≡ b
-      → withRecord table (pick a (counted table rows) (refused damaged)) label class ≡ pick (a && b) (counted table more) (refused damaged)
+      → withRecord table (pick a (counted table rows) (refused damaged)) label class
+      ≡ pick (a && b) (counted table more) (refused damaged)
   unfolding withRecord counted
   judged true true h = rw (h, counted-snoc table rows label class h)
   judged true false h = simp h
   judged false b h = refl
 
-  pub with-record-totals : length rows < mostRecords → withRecord table (totalsOf table rows) label class ≡ totalsOf table more
+  pub with-record-totals : length rows < mostRecords
+      → withRecord table (totalsOf table rows) label class ≡ totalsOf table more
   with-record-totals few =
-      rw (few-totals table rows (omega arith), few-totals table more (simp length-append (omega arith)), well-formed-snoc (record { label = label; class = class }) rows)
+      rw (
+        few-totals table rows (omega arith),
+        few-totals table more (simp length-append (omega arith)),
+        well-formed-snoc (record { label = label; class = class }) rows,
+      )
       (judged (allWellFormed rows) (wellFormed (record { label = label; class = class })) refl)
 
 -- ---- how large the totals of a row are
-sum-most : (m : ℕ) (amount : JobRecord → ℕ) → ((r : JobRecord) → amount r ≤ m) → (rows : List JobRecord) → sumOver amount rows ≤ length rows * m
+sum-most : (m : ℕ) (amount : JobRecord → ℕ) → ((r : JobRecord) → amount r ≤ m) → (rows : List JobRecord)
+    → sumOver amount rows ≤ length rows * m
 unfolding sumOver
 sum-most m amount h [] = omega arith
 sum-most m amount h (x ∷ rows) = rw suc-mul (omega (arith, h x, sum-most m amount h rows))
 
-under-most : (m label : ℕ) (amount : JobRecord → ℕ) → ((r : JobRecord) → amount r ≤ m) → (r : JobRecord) → under label amount r ≤ m
+under-most : (m label : ℕ) (amount : JobRecord → ℕ) → ((r : JobRecord) → amount r ≤ m) → (r : JobRecord)
+    → under label amount r ≤ m
 under-most m label amount h r = either (eqb (r .label) label)
   where
     either : (b : Bool) → pick b (amount r) 0 ≤ m
     either true = h r
     either false = omega arith
 
-pub minutes-most : {table : List ℕ} → Rising table → (class minutes : ℕ) → minutes ≡ minutesIn table class → minutes ≤ mostMinutes
+pub minutes-most : {table : List ℕ} → Rising table → (class minutes : ℕ) → minutes ≡ minutesIn table class
+    → minutes ≤ mostMinutes
 minutes-most {table} rising class minutes e = either (ltb class classes) refl
   where
     either : (b : Bool) → ltb class classes ≡ b → minutes ≤ mostMinutes
@@ -86,7 +105,8 @@ one-of-three x y z (suc (suc zero)) = z
 one-of-three x y z (suc (suc (suc k))) = omega arith
 
 -- so no sum of the step can wrap
-pub few-room : (table : List ℕ) → Rising table → (rows : List JobRecord) (label : ℕ) → length rows < mostRecords → Room (totalsOf table rows) label
+pub few-room : (table : List ℕ) → Rising table → (rows : List JobRecord) (label : ℕ) → length rows < mostRecords
+    → Room (totalsOf table rows) label
 unfolding counted
 few-room table rising rows label few = rw (few-totals table rows (omega arith)) (either (allWellFormed rows))
   where
@@ -94,8 +114,18 @@ few-room table rising rows label few = rw (few-totals table rows (omega arith)) 
     jobs< k = omega (arith, sum-most 1 (under k oneJob) (under-most 1 k oneJob (λ r. omega arith)) rows)
 
     minutes< : (k : ℕ) → sumOver (under k (itsMinutes table)) rows < mostRecords * mostMinutes
-    minutes< k = omega (arith, sum-most mostMinutes (under k (itsMinutes table)) (under-most mostMinutes k (itsMinutes table) (λ r. minutes-most rising (r .class) _ refl)) rows)
+    minutes< k = omega (
+      arith,
+      sum-most mostMinutes (under k (itsMinutes table))
+          (under-most mostMinutes k (itsMinutes table) (λ r. minutes-most rising (r .class) _ refl)) rows,
+    )
 
     either : (b : Bool) → Room (pick b (counted table rows) (refused damaged)) label
-    either true = record { jobs-room = one-of-three (jobs< 0) (jobs< 1) (jobs< 2) label; minutes-room = one-of-three (minutes< 0) (minutes< 1) (minutes< 2) label }
-    either false = record { jobs-room = one-of-three (omega arith) (omega arith) (omega arith) label; minutes-room = one-of-three (omega arith) (omega arith) (omega arith) label }
+    either true = record {
+      jobs-room = one-of-three (jobs< 0) (jobs< 1) (jobs< 2) label;
+      minutes-room = one-of-three (minutes< 0) (minutes< 1) (minutes< 2) label;
+    }
+    either false = record {
+      jobs-room = one-of-three (omega arith) (omega arith) (omega arith) label;
+      minutes-room = one-of-three (omega arith) (omega arith) (omega arith) label;
+    }

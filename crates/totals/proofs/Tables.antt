@@ -1,4 +1,5 @@
--- The records that stand in a table of words: how many, which, and what one more does to the running totals; and a row of words as
+-- The records that stand in a table of words: how many, which, and what one more does to the running totals; and a row
+-- of words as
 -- such a table. Document 01, "The board and the day list". Assumes nothing.
 use mathlib.Core.Path.{_≡_, refl, _∙_}
 use mathlib.Core.Bool.{Bool, true, false, and-false}
@@ -93,7 +94,8 @@ rows-length [] h = refl
 rows-length (label ∷ []) h = omega arith
 rows-length (label ∷ class ∷ words) h = omega (arith, rows-length words (omega arith))
 
-rows-at : (words : List ℕ) (i : ℕ) (d : JobRecord) → i < length (rowsOfWords words) → getD (rowsOfWords words) i d ≡ recordAt 0 2 0 1 words i
+rows-at : (words : List ℕ) (i : ℕ) (d : JobRecord) → i < length (rowsOfWords words)
+    → getD (rowsOfWords words) i d ≡ recordAt 0 2 0 1 words i
 unfolding rowsOfWords
 rows-at [] i d h = absurd (omega arith)
 rows-at (label ∷ []) i d h = absurd (omega arith)
@@ -104,7 +106,8 @@ rows-at (label ∷ class ∷ words) (suc i) d h =
     rw (even, odd) (rows-at words i d (omega arith))
 
 -- a row of words is a table of records of two words, without a header
-words-table : (words : List ℕ) (n : ℕ) → n ≡ length (rowsOfWords words) → rowsOfTable 0 2 0 1 words n ≡ rowsOfWords words
+words-table : (words : List ℕ) (n : ℕ) → n ≡ length (rowsOfWords words)
+    → rowsOfTable 0 2 0 1 words n ≡ rowsOfWords words
 words-table words n e =
     ext-getD zeros (rowsOfTable 0 2 0 1 words n) (rowsOfWords words) (from-length (recordAt 0 2 0 1 words) 0 n ∙ e)
     (λ i h.
@@ -122,6 +125,7 @@ even-words table words n h k e =
     rw (eq-eqb (length words % 2) 0 h, ← (words-table words n (omega (arith, rows-length words h))))
     (rw (two-each words n k) at e)
 
-pub odd-words : (table words : List ℕ) {t : Totals} → (length words % 2 ≡ 0 → ⊥) → t ≡ refused offLimits → t ≡ totalsOfWords table words
+pub odd-words : (table words : List ℕ) {t : Totals} → (length words % 2 ≡ 0 → ⊥) → t ≡ refused offLimits
+    → t ≡ totalsOfWords table words
 unfolding totalsOfWords
 odd-words table words h e = rw (ne-eqb (length words % 2) 0 h) e

@@ -23,18 +23,21 @@ pub record AllJobs (table : List ℕ) (rows : List JobRecord) : Type 0 where
 
 -- a record of one of the three labels counts under exactly one of them
 one-label : (amount : JobRecord → ℕ) (label class : ℕ) → leb label finished ≡ true
-    → let r : JobRecord = record { label = label; class = class } in under unexecuted amount r + (under executing amount r + under finished amount r) ≡ amount r
+    → let r : JobRecord = record { label = label; class = class } in
+    under unexecuted amount r + (under executing amount r + under finished amount r) ≡ amount r
 one-label amount zero class h = omega arith
 one-label amount (suc zero) class h = omega arith
 one-label amount (suc (suc zero)) class h = omega arith
 one-label amount (suc (suc (suc label))) class h = absurd (omega (arith, leb-true (suc (suc (suc label))) finished h))
 
 three-labels : (amount : JobRecord → ℕ) (rows : List JobRecord) → allWellFormed rows ≡ true
-    → sumOver (under unexecuted amount) rows + (sumOver (under executing amount) rows + sumOver (under finished amount) rows) ≡ sumOver amount rows
+    → sumOver (under unexecuted amount) rows +
+    (sumOver (under executing amount) rows + sumOver (under finished amount) rows) ≡ sumOver amount rows
 unfolding sumOver allWellFormed
 three-labels amount [] h = refl
 three-labels amount (r ∷ rows) h =
-    let both : (wellFormed r ≡ true) × (allWellFormed rows ≡ true) = and-eq-true-iff (wellFormed r) (allWellFormed rows) .0 h in
+    let both : (wellFormed r ≡ true) × (allWellFormed rows ≡ true) =
+    and-eq-true-iff (wellFormed r) (allWellFormed rows) .0 h in
     let label : leb (r .label) finished ≡ true = and-eq-true-iff (leb (r .label) finished) _ .0 (both .0) .0 in
     omega (arith, one-label amount (r .label) (r .class) label, three-labels amount rows (both .1))
 

@@ -83,7 +83,8 @@ unfoldable pub counted : List ℕ → List JobRecord → Totals
 counted table rows = record {
   number = served;
   jobs = jobsUnder unexecuted rows ∷ jobsUnder executing rows ∷ jobsUnder finished rows ∷ [];
-  minutes = minutesUnder table unexecuted rows ∷ minutesUnder table executing rows ∷ minutesUnder table finished rows ∷ [];
+  minutes = minutesUnder table unexecuted rows ∷ minutesUnder table executing rows ∷ minutesUnder table finished rows
+      ∷ [];
 }
 
 -- what the board answers of a lent row of job records; number 1 comes before number 9

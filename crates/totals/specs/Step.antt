@@ -18,7 +18,11 @@ unfoldable pub withRecord : List ℕ → Totals → ℕ → ℕ → Totals
 withRecord table t label class =
     pick (eqb (t .number) served)
     (pick (wellFormed (record { label = label; class = class }))
-    (record { number = t .number; jobs = raised (t .jobs) label 1; minutes = raised (t .minutes) label (minutesIn table class) })
+    (record {
+      number = t .number;
+      jobs = raised (t .jobs) label 1;
+      minutes = raised (t .minutes) label (minutesIn table class);
+    })
     (refused damaged))
     t
 

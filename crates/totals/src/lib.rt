@@ -25,7 +25,8 @@ pub struct JobRecord {
     pub class: u32,
 }
 
-// The number is 0 for a row that is served. Else it is the refusal's, and all else is 0. Jobs and minutes are indexed by
+// The number is 0 for a row that is served. Else it is the refusal's, and all else is 0. Jobs and minutes are indexed
+// by
 // label: unexecuted, executing, finished.
 #[repr(C)]
 pub struct Totals {

@@ -2,7 +2,7 @@
 // Follows document 01, "The board and the day list": "each run whole". Assumes nothing.
 ghost use mathlib.Core.Path.{_≡_};
 ghost use Rattle.terms.specs.Runs.{outcome};
-ghost use Rattle.words.specs.Layout.{lent};
+ghost use Rattle.words.specs.Layout.{atEntry, atExit};
 ghost use Rattle.day_format.specs.Whole.{wholeAdd};
 use graph_posts::post_add;
 use terms::Answer;
@@ -24,7 +24,9 @@ pub fn add_whole(
     class: u32,
     grower: u32,
 ) -> Answer
-    ensures { λ r. ⌜ outcome r (lent (jobs .exit) (arcs .exit) (buckets .exit) (queue .exit) (workers .exit)) ≡ wholeAdd sizes (lent (jobs .entry) (arcs .entry) (buckets .entry) (queue .entry) (workers .entry)) worker (record { name = name; count = count; names = names; class = class; grower = grower }) ⌝ }
+    ensures { λ r. ⌜ outcome r (atExit jobs arcs buckets queue workers)
+        ≡ wholeAdd sizes (atEntry jobs arcs buckets queue workers) worker
+        (record { name = name; count = count; names = names; class = class; grower = grower }) ⌝ }
 {
     let answer = post_add(
         sizes,

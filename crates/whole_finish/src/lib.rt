@@ -2,7 +2,7 @@
 // Follows document 01, "The board and the day list": "each run whole". Assumes nothing.
 ghost use mathlib.Core.Path.{_≡_};
 ghost use Rattle.terms.specs.Runs.{outcome};
-ghost use Rattle.words.specs.Layout.{lent};
+ghost use Rattle.words.specs.Layout.{atEntry, atExit};
 ghost use Rattle.day_format.specs.Whole.{wholeFinish};
 use graph_posts::post_finish;
 use terms::Answer;
@@ -20,7 +20,8 @@ pub fn finish_whole(
     worker: u32,
     name: u32,
 ) -> Answer
-    ensures { λ r. ⌜ outcome r (lent (jobs .exit) (arcs .exit) (buckets .exit) (queue .exit) (workers .exit)) ≡ wholeFinish sizes (lent (jobs .entry) (arcs .entry) (buckets .entry) (queue .entry) (workers .entry)) worker name ⌝ }
+    ensures { λ r. ⌜ outcome r (atExit jobs arcs buckets queue workers)
+        ≡ wholeFinish sizes (atEntry jobs arcs buckets queue workers) worker name ⌝ }
 {
     let answer = post_finish(sizes, jobs, arcs, buckets, queue, workers, worker, name);
     let most = (sizes.arcs as usize) + 1;

@@ -33,7 +33,8 @@ on NoneReady t next e = never (cc)
 on (Handed j name) t next e = never (cc)
 on (Refused n i) t next e = never (cc)
 
-pub ended : (a : Answer) (t : Tables) (next : Tables → Outcome Tables) → goesOn a ≡ false → andThen a t next ≡ outcome a t
+pub ended : (a : Answer) (t : Tables) (next : Tables → Outcome Tables) → goesOn a ≡ false
+    → andThen a t next ≡ outcome a t
 ended Going t next e = never e
 ended Posted t next e = never e
 ended Laid t next e = refl
@@ -43,12 +44,14 @@ ended (Handed j name) t next e = refl
 ended (Refused n i) t next e = refl
 
 -- a step that goes on, and one that ends the call
-pub step-on : (k : ℕ) (s : Sizes) (w : ℕ) (t : Tables) (o : Outcome Tables) → o ≡ stepWords s t w → goesOn (o .answer) ≡ true
+pub step-on : (k : ℕ) (s : Sizes) (w : ℕ) (t : Tables) (o : Outcome Tables) → o ≡ stepWords s t w
+    → goesOn (o .answer) ≡ true
     → stepsOf (suc k) s w t ≡ stepsOf k s w (o .state)
 unfolding stepsOf
 step-on k s w t o e g = rw (← e) (on (o .answer) (o .state) (stepsOf k s w) g)
 
-pub step-ended : (k : ℕ) (s : Sizes) (w : ℕ) (t : Tables) (o : Outcome Tables) → o ≡ stepWords s t w → goesOn (o .answer) ≡ false
+pub step-ended : (k : ℕ) (s : Sizes) (w : ℕ) (t : Tables) (o : Outcome Tables) → o ≡ stepWords s t w
+    → goesOn (o .answer) ≡ false
     → stepsOf (suc k) s w t ≡ o
 unfolding stepsOf
 step-ended k s w t o e g = rw (← e) (ended (o .answer) (o .state) (stepsOf k s w) g)

@@ -2,7 +2,7 @@
 // Follows document 01, "The board and the day list": "each run whole". Assumes nothing.
 ghost use mathlib.Core.Path.{_≡_};
 ghost use Rattle.terms.specs.Runs.{outcome};
-ghost use Rattle.words.specs.Layout.{lent};
+ghost use Rattle.words.specs.Layout.{atEntry, atExit};
 ghost use Rattle.day_format.specs.Whole.{andThen, stepsOf};
 ghost use Rattle.whole_steps.specs.Going.{goesOn};
 use graph_step::step;
@@ -38,7 +38,8 @@ fn steps(
     worker: u32,
     most: usize,
 ) -> Answer
-    ensures { λ r. ⌜ outcome r (lent (jobs .exit) (arcs .exit) (buckets .exit) (queue .exit) (workers .exit)) ≡ stepsOf most sizes worker (lent (jobs .entry) (arcs .entry) (buckets .entry) (queue .entry) (workers .entry)) ⌝ }
+    ensures { λ r. ⌜ outcome r (atExit jobs arcs buckets queue workers)
+        ≡ stepsOf most sizes worker (atEntry jobs arcs buckets queue workers) ⌝ }
 {
     let mut left = most;
     while 0 < left {
@@ -64,8 +65,8 @@ pub fn rest(
     answer: Answer,
     most: usize,
 ) -> Answer
-    ensures { λ r. ⌜ outcome r (lent (jobs .exit) (arcs .exit) (buckets .exit) (queue .exit) (workers .exit))
-        ≡ andThen answer (lent (jobs .entry) (arcs .entry) (buckets .entry) (queue .entry) (workers .entry))
+    ensures { λ r. ⌜ outcome r (atExit jobs arcs buckets queue workers)
+        ≡ andThen answer (atEntry jobs arcs buckets queue workers)
         (stepsOf most sizes worker) ⌝ }
 {
     let going = goes_on(answer);

@@ -105,9 +105,12 @@ columns-put s R l i k v e r h = fun-ext (λ q. fun-ext (λ j. go q j (ltb q (s .
     never w = let z : _≡_ {A = ℕ} 0 1 = cc in omega arith
 
     go : (q j : ℕ) (b : Bool) → ltb q (s .width) ≡ b → (c : Bool) → eqb q k ≡ c
-        → pick b (getD (set l (place s i k) v) (place s j q) 0) 0 ≡ pick {A = ℕ → ℕ} c (λ x. pick (eqb x i) v (pick (ltb k (s .width)) (getD l (place s x k) 0) 0)) (λ x. pick b (getD l (place s x q) 0) 0) j
+        → pick b (getD (set l (place s i k) v) (place s j q) 0) 0
+        ≡ pick {A = ℕ → ℕ} c (λ x. pick (eqb x i) v (pick (ltb k (s .width)) (getD l (place s x k) 0) 0))
+        (λ x. pick b (getD l (place s x q) 0) 0) j
     go q j true x true y = rw (eqb-true q k y, e) (same j)
-    go q j true x false y = getD-set-other l (place s i k) (place s j q) v 0 (λ w. eqb-false q k y (sep s j i q k (ltb-true q (s .width) x) a w .1))
+    go q j true x false y = getD-set-other l (place s i k) (place s j q) v 0
+        (λ w. eqb-false q k y (sep s j i q k (ltb-true q (s .width) x) a w .1))
     go q j false x true y = absurd (never (cc (eqb-true q k y)))
     go q j false x false y = refl
 
@@ -116,7 +119,8 @@ pub columns-putHeader : (s : Shape) (l : List ℕ) (k v : ℕ) → ltb k (s .hea
     → columns s (putHeader l k v) ≡ columns s l
 unfolding columns putHeader
 columns-putHeader s l k v e = fun-ext (λ q. fun-ext (λ j.
-    ap (λ x. pick (ltb q (s .width)) x 0) (getD-set-other l k (place s j q) v 0 (omega (arith, ltb-true k (s .head) e)))))
+    ap (λ x. pick (ltb q (s .width)) x 0)
+    (getD-set-other l k (place s j q) v 0 (omega (arith, ltb-true k (s .head) e)))))
 
 pub header-put : (s : Shape) (l : List ℕ) (i k v q : ℕ) → ltb q (s .head) ≡ true → header (put s l i k v) q ≡ header l q
 unfolding put header
@@ -125,7 +129,8 @@ header-put s l i k v q e = getD-set-other l (place s i k) q v 0 (omega (arith, l
 pub header-putHeader : (s : Shape) (R : ℕ) (l : List ℕ) (k v : ℕ) → ltb k (s .head) ≡ true → Rows s R l
     → header (putHeader l k v) k ≡ v
 unfolding putHeader header rows
-header-putHeader s R l k v e r = getD-set-same l k v 0 (omega (arith, ltb-true k (s .head) e, leb-true (s .head + s .width * R) (length l) r))
+header-putHeader s R l k v e r =
+    getD-set-same l k v 0 (omega (arith, ltb-true k (s .head) e, leb-true (s .head + s .width * R) (length l) r))
 
 pub header-other : (l : List ℕ) (k v q : ℕ) → eqb q k ≡ false → header (putHeader l k v) q ≡ header l q
 unfolding putHeader header

@@ -7,6 +7,7 @@ use lib.Dec.{ltb, leb, eqb}
 use lib.ListN.{length, getD, replicate}
 use lib.Seq.{sets}
 use denote.Ref.{RefT, now}
+use denote.Triple.Both.{Both}
 use Rattle.terms.specs.Base.{pick}
 use Rattle.terms.specs.Terms.{mostNames, withinLimits}
 use Rattle.terms.specs.declared.Sizes.{Sizes}
@@ -156,6 +157,17 @@ tables j a b q w = record { jobs = j; arcs = a; buckets = b; queue = q; workers 
 -- the tables behind the references that a call is lent
 abbrev pub lent : RefT (List ℕ) → RefT (List ℕ) → RefT (List ℕ) → RefT (List ℕ) → RefT (List ℕ) → Tables
 lent j a b q w = tables (now j) (now a) (now b) (now q) (now w)
+
+-- a lent table, as a contract names it: what is lent as the call begins, and as it ends
+abbrev pub Lent : Type 0
+Lent = Both (RefT (List ℕ)) (RefT (List ℕ))
+
+-- the tables as a call begins, and as it ends
+abbrev pub atEntry : Lent → Lent → Lent → Lent → Lent → Tables
+atEntry j a b q w = lent (j .entry) (a .entry) (b .entry) (q .entry) (w .entry)
+
+abbrev pub atExit : Lent → Lent → Lent → Lent → Lent → Tables
+atExit j a b q w = lent (j .exit) (a .exit) (b .exit) (q .exit) (w .exit)
 
 -- what the steps read: the counters, and the fields of each record
 pub record View : Type 0 where

@@ -2,4 +2,4 @@ pub mod Columns
 pub mod Layout
 pub mod Words
 pub mod Observed
-pub mod Cases
+pub mod WordCases

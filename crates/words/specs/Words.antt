@@ -204,7 +204,8 @@ putField l w k x = put workerShape l w k x
 -- the entered job's words
 abbrev pub enteredJob : View → ℕ → ℕ → List ℕ
 enteredJob v w head =
-    v .worker OWN-NAME w ∷ 0 ∷ v .worker LIST-COUNT w ∷ v .worker OWN-CLASS w ∷ v .worker OWN-GROWER w ∷ none ∷ none ∷ head ∷ []
+    v .worker OWN-NAME w ∷ 0 ∷ v .worker LIST-COUNT w ∷ v .worker OWN-CLASS w ∷ v .worker OWN-GROWER w ∷ none ∷ none
+    ∷ head ∷ []
 
 -- "With d = 0" no arc is reserved, and the first reserved arc is none
 abbrev pub firstArc : ℕ → ℕ → ℕ
@@ -212,7 +213,8 @@ firstArc d x = pick (eqb d 0) none x
 
 abbrev pub enteredWorker : View → ℕ → ℕ → ℕ → List ℕ → List ℕ
 enteredWorker v w j x l =
-    putField (putField (putField (putField l w PHASE LINKING) w PLACE 0) w OWN-JOB j) w OWN-ARC (firstArc (v .worker LIST-COUNT w) x)
+    putField (putField (putField (putField l w PHASE LINKING) w PLACE 0) w OWN-JOB j) w OWN-ARC
+    (firstArc (v .worker LIST-COUNT w) x)
 
 abbrev pub nextPlace : View → ℕ → List ℕ → List ℕ
 nextPlace v w l = putField l w PLACE (v .worker PLACE w + 1)
@@ -294,7 +296,8 @@ unfoldable pub appliedGet : GetPlan → Tables → ℕ → Tables
 appliedGet (RefuseGet n) t w = t
 appliedGet Wait t w = t
 appliedGet (Take j name q) t w =
-    tables (put jobShape (t .jobs) j LABEL 1) (t .arcs) (t .buckets) (putHeader (put queueShape (t .queue) q 0 none) TAKEN (q + 1))
+    tables (put jobShape (t .jobs) j LABEL 1) (t .arcs) (t .buckets)
+    (putHeader (put queueShape (t .queue) q 0 none) TAKEN (q + 1))
     (putField (t .workers) w HELD j)
 
 abbrev pub planGetOf : Sizes → Tables → ℕ → GetPlan

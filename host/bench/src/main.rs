@@ -2,7 +2,7 @@
 //! the reference, both in this process and on the same sheets. Then the instructions of both, counted; it
 //! fails where the library takes more of them than it may beside the reference.
 //!
-//! With the arguments `count`, a side (`library` or `reference`), `read` or `write`, and the name of sheets:
+//! With the arguments `count`, a side (`library` or `sequential_model`), `read` or `write`, and the name of sheets:
 //! reads or writes each of these once, for callgrind to count.
 
 mod sheets;

@@ -41,7 +41,7 @@ impl<T: Pattern> Output<T> {
         &mut self.all[GUARD..end]
     }
 
-    /// The first place, guards included, that `library` and `reference` left with other contents. A
+    /// The first place, guards included, that `library` and `sequential_model` left with other contents. A
     /// place before the output is below 0.
     pub fn difference(what: &str, library: &Output<T>, reference: &Output<T>) -> Option<String> {
         let place = library.all.iter().zip(&reference.all).position(|(one, other)| one != other)?;

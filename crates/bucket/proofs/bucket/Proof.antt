@@ -1,4 +1,5 @@
--- `bucket::bucket` meets its contract: the shift is the definition's division by a power of two, and where 32 bits or more are asked for nothing is shifted.
+-- `bucket::bucket` meets its contract: the shift is the definition's division by a power of two, and where 32 bits or
+-- more are asked for nothing is shifted.
 -- Assumes nothing.
 use mathlib.Core.Path.{_∙_, sym}
 use native.Mathlib.Nat.{lt-of-le-of-lt}

@@ -1,4 +1,5 @@
--- `add_all` adds every entry. The loop's invariant: the entries that are left, added to what stands, make the whole. Assumes nothing.
+-- `add_all` adds every entry. The loop's invariant: the entries that are left, added to what stands, make the whole.
+-- Assumes nothing.
 use Prim.Native.Nat.{_*_, _-_, _≤_}
 use mathlib.Core.Bool.{true}
 use mathlib.Core.List.{[]}
@@ -18,7 +19,8 @@ use Rattle.day_list.proofs.add_all.Statement.{statement}
 use Rattle.day_list.proofs.add_all.Tie as tie
 
 abbrev Inv-loop : tie.InvT-loop
-Inv-loop sheet sizes jobs₀ arcs₀ buckets₀ queue₀ workers₀ out₀ limit at₀ number₀ place₀ jobs arcs buckets queue workers out at number place =
+Inv-loop sheet sizes jobs₀ arcs₀ buckets₀ queue₀ workers₀ out₀ limit at₀ number₀ place₀ jobs arcs buckets queue workers
+    out at number place =
     (length jobs ≡ length jobs₀)
     × (length arcs ≡ length arcs₀)
     × (length buckets ≡ length buckets₀)
@@ -29,11 +31,14 @@ Inv-loop sheet sizes jobs₀ arcs₀ buckets₀ queue₀ workers₀ out₀ limit
     × (number ≤ at)
     × (place ≤ lineBytes * number)
     × (isWhole (restOf sheet at) ≡ true)
-    × (wrote limit (page place out) (addAll sizes number (jobsOf (restOf sheet at)) (day (tables jobs arcs buckets queue workers) []))
-    ≡ wrote limit (page 0 out₀) (addAll sizes 0 (jobsOf (decodeSheet sheet)) (day (tables jobs₀ arcs₀ buckets₀ queue₀ workers₀) [])))
+    × (wrote limit (page place out)
+    (addAll sizes number (jobsOf (restOf sheet at)) (day (tables jobs arcs buckets queue workers) []))
+    ≡ wrote limit (page 0 out₀) (addAll sizes 0 (jobsOf (decodeSheet sheet))
+    (day (tables jobs₀ arcs₀ buckets₀ queue₀ workers₀) [])))
 
 abbrev μ-loop : tie.MeasureT-loop
-μ-loop sheet sizes jobs₀ arcs₀ buckets₀ queue₀ workers₀ out₀ limit at₀ number₀ place₀ jobs arcs buckets queue workers out at number place =
+μ-loop sheet sizes jobs₀ arcs₀ buckets₀ queue₀ workers₀ out₀ limit at₀ number₀ place₀ jobs arcs buckets queue workers
+    out at number place =
     length sheet - at
 
 loop-holds : tie.Need-loop-holds Inv-loop μ-loop
@@ -66,7 +71,8 @@ loop-less c =
     let a = c .before .before .before .before .before .before .before .before .before .before .before .before .before .before .before .before .before .before .before .before .before .before .before .before .before .before .before .before .before .before .before .before .args in
     let q = c .before .before .before .before .before .before .before .before .before .before .before .before .before .before .before .before .before .before .before .before .before .before .before .before .before .before .before .before .before .before .before .before .pre in
     let e = c .before .before .before .before .before .before .before .before .before .before .before .before .add-entry in
-    let s = next-entry (a .limit) (a .sizes) (now (a .sheet)) (l .at) (l .number) _ _ _ _ _ (c .before .before .before .before .before .before .before .before .before .before .before .before .before .before .before .before .before .before .before .before .before .before .before .read .ensures) (c .before .before .before .before .before .before .before .before .before .before .before .before .before .before .before .before .before .before .before .before .before .answer .given .1) (l .inv .9) (e .ensures) in
+    let s = next-entry (a .limit) (a .sizes) (now (a .sheet)) (l .at) (l .number) _ _ _ _ _
+    (c .before .before .before .before .before .before .before .before .before .before .before .before .before .before .before .before .before .before .before .before .before .before .before .read .ensures) (c .before .before .before .before .before .before .before .before .before .before .before .before .before .before .before .before .before .before .before .before .before .answer .given .1) (l .inv .9) (e .ensures) in
     omega (arith, s .past, s .inside)
 
 loop-again : tie.Need-loop-again Inv-loop μ-loop
@@ -75,9 +81,23 @@ loop-again c =
     let a = c .before .before .before .before .before .before .before .before .before .before .before .before .before .before .before .before .before .before .before .before .before .before .before .before .before .before .before .before .before .before .before .before .args in
     let q = c .before .before .before .before .before .before .before .before .before .before .before .before .before .before .before .before .before .before .before .before .before .before .before .before .before .before .before .before .before .before .before .before .pre in
     let e = c .before .before .before .before .before .before .before .before .before .before .before .before .add-entry in
-    let s = next-entry (a .limit) (a .sizes) (now (a .sheet)) (l .at) (l .number) _ _ _ _ _ (c .before .before .before .before .before .before .before .before .before .before .before .before .before .before .before .before .before .before .before .before .before .before .before .read .ensures) (c .before .before .before .before .before .before .before .before .before .before .before .before .before .before .before .before .before .before .before .before .before .answer .given .1) (l .inv .9) (e .ensures) in
-    let k = entered-place _ _ _ _ _ _ _ (e .ensures) in
-    (e .kept .1 .0 ∙ l .inv .0, e .kept .1 .1 .0 ∙ l .inv .1, e .kept .1 .1 .1 .0 ∙ l .inv .2, e .kept .1 .1 .1 .1 .0 ∙ l .inv .3, e .kept .1 .1 .1 .1 .1 .0 ∙ l .inv .4, e .kept .1 .1 .1 .1 .1 .1 .0 ∙ l .inv .5, s .inside, omega (arith, s .past, l .inv .7), omega (arith, k, l .inv .8), s .unbroken, rw add-one (s .same ∙ l .inv .10))
+    let s = next-entry (a .limit) (a .sizes) (now (a .sheet)) (l .at) (l .number) _ _ _ _ _
+    (c .before .before .before .before .before .before .before .before .before .before .before .before .before .before .before .before .before .before .before .before .before .before .before .read .ensures) (c .before .before .before .before .before .before .before .before .before .before .before .before .before .before .before .before .before .before .before .before .before .answer .given .1) (l .inv .9) (e .ensures) in
+    let k = entered-place _ _ _ _ _ _ _ (e .ensures) in (
+      e .kept .1 .0 ∙ l .inv .0,
+      e .kept .1 .1 .0 ∙ l .inv .1,
+      e .kept .1 .1 .1 .0 ∙ l .inv .2,
+      e .kept .1 .1 .1 .1 .0
+          ∙ l .inv .3,
+      e .kept .1 .1 .1 .1 .1 .0 ∙ l .inv .4,
+      e .kept .1 .1 .1 .1 .1 .1 .0
+          ∙ l .inv .5,
+      s .inside,
+      omega (arith, s .past, l .inv .7),
+      omega (arith, k, l .inv .8),
+      s .unbroken,
+      rw add-one (s .same ∙ l .inv .10),
+    )
 
 enum-told : tie.Need-enum-told Inv-loop μ-loop
 enum-told c = search needs
@@ -103,8 +123,11 @@ same-length-6 c = search needs
 returns : tie.Need-returns Inv-loop μ-loop
 returns c =
     let l = c .before .before .before .loop in
-    let q = c .before .before .before .before .before .before .before .before .before .before .before .pre in
-    (last-entry _ _ _ _ _ _ _ _ (c .before .before .read .ensures) (c .enum-told .given .1) ∙ l .inv .10, omega (arith, q .1, l .inv .6, l .inv .7, l .inv .8))
+    let q = c .before .before .before .before .before .before .before .before .before .before .before .pre in (
+      last-entry _ _ _ _ _ _ _ _ (c .before .before .read .ensures) (c .enum-told .given .1)
+          ∙ l .inv .10,
+      omega (arith, q .1, l .inv .6, l .inv .7, l .inv .8),
+    )
 
 enum-told-2 : tie.Need-enum-told-2 Inv-loop μ-loop
 enum-told-2 c = search needs

@@ -30,7 +30,8 @@ same-length-6 c = search needs
 
 returns : tie.Need-returns
 unfolding entered
-returns c = rw (← c .before .before .before .before .before .before .before .before .before .before .before .before .before .before .add-whole .ensures, c .before .before .print-refusal .ensures)
+returns c =
+    rw (← c .before .before .before .before .before .before .before .before .before .before .before .before .before .before .add-whole .ensures, c .before .before .print-refusal .ensures)
 
 pub add-entry-spec : {M : Type 1} → statement M
 add-entry-spec =

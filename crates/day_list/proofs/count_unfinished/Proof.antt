@@ -1,4 +1,5 @@
--- `count_unfinished` counts the jobs whose label is not finished. The loop's invariant: those counted and those left make the whole. Assumes nothing.
+-- `count_unfinished` counts the jobs whose label is not finished. The loop's invariant: those counted and those left
+-- make the whole. Assumes nothing.
 use Prim.Native.Nat.{suc, _+_, _-_, _≤_}
 use mathlib.Core.Path.{_≡_, sym, _∙_}
 use native.Mathlib.Omega.{arith}
@@ -43,11 +44,18 @@ loop-again c =
     let j = now (c .before .before .before .before .before .before .args .jobs) in
     let e : l .left ≡ suc (l .left - 1) = omega (arith, c .before .before .loop-test .taken) in
     let k = rw e at (l .inv .2) in
-    let u = unfinished-done (columns jobShape j LABEL) (l .left - 1) (sym (c .before .job-word .ensures) ∙ c .if1 .taken) in
+    let u = unfinished-done (columns jobShape j LABEL) (l .left - 1)
+    (sym (c .before .job-word .ensures) ∙ c .if1 .taken) in
     (omega (arith, l .inv .0), omega (arith, l .inv .1), omega (arith, u, k))
 
 add-sum : tie.Need-add-sum Inv-loop μ-loop
-add-sum c = omega (arith, c .before .before .before .loop .inv .1, c .before .before .loop-test .taken, c .before .before .before .before .header .ensures, c .before .before .before .before .header .ok)
+add-sum c = omega (
+  arith,
+  c .before .before .before .loop .inv .1,
+  c .before .before .loop-test .taken,
+  c .before .before .before .before .header .ensures,
+  c .before .before .before .before .header .ok,
+)
 
 loop-less-2 : tie.Need-loop-less-2 Inv-loop μ-loop
 loop-less-2 c = search needs
@@ -58,7 +66,8 @@ loop-again-2 c =
     let j = now (c .before .before .before .before .before .before .args .jobs) in
     let e : l .left ≡ suc (l .left - 1) = omega (arith, c .before .before .loop-test .taken) in
     let k = rw e at (l .inv .2) in
-    let u = unfinished-more (columns jobShape j LABEL) (l .left - 1) (λ z. c .if1 .left (c .before .job-word .ensures ∙ z)) in
+    let u = unfinished-more (columns jobShape j LABEL) (l .left - 1)
+    (λ z. c .if1 .left (c .before .job-word .ensures ∙ z)) in
     (omega (arith, l .inv .0), omega (arith, l .inv .1), omega (arith, u, k))
 
 returns : tie.Need-returns Inv-loop μ-loop

@@ -19,10 +19,13 @@ same-length c = search needs
 returns-2 : tie.Need-returns-2
 returns-2 c =
     let a = c .before .before .before .before .before .before .before .before .args in
-    too-short (a .workers) (now (a .sheet)) (now (a .out)) _ _ (c .before .before .before .before .before .if1 .taken) (c .before .before .before .print-list .ensures) (c .if2 .taken)
+    too-short (a .workers) (now (a .sheet)) (now (a .out)) _ _ (c .before .before .before .before .before .if1 .taken)
+    (c .before .before .before .print-list .ensures) (c .if2 .taken)
 
 print-list-requires-2 : tie.Need-print-list-requires-2
-print-list-requires-2 c κs = few-workers (c .before .before .before .before .before .before .before .before .before .args .workers) (c .before .before .before .before .before .before .if1 .taken)
+print-list-requires-2 c κs = few-workers
+    (c .before .before .before .before .before .before .before .before .before .args .workers)
+    (c .before .before .before .before .before .before .if1 .taken)
 
 same-length-2 : tie.Need-same-length-2
 same-length-2 c = search needs
@@ -30,7 +33,10 @@ same-length-2 c = search needs
 returns-3 : tie.Need-returns-3
 returns-3 c =
     let a = c .before .before .before .before .before .before .before .before .before .before .before .before .args in
-    written (a .workers) (now (a .sheet)) (now (a .out)) _ _ (c .before .before .before .before .before .before .before .before .before .if1 .taken) (c .before .before .before .before .before .before .before .print-list .ensures) _ _ (c .before .before .before .before .if2 .left) (c .before .before .print-list2 .ensures)
+    written (a .workers) (now (a .sheet)) (now (a .out)) _ _
+    (c .before .before .before .before .before .before .before .before .before .if1 .taken)
+    (c .before .before .before .before .before .before .before .print-list .ensures) _ _
+    (c .before .before .before .before .if2 .left) (c .before .before .print-list2 .ensures)
 
 pub day-list-spec : {M : Type 1} → statement M
 day-list-spec =

@@ -27,8 +27,11 @@ same-length-5 : tie.Need-same-length-5
 same-length-5 c = search needs
 
 returns : tie.Need-returns
-returns c =
-    (got-none _ _ _ _ _ _ _ _ _ (c .before .before .before .before .before .before .before .before .before .before .before .before .get .ensures) (c .before .name-of .ensures) (c .if1 .left), record { place = omega arith; handed = omega arith; count = omega arith })
+returns c = (
+  got-none _ _ _ _ _ _ _ _ _
+      (c .before .before .before .before .before .before .before .before .before .before .before .before .get .ensures) (c .before .name-of .ensures) (c .if1 .left),
+  record { place = omega arith; handed = omega arith; count = omega arith },
+)
 
 handed-line-requires : tie.Need-handed-line-requires
 handed-line-requires c κs = search needs
@@ -58,7 +61,8 @@ returns-2 : tie.Need-returns-2
 returns-2 c =
     let q = c .before .before .before .before .before .before .before .before .before .before .before .before .before .before .before .before .before .before .before .before .before .before .before .before .before .before .before .before .before .pre in
     let h = c .hold .ensures in
-    let z = got-some _ _ _ _ _ _ _ _ _ _ _ _ (c .before .before .before .before .before .before .before .before .before .before .before .before .before .before .before .before .before .get .ensures) (c .before .before .before .before .before .before .name-of .ensures) (c .before .before .before .before .before .if1 .taken) (q .0) (c .before .before .before .handed-line .ensures) h in
+    let z = got-some _ _ _ _ _ _ _ _ _ _ _ _
+    (c .before .before .before .before .before .before .before .before .before .before .before .before .before .before .before .before .before .get .ensures) (c .before .before .before .before .before .before .name-of .ensures) (c .before .before .before .before .before .if1 .taken) (q .0) (c .before .before .before .handed-line .ensures) h in
     (z .0, record { place = z .1; handed = omega (arith, h .handed); count = omega (arith, h .count) })
 
 pub get-one-spec : {M : Type 1} → statement M

@@ -32,7 +32,13 @@ returns c =
     let g = a .gets in
     let hs : length (g .holders) ≡ 16 = search needs in
     let ns : length (g .names) ≡ 16 = search needs in
-    record { place = refl; handed = refl; count = refl; holders = rw add-one (holders-more (g .count) (g .holders) (g .names) (a .worker) (a .name) (omega arith) (omega arith)) }
+    record {
+      place = refl;
+      handed = refl;
+      count = refl;
+      holders =
+          rw add-one (holders-more (g .count) (g .holders) (g .names) (a .worker) (a .name) (omega arith) (omega arith));
+    }
 
 pub hold-spec : {M : Type 1} → statement M
 hold-spec =

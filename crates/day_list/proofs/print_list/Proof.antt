@@ -20,7 +20,8 @@ returns : tie.Need-returns
 unfolding dayText
 returns c =
     let a = c .before .before .before .before .before .before .before .args in
-    rw (lt-leb (length (now (a .sheet))) mostBytes (c .before .before .before .before .if1 .taken)) (c .before .before .broken-line .ensures)
+    rw (lt-leb (length (now (a .sheet))) mostBytes (c .before .before .before .before .if1 .taken))
+    (c .before .before .broken-line .ensures)
 
 scan-sheet-requires : tie.Need-scan-sheet-requires
 scan-sheet-requires c κs = search needs
@@ -31,7 +32,8 @@ enum-told c = search needs
 print-fresh-day-requires : tie.Need-print-fresh-day-requires
 print-fresh-day-requires c κs =
     let a = c .before .before .before .before .before .before .before .args in
-    let w = whole-scanned (decodeSheet (now (a .sheet))) _ (sym (c .before .before .before .scan-sheet .ensures) ∙ c .before .enum-told .given .1) in
+    let w = whole-scanned (decodeSheet (now (a .sheet))) _
+    (sym (c .before .before .before .scan-sheet .ensures) ∙ c .before .enum-told .given .1) in
     (w .0, c .before .before .before .before .if1 .left, c .before .before .before .before .before .before .before .pre)
 
 enum-known-number : tie.Need-enum-known-number
@@ -47,8 +49,15 @@ returns-2 : tie.Need-returns-2
 unfolding dayText
 returns-2 c =
     let a = c .before .before .before .before .before .before .before .before .before .before .args in
-    let w = whole-scanned (decodeSheet (now (a .sheet))) _ (sym (c .before .before .before .before .before .before .scan-sheet .ensures) ∙ c .before .before .before .before .enum-told .given .1) in
-    rw (le-leb (length (now (a .sheet))) mostBytes (c .before .before .before .before .before .before .before .if1 .left), w .1) (c .before .before .print-fresh-day .ensures)
+    let w = whole-scanned (decodeSheet (now (a .sheet))) _
+    (sym (c .before .before .before .before .before .before .scan-sheet .ensures)
+    ∙ c .before .before .before .before .enum-told .given .1) in
+    rw (
+      le-leb (length (now (a .sheet))) mostBytes
+          (c .before .before .before .before .before .before .before .if1 .left),
+      w .1,
+    )
+    (c .before .before .print-fresh-day .ensures)
 
 same-length-3 : tie.Need-same-length-3
 same-length-3 c = search needs
@@ -57,8 +66,15 @@ returns-3 : tie.Need-returns-3
 unfolding dayText
 returns-3 c =
     let a = c .before .before .before .before .before .before .before .before .before .before .before .args in
-    let w = broken-scanned (decodeSheet (now (a .sheet))) _ _ (sym (c .before .before .before .before .before .before .before .scan-sheet .ensures) ∙ c .before .before .before .before .before .number .given .1) in
-    rw (le-leb (length (now (a .sheet))) mostBytes (c .before .before .before .before .before .before .before .before .if1 .left), w) (c .before .before .broken-line2 .ensures)
+    let w = broken-scanned (decodeSheet (now (a .sheet))) _ _
+    (sym (c .before .before .before .before .before .before .before .scan-sheet .ensures)
+    ∙ c .before .before .before .before .before .number .given .1) in
+    rw (
+      le-leb (length (now (a .sheet))) mostBytes
+          (c .before .before .before .before .before .before .before .before .if1 .left),
+      w,
+    )
+    (c .before .before .broken-line2 .ensures)
 
 pub print-list-spec : {M : Type 1} → statement M
 print-list-spec =

@@ -29,7 +29,12 @@ returns-2 c =
     let a = c .before .before .before .before .before .before .before .args in
     let f = c .before .before .before .before .before .refusal-of .ensures in
     let e = sym (ap (λ (x : Told). x .some) f) ∙ c .before .before .before .before .if1 .taken in
-    c .before .before .refused-line .ensures ∙ rw (le-leb (a .at) mostPlace (c .before .before .before .before .before .before .before .pre), f, refusal-some (a .entry) (a .answer) e)
+    c .before .before .refused-line .ensures
+    ∙ rw (
+      le-leb (a .at) mostPlace (c .before .before .before .before .before .before .before .pre),
+      f,
+      refusal-some (a .entry) (a .answer) e,
+    )
 
 pub print-refusal-spec : {M : Type 1} → statement M
 print-refusal-spec =

@@ -1,4 +1,5 @@
--- `run_rounds` runs rounds until one hands out nothing. The loop's invariant: the rounds that are left make the whole. Assumes nothing.
+-- `run_rounds` runs rounds until one hands out nothing. The loop's invariant: the rounds that are left make the whole.
+-- Assumes nothing.
 use Prim.Native.Nat.{suc, _+_, _*_, _-_, _≤_}
 use mathlib.Core.List.{[]}
 use mathlib.Core.Path.{_≡_, refl, sym, _∙_}
@@ -15,7 +16,8 @@ use Rattle.day_list.proofs.run_rounds.Statement.{statement}
 use Rattle.day_list.proofs.run_rounds.Tie as tie
 
 abbrev Inv-loop : tie.InvT-loop
-Inv-loop sizes jobs₀ arcs₀ buckets₀ queue₀ workers₀ out₀ limit at left₀ place₀ handed₀ jobs arcs buckets queue workers out left place handed =
+Inv-loop sizes jobs₀ arcs₀ buckets₀ queue₀ workers₀ out₀ limit at left₀ place₀ handed₀ jobs arcs buckets queue workers
+    out left place handed =
     (length jobs ≡ length jobs₀)
     × (length arcs ≡ length arcs₀)
     × (length buckets ≡ length buckets₀)
@@ -29,7 +31,8 @@ Inv-loop sizes jobs₀ arcs₀ buckets₀ queue₀ workers₀ out₀ limit at le
     ≡ wrote limit (page at out₀) (rounds (sizes .jobs + 1) sizes (tables jobs₀ arcs₀ buckets₀ queue₀ workers₀) [] 0))
 
 abbrev μ-loop : tie.MeasureT-loop
-μ-loop sizes jobs₀ arcs₀ buckets₀ queue₀ workers₀ out₀ limit at left₀ place₀ handed₀ jobs arcs buckets queue workers out left place handed = left
+μ-loop sizes jobs₀ arcs₀ buckets₀ queue₀ workers₀ out₀ limit at left₀ place₀ handed₀ jobs arcs buckets queue workers
+    out left place handed = left
 
 add-left : tie.Need-add-left Inv-loop μ-loop
 add-left c = omega (arith, c .before .before .before .before .before .before .before .pre)
@@ -48,22 +51,28 @@ get-all-requires c κs =
     (omega (arith, q), omega (arith, q, t, l .inv .7), omega (arith, q, t, l .inv .8))
 
 same-length : tie.Need-same-length Inv-loop μ-loop
-same-length c = c .before .before .before .before .before .before .before .before .before .before .before .before .before .before .get-all .kept .1 .0 ∙ c .before .before .before .before .before .before .before .before .before .before .before .before .before .before .before .before .before .before .before .before .before .before .loop .inv .0
+same-length c =
+    c .before .before .before .before .before .before .before .before .before .before .before .before .before .before .get-all .kept .1 .0 ∙ c .before .before .before .before .before .before .before .before .before .before .before .before .before .before .before .before .before .before .before .before .before .before .loop .inv .0
 
 same-length-2 : tie.Need-same-length-2 Inv-loop μ-loop
-same-length-2 c = c .before .before .before .before .before .before .before .before .before .before .before .before .before .before .get-all .kept .1 .1 .0 ∙ c .before .before .before .before .before .before .before .before .before .before .before .before .before .before .before .before .before .before .before .before .before .before .loop .inv .1
+same-length-2 c =
+    c .before .before .before .before .before .before .before .before .before .before .before .before .before .before .get-all .kept .1 .1 .0 ∙ c .before .before .before .before .before .before .before .before .before .before .before .before .before .before .before .before .before .before .before .before .before .before .loop .inv .1
 
 same-length-3 : tie.Need-same-length-3 Inv-loop μ-loop
-same-length-3 c = c .before .before .before .before .before .before .before .before .before .before .before .before .before .before .get-all .kept .1 .1 .1 .0 ∙ c .before .before .before .before .before .before .before .before .before .before .before .before .before .before .before .before .before .before .before .before .before .before .loop .inv .2
+same-length-3 c =
+    c .before .before .before .before .before .before .before .before .before .before .before .before .before .before .get-all .kept .1 .1 .1 .0 ∙ c .before .before .before .before .before .before .before .before .before .before .before .before .before .before .before .before .before .before .before .before .before .before .loop .inv .2
 
 same-length-4 : tie.Need-same-length-4 Inv-loop μ-loop
-same-length-4 c = c .before .before .before .before .before .before .before .before .before .before .before .before .before .before .get-all .kept .1 .1 .1 .1 .0 ∙ c .before .before .before .before .before .before .before .before .before .before .before .before .before .before .before .before .before .before .before .before .before .before .loop .inv .3
+same-length-4 c =
+    c .before .before .before .before .before .before .before .before .before .before .before .before .before .before .get-all .kept .1 .1 .1 .1 .0 ∙ c .before .before .before .before .before .before .before .before .before .before .before .before .before .before .before .before .before .before .before .before .before .before .loop .inv .3
 
 same-length-5 : tie.Need-same-length-5 Inv-loop μ-loop
-same-length-5 c = c .before .before .before .before .before .before .before .before .before .before .before .before .before .before .get-all .kept .1 .1 .1 .1 .1 .0 ∙ c .before .before .before .before .before .before .before .before .before .before .before .before .before .before .before .before .before .before .before .before .before .before .loop .inv .4
+same-length-5 c =
+    c .before .before .before .before .before .before .before .before .before .before .before .before .before .before .get-all .kept .1 .1 .1 .1 .1 .0 ∙ c .before .before .before .before .before .before .before .before .before .before .before .before .before .before .before .before .before .before .before .before .before .before .loop .inv .4
 
 same-length-6 : tie.Need-same-length-6 Inv-loop μ-loop
-same-length-6 c = c .before .before .before .before .before .before .before .before .before .before .before .before .before .before .get-all .kept .1 .1 .1 .1 .1 .1 .0 ∙ c .before .before .before .before .before .before .before .before .before .before .before .before .before .before .before .before .before .before .before .before .before .before .loop .inv .5
+same-length-6 c =
+    c .before .before .before .before .before .before .before .before .before .before .before .before .before .before .get-all .kept .1 .1 .1 .1 .1 .1 .0 ∙ c .before .before .before .before .before .before .before .before .before .before .before .before .before .before .before .before .before .before .before .before .before .before .loop .inv .5
 
 returns : tie.Need-returns Inv-loop μ-loop
 returns c =
@@ -72,14 +81,22 @@ returns c =
     let t = c .before .before .before .before .before .before .before .before .before .before .before .before .before .before .before .before .before .before .before .before .before .loop-test .taken in
     let q = c .before .before .before .before .before .before .before .before .before .before .before .before .before .before .before .before .before .before .before .before .before .before .before .before .before .before .before .before .before .before .pre in
     let k : l .left ≡ suc (l .left - 1) = omega (arith, t) in
-    let none = no-holders-held (g .result .count) (g .result .holders) (g .result .names) (c .if1 .taken) in
-    (sym (round-last _ (l .left - 1) _ _ _ _ _ (g .ensures .0) none) ∙ rw k at (l .inv .9), omega (arith, q, t, g .ensures .1, l .inv .7))
+    let none = no-holders-held (g .result .count) (g .result .holders) (g .result .names) (c .if1 .taken) in (
+      sym (round-last _ (l .left - 1) _ _ _ _ _ (g .ensures .0) none)
+          ∙ rw k at (l .inv .9),
+      omega (arith, q, t, g .ensures .1, l .inv .7),
+    )
 
 finish-all-requires : tie.Need-finish-all-requires Inv-loop μ-loop
-finish-all-requires c κs = omega (arith, c .before .before .before .before .before .before .before .before .before .before .before .before .before .before .before .before .before .before .before .get-all .ensures .3)
+finish-all-requires c κs = omega
+    (arith, c .before .before .before .before .before .before .before .before .before .before .before .before .before .before .before .before .before .before .before .get-all .ensures .3)
 
 loop-less : tie.Need-loop-less Inv-loop μ-loop
-loop-less c = omega (arith, c .before .before .before .before .before .before .before .before .before .before .before .before .before .before .before .before .before .before .before .before .before .before .before .before .before .before .before .before .before .before .before .before .before .before .before .before .before .loop-test .taken)
+loop-less c =
+    omega (
+      arith,
+      c .before .before .before .before .before .before .before .before .before .before .before .before .before .before .before .before .before .before .before .before .before .before .before .before .before .before .before .before .before .before .before .before .before .before .before .before .before .loop-test .taken,
+    )
 
 loop-again : tie.Need-loop-again Inv-loop μ-loop
 loop-again c =
@@ -88,9 +105,26 @@ loop-again c =
     let f = c .before .before .before .before .before .before .before .before .before .before .finish-all in
     let t = c .before .before .before .before .before .before .before .before .before .before .before .before .before .before .before .before .before .before .before .before .before .before .before .before .before .before .before .before .before .before .before .before .before .before .before .before .before .loop-test .taken in
     let k : l .left ≡ suc (l .left - 1) = omega (arith, t) in
-    let some = some-holders (g .result .count) (g .result .holders) (g .result .names) (omega (arith, c .before .before .before .before .before .before .before .before .before .before .before .before .before .before .before .before .if1 .left)) in
-    let s = round-on _ (l .left - 1) _ _ _ _ _ (g .ensures .0) some in
-    (f .kept .1 .0 ∙ g .kept .1 .0 ∙ l .inv .0, f .kept .1 .1 .0 ∙ g .kept .1 .1 .0 ∙ l .inv .1, f .kept .1 .1 .1 .0 ∙ g .kept .1 .1 .1 .0 ∙ l .inv .2, f .kept .1 .1 .1 .1 .0 ∙ g .kept .1 .1 .1 .1 .0 ∙ l .inv .3, f .kept .1 .1 .1 .1 .1 .0 ∙ g .kept .1 .1 .1 .1 .1 .0 ∙ l .inv .4, g .kept .1 .1 .1 .1 .1 .1 .0 ∙ l .inv .5, omega (arith, t, l .inv .6), omega (arith, t, g .ensures .1, l .inv .7), omega (arith, t, g .ensures .2, l .inv .8), rw (f .ensures) (sym s ∙ rw k at (l .inv .9)))
+    let some = some-holders (g .result .count) (g .result .holders) (g .result .names)
+    (omega (
+      arith,
+      c .before .before .before .before .before .before .before .before .before .before .before .before .before .before .before .before .if1 .left,
+    )) in
+    let s = round-on _ (l .left - 1) _ _ _ _ _ (g .ensures .0) some in (
+      f .kept .1 .0 ∙ g .kept .1 .0 ∙ l .inv .0,
+      f .kept .1 .1 .0 ∙ g .kept .1 .1 .0 ∙ l .inv .1,
+      f .kept .1 .1 .1 .0
+          ∙ g .kept .1 .1 .1 .0 ∙ l .inv .2,
+      f .kept .1 .1 .1 .1 .0 ∙ g .kept .1 .1 .1 .1 .0
+          ∙ l .inv .3,
+      f .kept .1 .1 .1 .1 .1 .0 ∙ g .kept .1 .1 .1 .1 .1 .0 ∙ l .inv .4,
+      g .kept .1 .1 .1 .1 .1 .1 .0
+          ∙ l .inv .5,
+      omega (arith, t, l .inv .6),
+      omega (arith, t, g .ensures .1, l .inv .7),
+      omega (arith, t, g .ensures .2, l .inv .8),
+      rw (f .ensures) (sym s ∙ rw k at (l .inv .9)),
+    )
 
 same-length-7 : tie.Need-same-length-7 Inv-loop μ-loop
 same-length-7 c = search needs

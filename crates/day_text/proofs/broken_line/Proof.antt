@@ -26,7 +26,10 @@ same-length c = search needs
 returns-2 : tie.Need-returns-2
 returns-2 c =
     let a = c .before .before .before .before .before .before .before .before .before .before .before .args in
-    rw (le-leb (a .at) mostPlace (c .before .before .before .before .before .before .before .before .before .if1 .left)) (next _ _ _ _ _ _ (c .before .before .before .before .before .before .emit-from .ensures) (c .before .before .emit-two .ensures))
+    rw (le-leb (a .at) mostPlace
+    (c .before .before .before .before .before .before .before .before .before .if1 .left))
+    (next _ _ _ _ _ _ (c .before .before .before .before .before .before .emit-from .ensures)
+    (c .before .before .emit-two .ensures))
 
 pub broken-line-spec : {M : Type 1} → statement M
 broken-line-spec =

@@ -1,4 +1,5 @@
--- `emit_from` prints bytes one after the other. The loop's invariant: what is left, printed from the running place on, makes the whole.
+-- `emit_from` prints bytes one after the other. The loop's invariant: what is left, printed from the running place on,
+-- makes the whole.
 -- Assumes nothing.
 use Prim.Native.Nat.{_+_, _-_, _≤_}
 use mathlib.Core.Path.{_≡_, _∙_}
@@ -46,8 +47,14 @@ loop-again c =
     let a = l .before .before .before .args in
     let e = placed _ _ _ _ f in
     let d = drop-cons (now (a .text)) (l .loop .i) 0 (omega arith) in
-    let w = l .loop .inv .4 in
-    (omega arith, omega arith, omega arith, c .before .before .emit .kept .0 ∙ l .loop .inv .3, rw (f, print-append, add-one) (rw d at w))
+    let w = l .loop .inv .4 in (
+      omega arith,
+      omega arith,
+      omega arith,
+      c .before .before .emit .kept .0
+          ∙ l .loop .inv .3,
+      rw (f, print-append, add-one) (rw d at w),
+    )
 
 same-length : tie.Need-same-length Inv-loop μ-loop
 same-length c = search needs

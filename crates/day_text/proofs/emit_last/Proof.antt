@@ -15,7 +15,8 @@ same-length : tie.Need-same-length
 same-length c = search needs
 
 returns : tie.Need-returns
-returns c = next _ _ _ _ _ _ (c .before .before .before .before .before .before .emit-number .ensures) (c .before .before .emit .ensures)
+returns c = next _ _ _ _ _ _ (c .before .before .before .before .before .before .emit-number .ensures)
+    (c .before .before .emit .ensures)
 
 pub emit-last-spec : {M : Type 1} → statement M
 emit-last-spec = tie.close (tie.spec emit-number-requires emit-requires same-length returns)

@@ -14,7 +14,11 @@ emit-requires c κs = omega (arith, numbered _ _ _ _ (c .before .before .before 
 
 emit-last-requires : tie.Need-emit-last-requires
 emit-last-requires c κs =
-    omega (arith, numbered _ _ _ _ (c .before .before .before .before .before .before .before .emit-number .ensures), placed _ _ _ _ (c .before .before .before .emit .ensures))
+    omega (
+      arith,
+      numbered _ _ _ _ (c .before .before .before .before .before .before .before .emit-number .ensures),
+      placed _ _ _ _ (c .before .before .before .emit .ensures),
+    )
 
 same-length : tie.Need-same-length
 same-length c = search needs
@@ -22,8 +26,10 @@ same-length c = search needs
 returns : tie.Need-returns
 returns c =
     rw append-assoc
-    (next _ _ _ _ _ _ (c .before .before .before .before .before .before .before .before .before .before .emit-number .ensures)
-    (next _ _ _ _ _ _ (c .before .before .before .before .before .before .emit .ensures) (c .before .before .emit-last .ensures)))
+    (next _ _ _ _ _ _
+    (c .before .before .before .before .before .before .before .before .before .before .emit-number .ensures)
+    (next _ _ _ _ _ _ (c .before .before .before .before .before .before .emit .ensures)
+    (c .before .before .emit-last .ensures)))
 
 pub emit-two-spec : {M : Type 1} → statement M
 emit-two-spec =

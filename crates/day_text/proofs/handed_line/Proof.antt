@@ -20,7 +20,11 @@ emit-requires c κs =
 
 emit-two-requires : tie.Need-emit-two-requires
 emit-two-requires c κs =
-    omega (arith, numbered _ _ _ _ (c .before .before .before .before .before .before .before .emit-number .ensures), placed _ _ _ _ (c .before .before .before .emit .ensures))
+    omega (
+      arith,
+      numbered _ _ _ _ (c .before .before .before .before .before .before .before .emit-number .ensures),
+      placed _ _ _ _ (c .before .before .before .emit .ensures),
+    )
 
 same-length : tie.Need-same-length
 same-length c = search needs
@@ -28,7 +32,12 @@ same-length c = search needs
 returns-2 : tie.Need-returns-2
 returns-2 c =
     let a = c .before .before .before .before .before .before .before .before .before .before .before .before .before .before .args in
-    rw (le-leb (a .at) mostPlace (c .before .before .before .before .before .before .before .before .before .before .before .before .if1 .left)) (rw append-assoc (next _ _ _ _ _ _ (c .before .before .before .before .before .before .before .before .before .before .emit-number .ensures) (next _ _ _ _ _ _ (c .before .before .before .before .before .before .emit .ensures) (c .before .before .emit-two .ensures))))
+    rw (le-leb (a .at) mostPlace
+    (c .before .before .before .before .before .before .before .before .before .before .before .before .if1 .left))
+    (rw append-assoc (next _ _ _ _ _ _
+    (c .before .before .before .before .before .before .before .before .before .before .emit-number .ensures)
+    (next _ _ _ _ _ _ (c .before .before .before .before .before .before .emit .ensures)
+    (c .before .before .emit-two .ensures))))
 
 pub handed-line-spec : {M : Type 1} → statement M
 handed-line-spec =

@@ -26,11 +26,21 @@ slice-aggregate-emit-from-2 c = search needs
 
 emit-from-requires-2 : tie.Need-emit-from-requires-2
 emit-from-requires-2 c κs =
-    omega (arith, placed _ _ _ _ (c .before .before .before .before .before .before .before .before .emit-from .ensures), numbered _ _ _ _ (c .before .before .before .before .emit-number .ensures))
+    omega (
+      arith,
+      placed _ _ _ _ (c .before .before .before .before .before .before .before .before .emit-from .ensures),
+      numbered _ _ _ _ (c .before .before .before .before .emit-number .ensures),
+    )
 
 emit-last-requires : tie.Need-emit-last-requires
 emit-last-requires c κs =
-    omega (arith, placed _ _ _ _ (c .before .before .before .before .before .before .before .before .before .before .before .before .emit-from .ensures), numbered _ _ _ _ (c .before .before .before .before .before .before .before .before .emit-number .ensures), placed _ _ _ _ (c .before .before .before .emit-from2 .ensures))
+    omega (
+      arith,
+      placed _ _ _ _
+          (c .before .before .before .before .before .before .before .before .before .before .before .before .emit-from .ensures),
+      numbered _ _ _ _ (c .before .before .before .before .before .before .before .before .emit-number .ensures),
+      placed _ _ _ _ (c .before .before .before .emit-from2 .ensures),
+    )
 
 same-length : tie.Need-same-length
 same-length c = search needs
@@ -38,7 +48,8 @@ same-length c = search needs
 returns-2 : tie.Need-returns-2
 returns-2 c =
     let a = c .before .before .before .before .before .before .before .before .before .before .before .before .before .before .before .before .before .before .before .before .args in
-    rw (le-leb (a .at) mostPlace (c .before .before .before .before .before .before .before .before .before .before .before .before .before .before .before .before .before .before .if1 .left)) (simp append-assoc (next _ _ _ _ _ _ (c .before .before .before .before .before .before .before .before .before .before .before .before .before .before .before .emit-from .ensures) (next _ _ _ _ _ _ (c .before .before .before .before .before .before .before .before .before .before .before .emit-number .ensures) (next _ _ _ _ _ _ (c .before .before .before .before .before .before .emit-from2 .ensures) (c .before .before .emit-last .ensures)))))
+    rw (le-leb (a .at) mostPlace
+    (c .before .before .before .before .before .before .before .before .before .before .before .before .before .before .before .before .before .before .if1 .left)) (simp append-assoc (next _ _ _ _ _ _ (c .before .before .before .before .before .before .before .before .before .before .before .before .before .before .before .emit-from .ensures) (next _ _ _ _ _ _ (c .before .before .before .before .before .before .before .before .before .before .before .emit-number .ensures) (next _ _ _ _ _ _ (c .before .before .before .before .before .before .emit-from2 .ensures) (c .before .before .emit-last .ensures)))))
 
 pub jobs-line-spec : {M : Type 1} → statement M
 jobs-line-spec =

@@ -1,4 +1,5 @@
--- `write_digits` writes a number's digits from the last on. The loop's invariant: what is left of the number, before the digits written, makes the
+-- `write_digits` writes a number's digits from the last on. The loop's invariant: what is left of the number, before
+-- the digits written, makes the
 -- whole. Assumes nothing.
 use Prim.Native.Nat.{suc, _+_, _-_, _≤_, _%_}
 use mathlib.Core.Path.{_≡_, sym, _∙_}
@@ -39,8 +40,11 @@ returns : tie.Need-returns Inv-loop μ-loop
 returns c =
     let l = c .before .before .before .loop in
     let k = l .from - 1 in
-    let e : l .from ≡ suc k = omega arith in
-    (rw (c .before .digit .ensures, drop-set (l .bytes) k (48 + l .rest % 10) (omega arith)) (sym (digits-end k (l .rest) (drop (suc k) (l .bytes)) (c .if1 .taken)) ∙ rw e at (l .inv .2)), omega arith)
+    let e : l .from ≡ suc k = omega arith in (
+      rw (c .before .digit .ensures, drop-set (l .bytes) k (48 + l .rest % 10) (omega arith))
+          (sym (digits-end k (l .rest) (drop (suc k) (l .bytes)) (c .if1 .taken)) ∙ rw e at (l .inv .2)),
+      omega arith,
+    )
 
 loop-less : tie.Need-loop-less Inv-loop μ-loop
 loop-less c = search needs
@@ -49,8 +53,12 @@ loop-again : tie.Need-loop-again Inv-loop μ-loop
 loop-again c =
     let l = c .before .before .before .loop in
     let k = l .from - 1 in
-    let e : l .from ≡ suc k = omega arith in
-    (omega arith, simp length-set (l .inv .1), rw (c .before .digit .ensures, drop-set (l .bytes) k (48 + l .rest % 10) (omega arith)) (sym (digits-on k (l .rest) (drop (suc k) (l .bytes)) (c .if1 .left)) ∙ rw e at (l .inv .2)))
+    let e : l .from ≡ suc k = omega arith in (
+      omega arith,
+      simp length-set (l .inv .1),
+      rw (c .before .digit .ensures, drop-set (l .bytes) k (48 + l .rest % 10) (omega arith))
+          (sym (digits-on k (l .rest) (drop (suc k) (l .bytes)) (c .if1 .left)) ∙ rw e at (l .inv .2)),
+    )
 
 same-length-2 : tie.Need-same-length-2 Inv-loop μ-loop
 same-length-2 c = search needs

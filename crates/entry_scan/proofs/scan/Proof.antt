@@ -33,7 +33,8 @@ enum-known-name : tie.Need-enum-known-name
 enum-known-name c = search needs
 
 list-if-requires : tie.Need-list-if-requires
-list-if-requires c κs = number-passed _ _ _ _ _ (sym (c .before .before .before .name .ensures) ∙ c .before .name2 .given .1) .within
+list-if-requires c κs = number-passed _ _ _ _ _
+    (sym (c .before .before .before .name .ensures) ∙ c .before .name2 .given .1) .within
 
 enum-known-number-2 : tie.Need-enum-known-number-2
 enum-known-number-2 c = search needs
@@ -43,22 +44,47 @@ enum-known-count c = search needs
 
 from-class-requires : tie.Need-from-class-requires
 from-class-requires c κs =
-    listed nameBytes (c .before .before .before .before .before .before .before .before .before .wide .result / 2 % 2) (c .before .before .before .before .before .before .before .before .before .before .before .before .before .args .s .now) _ _ _ (list-if-requires (c .before .before .before .before) κs) (sym (c .before .before .before .list-if .ensures) ∙ c .before .count .given .1) .within
+    listed nameBytes (c .before .before .before .before .before .before .before .before .before .wide .result / 2 % 2)
+    (c .before .before .before .before .before .before .before .before .before .before .before .before .before .args .s .now) _ _ _ (list-if-requires (c .before .before .before .before) κs) (sym (c .before .before .before .list-if .ensures) ∙ c .before .count .given .1) .within
 
 returns-2 : tie.Need-returns-2
 unfolding decode mapAt
 returns-2 c =
-    rw (lt-ltb _ _ (c .before .before .before .before .before .before .before .if1 .left), ← c .before .before .before .before .before .wide .ensures, c .before .before .before .before .if2 .taken, ← c .before .before .before .name .ensures, c .before .number .given .1)
+    rw (
+      lt-ltb _ _ (c .before .before .before .before .before .before .before .if1 .left),
+      ← c .before .before .before .before .before .wide .ensures,
+      c .before .before .before .before .if2 .taken,
+      ← c .before .before .before .name .ensures,
+      c .before .number .given .1,
+    )
 
 returns-3 : tie.Need-returns-3
 unfolding decode mapAt
 returns-3 c =
-    rw (lt-ltb _ _ (c .before .before .before .before .before .before .before .before .before .before .before .if1 .left), ← c .before .before .before .before .before .before .before .before .before .wide .ensures, c .before .before .before .before .before .before .before .before .if2 .taken, ← c .before .before .before .before .before .before .before .name .ensures, c .before .before .before .before .before .name2 .given .1, ← c .before .before .before .list-if .ensures, c .before .number2 .given .1)
+    rw (
+      lt-ltb _ _
+          (c .before .before .before .before .before .before .before .before .before .before .before .if1 .left),
+      ← c .before .before .before .before .before .before .before .before .before .wide .ensures,
+      c .before .before .before .before .before .before .before .before .if2 .taken,
+      ← c .before .before .before .before .before .before .before .name .ensures,
+      c .before .before .before .before .before .name2 .given .1,
+      ← c .before .before .before .list-if .ensures,
+      c .before .number2 .given .1,
+    )
 
 returns-4 : tie.Need-returns-4
 unfolding decode mapAt
 returns-4 c =
-    rw (lt-ltb _ _ (c .before .before .before .before .before .before .before .before .before .before .before .before .if1 .left), ← c .before .before .before .before .before .before .before .before .before .before .wide .ensures, c .before .before .before .before .before .before .before .before .before .if2 .taken, ← c .before .before .before .before .before .before .before .before .name .ensures, c .before .before .before .before .before .before .name2 .given .1, ← c .before .before .before .before .list-if .ensures, c .before .before .count .given .1)
+    rw (
+      lt-ltb _ _
+          (c .before .before .before .before .before .before .before .before .before .before .before .before .if1 .left),
+      ← c .before .before .before .before .before .before .before .before .before .before .wide .ensures,
+      c .before .before .before .before .before .before .before .before .before .if2 .taken,
+      ← c .before .before .before .before .before .before .before .before .name .ensures,
+      c .before .before .before .before .before .before .name2 .given .1,
+      ← c .before .before .before .before .list-if .ensures,
+      c .before .before .count .given .1,
+    )
     (c .from-class .ensures _ (names-length nameBytes _ _ _) ∙ ap scanOf (from-class-is _ _ _ _ _))
 
 returns-5 : tie.Need-returns-5

@@ -47,7 +47,8 @@ same-length-6 c = search needs
 returns-2 : tie.Need-returns-2
 unfolding Fitting
 returns-2 c = λ g buckets queue h.
-    let e = c .before .before .before .before .before .before .before .before .before .before .before .plan2 .given .1 in
+    let e = c .before .before .before .before .before .before .before .before .before .before .before .plan2 .given .1
+    in
     let k = rw e at h in
     rw e (c .before .before .before .before .before .before .link-after .ensures k buckets queue)
 

@@ -1,4 +1,5 @@
--- `graph_adding::enter_job` meets its contract: the record and the counter are the definition's, and the counter is a word.
+-- `graph_adding::enter_job` meets its contract: the record and the counter are the definition's, and the counter is a
+-- word.
 -- Assumes nothing.
 use native.Mathlib.Omega.{arith}
 use borrow.Author.Needs.{needs}

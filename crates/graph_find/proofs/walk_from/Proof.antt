@@ -1,4 +1,5 @@
--- `graph_find::walk_from` meets its contract. The loop's invariant: what is left of the walk answers as the whole walk does.
+-- `graph_find::walk_from` meets its contract. The loop's invariant: what is left of the walk answers as the whole walk
+-- does.
 -- The measure is the number of jobs that it may still pass. Assumes nothing.
 use mathlib.Core.Path.{_≡_, refl, sym, _∙_}
 use native.Mathlib.Omega.{arith}
@@ -31,7 +32,8 @@ job-word-requires c κs = search needs
 
 returns-3 : tie.Need-returns-3 Inv-loop μ-loop
 returns-3 c =
-    here _ _ _ _ _ (c .before .before .before .before .loop-test .taken) (c .before .before .before .if1 .left) (c .before .before .if2 .left) (sym (c .before .job-word .ensures) ∙ c .if3 .taken)
+    here _ _ _ _ _ (c .before .before .before .before .loop-test .taken) (c .before .before .before .if1 .left)
+    (c .before .before .if2 .left) (sym (c .before .job-word .ensures) ∙ c .if3 .taken)
     ∙ c .before .before .before .before .before .loop .inv
 
 job-word-requires-2 : tie.Need-job-word-requires-2 Inv-loop μ-loop
@@ -46,7 +48,9 @@ loop-less c = omega arith
 loop-again : tie.Need-loop-again Inv-loop μ-loop
 loop-again c =
     rw (c .job-word2 .ensures)
-    (on _ _ _ _ _ (c .before .before .before .before .before .loop-test .taken) (c .before .before .before .before .if1 .left) (c .before .before .before .if2 .left) (λ q. c .before .if3 .left (c .before .before .job-word .ensures ∙ q))
+    (on _ _ _ _ _ (c .before .before .before .before .before .loop-test .taken)
+    (c .before .before .before .before .if1 .left) (c .before .before .before .if2 .left)
+    (λ q. c .before .if3 .left (c .before .before .job-word .ensures ∙ q))
     ∙ c .before .before .before .before .before .before .loop .inv)
 
 returns-4 : tie.Need-returns-4 Inv-loop μ-loop

@@ -61,7 +61,8 @@ same-length-7 c = search needs
 returns-3 : tie.Need-returns-3
 unfolding Fitting
 returns-3 c = λ g arcs buckets h.
-    let e = c .before .before .before .before .before .before .before .before .before .before .before .plan3 .given .1 in
+    let e = c .before .before .before .before .before .before .before .before .before .before .before .plan3 .given .1
+    in
     let k = rw e at h in
     rw e (c .before .before .before .before .before .before .notify-queue .ensures k arcs buckets)
 

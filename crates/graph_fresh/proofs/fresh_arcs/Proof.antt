@@ -34,7 +34,8 @@ returns c =
     rw (
       c .before .before .fill .ensures,
       c .before .before .before .before .before .before .before .put-header .ensures,
-      repeated-two (c .before .before .before .before .before .before .before .before .before .before .args .sizes .arcs) none,
+      repeated-two
+          (c .before .before .before .before .before .before .before .before .before .before .args .sizes .arcs) none,
     )
 
 pub fresh-arcs-spec : {M : Type 1} → statement M

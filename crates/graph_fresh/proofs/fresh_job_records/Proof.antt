@@ -1,4 +1,5 @@
--- `graph_fresh::fresh_job_records` meets its contract: what is left to store, from the present record on, makes the same table as all of it.
+-- `graph_fresh::fresh_job_records` meets its contract: what is left to store, from the present record on, makes the
+-- same table as all of it.
 -- Assumes nothing.
 use Prim.Native.Nat.{_-_, _≤_}
 use mathlib.Core.Path.{_≡_, refl, _∙_}
@@ -14,7 +15,8 @@ use Rattle.graph_fresh.proofs.fresh_job_records.Tie as tie
 
 abbrev Inv-loop : tie.InvT-loop
 Inv-loop jobs₀ count i₀ jobs i =
-    (sets jobs (place jobShape i 0) (repeated (count - i) freshJob) ≡ sets jobs₀ (place jobShape 0 0) (repeated count freshJob))
+    (sets jobs (place jobShape i 0) (repeated (count - i) freshJob)
+    ≡ sets jobs₀ (place jobShape 0 0) (repeated count freshJob))
     × (i ≤ count)
     × (length jobs ≡ length jobs₀)
 
@@ -35,8 +37,12 @@ loop-less c = omega arith
 
 loop-again : tie.Need-loop-again Inv-loop μ-loop
 loop-again c =
-    let one = record-one jobShape freshJob refl _ _ _ (c .before .before .before .before .loop-test .taken) in
-    (rw (c .before .before .put-job-record .ensures) (one ∙ c .before .before .before .before .before .loop .inv .0), omega arith, c .before .before .put-job-record .kept .0 ∙ c .before .before .before .before .before .loop .inv .2)
+    let one = record-one jobShape freshJob refl _ _ _ (c .before .before .before .before .loop-test .taken) in (
+      rw (c .before .before .put-job-record .ensures) (one ∙ c .before .before .before .before .before .loop .inv .0),
+      omega arith,
+      c .before .before .put-job-record .kept .0
+          ∙ c .before .before .before .before .before .loop .inv .2,
+    )
 
 same-length : tie.Need-same-length Inv-loop μ-loop
 same-length c = c .before .loop .inv .2

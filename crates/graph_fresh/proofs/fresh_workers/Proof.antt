@@ -1,4 +1,5 @@
--- `graph_fresh::fresh_workers` meets its contract: what is left to store, from the present record on, makes the same table as all of it.
+-- `graph_fresh::fresh_workers` meets its contract: what is left to store, from the present record on, makes the same
+-- table as all of it.
 -- Assumes nothing.
 use Prim.Native.Nat.{_-_, _≤_}
 use mathlib.Core.Path.{_≡_, refl, _∙_}
@@ -14,7 +15,8 @@ use Rattle.graph_fresh.proofs.fresh_workers.Tie as tie
 
 abbrev Inv-loop : tie.InvT-loop
 Inv-loop workers₀ count i₀ workers i =
-    (sets workers (place workerShape i 0) (repeated (count - i) (bareWorker IDLE none)) ≡ sets workers₀ (place workerShape 0 0) (repeated count (bareWorker IDLE none)))
+    (sets workers (place workerShape i 0) (repeated (count - i) (bareWorker IDLE none))
+    ≡ sets workers₀ (place workerShape 0 0) (repeated count (bareWorker IDLE none)))
     × (i ≤ count)
     × (length workers ≡ length workers₀)
 
@@ -35,8 +37,13 @@ loop-less c = omega arith
 
 loop-again : tie.Need-loop-again Inv-loop μ-loop
 loop-again c =
-    let one = record-one workerShape (bareWorker IDLE none) refl _ _ _ (c .before .before .before .before .loop-test .taken) in
-    (rw (c .before .before .put-bare-worker .ensures) (one ∙ c .before .before .before .before .before .loop .inv .0), omega arith, c .before .before .put-bare-worker .kept .0 ∙ c .before .before .before .before .before .loop .inv .2)
+    let one = record-one workerShape (bareWorker IDLE none) refl _ _ _
+    (c .before .before .before .before .loop-test .taken) in (
+      rw (c .before .before .put-bare-worker .ensures) (one ∙ c .before .before .before .before .before .loop .inv .0),
+      omega arith,
+      c .before .before .put-bare-worker .kept .0
+          ∙ c .before .before .before .before .before .loop .inv .2,
+    )
 
 same-length : tie.Need-same-length Inv-loop μ-loop
 same-length c = c .before .loop .inv .2

@@ -34,7 +34,12 @@ returns : tie.Need-returns
 unfolding getWords
 returns c =
     let p = c .before .before .before .before .before .before .before .before .before .before .before .plan-get in
-    rw (← p .ensures, ← c .before .before .before .before .before .before .before .apply-get .ensures (rw (p .ensures) (planGet-fits _ _ _)), ← c .answer-get .ensures)
+    rw (
+      ← p .ensures,
+      ← c .before .before .before .before .before .before .before .apply-get .ensures
+          (rw (p .ensures) (planGet-fits _ _ _)),
+      ← c .answer-get .ensures,
+    )
 
 pub get-spec : {M : Type 1} → statement M
 get-spec =

@@ -1,4 +1,5 @@
--- `graph_layout::lay_out` meets its contract: the code's test is the definition's, and sizes that have room have at most 8 bits.
+-- `graph_layout::lay_out` meets its contract: the code's test is the definition's, and sizes that have room have at
+-- most 8 bits.
 -- Assumes nothing.
 use mathlib.Core.Path.{sym, _∙_}
 use Rattle.words.specs.Words.{layOut}
@@ -31,8 +32,13 @@ same-length-5 c = search needs
 returns : tie.Need-returns
 unfolding layOut
 returns c =
-    let room = sym (c .before .before .before .before .before .before .before .before .before .before .before .before .before .before .before .before .before .room-for .ensures) ∙ c .before .before .before .before .before .before .before .before .before .before .before .before .before .before .before .before .if1 .taken in
-    rw (c .before .before .before .before .before .before .before .before .before .before .fresh-tables .ensures (room-bits _ _ room), room)
+    let room =
+    sym (c .before .before .before .before .before .before .before .before .before .before .before .before .before .before .before .before .before .room-for .ensures) ∙ c .before .before .before .before .before .before .before .before .before .before .before .before .before .before .before .before .if1 .taken in
+    rw (
+      c .before .before .before .before .before .before .before .before .before .before .fresh-tables .ensures
+          (room-bits _ _ room),
+      room,
+    )
 
 same-length-6 : tie.Need-same-length-6
 same-length-6 c = search needs

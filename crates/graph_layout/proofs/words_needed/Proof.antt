@@ -26,7 +26,8 @@ need-requires-4 c κs = search needs
 
 returns : tie.Need-returns
 returns c =
-    let within = sym (c .before .before .before .before .before .before .within-limits .ensures) ∙ c .before .before .before .before .before .if1 .taken in
+    let within = sym (c .before .before .before .before .before .before .within-limits .ensures)
+    ∙ c .before .before .before .before .before .if1 .taken in
     rw (
       within,
       c .need4 .ensures,

@@ -1,4 +1,5 @@
--- `graph_lists::queue_job` meets its contract: the cell and the counter are the definition's, and the counter is a word.
+-- `graph_lists::queue_job` meets its contract: the cell and the counter are the definition's, and the counter is a
+-- word.
 -- Assumes nothing.
 use native.Mathlib.Omega.{arith}
 use borrow.Author.Needs.{needs}

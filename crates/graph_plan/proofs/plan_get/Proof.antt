@@ -25,7 +25,8 @@ returns c =
     let fit = c .before .before .before .before .before .before .sizes-fit in
     let own = c .before .before .own-ok in
     rw (
-      admits-known (a .sizes) t (a .worker) (fit .result) (own .result) (fit .ensures) (own .ensures (now (a .buckets)) (now (a .queue)))
+      admits-known (a .sizes) t (a .worker) (fit .result) (own .result) (fit .ensures)
+          (own .ensures (now (a .buckets)) (now (a .queue)))
           (c .before .before .before .before .before .if1 .taken)
           (c .before .before .before .if2 .taken),
       c .before .if3 .taken,
@@ -40,7 +41,8 @@ returns-2 c =
     let fit = c .before .before .before .before .before .sizes-fit in
     let own = c .before .own-ok in
     rw (
-      admits-known (a .sizes) t (a .worker) (fit .result) (own .result) (fit .ensures) (own .ensures (now (a .buckets)) (now (a .queue)))
+      admits-known (a .sizes) t (a .worker) (fit .result) (own .result) (fit .ensures)
+          (own .ensures (now (a .buckets)) (now (a .queue)))
           (c .before .before .before .before .if1 .taken)
           (c .before .before .if2 .taken),
       c .if3 .left,

@@ -42,7 +42,8 @@ returns-3 : tie.Need-returns-3
 returns-3 c =
     let a = c .before .before .before .before .before .before .before .args in
     rw (c .before .before .fill-to2 .ensures)
-    (fill-clipped (length (a .s .now) - a .from) (a .count) (a .s .now) (a .from) (a .value) (omega arith) (omega arith))
+    (fill-clipped (length (a .s .now) - a .from) (a .count) (a .s .now) (a .from) (a .value) (omega arith)
+    (omega arith))
 
 pub fill-spec : {M : Type 1} → statement M
 fill-spec =

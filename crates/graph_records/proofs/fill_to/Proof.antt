@@ -1,4 +1,5 @@
--- `graph_records::fill_to` meets its contract: what is left to store, from the present word on, makes the same table as all of it.
+-- `graph_records::fill_to` meets its contract: what is left to store, from the present word on, makes the same table as
+-- all of it.
 -- Assumes nothing.
 use Prim.Native.Nat.{_-_, _≤_}
 use mathlib.Core.Path.{_≡_, refl, _∙_}
@@ -34,7 +35,12 @@ loop-less : tie.Need-loop-less Inv-loop μ-loop
 loop-less c = omega arith
 
 loop-again : tie.Need-loop-again Inv-loop μ-loop
-loop-again c = (fill-one _ _ _ _ (c .loop-test .taken) ∙ c .before .loop .inv .0, omega arith, simp length-set (c .before .loop .inv .2))
+loop-again c = (
+  fill-one _ _ _ _ (c .loop-test .taken)
+      ∙ c .before .loop .inv .0,
+  omega arith,
+  simp length-set (c .before .loop .inv .2),
+)
 
 same-length : tie.Need-same-length Inv-loop μ-loop
 same-length c = c .before .loop .inv .2

@@ -1,4 +1,5 @@
--- `graph_records::put_names` meets its contract: what is left to store, from the present name on, makes the same record as all of it; past the last listed name that is 0.
+-- `graph_records::put_names` meets its contract: what is left to store, from the present name on, makes the same record
+-- as all of it; past the last listed name that is 0.
 -- Assumes nothing.
 use Prim.Native.Nat.{_+_, _-_, _≤_}
 use mathlib.Core.Path.{_≡_, refl, _∙_}
@@ -14,7 +15,8 @@ use Rattle.graph_records.proofs.put_names.Tie as tie
 
 abbrev Inv-loop : tie.InvT-loop
 Inv-loop workers₀ worker count names from listed i₀ workers i =
-    (sets workers (from + i) (drop i (prefix mostNames (prefix count names))) ≡ sets workers₀ from (prefix mostNames (prefix count names)))
+    (sets workers (from + i) (drop i (prefix mostNames (prefix count names)))
+    ≡ sets workers₀ from (prefix mostNames (prefix count names)))
     × (i ≤ listed)
     × (length workers ≡ length workers₀)
 
@@ -28,7 +30,8 @@ listed-of-requires : tie.Need-listed-of-requires Inv-loop μ-loop
 listed-of-requires c κs = search needs
 
 loop-holds : tie.Need-loop-holds Inv-loop μ-loop
-loop-holds c = let z : c .before .names-at .result + 0 ≡ c .before .names-at .result = omega arith in (rw z, omega arith, refl)
+loop-holds c = let z : c .before .names-at .result + 0 ≡ c .before .names-at .result = omega arith in
+    (rw z, omega arith, refl)
 
 add-put-word : tie.Need-add-put-word Inv-loop μ-loop
 add-put-word c = omega arith
@@ -52,8 +55,13 @@ loop-again : tie.Need-loop-again Inv-loop μ-loop
 loop-again c =
     let l = c .before .before .before .before .before in
     let a = l .before .before .before .before .args in
-    let one = names-one mostNames (a .count) (a .t3) (l .loop .workers) (c .before .before .before .before .before .before .before .names-at .result) (l .loop .i) (omega arith) (omega arith) in
-    (rw (c .before .before .put-word .ensures) (one ∙ l .loop .inv .0), omega arith, c .before .before .put-word .kept .0 ∙ l .loop .inv .2)
+    let one = names-one mostNames (a .count) (a .t3) (l .loop .workers)
+    (c .before .before .before .before .before .before .before .names-at .result) (l .loop .i) (omega arith)
+    (omega arith) in (
+      rw (c .before .before .put-word .ensures) (one ∙ l .loop .inv .0),
+      omega arith,
+      c .before .before .put-word .kept .0 ∙ l .loop .inv .2,
+    )
 
 add-fill : tie.Need-add-fill Inv-loop μ-loop
 add-fill c = omega arith
@@ -76,7 +84,13 @@ returns c =
     let a = c .before .before .before .before .before .before .before .before .before .args in
     let e : c .before .before .before .before .before .loop .i ≡ l .result = omega arith in
     let rest = names-rest mostNames (a .count) (l .result) (a .t3) (l .ensures .1) (l .ensures .0) (l .ensures .2) in
-    rw (c .before .before .fill .ensures, ← rest, ← e, ← c .before .before .before .before .before .before .before .names-at .ensures) (c .before .before .before .before .before .loop .inv .0)
+    rw (
+      c .before .before .fill .ensures,
+      ← rest,
+      ← e,
+      ← c .before .before .before .before .before .before .before .names-at .ensures,
+    )
+    (c .before .before .before .before .before .loop .inv .0)
 
 pub put-names-spec : {M : Type 1} → statement M
 put-names-spec =

@@ -34,7 +34,12 @@ returns : tie.Need-returns
 unfolding stepWords
 returns c =
     let p = c .before .before .before .before .before .before .before .before .before .before .before .before .before .before .before .before .before .plan-step in
-    rw (← p .ensures, ← c .before .before .before .before .before .before .before .before .before .before .before .apply .ensures (rw (p .ensures) (planStep-fits _ _ _)), ← c .answer-of .ensures)
+    rw (
+      ← p .ensures,
+      ← c .before .before .before .before .before .before .before .before .before .before .before .apply .ensures
+          (rw (p .ensures) (planStep-fits _ _ _)),
+      ← c .answer-of .ensures,
+    )
 
 pub step-spec : {M : Type 1} → statement M
 step-spec =

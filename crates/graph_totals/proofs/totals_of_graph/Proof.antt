@@ -20,7 +20,8 @@ use Rattle.graph_totals.proofs.totals_of_graph.Tie as tie
 
 -- a job's record stands in the columns of its label and its class
 graph-rows : (jobs : List ℕ) (j n : ℕ)
-    → recordsFrom (recordAt (jobShape .head) (jobShape .width) LABEL CLASS jobs) j n ≡ rowsFrom (columns jobShape jobs) j n
+    → recordsFrom (recordAt (jobShape .head) (jobShape .width) LABEL CLASS jobs) j n
+    ≡ rowsFrom (columns jobShape jobs) j n
 unfolding recordsFrom rowsFrom columns
 graph-rows jobs j zero = refl
 graph-rows jobs j (suc n) = rw (graph-rows jobs (suc j) n)

@@ -8,13 +8,16 @@ use Rattle.graph_words.proofs.put_column.Statement.{statement}
 use Rattle.graph_words.proofs.put_column.Tie as tie
 
 mul-put-word : tie.Need-mul-put-word
-mul-put-word c = let a = c .before .before .args in omega (arith, product (a .width) (a .i) (search needs) (search needs))
+mul-put-word c = let a = c .before .before .args in
+    omega (arith, product (a .width) (a .i) (search needs) (search needs))
 
 add-put-word : tie.Need-add-put-word
-add-put-word c = let a = c .before .before .args in omega (arith, product (a .width) (a .i) (search needs) (search needs))
+add-put-word c = let a = c .before .before .args in
+    omega (arith, product (a .width) (a .i) (search needs) (search needs))
 
 add-put-word-2 : tie.Need-add-put-word-2
-add-put-word-2 c = let a = c .before .before .args in omega (arith, product (a .width) (a .i) (search needs) (search needs))
+add-put-word-2 c = let a = c .before .before .args in
+    omega (arith, product (a .width) (a .i) (search needs) (search needs))
 
 put-word-requires : tie.Need-put-word-requires
 put-word-requires c κs = search needs

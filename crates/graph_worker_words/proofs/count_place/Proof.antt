@@ -23,7 +23,8 @@ returns c =
     rw (
       ← c .before .before .before .before .before .worker-word .ensures,
       c .before .before .put-worker .ensures,
-      c .before .before .before .sum .ensures (let k = rw (← c .before .before .before .before .before .worker-word .ensures) at h in omega arith),
+      c .before .before .before .sum .ensures
+          (let k = rw (← c .before .before .before .before .before .worker-word .ensures) at h in omega arith),
     )
 
 pub count-place-spec : {M : Type 1} → statement M

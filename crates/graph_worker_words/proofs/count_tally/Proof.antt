@@ -26,7 +26,10 @@ returns c =
     rw (
       c .before .before .put-worker .ensures,
       c .before .before .before .before .before .before .before .count-place .ensures h,
-      c .before .before .before .sum .ensures (let m = rw (← c .before .before .before .before .before .before .before .before .before .worker-word .ensures) at k in omega arith),
+      c .before .before .before .sum .ensures
+          (let m =
+          rw (← c .before .before .before .before .before .before .before .before .before .worker-word .ensures) at k
+          in omega arith),
       c .before .before .before .before .before .before .before .before .before .worker-word .ensures,
     )
 

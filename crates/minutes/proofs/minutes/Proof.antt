@@ -1,4 +1,5 @@
--- `minutes::minutes` meets its contract: the array is the fixed table, entry by entry, and past the last class the rising rule says that there is nothing.
+-- `minutes::minutes` meets its contract: the array is the fixed table, entry by entry, and past the last class the
+-- rising rule says that there is nothing.
 -- Assumes nothing.
 use mathlib.Core.Path.{refl, sym}
 use borrow.Author.Needs.{needs}

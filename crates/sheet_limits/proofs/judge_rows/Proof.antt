@@ -1,5 +1,7 @@
--- `judge_rows` finds the first entry with a fault, or the bytes of the sheet. The loop's invariant: the fault of the rows left is
--- the sheet's, and the sum with their bytes is the sheet's size; a row's entry takes no more bytes than the row, so the sum fits.
+-- `judge_rows` finds the first entry with a fault, or the bytes of the sheet. The loop's invariant: the fault of the
+-- rows left is
+-- the sheet's, and the sum with their bytes is the sheet's size; a row's entry takes no more bytes than the row, so the
+-- sum fits.
 -- Assumes nothing.
 use Prim.Native.Nat.{_+_, _*_, _-_, _≤_}
 use mathlib.Core.Path.{ap, _≡_, sym, _∙_}
@@ -13,7 +15,8 @@ use Rattle.sheet_format.specs.Write.{entryAt, entriesFrom, jobOf, sheetFault}
 use Rattle.sheet_limits.specs.declared.SheetJudged.{SheetJudged}
 use Rattle.sheet_limits.specs.Judge.{sheetJudged}
 use Rattle.sheet_limits.proofs.Judging.{refused, takes}
-use Rattle.sheet_limits.proofs.Rows.{rest, restBytes, allBytes, rowBytes, names-all, entry-small, next-length, next-fault, end-fault, end-bytes}
+use Rattle.sheet_limits.proofs.Rows.{rest, restBytes, allBytes, rowBytes, names-all, entry-small, next-length}
+use Rattle.sheet_limits.proofs.Rows.{next-fault, end-fault, end-bytes}
 use Rattle.sheet_limits.proofs.judge_rows.Statement.{statement}
 use Rattle.sheet_limits.proofs.judge_rows.Tie as tie
 
@@ -28,14 +31,20 @@ abbrev μ-loop : tie.MeasureT-loop
 μ-loop rows n sum₀ i₀ sum i = n - i
 
 -- an entry with no fault: its bytes are few, and the sheet's fault is among the others
-turn : (c : tie.After-known-told2 Inv-loop μ-loop) → let l = c .before .before .before .before .before in let s = l .before .before in let rows = now (s .args .rows) in let i = l .loop .i in let n = s .args .n in (length (encode (jobOf (entryAt rows i))) ≡ c .before .bytes .given .0 .0) × (sheetFault i (rest rows i n) ≡ sheetFault (i + 1) (rest rows (i + 1) n)) × (length (encode (jobOf (entryAt rows i))) ≤ rowBytes) × (length (restBytes rows i n) ≡ length (encode (jobOf (entryAt rows i))) + length (restBytes rows (i + 1) n))
+turn : (c : tie.After-known-told2 Inv-loop μ-loop) → let l = c .before .before .before .before .before in
+    let s = l .before .before in let rows = now (s .args .rows) in let i = l .loop .i in let n = s .args .n in
+    (length (encode (jobOf (entryAt rows i))) ≡ c .before .bytes .given .0 .0)
+    × (sheetFault i (rest rows i n) ≡ sheetFault (i + 1) (rest rows (i + 1) n))
+    × (length (encode (jobOf (entryAt rows i))) ≤ rowBytes)
+    × (length (restBytes rows i n) ≡ length (encode (jobOf (entryAt rows i))) + length (restBytes rows (i + 1) n))
 turn c =
     let l = c .before .before .before .before .before in
     let s = l .before .before in
     let rows = now (s .args .rows) in
     let i = l .loop .i in
     let n = s .args .n in
-    let t = takes (entryAt rows i) _ (sym (c .before .before .before .judge-row .ensures) ∙ c .before .bytes .given .1) in (
+    let t = takes (entryAt rows i) _
+    (sym (c .before .before .before .judge-row .ensures) ∙ c .before .bytes .given .1) in (
       t .1,
       next-fault rows i n (omega arith) ∙ rw (t .0),
       entry-small (entryAt rows i) (names-all rows i (omega arith)) (t .0),
@@ -58,7 +67,8 @@ returns c =
     let s = l .before .before in
     let rows = now (s .args .rows) in
     let i = l .loop .i in
-    let f = refused (entryAt rows i) _ (sym (c .before .before .before .judge-row .ensures) ∙ c .before .at .given .1) in
+    let f = refused (entryAt rows i) _
+    (sym (c .before .before .before .judge-row .ensures) ∙ c .before .at .given .1) in
     let q = next-fault rows i (s .args .n) (omega arith) in
     rw (← l .loop .inv .2, q, f)
 
@@ -75,7 +85,8 @@ loop-less : tie.Need-loop-less Inv-loop μ-loop
 loop-less c = omega arith
 
 loop-again : tie.Need-loop-again Inv-loop μ-loop
-loop-again c = let t = turn c in (omega arith, omega arith, sym (t .1) ∙ c .before .before .before .before .before .loop .inv .2, omega arith)
+loop-again c = let t = turn c in
+    (omega arith, omega arith, sym (t .1) ∙ c .before .before .before .before .before .loop .inv .2, omega arith)
 
 returns-2 : tie.Need-returns-2 Inv-loop μ-loop
 unfolding sheetJudged

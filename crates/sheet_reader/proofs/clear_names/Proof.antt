@@ -36,8 +36,12 @@ loop-less : tie.Need-loop-less Inv-loop μ-loop
 loop-less c = search needs
 
 loop-again : tie.Need-loop-again Inv-loop μ-loop
-loop-again c =
-    (search needs, simp length-set (omega arith), rw (c .before .loop .inv .2) (zero-more (c .before .before .args .words .now) _ _ (c .before .loop .i) (omega arith)))
+loop-again c = (
+  search needs,
+  simp length-set (omega arith),
+  rw (c .before .loop .inv .2) (zero-more (c .before .before .args .words .now) _ _ (c .before .loop .i)
+      (omega arith)),
+)
 
 same-length : tie.Need-same-length Inv-loop μ-loop
 same-length c = search needs

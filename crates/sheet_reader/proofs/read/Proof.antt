@@ -18,7 +18,8 @@ cast-names : tie.Need-cast-names
 cast-names c = search needs
 
 names-requires : tie.Need-names-requires
-names-requires c κs = let e = scan-job (c .before .before .before .scan .ensures) (c .before .name .given .1) in (e .reach .most, e .reach .names)
+names-requires c κs = let e = scan-job (c .before .before .before .scan .ensures) (c .before .name .given .1) in
+    (e .reach .most, e .reach .names)
 
 enum-told : tie.Need-enum-told
 enum-told c = search needs
@@ -33,13 +34,19 @@ without-entry-requires-2 : tie.Need-without-entry-requires-2
 without-entry-requires-2 c κs = search needs
 
 returns : tie.Need-returns
-returns c = rw (scan-job (c .before .before .before .before .scan .ensures) (c .before .before .name .given .1) .entry, c .names .ensures, names-length)
+returns c = rw (
+  scan-job (c .before .before .before .before .scan .ensures) (c .before .before .name .given .1) .entry,
+  c .names .ensures,
+  names-length,
+)
 
 returns-2 : tie.Need-returns-2
-returns-2 c = rw (scan-end _ _ (c .before .before .before .scan .ensures) (c .before .enum-told .given .1)) (c .without-entry .ensures)
+returns-2 c = rw (scan-end _ _ (c .before .before .before .scan .ensures) (c .before .enum-told .given .1))
+    (c .without-entry .ensures)
 
 returns-3 : tie.Need-returns-3
-returns-3 c = rw (scan-refused _ _ (c .before .before .before .before .scan .ensures) (c .before .before .number .given .1)) (c .without-entry2 .ensures)
+returns-3 c = rw (scan-refused _ _ (c .before .before .before .before .scan .ensures)
+    (c .before .before .number .given .1)) (c .without-entry2 .ensures)
 
 pub read-spec : {M : Type 1} → statement M
 read-spec =

@@ -1,4 +1,5 @@
--- `store_names` stores so many names. The loop's invariant: the names passed are stored, and nothing else. Assumes nothing.
+-- `store_names` stores so many names. The loop's invariant: the names passed are stored, and nothing else. Assumes
+-- nothing.
 use Prim.Native.Nat.{_≤_, _-_}
 use mathlib.Core.Path.{_≡_}
 use native.Mathlib.Omega.{arith}

@@ -50,11 +50,18 @@ add-store-names : tie.Need-add-store-names
 add-store-names c = search needs
 
 store-names-requires : tie.Need-store-names-requires
-store-names-requires c κs = (omega arith, omega (arith, simp length-set at (c .before .before .before .clear-names .kept .0)))
+store-names-requires c κs = (
+  omega arith,
+  omega (arith, simp length-set at (c .before .before .before .clear-names .kept .0)),
+)
 
 same-length : tie.Need-same-length
 same-length c =
-    omega (arith, simp length-set at (c .before .before .before .before .before .before .clear-names .kept .0), c .before .before .store-names .kept .1 .1 .1 .0)
+    omega (
+      arith,
+      simp length-set at (c .before .before .before .before .before .before .clear-names .kept .0),
+      c .before .before .store-names .kept .1 .1 .1 .0,
+    )
 
 returns : tie.Need-returns
 returns c =

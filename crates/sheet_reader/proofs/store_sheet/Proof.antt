@@ -1,4 +1,5 @@
--- `store_sheet` stores the rows of a sheet. The loop's invariant is `Left`: the rows that are left make the whole. Assumes nothing.
+-- `store_sheet` stores the rows of a sheet. The loop's invariant is `Left`: the rows that are left make the whole.
+-- Assumes nothing.
 use Prim.Native.Nat.{_-_}
 use native.Mathlib.Omega.{arith}
 use lib.ListN.{length}
@@ -39,20 +40,26 @@ add-from : tie.Need-add-from Inv-loop μ-loop
 add-from c =
     let s = c .before .before .before .before .before .before .before in
     let l = s .before .loop .inv in
-    let e = scan-job (left-sound l (s .scan-again .ensures)) (c .before .before .before .before .before .name .given .1) in
+    let e = scan-job (left-sound l (s .scan-again .ensures))
+    (c .before .before .before .before .before .name .given .1) in
     omega (arith, left-room l (e .entry))
 
 loop-less : tie.Need-loop-less Inv-loop μ-loop
 loop-less c =
     let s = c .before .before .before .before .before .before .before in
     let l = s .before .loop .inv in
-    omega (arith, scan-job (left-sound l (s .scan-again .ensures)) (c .before .before .before .before .before .name .given .1))
+    omega (
+      arith,
+      scan-job (left-sound l (s .scan-again .ensures))
+          (c .before .before .before .before .before .name .given .1),
+    )
 
 loop-again : tie.Need-loop-again Inv-loop μ-loop
 loop-again c =
     let s = c .before .before .before .before .before .before .before in
     let l = s .before .loop .inv in
-    let e = scan-job (left-sound l (s .scan-again .ensures)) (c .before .before .before .before .before .name .given .1) in
+    let e = scan-job (left-sound l (s .scan-again .ensures))
+    (c .before .before .before .before .before .name .given .1) in
     left-more l (e .entry) (rw names-length (e .reach .most))
     (rw names-length (rw names-length at (c .before .before .store-row .ensures)))
 

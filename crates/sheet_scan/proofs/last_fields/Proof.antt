@@ -56,8 +56,12 @@ returns : tie.Need-returns
 returns c =
     let a = c .before .before .before .args in
     let p : a .at + 5 + a .map / 2 % 2 + 4 * a .count ≡ classPlace (a .at) (a .map) (a .count) = omega arith in
-    let q : a .at + 5 + a .map / 2 % 2 + 4 * a .count + a .map / 4 % 2 ≡ growerPlace (a .at) (a .map) (a .count) = omega arith in
-    (ap (λ (x : ℕ). (a .map / 4 % 2) * x) (rw p at (c .before .number1 .ensures)), ap (λ (x : ℕ). (a .map / 8 % 2) * x) (rw q at (c .number2 .ensures)), omega arith)
+    let q : a .at + 5 + a .map / 2 % 2 + 4 * a .count + a .map / 4 % 2 ≡ growerPlace (a .at) (a .map) (a .count) =
+    omega arith in (
+      ap (λ (x : ℕ). (a .map / 4 % 2) * x) (rw p at (c .before .number1 .ensures)),
+      ap (λ (x : ℕ). (a .map / 8 % 2) * x) (rw q at (c .number2 .ensures)),
+      omega arith,
+    )
 
 pub last-fields-spec : {M : Type 1} → statement M
 last-fields-spec =

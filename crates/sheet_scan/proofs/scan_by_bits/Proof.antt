@@ -30,8 +30,11 @@ within-if-requires c κs = search needs
 last-fields-requires : tie.Need-last-fields-requires
 last-fields-requires c κs =
     let map = c .before .before .before .before .args .map in
-    let t = both (ltb map 16 && eqb (map % 2) 1) (c .before .within-if .result) (c .if1 .taken) in
-    (omega arith, within-most (map / 2 % 2) (c .before .before .number1 .result) mostNames (omega arith) (sym (c .before .within-if .ensures) ∙ t .1))
+    let t = both (ltb map 16 && eqb (map % 2) 1) (c .before .within-if .result) (c .if1 .taken) in (
+      omega arith,
+      within-most (map / 2 % 2) (c .before .before .number1 .result) mostNames (omega arith)
+          (sym (c .before .within-if .ensures) ∙ t .1),
+    )
 
 within-if-requires-2 : tie.Need-within-if-requires-2
 within-if-requires-2 c κs = search needs
@@ -52,13 +55,16 @@ returns c =
     let m = a .pre .1 in
     let n = c .before .before .before .before .before .before .before .number1 .ensures in
     let l = c .before .before .before .before .last-fields .ensures in
-    let t = both (ltb map 16 && eqb (map % 2) 1) (c .before .before .before .before .before .before .within-if .result) (c .before .before .before .before .before .if1 .taken) in
-    let u = both (c .before .before .before .within-if2 .result) (c .before .before .within-if3 .result) (c .before .if2 .taken) in
+    let t = both (ltb map 16 && eqb (map % 2) 1) (c .before .before .before .before .before .before .within-if .result)
+    (c .before .before .before .before .before .if1 .taken) in
+    let u = both (c .before .before .before .within-if2 .result) (c .before .before .within-if3 .result)
+    (c .before .if2 .taken) in
     let list-within = sym (c .before .before .before .before .before .before .within-if .ensures) ∙ t .1 in
     let class-within = sym (c .before .before .before .within-if2 .ensures) ∙ u .0 in
     let grower-within = sym (c .before .before .within-if3 .ensures) ∙ u .1 in
     rw (c .number4 .ensures, l .0, l .1, l .2, n, m)
-    (sure (a .args .s .now) (a .args .at) (a .pre .0) (rw m at (t .0)) (rw (n, m) at list-within) (rw (l .0, n, m) at class-within) (rw (l .1, n, m) at grower-within))
+    (sure (a .args .s .now) (a .args .at) (a .pre .0) (rw m at (t .0)) (rw (n, m) at list-within)
+    (rw (l .0, n, m) at class-within) (rw (l .1, n, m) at grower-within))
 
 scan-requires : tie.Need-scan-requires
 scan-requires c κs = search needs

@@ -38,7 +38,8 @@ add-t13 c = search needs
 returns-2 : tie.Need-returns-2
 returns-2 c =
     let a = c .before .before .before .before .before .before .args in
-    rw (c .number4 .ensures) (name-alone (a .s .now) (a .at) (omega arith) (sym (c .before .before .wide .ensures) ∙ c .before .if2 .taken))
+    rw (c .number4 .ensures) (name-alone (a .s .now) (a .at) (omega arith)
+    (sym (c .before .before .wide .ensures) ∙ c .before .if2 .taken))
 
 add-number1 : tie.Need-add-number1
 add-number1 c = search needs
@@ -72,8 +73,11 @@ returns-3 c =
     let a = c .before .before .before .before .before .before .before .before .args in
     let map = c .before .before .before .before .wide in
     let count = c .before .before .number1 in
-    let t = both (eqb (map .result) 3) (leb 1 (count .result) && leb (count .result) mostNames) (c .before .if3 .taken) in
-    rw (c .number42 .ensures, count .ensures) (name-and-list (a .s .now) (a .at) (omega arith) (sym (map .ensures) ∙ eqb-true (map .result) 3 (t .0)) (rw (count .ensures) at (t .1)))
+    let t = both (eqb (map .result) 3) (leb 1 (count .result) && leb (count .result) mostNames)
+    (c .before .if3 .taken) in
+    rw (c .number42 .ensures, count .ensures)
+    (name-and-list (a .s .now) (a .at) (omega arith) (sym (map .ensures) ∙ eqb-true (map .result) 3 (t .0))
+    (rw (count .ensures) at (t .1)))
 
 scan-by-bits-requires : tie.Need-scan-by-bits-requires
 scan-by-bits-requires c κs = search needs

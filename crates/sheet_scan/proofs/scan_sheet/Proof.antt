@@ -1,4 +1,5 @@
--- `scan_sheet` counts the entries of a sheet. The loop's invariant: the entries counted and those that are left make the whole. Assumes nothing.
+-- `scan_sheet` counts the entries of a sheet. The loop's invariant: the entries counted and those that are left make
+-- the whole. Assumes nothing.
 use Prim.Native.Nat.{_≤_, _-_}
 use mathlib.Core.Path.{_≡_}
 use native.Mathlib.Nat.{add-zero}

@@ -36,7 +36,8 @@ cast-result c = search needs
 
 returns : tie.Need-returns
 unfolding mapByte
-returns c = λ name list many. rw (many, c .before .before .bit .ensures .0, c .before .bit2 .ensures .0, c .bit3 .ensures .0)
+returns c = λ name list many.
+    rw (many, c .before .before .bit .ensures .0, c .before .bit2 .ensures .0, c .bit3 .ensures .0)
 
 pub map-byte-spec : {M : Type 1} → statement M
 map-byte-spec =

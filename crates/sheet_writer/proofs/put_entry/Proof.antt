@@ -13,23 +13,33 @@ use Rattle.sheet_writer.proofs.put_entry.Statement.{statement}
 use Rattle.sheet_writer.proofs.put_entry.Tie as tie
 
 -- the room that is left after the name, the list and the class
-room₁ : (c : tie.After-put-name) → let a = c .before .before .before .before .before .args in c .put-name .result + (listBytes (a .count) + (classBytes * bitOf (a .class) + growerBytes * bitOf (a .grower))) ≤ length (c .put-name .last .0)
+room₁ : (c : tie.After-put-name) → let a = c .before .before .before .before .before .args in
+    c .put-name .result + (listBytes (a .count) + (classBytes * bitOf (a .class) + growerBytes * bitOf (a .grower))) ≤
+    length (c .put-name .last .0)
 room₁ c =
     let s = c .before .before .before .before .before in
     let a = s .args in
     let l = encode-length (now (a .words)) (a .from) (a .count) (a .class) (a .grower) (s .pre .0) (a .name) in
     room-after nameBytes _ (c .put-name .ensures) (spelt-length nameBytes (a .name)) (simp length-set (omega arith))
 
-room₂ : (c : tie.After-put-list) → let a = c .before .before .before .before .before .before .before .before .before .args in c .put-list .result + (classBytes * bitOf (a .class) + growerBytes * bitOf (a .grower)) ≤ length (c .put-list .last .0)
+room₂ : (c : tie.After-put-list) → let a =
+    c .before .before .before .before .before .before .before .before .before .args in
+    c .put-list .result + (classBytes * bitOf (a .class) + growerBytes * bitOf (a .grower)) ≤ length
+    (c .put-list .last .0)
 room₂ c =
     let s = c .before .before .before .before .before .before .before .before .before in
     let a = s .args in
-    room-after (listBytes (a .count)) _ (c .put-list .ensures) (list-bytes (now (a .words)) (a .from) (a .count) (a .class) (a .grower) (s .pre .0)) (room₁ (c .before .before .before .before))
+    room-after (listBytes (a .count)) _ (c .put-list .ensures)
+    (list-bytes (now (a .words)) (a .from) (a .count) (a .class) (a .grower) (s .pre .0))
+    (room₁ (c .before .before .before .before))
 
-room₃ : (c : tie.After-put-class) → let a = c .before .before .before .before .before .before .before .before .before .before .before .before .before .args in c .put-class .result + growerBytes * bitOf (a .grower) ≤ length (c .put-class .last .0)
+room₃ : (c : tie.After-put-class) → let a =
+    c .before .before .before .before .before .before .before .before .before .before .before .before .before .args in
+    c .put-class .result + growerBytes * bitOf (a .grower) ≤ length (c .put-class .last .0)
 room₃ c =
     let a = c .before .before .before .before .before .before .before .before .before .before .before .before .before .args in
-    room-after (classBytes * bitOf (a .class)) _ (c .put-class .ensures) (unless-length classBytes (a .class)) (room₂ (c .before .before .before .before))
+    room-after (classBytes * bitOf (a .class)) _ (c .put-class .ensures) (unless-length classBytes (a .class))
+    (room₂ (c .before .before .before .before))
 
 map-byte-requires : tie.Need-map-byte-requires
 map-byte-requires c κs = search needs
@@ -67,7 +77,9 @@ put-grower-requires c κs = omega (arith, room₃ (c .before .before .before))
 same-length : tie.Need-same-length
 same-length c =
     c .before .before .put-grower .kept .0
-    ∙ (c .before .before .before .before .before .before .put-class .kept .0 ∙ (c .before .before .before .before .before .before .before .before .before .before .put-list .kept .0 ∙ (c .before .before .before .before .before .before .before .before .before .before .before .before .before .before .put-name .kept .0 ∙ simp length-set)))
+    ∙ (c .before .before .before .before .before .before .put-class .kept .0
+    ∙ (c .before .before .before .before .before .before .before .before .before .before .put-list .kept .0
+    ∙ (c .before .before .before .before .before .before .before .before .before .before .before .before .before .before .put-name .kept .0 ∙ simp length-set)))
 
 returns : tie.Need-returns
 returns c =

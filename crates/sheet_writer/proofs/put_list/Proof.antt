@@ -33,7 +33,8 @@ unfolding spelt
 returns-2 c =
     let s = c .before .before .before .before .before .before .before in
     let a = s .args in
-    rw (list-some (a .n) (c .before .before .before .before .if1 .left) _ (take (a .n) (drop (a .from) (now (a .words)))) (taken (now (a .words)) (a .from) (a .n) (s .pre .0)))
+    rw (list-some (a .n) (c .before .before .before .before .if1 .left) _
+    (take (a .n) (drop (a .from) (now (a .words)))) (taken (now (a .words)) (a .from) (a .n) (s .pre .0)))
     (after (one _ _ _) (c .before .before .put-names .ensures))
 
 pub put-list-spec : {M : Type 1} → statement M

@@ -1,4 +1,5 @@
--- `put_names` stores names one after the other. The loop's invariant: what is left to store, stored from the running place
+-- `put_names` stores names one after the other. The loop's invariant: what is left to store, stored from the running
+-- place
 -- on, makes the whole. Assumes nothing.
 use Prim.Native.Nat.{_+_, _*_, _-_, _≤_}
 use mathlib.Core.Path.{_≡_, _∙_}
@@ -19,7 +20,8 @@ Inv-loop out₀ place words from n next₀ i₀ out next i =
     (i ≤ n)
     × (next ≡ place + nameBytes * i)
     × (length out ≡ length out₀)
-    × (sets out next (speltNames nameBytes (take (n - i) (drop (from + i) words))) ≡ sets out₀ place (speltNames nameBytes (take n (drop from words))))
+    × (sets out next (speltNames nameBytes (take (n - i) (drop (from + i) words)))
+    ≡ sets out₀ place (speltNames nameBytes (take n (drop from words))))
 
 abbrev μ-loop : tie.MeasureT-loop
 μ-loop out₀ place words from n next₀ i₀ out next i = n - i
@@ -53,8 +55,13 @@ loop-again c =
     let a = l .before .before .before .args in
     let p = l .before .before .before .pre in
     let n = spelt-length nameBytes (getD (now (a .words)) (a .from + l .loop .i) 0) in
-    let q = next-name nameBytes (now (a .words)) (a .from) (l .loop .i) (a .n) (omega arith) (p .0) in
-    (omega arith, omega (arith, f .past), c .before .before .put-name .kept .0 ∙ l .loop .inv .2, onward _ f q (l .loop .inv .3))
+    let q = next-name nameBytes (now (a .words)) (a .from) (l .loop .i) (a .n) (omega arith) (p .0) in (
+      omega arith,
+      omega (arith, f .past),
+      c .before .before .put-name .kept .0
+          ∙ l .loop .inv .2,
+      onward _ f q (l .loop .inv .3),
+    )
 
 same-length : tie.Need-same-length Inv-loop μ-loop
 same-length c = search needs

@@ -1,4 +1,5 @@
--- `put_rows` stores the entries of the rows one after the other. The loop's invariant: what is left to store, stored from the
+-- `put_rows` stores the entries of the rows one after the other. The loop's invariant: what is left to store, stored
+-- from the
 -- running place on, makes the whole. Assumes nothing.
 use Prim.Native.Nat.{_+_, _-_, _≤_}
 use mathlib.Core.Path.{ap, _≡_, _∙_}
@@ -26,7 +27,13 @@ abbrev μ-loop : tie.MeasureT-loop
 μ-loop out₀ rows n next₀ i₀ out next i = n - i
 
 loop-holds : tie.Need-loop-holds Inv-loop μ-loop
-loop-holds c = (search needs, search needs, simp sub-zero (c .before .before .pre .1), simp sub-zero (omega arith), simp sub-zero)
+loop-holds c = (
+  search needs,
+  search needs,
+  simp sub-zero (c .before .before .pre .1),
+  simp sub-zero (omega arith),
+  simp sub-zero,
+)
 
 put-row-requires : tie.Need-put-row-requires Inv-loop μ-loop
 put-row-requires c κs =
@@ -50,8 +57,14 @@ loop-again c =
     let rows = now (s .args .rows) in
     let i = l .loop .i in
     let b = next-length rows i (s .args .n) (omega arith) in
-    let f = c .before .before .put-row .ensures in
-    (omega arith, c .before .before .put-row .kept .0 ∙ l .loop .inv .1, next-sound rows i (s .args .n) (omega arith) (l .loop .inv .2) .1, omega (arith, f .past), onward _ f (next-bytes rows i (s .args .n) (omega arith)) (l .loop .inv .4))
+    let f = c .before .before .put-row .ensures in (
+      omega arith,
+      c .before .before .put-row .kept .0
+          ∙ l .loop .inv .1,
+      next-sound rows i (s .args .n) (omega arith) (l .loop .inv .2) .1,
+      omega (arith, f .past),
+      onward _ f (next-bytes rows i (s .args .n) (omega arith)) (l .loop .inv .4),
+    )
 
 same-length : tie.Need-same-length Inv-loop μ-loop
 same-length c = c .before .loop .inv .1

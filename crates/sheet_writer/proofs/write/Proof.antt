@@ -13,10 +13,12 @@ use Rattle.sheet_writer.proofs.write.Statement.{statement}
 use Rattle.sheet_writer.proofs.write.Tie as tie
 
 -- what the judgement says of an entry that takes so many bytes
-takes-at : (c : tie.After-known-told2) → let e = c .before .before .before .before .before .args .entry in (faultOf e ≡ Fault.none) × (length (encode (jobOf e)) ≡ c .before .bytes .given .0 .0)
+takes-at : (c : tie.After-known-told2) → let e = c .before .before .before .before .before .args .entry in
+    (faultOf e ≡ Fault.none) × (length (encode (jobOf e)) ≡ c .before .bytes .given .0 .0)
 takes-at c =
     let e = c .before .before .before .before .before .args .entry in
-    takes e _ (sym (c .before .before .before .judge .ensures (e .name) (e .names) (search needs)) ∙ c .before .bytes .given .1)
+    takes e _ (sym (c .before .before .before .judge .ensures (e .name) (e .names) (search needs))
+    ∙ c .before .bytes .given .1)
 
 judge-requires : tie.Need-judge-requires
 judge-requires c κs = search needs
@@ -41,7 +43,8 @@ returns : tie.Need-returns
 unfolding writeEntry
 returns c =
     let e = c .before .before .before .before .before .args .entry in
-    rw (refused e _ (sym (c .before .before .before .judge .ensures (e .name) (e .names) (search needs)) ∙ c .before .place .given .1))
+    rw (refused e _ (sym (c .before .before .before .judge .ensures (e .name) (e .names) (search needs))
+    ∙ c .before .place .given .1))
 
 same-length : tie.Need-same-length
 same-length c = search needs

@@ -15,7 +15,10 @@ use Rattle.sheet_writer.proofs.write_sheet.Statement.{statement}
 use Rattle.sheet_writer.proofs.write_sheet.Tie as tie
 
 -- what the judgement says of a sheet that takes so many bytes
-takes-at : (c : tie.After-known-told2) → let rows = now (c .before .before .before .before .before .before .before .args .rows) in (sheetFault 0 (entriesOf rows) ≡ SheetFault.none) × (length (allBytes rows (length rows / rowWords)) ≡ c .before .bytes .given .0 .0)
+takes-at : (c : tie.After-known-told2) → let rows =
+    now (c .before .before .before .before .before .before .before .args .rows) in
+    (sheetFault 0 (entriesOf rows) ≡ SheetFault.none)
+    × (length (allBytes rows (length rows / rowWords)) ≡ c .before .bytes .given .0 .0)
 takes-at c =
     sheet-takes
     (entriesOf (now (c .before .before .before .before .before .before .before .args .rows)))
@@ -58,7 +61,15 @@ returns-3 c =
     let f = c .before .before .put-rows .ensures in
     let k = length-map (entriesOf rows) jobOf ∙ entries-length rows 0 (length rows / rowWords) in
     let fits = le-leb (length (allBytes rows (length rows / rowWords))) (length (now (a .out))) (omega arith) in
-    rw (eq-eqb _ _ (c .before .before .before .before .before .before .before .before .before .if1 .left), t .0, fits, k, f .stored, f .past, zero-add)
+    rw (
+      eq-eqb _ _ (c .before .before .before .before .before .before .before .before .before .if1 .left),
+      t .0,
+      fits,
+      k,
+      f .stored,
+      f .past,
+      zero-add,
+    )
 
 returns-4 : tie.Need-returns-4
 unfolding writeSheet

@@ -1,4 +1,5 @@
--- `taskgraph_day::tg_day_list` meets its contract: each arm is given the answer of `day_list`, whose contract says what that is.
+-- `taskgraph_day::tg_day_list` meets its contract: each arm is given the answer of `day_list`, whose contract says what
+-- that is.
 -- Assumes nothing.
 use mathlib.Core.Path.{sym, ap, _∙_}
 use borrow.Author.Needs.{needs}
@@ -21,16 +22,20 @@ same-length c = search needs
 
 returns : tie.Need-returns
 returns c =
-    let told : _ = c .before .before .before .before .before .day-list .ensures in
-    (ap dayPrinted (sym (c .before .bytes .given .1) ∙ ap (λ (w : Printing). w .answer) told), ap (λ (w : Printing). w .out) told)
+    let told : _ = c .before .before .before .before .before .day-list .ensures in (
+      ap dayPrinted (sym (c .before .bytes .given .1) ∙ ap (λ (w : Printing). w .answer) told),
+      ap (λ (w : Printing). w .out) told,
+    )
 
 same-length-2 : tie.Need-same-length-2
 same-length-2 c = search needs
 
 returns-2 : tie.Need-returns-2
 returns-2 c =
-    let told : _ = c .before .before .before .before .before .day-list .ensures in
-    (ap dayPrinted (sym (c .before .number .given .1) ∙ ap (λ (w : Printing). w .answer) told), ap (λ (w : Printing). w .out) told)
+    let told : _ = c .before .before .before .before .before .day-list .ensures in (
+      ap dayPrinted (sym (c .before .number .given .1) ∙ ap (λ (w : Printing). w .answer) told),
+      ap (λ (w : Printing). w .out) told,
+    )
 
 pub tg-day-list-spec : {M : Type 1} → statement M
 tg-day-list-spec =

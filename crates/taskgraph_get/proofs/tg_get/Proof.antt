@@ -27,7 +27,9 @@ same-length-5 : tie.Need-same-length-5
 same-length-5 c = search needs
 
 returns : tie.Need-returns
-returns c = in-c (c .before .before .before .before .before .before .before .before .before .before .before .get .ensures) (c .answered .ensures)
+returns c =
+    in-c (c .before .before .before .before .before .before .before .before .before .before .before .get .ensures)
+    (c .answered .ensures)
 
 pub tg-get-spec : {M : Type 1} → statement M
 tg-get-spec =

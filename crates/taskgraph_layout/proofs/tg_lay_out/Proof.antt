@@ -1,4 +1,5 @@
--- `taskgraph_layout::tg_lay_out` meets its contract: what `lay_out` answers, as C has it, and the tables that it leaves.
+-- `taskgraph_layout::tg_lay_out` meets its contract: what `lay_out` answers, as C has it, and the tables that it
+-- leaves.
 -- Assumes nothing.
 use borrow.Author.Needs.{needs}
 use Rattle.taskgraph_answer.specs.InC.{in-c}
@@ -27,7 +28,9 @@ same-length-5 : tie.Need-same-length-5
 same-length-5 c = search needs
 
 returns : tie.Need-returns
-returns c = in-c (c .before .before .before .before .before .before .before .before .before .before .before .lay-out .ensures) (c .answered .ensures)
+returns c =
+    in-c (c .before .before .before .before .before .before .before .before .before .before .before .lay-out .ensures)
+    (c .answered .ensures)
 
 pub tg-lay-out-spec : {M : Type 1} → statement M
 tg-lay-out-spec =

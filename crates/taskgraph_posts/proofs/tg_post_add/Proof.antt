@@ -1,4 +1,5 @@
--- `taskgraph_posts::tg_post_add` meets its contract: what `post_add` answers, as C has it, and the tables that it leaves.
+-- `taskgraph_posts::tg_post_add` meets its contract: what `post_add` answers, as C has it, and the tables that it
+-- leaves.
 -- Assumes nothing.
 use borrow.Author.Needs.{needs}
 use Rattle.taskgraph_answer.specs.InC.{in-c}
@@ -27,7 +28,9 @@ same-length-5 : tie.Need-same-length-5
 same-length-5 c = search needs
 
 returns : tie.Need-returns
-returns c = in-c (c .before .before .before .before .before .before .before .before .before .before .before .post-add .ensures) (c .answered .ensures)
+returns c =
+    in-c (c .before .before .before .before .before .before .before .before .before .before .before .post-add .ensures)
+    (c .answered .ensures)
 
 pub tg-post-add-spec : {M : Type 1} → statement M
 tg-post-add-spec =

@@ -1,4 +1,5 @@
--- `taskgraph_posts::tg_post_finish` meets its contract: what `post_finish` answers, as C has it, and the tables that it leaves.
+-- `taskgraph_posts::tg_post_finish` meets its contract: what `post_finish` answers, as C has it, and the tables that it
+-- leaves.
 -- Assumes nothing.
 use borrow.Author.Needs.{needs}
 use Rattle.taskgraph_answer.specs.InC.{in-c}
@@ -27,7 +28,8 @@ same-length-5 : tie.Need-same-length-5
 same-length-5 c = search needs
 
 returns : tie.Need-returns
-returns c = in-c (c .before .before .before .before .before .before .before .before .before .before .before .post-finish .ensures) (c .answered .ensures)
+returns c =
+    in-c (c .before .before .before .before .before .before .before .before .before .before .before .post-finish .ensures) (c .answered .ensures)
 
 pub tg-post-finish-spec : {M : Type 1} → statement M
 tg-post-finish-spec =

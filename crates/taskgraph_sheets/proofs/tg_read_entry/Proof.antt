@@ -1,4 +1,5 @@
--- `taskgraph_sheets::tg_read_entry` meets its contract: each arm is given the answer of `read`, whose contract says what that is.
+-- `taskgraph_sheets::tg_read_entry` meets its contract: each arm is given the answer of `read`, whose contract says
+-- what that is.
 -- Assumes nothing.
 use mathlib.Core.Path.{_≡_, refl, sym, ap, _∙_}
 use Prim.Native.Nat.{ℕ}
@@ -23,8 +24,10 @@ arms asked (job j next) = refl
 arms asked end = refl
 arms asked (refused number field) = refl
 
-told : (asked : ℕ) (d : Decoded) {r : Reading} {a : Read} → r ≡ readingOf d → r .answer ≡ a → arm asked (r .entry) a ≡ entryRead asked d
-told asked d {r} is said = ap (arm asked (r .entry)) (sym said) ∙ (ap (λ (s : Reading). arm asked (s .entry) (s .answer)) is ∙ arms asked d)
+told : (asked : ℕ) (d : Decoded) {r : Reading} {a : Read} → r ≡ readingOf d → r .answer ≡ a
+    → arm asked (r .entry) a ≡ entryRead asked d
+told asked d {r} is said = ap (arm asked (r .entry)) (sym said)
+    ∙ (ap (λ (s : Reading). arm asked (s .entry) (s .answer)) is ∙ arms asked d)
 
 read-requires : tie.Need-read-requires
 read-requires c κs = search needs
@@ -39,13 +42,16 @@ enum-known-answer-2 : tie.Need-enum-known-answer-2
 enum-known-answer-2 c = search needs
 
 returns : tie.Need-returns
-returns c = told (c .before .before .before .before .before .before .args .at) (decode _ _) (c .before .before .before .before .read .ensures) (c .before .answer .given .1)
+returns c = told (c .before .before .before .before .before .before .args .at) (decode _ _)
+    (c .before .before .before .before .read .ensures) (c .before .answer .given .1)
 
 returns-2 : tie.Need-returns-2
-returns-2 c = told (c .before .before .before .before .before .args .at) (decode _ _) (c .before .before .before .read .ensures) (c .enum-told .given .1)
+returns-2 c = told (c .before .before .before .before .before .args .at) (decode _ _)
+    (c .before .before .before .read .ensures) (c .enum-told .given .1)
 
 returns-3 : tie.Need-returns-3
-returns-3 c = told (c .before .before .before .before .before .before .args .at) (decode _ _) (c .before .before .before .before .read .ensures) (c .before .answer2 .given .1)
+returns-3 c = told (c .before .before .before .before .before .before .args .at) (decode _ _)
+    (c .before .before .before .before .read .ensures) (c .before .answer2 .given .1)
 
 pub tg-read-entry-spec : {M : Type 1} → statement M
 tg-read-entry-spec =

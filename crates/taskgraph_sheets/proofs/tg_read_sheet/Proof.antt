@@ -1,4 +1,5 @@
--- `taskgraph_sheets::tg_read_sheet` meets its contract: what `read_sheet` answers, as C has it, and the rows that it leaves.
+-- `taskgraph_sheets::tg_read_sheet` meets its contract: what `read_sheet` answers, as C has it, and the rows that it
+-- leaves.
 -- Assumes nothing.
 use mathlib.Core.Path.{ap, _∙_}
 use borrow.Author.Needs.{needs}

@@ -1,4 +1,5 @@
--- `taskgraph_sheets::tg_write_entry` meets its contract: each arm is given the answer of `write`, whose contract says what that is.
+-- `taskgraph_sheets::tg_write_entry` meets its contract: each arm is given the answer of `write`, whose contract says
+-- what that is.
 -- Assumes nothing.
 use mathlib.Core.Path.{sym, ap, _∙_}
 use borrow.Author.Needs.{needs}
@@ -21,16 +22,20 @@ same-length c = search needs
 
 returns : tie.Need-returns
 returns c =
-    let told : _ = c .before .before .before .before .before .write .ensures in
-    (ap entryWritten (sym (c .before .next .given .1) ∙ ap (λ (w : Written). w .answer) told), ap (λ (w : Written). w .out) told)
+    let told : _ = c .before .before .before .before .before .write .ensures in (
+      ap entryWritten (sym (c .before .next .given .1) ∙ ap (λ (w : Written). w .answer) told),
+      ap (λ (w : Written). w .out) told,
+    )
 
 same-length-2 : tie.Need-same-length-2
 same-length-2 c = search needs
 
 returns-2 : tie.Need-returns-2
 returns-2 c =
-    let told : _ = c .before .before .before .before .before .write .ensures in
-    (ap entryWritten (sym (c .before .number .given .1) ∙ ap (λ (w : Written). w .answer) told), ap (λ (w : Written). w .out) told)
+    let told : _ = c .before .before .before .before .before .write .ensures in (
+      ap entryWritten (sym (c .before .number .given .1) ∙ ap (λ (w : Written). w .answer) told),
+      ap (λ (w : Written). w .out) told,
+    )
 
 pub tg-write-entry-spec : {M : Type 1} → statement M
 tg-write-entry-spec =

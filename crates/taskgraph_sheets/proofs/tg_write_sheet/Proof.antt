@@ -1,4 +1,5 @@
--- `taskgraph_sheets::tg_write_sheet` meets its contract: each arm is given the answer of `write_sheet`, whose contract says what that is.
+-- `taskgraph_sheets::tg_write_sheet` meets its contract: each arm is given the answer of `write_sheet`, whose contract
+-- says what that is.
 -- Assumes nothing.
 use mathlib.Core.Path.{sym, ap, _∙_}
 use borrow.Author.Needs.{needs}
@@ -21,16 +22,20 @@ same-length c = search needs
 
 returns : tie.Need-returns
 returns c =
-    let told : _ = c .before .before .before .before .before .write-sheet .ensures in
-    (ap sheetWritten (sym (c .before .entries .given .1) ∙ ap (λ (w : SheetWritten). w .answer) told), ap (λ (w : SheetWritten). w .out) told)
+    let told : _ = c .before .before .before .before .before .write-sheet .ensures in (
+      ap sheetWritten (sym (c .before .entries .given .1) ∙ ap (λ (w : SheetWritten). w .answer) told),
+      ap (λ (w : SheetWritten). w .out) told,
+    )
 
 same-length-2 : tie.Need-same-length-2
 same-length-2 c = search needs
 
 returns-2 : tie.Need-returns-2
 returns-2 c =
-    let told : _ = c .before .before .before .before .before .write-sheet .ensures in
-    (ap sheetWritten (sym (c .before .number .given .1) ∙ ap (λ (w : SheetWritten). w .answer) told), ap (λ (w : SheetWritten). w .out) told)
+    let told : _ = c .before .before .before .before .before .write-sheet .ensures in (
+      ap sheetWritten (sym (c .before .number .given .1) ∙ ap (λ (w : SheetWritten). w .answer) told),
+      ap (λ (w : SheetWritten). w .out) told,
+    )
 
 pub tg-write-sheet-spec : {M : Type 1} → statement M
 tg-write-sheet-spec =

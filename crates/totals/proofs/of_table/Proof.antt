@@ -16,7 +16,8 @@ use Rattle.totals.proofs.of_table.Tie as tie
 
 abbrev Inv-loop : tie.InvT-loop
 Inv-loop words head width label class count t₀ i₀ t i =
-    (count ≡ length (rowsOfTable head width label class words count)) × Running fixedMinutes (rowsOfTable head width label class words count) t i
+    (count ≡ length (rowsOfTable head width label class words count))
+    × Running fixedMinutes (rowsOfTable head width label class words count) t i
 
 abbrev μ-loop : tie.MeasureT-loop
 μ-loop words head width label class count t₀ i₀ t i = count - i

@@ -1,4 +1,5 @@
--- `totals::with_record` meets its contract: each answer is the case of `withRecord` that the tests pick, and neither sum
+-- `totals::with_record` meets its contract: each answer is the case of `withRecord` that the tests pick, and neither
+-- sum
 -- wraps, by the room that is asked for. Assumes nothing.
 use native.Mathlib.Omega.{arith}
 use borrow.Author.Needs.{needs}

@@ -1,4 +1,5 @@
--- `steps` steps a call until it does not go on. The loop's invariant: the steps that are left make the whole. Assumes nothing.
+-- `steps` steps a call until it does not go on. The loop's invariant: the steps that are left make the whole. Assumes
+-- nothing.
 use Prim.Native.Nat.{suc, _-_}
 use mathlib.Core.Path.{_≡_, refl, sym, _∙_}
 use native.Mathlib.Omega.{arith}
@@ -17,7 +18,8 @@ Inv-loop sizes jobs₀ arcs₀ buckets₀ queue₀ workers₀ worker most left�
     × (length buckets ≡ length buckets₀)
     × (length queue ≡ length queue₀)
     × (length workers ≡ length workers₀)
-    × (stepsOf left sizes worker (tables jobs arcs buckets queue workers) ≡ stepsOf most sizes worker (tables jobs₀ arcs₀ buckets₀ queue₀ workers₀))
+    × (stepsOf left sizes worker (tables jobs arcs buckets queue workers)
+    ≡ stepsOf most sizes worker (tables jobs₀ arcs₀ buckets₀ queue₀ workers₀))
 
 abbrev μ-loop : tie.MeasureT-loop
 μ-loop sizes jobs₀ arcs₀ buckets₀ queue₀ workers₀ worker most left₀ jobs arcs buckets queue workers left = left
@@ -42,23 +44,37 @@ loop-again c =
     let l = c .before .before .before .before .before .before .before .before .before .before .before .before .before .before .before .before .before .before .before .loop in
     let f = c .before .before .before .before .before .before .before .before .before .before .before .before .step in
     let e : l .left ≡ suc (l .left - 1) = omega arith in
-    let g = sym (c .before .goes-on .ensures) ∙ c .if1 .taken in
-    (f .kept .1 .0 ∙ l .inv .0, f .kept .1 .1 .0 ∙ l .inv .1, f .kept .1 .1 .1 .0 ∙ l .inv .2, f .kept .1 .1 .1 .1 .0 ∙ l .inv .3, f .kept .1 .1 .1 .1 .1 .0 ∙ l .inv .4, sym (step-on _ _ _ _ _ (f .ensures) g) ∙ rw e at (l .inv .5))
+    let g = sym (c .before .goes-on .ensures) ∙ c .if1 .taken in (
+      f .kept .1 .0 ∙ l .inv .0,
+      f .kept .1 .1 .0 ∙ l .inv .1,
+      f .kept .1 .1 .1 .0 ∙ l .inv .2,
+      f .kept .1 .1 .1 .1 .0
+          ∙ l .inv .3,
+      f .kept .1 .1 .1 .1 .1 .0 ∙ l .inv .4,
+      sym (step-on _ _ _ _ _ (f .ensures) g)
+          ∙ rw e at (l .inv .5),
+    )
 
 same-length : tie.Need-same-length Inv-loop μ-loop
-same-length c = c .before .before .before .before .before .before .before .before .before .before .before .before .step .kept .1 .0 ∙ c .before .before .before .before .before .before .before .before .before .before .before .before .before .before .before .before .before .before .before .loop .inv .0
+same-length c =
+    c .before .before .before .before .before .before .before .before .before .before .before .before .step .kept .1 .0
+    ∙ c .before .before .before .before .before .before .before .before .before .before .before .before .before .before .before .before .before .before .before .loop .inv .0
 
 same-length-2 : tie.Need-same-length-2 Inv-loop μ-loop
-same-length-2 c = c .before .before .before .before .before .before .before .before .before .before .before .before .step .kept .1 .1 .0 ∙ c .before .before .before .before .before .before .before .before .before .before .before .before .before .before .before .before .before .before .before .loop .inv .1
+same-length-2 c =
+    c .before .before .before .before .before .before .before .before .before .before .before .before .step .kept .1 .1 .0 ∙ c .before .before .before .before .before .before .before .before .before .before .before .before .before .before .before .before .before .before .before .loop .inv .1
 
 same-length-3 : tie.Need-same-length-3 Inv-loop μ-loop
-same-length-3 c = c .before .before .before .before .before .before .before .before .before .before .before .before .step .kept .1 .1 .1 .0 ∙ c .before .before .before .before .before .before .before .before .before .before .before .before .before .before .before .before .before .before .before .loop .inv .2
+same-length-3 c =
+    c .before .before .before .before .before .before .before .before .before .before .before .before .step .kept .1 .1 .1 .0 ∙ c .before .before .before .before .before .before .before .before .before .before .before .before .before .before .before .before .before .before .before .loop .inv .2
 
 same-length-4 : tie.Need-same-length-4 Inv-loop μ-loop
-same-length-4 c = c .before .before .before .before .before .before .before .before .before .before .before .before .step .kept .1 .1 .1 .1 .0 ∙ c .before .before .before .before .before .before .before .before .before .before .before .before .before .before .before .before .before .before .before .loop .inv .3
+same-length-4 c =
+    c .before .before .before .before .before .before .before .before .before .before .before .before .step .kept .1 .1 .1 .1 .0 ∙ c .before .before .before .before .before .before .before .before .before .before .before .before .before .before .before .before .before .before .before .loop .inv .3
 
 same-length-5 : tie.Need-same-length-5 Inv-loop μ-loop
-same-length-5 c = c .before .before .before .before .before .before .before .before .before .before .before .before .step .kept .1 .1 .1 .1 .1 .0 ∙ c .before .before .before .before .before .before .before .before .before .before .before .before .before .before .before .before .before .before .before .loop .inv .4
+same-length-5 c =
+    c .before .before .before .before .before .before .before .before .before .before .before .before .step .kept .1 .1 .1 .1 .1 .0 ∙ c .before .before .before .before .before .before .before .before .before .before .before .before .before .before .before .before .before .before .before .loop .inv .4
 
 returns : tie.Need-returns Inv-loop μ-loop
 returns c =

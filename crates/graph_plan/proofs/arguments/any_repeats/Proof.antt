@@ -1,4 +1,5 @@
--- `graph_plan::arguments::any_repeats` meets its contract. The loop's invariant: whether one of the names left comes again is whether one of all does.
+-- `graph_plan::arguments::any_repeats` meets its contract. The loop's invariant: whether one of the names left comes
+-- again is whether one of all does.
 -- The measure is the number of names left. Assumes nothing.
 use mathlib.Core.Path.{_≡_, refl, sym, _∙_}
 use Prim.Native.Nat.{_≤_, _-_}

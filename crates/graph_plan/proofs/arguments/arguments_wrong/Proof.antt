@@ -11,7 +11,8 @@ use Rattle.graph_plan.proofs.Listed.{or-right}
 use Rattle.graph_plan.proofs.arguments.arguments_wrong.Statement.{statement}
 use Rattle.graph_plan.proofs.arguments.arguments_wrong.Tie as tie
 
-few : (class grower count : ℕ) → (ltb mostClass class || ltb mostGrower grower || ltb mostNames count) ≡ false → count ≤ mostNames
+few : (class grower count : ℕ) → (ltb mostClass class || ltb mostGrower grower || ltb mostNames count) ≡ false
+    → count ≤ mostNames
 few class grower count e =
     ltb-false mostNames count (or-right (ltb mostClass class || ltb mostGrower grower) (ltb mostNames count) e)
 
@@ -32,7 +33,11 @@ returns c = rw (c .if1 .taken)
 
 returns-2 : tie.Need-returns-2
 unfolding argumentsWrong
-returns-2 c = rw (c .before .before .before .before .if1 .left, ← c .before .before .listed-from .ensures, ← c .any-repeats .ensures)
+returns-2 c = rw (
+  c .before .before .before .before .if1 .left,
+  ← c .before .before .listed-from .ensures,
+  ← c .any-repeats .ensures,
+)
 
 pub arguments-wrong-spec : {M : Type 1} → statement M
 arguments-wrong-spec =

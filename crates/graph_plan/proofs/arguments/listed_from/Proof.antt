@@ -1,4 +1,5 @@
--- `graph_plan::arguments::listed_from` meets its contract. The loop's invariant: whether the name is among those left is whether it is among all.
+-- `graph_plan::arguments::listed_from` meets its contract. The loop's invariant: whether the name is among those left
+-- is whether it is among all.
 -- The measure is the number of names left. Assumes nothing.
 use mathlib.Core.Path.{_≡_, refl, sym, _∙_}
 use Prim.Native.Nat.{_≤_, _-_}

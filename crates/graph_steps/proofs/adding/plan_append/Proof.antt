@@ -29,7 +29,11 @@ cast-arc c =
     let a = c .before .before .before .before .before .before .before .args in
     let made = c .before .before .before .before .header .result in
     let reserved = c .before .before .before .header2 .result in
-    omega (arith, ltb-true (a .arc) reserved (second (ltb (a .job) made) (ltb (a .arc) reserved) (c .before .place-ok .result) (c .if1 .taken)))
+    omega (
+      arith,
+      ltb-true (a .arc) reserved
+          (second (ltb (a .job) made) (ltb (a .arc) reserved) (c .before .place-ok .result) (c .if1 .taken)),
+    )
 
 returns : tie.Need-returns
 unfolding planAppend

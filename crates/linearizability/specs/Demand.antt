@@ -1,0 +1,206 @@
+-- Demand 3: what is claimed of every list of items, of any machine that answers items and shows what is looked at in
+-- its state. Read with document 01, "Steps" and "The plain book". (Wrong.antt has machines that do not meet it.)
+-- Assumes nothing.
+use mathlib.Core.Path.{_≡_}
+use mathlib.Core.Logic.{_↔_}
+use mathlib.Core.Bool.{Bool, true, false, _||_}
+use mathlib.Core.List.{List, [], _∷_, _++_}
+use mathlib.Core.Option.{none}
+use Prim.Native.Nat.{ℕ, zero, suc, _+_, _-_, _≤_, _<_}
+use lib.Dec.{ltb, leb, eqb}
+use lib.ListN.{length, getD}
+use Rattle.terms.specs.Base.{pick, contains, occurrences}
+use Rattle.terms.specs.Terms.{Arguments, listed, labelNumber, unexecuted, finished, sameSizes, wrongSizes, noSuchWorker}
+use Rattle.terms.specs.Terms.{halfDone, nothingToStep}
+use Rattle.terms.specs.Runs.{Item, postAdd, postFinish, step, get, Event, Outcome, after, events, entries}
+use Rattle.terms.specs.Runs.{sizesOf, workerOf}
+use Rattle.terms.specs.Seen.{Seen, Same}
+use Rattle.terms.specs.declared.Sizes.{Sizes}
+use Rattle.terms.specs.declared.Answer.{Answer}
+use Rattle.terms.specs.declared.Answer.the-variants.{Laid, Posted, Going, Ended, NoneReady, Handed, Refused}
+use Rattle.rules.specs.Rules.{empty}
+use Rattle.rules.specs.Rules as rules
+use Rattle.rules.specs.Observed as rules-seen
+use Rattle.sequential_model.specs.Book.{Book, blank, entry, remaining, Ready, Follows}
+use Rattle.sequential_model.specs.Book as book
+use Rattle.linearization.specs.Calls.{Pending, idle, adding, finishing, Reading, reading, Quiet, acceptedAdds}
+use Rattle.linearization.specs.Calls.{acceptedFinishes}
+
+-- ---- the prerequisites of a job: "the jobs of the listed names", among the accepted adds
+abbrev pub noArguments : Arguments
+noArguments = record { name = 0; count = 0; names = []; class = 0; grower = 0 }
+
+abbrev pub addOf : List Arguments → ℕ → Arguments
+addOf adds j = getD adds j noArguments
+
+-- the job of a name is marked finished
+pub record MarkedFinished (x : Seen) (adds : List Arguments) (name : ℕ) : Type 0 where
+  pub job : ℕ
+  pub there : job < length adds
+  pub named : addOf adds job .name ≡ name
+  pub marked : x .job job .label ≡ labelNumber finished
+
+-- each prerequisite of job j is
+abbrev pub PrerequisitesFinished : Seen → List Arguments → ℕ → Type 0
+PrerequisitesFinished x adds j =
+    (i : ℕ) → i < addOf adds j .count → MarkedFinished x adds (getD (listed (addOf adds j)) i 0)
+
+-- a job that is handed out, by what was seen just before and by the calls decided so far: it is that of an accepted
+-- add, under its own name; it is labelled unexecuted; each of its prerequisites is marked finished, and an accepted
+-- finish of each was made
+pub record HandedRightly (x : Seen) (calls : List book.Ended) (j name : ℕ) : Type 0 where
+  pub there : j < length (acceptedAdds calls)
+  pub named : name ≡ addOf (acceptedAdds calls) j .name
+  pub unexecuted : x .job j .label ≡ labelNumber unexecuted
+  pub prerequisites : PrerequisitesFinished x (acceptedAdds calls) j
+  pub finishes : (i : ℕ) → i < addOf (acceptedAdds calls) j .count
+      → contains (getD (listed (addOf (acceptedAdds calls) j)) i 0) (acceptedFinishes calls) ≡ true
+
+-- a job that is finished: it is labelled so, and an accepted finish of it was made
+pub record JobFinished (x : Seen) (calls : List book.Ended) (j : ℕ) : Type 0 where
+  pub label : x .job j .label ≡ labelNumber finished
+  pub finish : contains (addOf (acceptedAdds calls) j .name) (acceptedFinishes calls) ≡ true
+
+-- ---- the equality with the book
+pub record JobShown (x : Seen) (b : Book) (j : ℕ) : Type 0 where
+  pub name : x .job j .name ≡ entry b j .name
+  pub class : x .job j .class ≡ entry b j .class
+  pub grower : x .job j .grower ≡ entry b j .grower
+  pub label : x .job j .label ≡ labelNumber (entry b j .label)
+  pub count : x .job j .count ≡ remaining b j
+
+-- "the jobs in order of entry, the labels, the remaining counts, the set of waiting jobs, what each worker holds"
+pub record Shows (s : Sizes) (x : Seen) (b : Book) : Type 0 where
+  pub made : x .made ≡ length (b .jobs)
+  pub jobs : (j : ℕ) → j < length (b .jobs) → JobShown x b j
+  pub waits : (j : ℕ) → (0 < occurrences j (x .waiting)) ↔ Ready b j
+  pub holds : (w : ℕ) → w < s .workers → x .held w ≡ b .held w
+
+-- ---- numbers 1 to 4, which end no call, in their order: by the sizes laid out, the number of workers, and whether the
+-- worker's call is half done
+abbrev pub isIdle : Pending → Bool
+isIdle idle = true
+isIdle (adding a k) = false
+isIdle (finishing name k) = false
+
+abbrev pub byCall : Item → Bool → ℕ
+byCall (step q w) b = pick b nothingToStep 0
+byCall (postAdd q w a) b = pick b 0 halfDone
+byCall (postFinish q w name) b = pick b 0 halfDone
+byCall (get q w) b = pick b 0 halfDone
+
+-- the number that turns an item away, or 0
+abbrev pub turningAway : Sizes → Reading → Item → ℕ
+turningAway s r i =
+    pick (sameSizes (sizesOf i) s)
+    (pick (ltb (workerOf i) (s .workers)) (byCall i (isIdle (r .pending (workerOf i)))) noSuchWorker)
+    wrongSizes
+
+-- the number by which an answer turned an item away, or 0
+abbrev pub turnedAwayBy : Answer → ℕ
+turnedAwayBy (Refused n i) = pick (leb n nothingToStep) n 0
+turnedAwayBy Laid = 0
+turnedAwayBy Posted = 0
+turnedAwayBy Going = 0
+turnedAwayBy Ended = 0
+turnedAwayBy NoneReady = 0
+turnedAwayBy (Handed j name) = 0
+
+-- ---- the claim, of a machine, the sizes laid out, the state that laying out left, and a list of items. Lists are of
+-- any length, so that what is said of the state after the items is said of every moment.
+module _ {S : Type 0} (perform : S → Item → Outcome S) (see : S → Seen) (s : Sizes) (t : S) (items : List Item) where
+  abbrev pub at-end : S
+  at-end = after perform t items
+
+  abbrev pub read : Reading
+  read = reading (events perform t items)
+
+  abbrev pub adds : List Arguments
+  adds = acceptedAdds (read .calls)
+
+  -- the entries of a job into the queue
+  abbrev pub entriesInto : ℕ → ℕ
+  entriesInto j = entries perform (λ x. see x .waiting) t items j
+
+  -- "each item of the list does and answers exactly what these rules say": the rules' answers, and after the items the
+  -- rules' graph is seen
+  abbrev pub Answers : Type 0
+  Answers = events perform t items ≡ events (rules.perform s) empty items
+
+  abbrev pub Does : Type 0
+  Does = Same s (see at-end) (rules-seen.seen (after (rules.perform s) empty items))
+
+  -- "for each job, the count of its entries into the ready queue is at most one,"
+  abbrev pub Once : Type 0
+  Once = (j : ℕ) → entriesInto j ≤ 1
+
+  -- "is nought unless each prerequisite is marked finished,"
+  abbrev pub AfterPrerequisites : Type 0
+  AfterPrerequisites = (j : ℕ) → 0 < entriesInto j → (j < length adds) × PrerequisitesFinished (see at-end) adds j
+
+  -- "and is one if its add and an accepted finish call of each prerequisite have ended."
+  abbrev pub WhenEnded : Type 0
+  WhenEnded =
+      (j : ℕ) → j < length adds → contains (addOf adds j .name) (read .added) ≡ true
+      → ((i : ℕ) → i < addOf adds j .count → contains (getD (listed (addOf adds j)) i 0) (read .finished) ≡ true)
+      → entriesInto j ≡ 1
+
+  -- the book, "fed the same calls whole, one after another, ordered by their deciding steps", has each end as it did;
+  abbrev pub FollowedBy : Book → Type 0
+  FollowedBy b = Follows s blank (read .calls) b
+
+  -- "If then no call is half done", it equals what is seen
+  abbrev pub ShownBy : Book → Type 0
+  ShownBy b = Quiet read → Shows s (see at-end) b
+
+  -- "None ready": "with no call half done it is given exactly if no unexecuted job has all prerequisites finished"
+  abbrev pub NoneReadyBy : Book → Type 0
+  NoneReadyBy b =
+      Quiet read → (w : ℕ) → w < s .workers → b .held w ≡ none
+      → (perform at-end (get s w) .answer ≡ NoneReady) ↔ ((j : ℕ) → Ready b j → ⊥)
+
+  -- "Posts, steps and gets refused by 1 to 4 … end no call, and the book below is not fed them": the next item is
+  -- refused so exactly if it must be
+  abbrev pub TurnsAway : Type 0
+  TurnsAway = (i : Item) → turnedAwayBy (perform at-end i .answer) ≡ turningAway s read i
+
+  pub record Demand : Type 0 where
+    pub answers : Answers
+    pub does : Does
+    pub once : Once
+    pub after-prerequisites : AfterPrerequisites
+    pub when-ended : WhenEnded
+    pub book : Book
+    pub follows : FollowedBy book
+    pub shows : ShownBy book
+    pub none-ready : NoneReadyBy book
+    pub turns-away : TurnsAway
+
+-- ---- what else is claimed of every history
+-- an answer by a number
+abbrev pub isNumber : ℕ → Answer → Bool
+isNumber n (Refused m i) = eqb m n
+isNumber n Laid = false
+isNumber n Posted = false
+isNumber n Going = false
+isNumber n Ended = false
+isNumber n NoneReady = false
+isNumber n (Handed j name) = false
+
+unfoldable pub gives : ℕ → List Event → Bool
+gives n [] = false
+gives n (e ∷ es) = isNumber n (e .answer) || gives n es
+
+-- the jobs handed out, in order
+abbrev pub orHanded : Answer → List ℕ → List ℕ
+orHanded (Handed j name) l = j ∷ l
+orHanded Laid l = l
+orHanded Posted l = l
+orHanded Going l = l
+orHanded Ended l = l
+orHanded NoneReady l = l
+orHanded (Refused n i) l = l
+
+unfoldable pub handedOut : List Event → List ℕ
+handedOut [] = []
+handedOut (e ∷ es) = orHanded (e .answer) (handedOut es)

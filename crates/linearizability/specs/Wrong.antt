@@ -1,0 +1,197 @@
+-- How a system is shown to be wrong: the clauses of the claim one by one, and the rules with one part put otherwise.
+-- The systems stand in WrongIdle.antt, WrongTexts.antt and WrongOthers.antt. Assumes nothing.
+use mathlib.Core.Path.{_≡_, refl, sym, ap, subst}
+use mathlib.Core.Logic.{_↔_}
+use mathlib.Core.Bool.{true, false}
+use mathlib.Core.List.{List, [], _∷_}
+use mathlib.Core.Option.{Option, none, some}
+use Prim.Native.Nat.{ℕ, zero, suc, _+_, _*_, _≤_, _<_}
+use native.Mathlib.Omega.{arith}
+use lib.Dec.{eqb}
+use lib.ListN.{length, getD, take}
+use borrow.Author.Tests.{eqb-false}
+use Rattle.terms.specs.Base.{update, contains, repeats, occurrences, prefix}
+use Rattle.terms.specs.Terms.{Arguments, listed, argumentsWrong, sameSizes, alreadyHolding}
+use Rattle.terms.specs.Runs.{Item, postAdd, postFinish, step, get, Outcome, outcome, Event, after, events, entries}
+use Rattle.terms.specs.Seen.{Same}
+use Rattle.terms.specs.Starred.{S, steps}
+use Rattle.terms.specs.declared.Sizes.{Sizes}
+use Rattle.terms.specs.declared.Answer.{Answer}
+use Rattle.terms.specs.declared.Answer.the-variants.{Laid, Posted, Going, Ended, NoneReady, Handed, Refused}
+use Rattle.rules.specs.Rules.{Graph, Call, idle, looking, linking, marking, notifying, empty, seek, lookUp, enter}
+use Rattle.rules.specs.Rules.{linkTo, link, markDependents, mark, notify, stepCall, whenIdle, addPosted, finishPosted}
+use Rattle.rules.specs.Rules.{takeNext, getJob, admitted, perform}
+use Rattle.rules.specs.Observed.{seen}
+use Rattle.sequential_model.specs.Book.{Book, blank, entry, Ready, Ends, GetEnd, taken, Follows, done, feed, End}
+use Rattle.sequential_model.specs.Book.{handed}
+use Rattle.sequential_model.specs.Book.{known, awaited, awaitedNames, firstUnknown, listedNames, addKnown, addEnd}
+use Rattle.sequential_model.specs.Book.{finishEnd}
+use Rattle.sequential_model.specs.Book.{finishedBy, next}
+use Rattle.sequential_model.specs.Book as book
+use Rattle.linearization.specs.Calls.{unread, anyCallOf, withoutLast, noteStep, noteAdd, noteFinish, noteGet, note}
+use Rattle.linearization.specs.Calls.{readOn}
+use Rattle.linearization.specs.Calls.{Quiet, acceptedAdds}
+use Rattle.linearizability.specs.Demand.{Answers, Does, Once, AfterPrerequisites, WhenEnded, FollowedBy, ShownBy}
+use Rattle.linearizability.specs.Demand.{NoneReadyBy, TurnsAway, Demand}
+
+-- ---- a system, from a fresh graph of R 4, A 4, b 2 and P 2
+abbrev pub System : Type 0
+System = Graph → Item → Outcome Graph
+
+-- the parts of the rules: the post of an add, the steps of the four kinds of call half done, the get of a worker that
+-- holds nothing
+abbrev pub posts : Graph → ℕ → Arguments → Outcome Graph
+posts = addPosted
+
+abbrev pub looks : Graph → ℕ → Arguments → ℕ → Outcome Graph
+looks g w a i = stepCall S g w (looking a i)
+
+abbrev pub links : Graph → ℕ → Arguments → ℕ → ℕ → ℕ → Outcome Graph
+links g w a j i t = stepCall S g w (linking a j i t)
+
+abbrev pub marks : Graph → ℕ → Outcome Graph
+marks g w = stepCall S g w marking
+
+abbrev pub notifies : Graph → ℕ → ℕ → ℕ → Outcome Graph
+notifies g w p k = stepCall S g w (notifying p k)
+
+abbrev pub takes : Graph → ℕ → Outcome Graph
+takes g w = takeNext g w (g .queue)
+
+-- the system of such parts
+module _ (onPost : Graph → ℕ → Arguments → Outcome Graph) (onLook : Graph → ℕ → Arguments → ℕ → Outcome Graph)
+    (onLink : Graph → ℕ → Arguments → ℕ → ℕ → ℕ → Outcome Graph) (onMark : Graph → ℕ → Outcome Graph)
+    (onNotify : Graph → ℕ → ℕ → ℕ → Outcome Graph) (onTake : Graph → ℕ → Outcome Graph) where
+  abbrev stepped : Graph → ℕ → Call → Outcome Graph
+  stepped g w idle = stepCall S g w idle
+  stepped g w (looking a i) = onLook g w a i
+  stepped g w (linking a j i t) = onLink g w a j i t
+  stepped g w marking = onMark g w
+  stepped g w (notifying p k) = onNotify g w p k
+
+  abbrev got : Graph → ℕ → Option ℕ → Outcome Graph
+  got g w none = onTake g w
+  got g w (some j) = outcome (Refused alreadyHolding 0) g
+
+  abbrev pub system : System
+  system g (postAdd s w a) = admitted S s g w (whenIdle g (g .workers w .call) (onPost g w a))
+  system g (postFinish s w name) = perform S g (postFinish s w name)
+  system g (step s w) = admitted S s g w (stepped g w (g .workers w .call))
+  system g (get s w) = admitted S s g w (whenIdle g (g .workers w .call) (got g w (g .workers w .held)))
+
+-- with the parts above it is the rules
+own-step : (g : Graph) (w : ℕ) (c : Call) → stepped posts looks links marks notifies takes g w c ≡ stepCall S g w c
+own-step g w idle = refl
+own-step g w (looking a i) = refl
+own-step g w (linking a j i t) = refl
+own-step g w marking = refl
+own-step g w (notifying p k) = refl
+
+own-get : (g : Graph) (w : ℕ) (h : Option ℕ) → got posts looks links marks notifies takes g w h ≡ getJob g w h
+unfolding getJob
+own-get g w none = refl
+own-get g w (some j) = refl
+
+pub own-parts : (g : Graph) (i : Item) → system posts looks links marks notifies takes g i ≡ perform S g i
+unfolding perform
+own-parts g (postAdd s w a) = refl
+own-parts g (postFinish s w name) = refl
+own-parts g (step s w) = ap (admitted S s g w) (own-step g w (g .workers w .call))
+own-parts g (get s w) =
+    ap (λ r. admitted S s g w (whenIdle g (g .workers w .call) r)) (own-get g w (g .workers w .held))
+
+-- ---- the clauses of `Demand`
+pub data Clause : Type 0 where
+  answers does once after-prerequisites when-ended follows shows none-ready turns-away : Clause
+
+-- the clause does not hold of the system for the items; `shows` and `none-ready`, of the book that `follows` gives
+module _ (m : System) (items : List Item) where
+  abbrev pub Lacks : Clause → Type 0
+  Lacks answers = Answers m seen S empty items → ⊥
+  Lacks does = Does m seen S empty items → ⊥
+  Lacks once = Once m seen S empty items → ⊥
+  Lacks after-prerequisites = AfterPrerequisites m seen S empty items → ⊥
+  Lacks when-ended = WhenEnded m seen S empty items → ⊥
+  Lacks follows = (b : Book) → FollowedBy m seen S empty items b → ⊥
+  Lacks shows = (b : Book) → FollowedBy m seen S empty items b → ShownBy m seen S empty items b → ⊥
+  Lacks none-ready = (b : Book) → FollowedBy m seen S empty items b → NoneReadyBy m seen S empty items b → ⊥
+  Lacks turns-away = TurnsAway m seen S empty items → ⊥
+
+  -- a system that lacks a clause does not meet the claim
+  pub refuted : (c : Clause) → Lacks c → Demand m seen S empty items → ⊥
+  refuted answers lacks d = lacks (d .answers)
+  refuted does lacks d = lacks (d .does)
+  refuted once lacks d = lacks (d .once)
+  refuted after-prerequisites lacks d = lacks (d .after-prerequisites)
+  refuted when-ended lacks d = lacks (d .when-ended)
+  refuted follows lacks d = lacks (d .book) (d .follows)
+  refuted shows lacks d = lacks (d .book) (d .follows) (d .shows)
+  refuted none-ready lacks d = lacks (d .book) (d .follows) (d .none-ready)
+  refuted turns-away lacks d = lacks (d .turns-away)
+
+-- ---- what a run computes with, and the reading of it and the book
+unfoldable pub running : ℕ
+unfolding update contains repeats occurrences prefix argumentsWrong sameSizes after events entries steps empty seek
+    lookUp enter linkTo link markDependents mark notify stepCall whenIdle addPosted finishPosted takeNext getJob
+    admitted perform
+running = 0
+
+unfoldable pub booking : ℕ
+unfolding running unread anyCallOf withoutLast noteStep noteAdd noteFinish noteGet note readOn acceptedAdds blank known
+    awaited awaitedNames firstUnknown listedNames addKnown addEnd finishEnd finishedBy next
+booking = 0
+
+-- ---- things that are told apart by a number
+pub apart : {A : Type 0} {x y : A} (f : A → ℕ) → eqb (f x) (f y) ≡ false → x ≡ y → ⊥
+apart {A} {x} {y} f e p = eqb-false (f x) (f y) e (ap f p)
+
+-- an answer's number: a refusal's number and place, and a job's number and name, are part of it
+abbrev pub code : Answer → ℕ
+code Laid = 0
+code Posted = 1
+code Going = 2
+code Ended = 3
+code NoneReady = 4
+code (Refused n i) = 100 * n + i
+code (Handed j name) = 10000 * suc j + name
+
+abbrev pub answerAt : ℕ → List Event → ℕ
+answerAt k [] = 0
+answerAt zero (e ∷ es) = code (e .answer)
+answerAt (suc k) (e ∷ es) = answerAt k es
+
+abbrev pub endCode : End → ℕ
+endCode End.accepted = 3
+endCode End.noneReady = 4
+endCode (End.refused n i) = 100 * n + i
+endCode (handed j name) = 10000 * suc j + name
+
+-- ---- the book that is fed a list of calls, and how it has each of them end
+unfoldable pub fed : Book → List book.Ended → Book
+fed b [] = b
+fed b (e ∷ l) = fed (next b (e .call) (e .end)) l
+
+abbrev pub noCall : book.Ended
+noCall = record { call = book.get 0; end = End.noneReady }
+
+pub last-fed : {s : Sizes} {b c : Book} {l : List book.Ended} → Follows s b l c → fed b l ≡ c
+unfolding fed
+last-fed done = refl
+last-fed (feed e f) = last-fed f
+
+pub ends-at : {s : Sizes} {b c : Book} {l : List book.Ended} (k : ℕ) → k < length l → Follows s b l c
+    → Ends s (fed b (take k l)) (getD l k noCall .call) (getD l k noCall .end)
+unfolding fed
+ends-at k h done = absurd (omega arith)
+ends-at zero h (feed e f) = e
+ends-at (suc k) h (feed e f) = ends-at k (omega arith) f
+
+-- a job that the book has handed out was ready, and has that name
+pub handed-right : {b : Book} {h : Option ℕ} {j name : ℕ} → GetEnd b h (handed j name)
+    → Ready b j × (entry b j .name ≡ name)
+handed-right (taken j r) = (r, refl)
+
+-- what holds of the book that follows holds of the book that is fed
+pub by-fed : {s : Sizes} {b : Book} {l : List book.Ended} (P : Book → Type 0) → Follows s blank l b
+    → P b → P (fed blank l)
+by-fed P f p = subst P (sym (last-fed f)) p

@@ -1,0 +1,160 @@
+-- The relation between the words of the tables and the graph of the rules. Assumes nothing.
+use mathlib.Core.Path.{_≡_}
+use mathlib.Core.Logic.{_≢_}
+use mathlib.Core.Bool.{Bool, true, false}
+use mathlib.Core.List.{List, [], _∷_, _++_}
+use mathlib.Core.Option.{Option, none, some}
+use Prim.Native.Nat.{ℕ, zero, suc, _+_, _*_, _-_, _^_, _≤_, _<_}
+use lib.Dec.{ltb, eqb}
+use lib.ListN.{length, getD}
+use Rattle.bucket.specs.Bucket.{bucketOf}
+use Rattle.terms.specs.Base.{pick, update}
+use Rattle.terms.specs.Terms.{labelNumber, mostNames, Arguments, listed, withinLimits}
+use Rattle.terms.specs.declared.Sizes.{Sizes}
+use Rattle.words.specs.Columns.{Rows}
+use Rattle.words.specs.Layout.{jobShape, NAME, LABEL, COUNT, CLASS, GROWER, FIRST, LAST, NEXT, arcShape, DEPENDENT}
+use Rattle.words.specs.Layout.{AFTER, bucketShape, queueShape, workerShape, PHASE, HELD, OWN-NAME, LIST-COUNT}
+use Rattle.words.specs.Layout.{OWN-CLASS, OWN-GROWER, TALLY, PLACE, OWN-JOB, OWN-ARC, NAMES, IDLE, LOOKING, LINKING}
+use Rattle.words.specs.Layout.{MARKING, NOTIFYING, tables, view, sizesKept, Tables, View}
+use Rattle.words.specs.Layout as words
+use Rattle.words.specs.Words.{firstArc}
+use Rattle.rules.specs.Rules.{Job, Call, idle, looking, linking, marking, notifying, Worker, Graph, job}
+use Rattle.rules.specs.Sound.{started}
+
+-- ---- a bucket: of the jobs below n, those whose bucket is k, newest first
+abbrev pub Bucket : (ℕ → ℕ) → (ℕ → ℕ) → ℕ → ℕ → ℕ → Type 0
+Bucket next bucket k at zero = at ≡ words.none
+Bucket next bucket k at (suc n) =
+    pick (eqb (bucket n) k) ((at ≡ n) × Bucket next bucket k (next n) n) (Bucket next bucket k at n)
+
+-- ---- ghosts of the arcs: the arcs of each job's list, in order; of a linked arc the job whose list it is in, and its
+-- place there; of a reserved arc the job that reserved it; of a job its first reserved arc, and how many of its names
+-- were linked
+pub record Ghost : Type 0 where
+  pub via : ℕ → List ℕ
+  pub source : ℕ → ℕ
+  pub rank : ℕ → ℕ
+  pub owner : ℕ → ℕ
+  pub base : ℕ → ℕ
+  pub linked : ℕ → ℕ
+
+-- what entering, a link to a finished prerequisite, and a link that appends the arc x to the list of p do to them
+abbrev pub enterGhost : Ghost → ℕ → ℕ → Ghost
+enterGhost G n reserved = record {
+  via = G .via;
+  source = G .source;
+  rank = G .rank;
+  owner = λ a. pick (ltb a reserved) (G .owner a) n;
+  base = update (G .base) n reserved;
+  linked = update (G .linked) n 0;
+}
+
+abbrev pub tallyGhost : Ghost → ℕ → Ghost
+tallyGhost G j = record {
+  via = G .via;
+  source = G .source;
+  rank = G .rank;
+  owner = G .owner;
+  base = G .base;
+  linked = update (G .linked) j (G .linked j + 1);
+}
+
+abbrev pub linkGhost : Ghost → ℕ → ℕ → ℕ → Ghost
+linkGhost G j p x = record {
+  via = update (G .via) p (G .via p ++ (x ∷ []));
+  source = update (G .source) x p;
+  rank = update (G .rank) x (length (G .via p));
+  owner = G .owner;
+  base = G .base;
+  linked = update (G .linked) j (G .linked j + 1);
+}
+
+-- ---- a job's words, its arcs being l
+pub record Row (f : ℕ → ℕ → ℕ) (j : ℕ) (l : List ℕ) (x : Job) : Type 0 where
+  pub name : f NAME j ≡ x .name
+  pub label : f LABEL j ≡ labelNumber (x .label)
+  pub count : f COUNT j ≡ x .count
+  pub class : f CLASS j ≡ x .class
+  pub grower : f GROWER j ≡ x .grower
+  pub first : f FIRST j ≡ getD l 0 words.none
+  pub last : f LAST j ≡ getD l (length l - 1) words.none
+
+-- the i-th arc a of p's list, whose next is n and dependent d
+pub record Linked (f : ℕ → ℕ → ℕ) (G : Ghost) (reserved p i a n d : ℕ) : Type 0 where
+  pub next : f AFTER a ≡ n
+  pub dependent : f DEPENDENT a ≡ d
+  pub below : a < reserved
+  pub source : G .source a ≡ p
+  pub rank : G .rank a ≡ i
+  pub spent : a < G .base (G .owner a) + G .linked (G .owner a)
+
+-- ---- jobs, arcs, buckets and queue
+pub record TablesRep (s : Sizes) (v : View) (g : Graph) (G : Ghost) : Type 0 where
+  pub made : v .made ≡ length (g .jobs)
+  pub reserved : v .reserved ≡ g .reserved
+  pub taken : v .taken ≡ started (g .jobs)
+  pub put : v .put ≡ v .taken + length (g .queue)
+  pub cells : (i : ℕ) → i < length (g .queue) → v .cell 0 (v .taken + i) ≡ getD (g .queue) i 0
+  pub rows : (j : ℕ) → j < s .jobs → Row (v .job) j (G .via j) (job g j)
+  pub buckets : (k : ℕ) → k < 2 ^ s .bits
+      → Bucket (v .job NEXT) (λ j. bucketOf (v .job NAME j) (s .bits)) k (v .bucket 0 k) (length (g .jobs))
+  pub lengths : (p : ℕ) → length (G .via p) ≡ length (job g p .dependents)
+  pub arcs : (p i : ℕ) → i < length (G .via p)
+      → Linked (v .arc) G (g .reserved) p i (getD (G .via p) i words.none) (getD (G .via p) (suc i) words.none)
+      (getD (job g p .dependents) i 0)
+  pub mine : (j i : ℕ) → j < length (g .jobs) → i < length (job g j .list)
+      → (G .owner (G .base j + i) ≡ j) × (G .base j + i < g .reserved)
+
+-- ---- a worker's words
+abbrev pub holdWord : Option ℕ → ℕ
+holdWord none = words.none
+holdWord (some j) = j
+
+-- the words of an add; the listed names end at the count, so that the names past it are kept as 0
+pub record AddWords (f : ℕ → ℕ → ℕ) (w : ℕ) (a : Arguments) (ph ta pl jo ar : ℕ) : Type 0 where
+  pub phase : f PHASE w ≡ ph
+  pub name : f OWN-NAME w ≡ a .name
+  pub count : f LIST-COUNT w ≡ a .count
+  pub class : f OWN-CLASS w ≡ a .class
+  pub grower : f OWN-GROWER w ≡ a .grower
+  pub tally : f TALLY w ≡ ta
+  pub place : f PLACE w ≡ pl
+  pub job : f OWN-JOB w ≡ jo
+  pub arc : f OWN-ARC w ≡ ar
+  pub names : (q : ℕ) → q < mostNames → f (NAMES + q) w ≡ getD (listed a) q 0
+
+-- the words of a call with no arguments, of which arc is the next arc
+pub record BareWords (f : ℕ → ℕ → ℕ) (w ph ar : ℕ) : Type 0 where
+  pub phase : f PHASE w ≡ ph
+  pub name : f OWN-NAME w ≡ 0
+  pub count : f LIST-COUNT w ≡ 0
+  pub class : f OWN-CLASS w ≡ 0
+  pub grower : f OWN-GROWER w ≡ 0
+  pub tally : f TALLY w ≡ 0
+  pub place : f PLACE w ≡ 0
+  pub job : f OWN-JOB w ≡ words.none
+  pub arc : f OWN-ARC w ≡ ar
+  pub names : (q : ℕ) → q < mostNames → f (NAMES + q) w ≡ 0
+
+abbrev pub CallRep : (ℕ → ℕ → ℕ) → Ghost → ℕ → Call → Type 0
+CallRep f G w idle = BareWords f w IDLE words.none
+CallRep f G w (looking a i) = AddWords f w a LOOKING 0 i words.none words.none
+CallRep f G w (linking a j i t) = AddWords f w a LINKING t i j (firstArc (a .count) (G .base j)) × (G .linked j ≡ i)
+CallRep f G w marking = BareWords f w MARKING words.none
+CallRep f G w (notifying p k) = BareWords f w NOTIFYING (getD (G .via p) k words.none)
+
+pub record WorkerRep (f : ℕ → ℕ → ℕ) (G : Ghost) (w : ℕ) (x : Worker) : Type 0 where
+  pub held : f HELD w ≡ holdWord (x .held)
+  pub call : CallRep f G w (x .call)
+
+-- ---- the tables stand for the graph
+pub record Stands (s : Sizes) (t : Tables) (g : Graph) (G : Ghost) : Type 0 where
+  pub limits : withinLimits s ≡ true
+  pub kept : sizesKept s (t .jobs) ≡ true
+  pub jobs : Rows jobShape (s .jobs) (t .jobs)
+  pub arcs : Rows arcShape (s .arcs) (t .arcs)
+  pub buckets : Rows bucketShape (2 ^ s .bits) (t .buckets)
+  pub queue : Rows queueShape (s .jobs) (t .queue)
+  pub workers : Rows workerShape (s .workers) (t .workers)
+  pub rep : TablesRep s (view t) g G
+  pub calls : (w : ℕ) → w < s .workers → WorkerRep (view t .worker) G w (g .workers w)

@@ -1,0 +1,73 @@
+-- One job changed, but not its name, its list and its dependents: the tables stand for the graph after, whatever
+-- happens to the queue. Also the number of jobs that were started, and the stores of the jobs table that keep the sizes
+-- laid out. Follows document 01, "Tables and their measures". Assumes nothing.
+use mathlib.Core.Path.{_≡_, refl, sym, ap, _∙_}
+use mathlib.Core.Logic.{_≢_}
+use mathlib.Core.List.{List, [], _∷_, _++_}
+use Prim.Native.Nat.{ℕ, zero, suc, _+_, _<_}
+use native.Mathlib.Omega.{arith}
+use lib.ListN.{length, getD, set, length-set}
+use Rattle.terms.specs.declared.Sizes.{Sizes}
+use Rattle.words.specs.Columns.{put, stores}
+use Rattle.words.specs.Layout.{jobShape, NAME, NEXT, sizesKept, View}
+use Rattle.rules.specs.Rules.{Job, Worker, Graph, noJob, job}
+use Rattle.rules.specs.Sound.{started, startedBy}
+use Rattle.representation.specs.Rep.{Ghost, Row, TablesRep}
+use Rattle.representation_kept.specs.Lists.{set-all}
+use Rattle.representation_kept.specs.Stand.{viewOf}
+
+pub kept-put : (s : Sizes) (l : List ℕ) (i k x : ℕ) → sizesKept s (put jobShape l i k x) ≡ sizesKept s l
+unfolding sizesKept
+kept-put s l i k x = simp stores
+
+-- ---- the jobs started
+pub started-set : (l : List Job) (j : ℕ) (y : Job) → j < length l
+    → started (set l j y) + startedBy (getD l j noJob .label) ≡ started l + startedBy (y .label)
+unfolding started
+started-set [] j y h = absurd (omega arith)
+started-set (x ∷ l) zero y h = omega arith
+started-set (x ∷ l) (suc j) y h = omega (arith, started-set l j y (omega arith))
+
+pub started-append : (l : List Job) (y : Job) → started (l ++ (y ∷ [])) ≡ started l + startedBy (y .label)
+unfolding started
+started-append [] y = omega arith
+started-append (x ∷ l) y = omega (arith, started-append l y)
+
+-- ---- the change of a job: after it the columns f of the jobs, the queue q in the cells c, the workers' columns r
+module _ (s : Sizes) (v : View) (g : Graph) (G : Ghost) (R : TablesRep s v g G) (j : ℕ) (hj : j < length (g .jobs))
+    (y : Job)
+    (lists : y .list ≡ job g j .list) (dependents : y .dependents ≡ job g j .dependents)
+    (f c : ℕ → ℕ → ℕ) (names : f NAME ≡ v .job NAME) (nexts : f NEXT ≡ v .job NEXT) (taken put : ℕ) (q : List ℕ)
+    (r : ℕ → ℕ → ℕ) (h : ℕ → Worker) where
+  all : (P : ℕ → Job → Type 0) → P j y → ((k : ℕ) → k ≢ j → P k (job g k)) → (k : ℕ)
+      → P k (getD (set (g .jobs) j y) k noJob)
+  all P = set-all P (g .jobs) j y noJob hj
+
+  count : length (set (g .jobs) j y) ≡ length (g .jobs)
+  count = length-set (g .jobs) j y
+
+  lists-then : (k : ℕ) → getD (set (g .jobs) j y) k noJob .list ≡ job g k .list
+  lists-then = all (λ k z. z .list ≡ job g k .list) lists (λ k e. refl)
+
+  dependents-then : (k : ℕ) → getD (set (g .jobs) j y) k noJob .dependents ≡ job g k .dependents
+  dependents-then = all (λ k z. z .dependents ≡ job g k .dependents) dependents (λ k e. refl)
+
+  pub change-rep : (j < s .jobs → Row f j (G .via j) y) → ((k : ℕ) → k ≢ j → k < s .jobs → Row f k (G .via k) (job g k))
+      → taken ≡ started (set (g .jobs) j y) → put ≡ taken + length q
+      → ((i : ℕ) → i < length q → c 0 (taken + i) ≡ getD q i 0)
+      → TablesRep s
+      (viewOf (v .made) (v .reserved) taken put f (v .arc) (v .bucket) c r)
+      (record { jobs = set (g .jobs) j y; reserved = g .reserved; queue = q; workers = h })
+      G
+  change-rep here there a b d = record {
+    made = R .made ∙ sym count;
+    reserved = R .reserved;
+    taken = a;
+    put = b;
+    cells = d;
+    rows = all (λ k z. k < s .jobs → Row f k (G .via k) z) here there;
+    buckets = λ k o. rw (count, names, nexts) (R .buckets k o);
+    lengths = λ p. R .lengths p ∙ sym (ap length (dependents-then p));
+    arcs = λ p i o. rw (dependents-then p) (R .arcs p i o);
+    mine = λ k i o e. R .mine k i (rw count at o) (rw (lists-then k) at e);
+  }

@@ -1,0 +1,168 @@
+-- Settling and notifying: a remaining count stored, and the job put in the queue where the rules put it there.
+-- Follows document 01, "Steps": settling, and the step for one arc. Assumes nothing.
+use mathlib.Core.Path.{_≡_, refl, _∙_}
+use mathlib.Core.Logic.{_≢_}
+use mathlib.Core.Bool.{true, false}
+use mathlib.Core.List.{List, [], _∷_, _++_}
+use Prim.Native.Nat.{ℕ, _+_, _-_, _<_}
+use native.Mathlib.Omega.{arith}
+use lib.Dec.{eqb}
+use lib.ListN.{length, set, length-append}
+use Rattle.terms.specs.declared.Sizes.{Sizes}
+use Rattle.words.specs.Columns.{update-same, update-other, columns, columns-put, put, store, header-putHeader, rows-put}
+use Rattle.words.specs.Columns.{stores}
+use Rattle.words.specs.Layout.{jobShape, COUNT, queueShape, workerShape, tables, view, Tables, View}
+use Rattle.words.specs.Words.{applied, putCount, putCell}
+use Rattle.words.specs.declared.Plan.the-variants.{Settle, SettleQueue, Notify, NotifyQueue}
+use Rattle.rules.specs.Rules.{Call, Worker, Graph, job, withCount, settles, settled, notified}
+use Rattle.rules.specs.Sound.{Sound, MayQueue, started}
+use Rattle.representation.specs.Rep.{Ghost, Row, TablesRep, Stands}
+use Rattle.representation_kept.specs.Stand.{TablesStand, viewOf}
+use Rattle.representation_kept.specs.Change.{kept-put, started-set, change-rep}
+use Rattle.representation_kept.specs.Queue.{cells-put}
+
+-- the graph with job j's count c, and the queue q
+abbrev counted : Graph → ℕ → ℕ → List ℕ → (ℕ → Worker) → Graph
+counted g j c q h = record {
+  jobs = set (g .jobs) j (withCount (job g j) c);
+  reserved = g .reserved;
+  queue = q;
+  workers = h;
+}
+
+-- ---- over the maps
+module _ (s : Sizes) (v : View) (g : Graph) (G : Ghost) (R : TablesRep s v g G) (j : ℕ) (hj : j < length (g .jobs))
+    (c : ℕ) (r : ℕ → ℕ → ℕ) (h : ℕ → Worker) where
+  abbrev f : ℕ → ℕ → ℕ
+  f = store (v .job) j COUNT c
+
+  here : j < s .jobs → Row f j (G .via j) (withCount (job g j) c)
+  here b =
+      let o = R .rows j b in
+      record {
+        name = o .name;
+        label = o .label;
+        count = update-same (v .job COUNT) j c;
+        class = o .class;
+        grower = o .grower;
+        first = o .first;
+        last = o .last;
+      }
+
+  there : (k : ℕ) → k ≢ j → k < s .jobs → Row f k (G .via k) (job g k)
+  there k e b =
+      let o = R .rows k b in
+      record {
+        name = o .name;
+        label = o .label;
+        count = update-other (v .job COUNT) j c k e ∙ o .count;
+        class = o .class;
+        grower = o .grower;
+        first = o .first;
+        last = o .last;
+      }
+
+  same : started (g .jobs) ≡ started (set (g .jobs) j (withCount (job g j) c))
+  same = omega (arith, started-set (g .jobs) j (withCount (job g j) c) hj)
+
+  count-rep : TablesRep s (viewOf (v .made) (v .reserved) (v .taken) (v .put) f (v .arc) (v .bucket) (v .cell) r)
+      (counted g j c (g .queue) h) G
+  count-rep =
+      change-rep s v g G R j hj (withCount (job g j) c) refl refl f (v .cell) refl refl (v .taken) (v .put)
+      (g .queue) r h here there
+      (R .taken ∙ same)
+      (R .put)
+      (R .cells)
+
+  -- the job is put in cell i
+  queue-rep : (i : ℕ) → i ≡ v .taken + length (g .queue)
+      → TablesRep s (viewOf (v .made) (v .reserved) (v .taken) (i + 1) f (v .arc) (v .bucket) (store (v .cell) i 0 j) r)
+      (counted g j c (g .queue ++ (j ∷ [])) h)
+      G
+  queue-rep i e =
+      rw e
+      (change-rep s v g G R j hj (withCount (job g j) c) refl refl f
+      (store (v .cell) (v .taken + length (g .queue)) 0 j) refl refl
+      (v .taken)
+      (v .taken + length (g .queue) + 1)
+      (g .queue ++ (j ∷ []))
+      r
+      h
+      here
+      there
+      (R .taken ∙ same)
+      (omega (arith, length-append (g .queue) (j ∷ [])))
+      (cells-put (v .cell) (v .taken) j (g .queue) (R .cells)))
+
+-- ---- over the words
+module _ (s : Sizes) (t : Tables) (g : Graph) (G : Ghost) (S : Stands s t g G) (O : Sound s g) where
+  abbrev R : TablesRep s (view t) g G
+  R = S .rep
+
+  count-stands : (j : ℕ) → j < length (g .jobs) → (c : ℕ) (l : List ℕ) (h : ℕ → Worker)
+      → TablesStand s (tables (putCount (t .jobs) j c) (t .arcs) (t .buckets) (t .queue) l)
+      (counted g j c (g .queue) h) G
+  count-stands j hj c l h =
+      let b : j < s .jobs = omega (arith, O .jobs) in
+      record {
+        kept = kept-put s (t .jobs) j COUNT c ∙ S .kept;
+        jobs = rows-put jobShape (s .jobs) (t .jobs) j COUNT c ∙ S .jobs;
+        arcs = S .arcs;
+        buckets = S .buckets;
+        queue = S .queue;
+        rep = simp (stores, columns-put jobShape (s .jobs), S .jobs, b)
+            (count-rep s (view t) g G R j hj c (columns workerShape l) h);
+      }
+
+  queue-stands : (j : ℕ) → j < length (g .jobs) → MayQueue g j → (c : ℕ) (l : List ℕ) (h : ℕ → Worker)
+      → TablesStand s
+      (tables (putCount (t .jobs) j c) (t .arcs) (t .buckets)
+      (putCell (t .queue) (started (g .jobs) + length (g .queue)) j) l)
+      (counted g j c (g .queue ++ (j ∷ [])) h)
+      G
+  queue-stands j hj M c l h =
+      let b : j < s .jobs = omega (arith, O .jobs) in
+      let d : started (g .jobs) + length (g .queue) < s .jobs = omega (arith, M .room, O .jobs) in
+      record {
+        kept = kept-put s (t .jobs) j COUNT c ∙ S .kept;
+        jobs = rows-put jobShape (s .jobs) (t .jobs) j COUNT c ∙ S .jobs;
+        arcs = S .arcs;
+        buckets = S .buckets;
+        queue = simp (stores, S .queue);
+        rep = simp (
+          stores,
+          columns-put jobShape (s .jobs),
+          columns-put queueShape (s .jobs),
+          header-putHeader queueShape (s .jobs),
+          S .jobs,
+          S .queue,
+          b,
+          d,
+        )
+            (queue-rep s (view t) g G R j hj c (columns workerShape l) h (started (g .jobs) + length (g .queue))
+            (omega (arith, R .taken)));
+      }
+
+  pub settle-stands : (w j u d : ℕ) → j < length (g .jobs) → settles (job g j .count - u) u d ≡ false
+      → TablesStand s (applied (Settle j (job g j .count - u)) t w) (settled g w j u d) G
+  unfolding applied
+  settle-stands w j u d hj e = rw e (count-stands j hj (job g j .count - u) _ _)
+
+  pub settle-queue-stands : (w j u d : ℕ) → j < length (g .jobs) → settles (job g j .count - u) u d ≡ true
+      → MayQueue g j
+      → TablesStand s (applied (SettleQueue j (job g j .count - u) (started (g .jobs) + length (g .queue))) t w)
+      (settled g w j u d) G
+  unfolding applied
+  settle-queue-stands w j u d hj e M = rw e (queue-stands j hj M (job g j .count - u) _ _)
+
+  pub notify-stands : (w j x : ℕ) (c : Call) → j < length (g .jobs) → eqb (job g j .count - 1) 0 ≡ false
+      → TablesStand s (applied (Notify j (job g j .count - 1) x) t w) (notified g w j c) G
+  unfolding applied
+  notify-stands w j x c hj e = rw e (count-stands j hj (job g j .count - 1) _ _)
+
+  pub notify-queue-stands : (w j x : ℕ) (c : Call) → j < length (g .jobs) → eqb (job g j .count - 1) 0 ≡ true
+      → MayQueue g j
+      → TablesStand s (applied (NotifyQueue j (job g j .count - 1) x (started (g .jobs) + length (g .queue))) t w)
+      (notified g w j c) G
+  unfolding applied
+  notify-queue-stands w j x c hj e M = rw e (queue-stands j hj M (job g j .count - 1) _ _)

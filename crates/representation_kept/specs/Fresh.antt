@@ -1,0 +1,192 @@
+-- Laying out: the fresh tables stand for the graph with no jobs, for every content that the tables had before. Follows
+-- document 01: "no jobs, all workers idle and holding nothing, unused words 0, every place none". Assumes nothing.
+use mathlib.Core.Path.{_≡_, refl, _∙_}
+use mathlib.Core.Bool.{Bool, true, _&&_}
+use mathlib.Core.List.{List, [], _∷_}
+use Prim.Native.Nat.{ℕ, _+_, _^_, _<_}
+use native.Mathlib.Omega.{arith}
+use lib.Dec.{leb}
+use lib.ListN.{length, getD}
+use lib.Seq.{sets}
+use borrow.Author.Tests.{eq-eqb}
+use Rattle.terms.specs.Terms.{withinLimits}
+use Rattle.terms.specs.declared.Sizes.{Sizes}
+use Rattle.words.specs.Columns.{rows, Rows, columns, header}
+use mathlib.Core.Option.{none}
+use Rattle.words.specs.Layout as words
+use Rattle.words.specs.Layout.{jobShape, JOBS, ARCS, BITS, WORKERS, MADE, NAME, LABEL, COUNT, CLASS, GROWER, FIRST}
+use Rattle.words.specs.Layout.{LAST, arcShape, RESERVED, bucketShape, queueShape, TAKEN, PUT, workerShape, PHASE, HELD}
+use Rattle.words.specs.Layout.{OWN-NAME, LIST-COUNT, OWN-CLASS, OWN-GROWER, TALLY, PLACE, OWN-JOB, OWN-ARC, IDLE, need}
+use Rattle.words.specs.Layout.{longEnough, sizesKept, roomFor, freshJob, freshArc, bareWorker, freshJobs, freshArcs}
+use Rattle.words.specs.Layout.{freshBuckets, freshQueue, freshWorkers, freshTables, tables, view, Tables}
+use Rattle.words.specs.Layout.{NAMES}
+use Rattle.rules.specs.Rules.{idle, noJob, empty}
+use Rattle.rules.specs.Sound.{started}
+use Rattle.representation.specs.Rep.{Ghost, Row, TablesRep, WorkerRep, Stands}
+use Rattle.representation_kept.specs.Lists.{repeated-one, bare-name}
+use Rattle.representation_kept.specs.Records.{rows-sets, laid-at, laid-header}
+use Rattle.representation_kept.specs.Stand.{both}
+
+-- no arc is in any list
+abbrev pub noGhost : Ghost
+noGhost =
+    record { via = λ p. []; source = λ a. 0; rank = λ a. 0; owner = λ a. 0; base = λ j. 0; linked = λ j. 0 }
+
+-- each table is long enough
+record Long (s : Sizes) (t : Tables) : Type 0 where
+  jobs : Rows jobShape (s .jobs) (t .jobs)
+  arcs : Rows arcShape (s .arcs) (t .arcs)
+  buckets : Rows bucketShape (2 ^ s .bits) (t .buckets)
+  queue : Rows queueShape (s .jobs) (t .queue)
+  workers : Rows workerShape (s .workers) (t .workers)
+
+long-of : (s : Sizes) (t : Tables) → longEnough s t ≡ true → Long s t
+unfolding longEnough rows
+long-of s t e = record { jobs = two .0; arcs = two .1; buckets = three .1; queue = four .1; workers = five .1 }
+  where
+    a : Bool
+    a = leb (need jobShape (s .jobs)) (length (t .jobs))
+
+    b : Bool
+    b = leb (need arcShape (s .arcs)) (length (t .arcs))
+
+    c : Bool
+    c = leb (need bucketShape (2 ^ s .bits)) (length (t .buckets))
+
+    d : Bool
+    d = leb (need queueShape (s .jobs)) (length (t .queue))
+
+    f : Bool
+    f = leb (need workerShape (s .workers)) (length (t .workers))
+
+    five : (a && b && c && d ≡ true) × (f ≡ true)
+    five = both (a && b && c && d) f e
+
+    four : (a && b && c ≡ true) × (d ≡ true)
+    four = both (a && b && c) d (five .0)
+
+    three : (a && b ≡ true) × (c ≡ true)
+    three = both (a && b) c (four .0)
+
+    two : (a ≡ true) × (b ≡ true)
+    two = both a b (three .0)
+
+module _ (s : Sizes) (t : Tables) (L : Long s t) where
+  -- ---- the words after
+  abbrev J : List ℕ
+  J = sets (t .jobs) 0 (freshJobs s)
+
+  abbrev A : List ℕ
+  A = sets (t .arcs) 0 (freshArcs s)
+
+  abbrev B : List ℕ
+  B = sets (t .buckets) 0 (freshBuckets s)
+
+  abbrev Q : List ℕ
+  Q = sets (t .queue) 0 (freshQueue s)
+
+  abbrev W : List ℕ
+  W = sets (t .workers) 0 (freshWorkers s)
+
+  size : (q : ℕ) → q < 5 → header J q ≡ getD (s .jobs ∷ s .arcs ∷ s .bits ∷ s .workers ∷ 0 ∷ []) q 0
+  size q h = laid-header jobShape (s .jobs) (t .jobs)
+      (s .jobs ∷ s .arcs ∷ s .bits ∷ s .workers ∷ 0 ∷ []) freshJob refl refl (L .jobs) q h
+
+  job-word : (j q : ℕ) → j < s .jobs → q < 8 → columns jobShape J q j ≡ getD freshJob q 0
+  job-word j q = laid-at jobShape (s .jobs) (t .jobs)
+      (s .jobs ∷ s .arcs ∷ s .bits ∷ s .workers ∷ 0 ∷ []) freshJob refl refl (L .jobs) j q
+
+  reserved : header A RESERVED ≡ 0
+  reserved = laid-header arcShape (s .arcs) (t .arcs) (0 ∷ []) freshArc refl refl (L .arcs) RESERVED (omega arith)
+
+  bucket-word : (k : ℕ) → k < 2 ^ s .bits → columns bucketShape B 0 k ≡ words.none
+  bucket-word k h =
+      rw (repeated-one (2 ^ s .bits) words.none)
+      (laid-at bucketShape (2 ^ s .bits) (t .buckets) [] (words.none ∷ []) refl refl (L .buckets) k 0 h (omega arith))
+
+  counter : (q : ℕ) → q < 2 → header Q q ≡ getD (0 ∷ 0 ∷ []) q 0
+  counter q h = rw (repeated-one (s .jobs) words.none)
+      (laid-header queueShape (s .jobs) (t .queue) (0 ∷ 0 ∷ []) (words.none ∷ []) refl refl (L .queue) q h)
+
+  worker-word : (w q : ℕ) → w < s .workers → q < 42 → columns workerShape W q w ≡ getD (bareWorker IDLE words.none) q 0
+  worker-word w q = laid-at workerShape (s .workers) (t .workers) [] (bareWorker IDLE words.none) refl refl
+      (L .workers) w q
+
+  -- ---- what they stand for
+  kept : sizesKept s J ≡ true
+  unfolding sizesKept
+  kept =
+      rw (
+        size JOBS (omega arith),
+        size ARCS (omega arith),
+        size BITS (omega arith),
+        size WORKERS (omega arith),
+        eq-eqb (s .jobs) (s .jobs) refl,
+        eq-eqb (s .arcs) (s .arcs) refl,
+        eq-eqb (s .bits) (s .bits) refl,
+        eq-eqb (s .workers) (s .workers) refl,
+      )
+
+  fresh-row : (j : ℕ) → j < s .jobs → Row (columns jobShape J) j [] noJob
+  fresh-row j h = record {
+    name = job-word j NAME h (omega arith);
+    label = job-word j LABEL h (omega arith);
+    count = job-word j COUNT h (omega arith);
+    class = job-word j CLASS h (omega arith);
+    grower = job-word j GROWER h (omega arith);
+    first = job-word j FIRST h (omega arith);
+    last = job-word j LAST h (omega arith);
+  }
+
+  idle-worker : (w : ℕ) → w < s .workers
+      → WorkerRep (columns workerShape W) noGhost w (record { held = none; call = idle })
+  idle-worker w h = record {
+    held = worker-word w HELD h (omega arith);
+    call = record {
+      phase = worker-word w PHASE h (omega arith);
+      name = worker-word w OWN-NAME h (omega arith);
+      count = worker-word w LIST-COUNT h (omega arith);
+      class = worker-word w OWN-CLASS h (omega arith);
+      grower = worker-word w OWN-GROWER h (omega arith);
+      tally = worker-word w TALLY h (omega arith);
+      place = worker-word w PLACE h (omega arith);
+      job = worker-word w OWN-JOB h (omega arith);
+      arc = worker-word w OWN-ARC h (omega arith);
+      names = λ q b. worker-word w (NAMES + q) h (omega arith) ∙ bare-name IDLE words.none q b;
+    };
+  }
+
+  fresh-rep : TablesRep s (view (tables J A B Q W)) empty noGhost
+  unfolding empty started
+  fresh-rep = record {
+    made = size MADE (omega arith);
+    reserved = reserved;
+    taken = counter TAKEN (omega arith);
+    put = omega (arith, counter PUT (omega arith), counter TAKEN (omega arith));
+    cells = λ i h. absurd (omega arith);
+    rows = fresh-row;
+    buckets = bucket-word;
+    lengths = λ p. refl;
+    arcs = λ p i h. absurd (omega arith);
+    mine = λ j i h. absurd (omega arith);
+  }
+
+  fresh-all : withinLimits s ≡ true → Stands s (tables J A B Q W) empty noGhost
+  unfolding empty
+  fresh-all e = record {
+    limits = e;
+    kept = kept;
+    jobs = rows-sets jobShape (s .jobs) (t .jobs) 0 (freshJobs s) ∙ L .jobs;
+    arcs = rows-sets arcShape (s .arcs) (t .arcs) 0 (freshArcs s) ∙ L .arcs;
+    buckets = rows-sets bucketShape (2 ^ s .bits) (t .buckets) 0 (freshBuckets s) ∙ L .buckets;
+    queue = rows-sets queueShape (s .jobs) (t .queue) 0 (freshQueue s) ∙ L .queue;
+    workers = rows-sets workerShape (s .workers) (t .workers) 0 (freshWorkers s) ∙ L .workers;
+    rep = fresh-rep;
+    calls = idle-worker;
+  }
+
+pub fresh-stands : (s : Sizes) (t : Tables) → roomFor s t ≡ true → Stands s (freshTables s t) empty noGhost
+unfolding freshTables
+fresh-stands s t e =
+    let p = both (withinLimits s) (longEnough s t) e in
+    fresh-all s t (long-of s t (p .1)) (p .0)

@@ -1,0 +1,73 @@
+-- The plans that store in the workers' table alone: a call that quits, a name looked up, a finished prerequisite
+-- tallied. Follows document 01, "Steps": look-up and link. Assumes nothing.
+use mathlib.Core.Path.{ap}
+use Prim.Native.Nat.{ℕ, _+_, _<_}
+use native.Mathlib.Omega.{arith}
+use native.Mathlib.Decide.{ℕ-discrete}
+use lib.ListN.{getD}
+use Rattle.terms.specs.Base.{update}
+use Rattle.terms.specs.declared.Sizes.{Sizes}
+use Rattle.words.specs.Columns.{update-at, update-other}
+use Rattle.words.specs.Layout.{none, view, Tables, View}
+use Rattle.words.specs.Words.{applied}
+use Rattle.words.specs.declared.Plan.the-variants.{Quit, Pass, Tally}
+use Rattle.rules.specs.Rules.{Call, Graph, withCall}
+use Rattle.representation.specs.Rep.{Ghost, tallyGhost, TablesRep, Stands}
+use Rattle.representation_kept.specs.Stand.{TablesStand, tables-part, frame}
+
+-- ---- one more name of j was linked: an arc that was spent stays so
+pub spent-more : (G : Ghost) (j a : ℕ) → a < G .base (G .owner a) + G .linked (G .owner a)
+    → a < G .base (G .owner a) + update (G .linked) j (G .linked j + 1) (G .owner a)
+spent-more G j a h = elim (ℕ-discrete (G .owner a) j) [
+  | yes z ↦ omega (arith, update-at (G .linked) j (G .linked j + 1) (G .owner a) z, ap (G .linked) z)
+  | no z ↦ rw (update-other (G .linked) j (G .linked j + 1) (G .owner a) z) h
+]
+
+tally-rep : (s : Sizes) (v : View) (g : Graph) (G : Ghost) (j : ℕ) → TablesRep s v g G
+    → TablesRep s v g (tallyGhost G j)
+tally-rep s v g G j R = record {
+  made = R .made;
+  reserved = R .reserved;
+  taken = R .taken;
+  put = R .put;
+  cells = R .cells;
+  rows = R .rows;
+  buckets = R .buckets;
+  lengths = R .lengths;
+  arcs = λ p i h. let o = R .arcs p i h in
+      record {
+        next = o .next;
+        dependent = o .dependent;
+        below = o .below;
+        source = o .source;
+        rank = o .rank;
+        spent = spent-more G j (getD (G .via p) i none) (o .spent);
+      };
+  mine = R .mine;
+}
+
+module _ (s : Sizes) (t : Tables) (g : Graph) (G : Ghost) (S : Stands s t g G) where
+  abbrev T : TablesStand s t g G
+  T = tables-part s t g G S
+
+  pub quit-stands : (n i w : ℕ) (c : Call) → TablesStand s (applied (Quit n i) t w) (withCall g w c) G
+  unfolding applied
+  quit-stands n i w c = frame s t g G T _ _
+
+  pub pass-stands : (w : ℕ) (c : Call) → TablesStand s (applied Pass t w) (withCall g w c) G
+  unfolding applied
+  pass-stands w c = frame s t g G T _ _
+
+  pub tally-stands : (w j : ℕ) (c : Call) → TablesStand s (applied Tally t w) (withCall g w c) (tallyGhost G j)
+  unfolding applied
+  tally-stands w j c = frame s t g (tallyGhost G j)
+      (record {
+        kept = T .kept;
+        jobs = T .jobs;
+        arcs = T .arcs;
+        buckets = T .buckets;
+        queue = T .queue;
+        rep = tally-rep s (view t) g G j (T .rep);
+      })
+      _
+      _

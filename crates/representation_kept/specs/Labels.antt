@@ -1,0 +1,133 @@
+-- Marking and getting: a label stored, and for a get the first job taken from the queue.
+-- Follows document 01, "Steps": the mark of a finish, and get. Assumes nothing.
+use mathlib.Core.Path.{_≡_, refl, sym, ap, _∙_}
+use mathlib.Core.Logic.{_≢_}
+use mathlib.Core.List.{List, _∷_}
+use Prim.Native.Nat.{ℕ, _+_, _<_}
+use native.Mathlib.Omega.{arith}
+use lib.ListN.{length, set}
+use Rattle.terms.specs.Terms.{Label, executing, finished, labelNumber}
+use Rattle.terms.specs.declared.Sizes.{Sizes}
+use Rattle.words.specs.Columns.{update-same, update-other, columns-put, put, store, header-putHeader, rows-put, stores}
+use Rattle.words.specs.Layout.{none, jobShape, LABEL, queueShape, view, Tables, View}
+use Rattle.words.specs.Words.{applied, appliedGet}
+use Rattle.words.specs.declared.Plan.the-variants.{Mark}
+use Rattle.words.specs.declared.GetPlan.the-variants.{Take}
+use Rattle.rules.specs.Rules.{Call, Worker, Graph, job, withLabel, marked, handedOut}
+use Rattle.rules.specs.Sound.{Sound, started, startedBy}
+use Rattle.representation.specs.Rep.{Ghost, Row, TablesRep, Stands}
+use Rattle.representation_kept.specs.Stand.{TablesStand, viewOf}
+use Rattle.representation_kept.specs.Change.{kept-put, started-set, change-rep}
+use Rattle.representation_kept.specs.Queue.{cells-take, next-job}
+
+-- the graph with job j's label l, and the queue q
+abbrev labelled : Graph → ℕ → Label → List ℕ → (ℕ → Worker) → Graph
+labelled g j l q h = record {
+  jobs = set (g .jobs) j (withLabel (job g j) l);
+  reserved = g .reserved;
+  queue = q;
+  workers = h;
+}
+
+-- ---- over the maps
+module _ (s : Sizes) (v : View) (g : Graph) (G : Ghost) (R : TablesRep s v g G) (j : ℕ) (hj : j < length (g .jobs))
+    (l : Label)
+    (r : ℕ → ℕ → ℕ) (h : ℕ → Worker) where
+  abbrev f : ℕ → ℕ → ℕ
+  f = store (v .job) j LABEL (labelNumber l)
+
+  here : j < s .jobs → Row f j (G .via j) (withLabel (job g j) l)
+  here b =
+      let o = R .rows j b in
+      record {
+        name = o .name;
+        label = update-same (v .job LABEL) j (labelNumber l);
+        count = o .count;
+        class = o .class;
+        grower = o .grower;
+        first = o .first;
+        last = o .last;
+      }
+
+  there : (k : ℕ) → k ≢ j → k < s .jobs → Row f k (G .via k) (job g k)
+  there k e b =
+      let o = R .rows k b in
+      record {
+        name = o .name;
+        label = update-other (v .job LABEL) j (labelNumber l) k e ∙ o .label;
+        count = o .count;
+        class = o .class;
+        grower = o .grower;
+        first = o .first;
+        last = o .last;
+      }
+
+  -- a label that was started, and stays so
+  label-rep : startedBy (job g j .label) ≡ startedBy l
+      → TablesRep s (viewOf (v .made) (v .reserved) (v .taken) (v .put) f (v .arc) (v .bucket) (v .cell) r)
+      (labelled g j l (g .queue) h) G
+  label-rep e =
+      change-rep s v g G R j hj (withLabel (job g j) l) refl refl f (v .cell) refl refl (v .taken) (v .put)
+      (g .queue) r h here there
+      (omega (arith, R .taken, started-set (g .jobs) j (withLabel (job g j) l) hj))
+      (R .put)
+      (R .cells)
+
+  -- a job that is started, from the head of the queue, whose cell is i
+  take-rep : (q : List ℕ) (i : ℕ) → i ≡ v .taken → g .queue ≡ j ∷ q → startedBy (job g j .label) ≡ 0 → startedBy l ≡ 1
+      → TablesRep s (viewOf (v .made) (v .reserved) (i + 1) (v .put) f (v .arc) (v .bucket)
+      (store (v .cell) i 0 none) r) (labelled g j l q h) G
+  take-rep q i e c a b =
+      rw e
+      (change-rep s v g G R j hj (withLabel (job g j) l) refl refl f (store (v .cell) (v .taken) 0 none) refl refl
+      (v .taken + 1) (v .put) q r h here there
+      (omega (arith, R .taken, started-set (g .jobs) j (withLabel (job g j) l) hj))
+      (omega (arith, R .put, ap length c))
+      (cells-take (v .cell) (v .taken) j none q (rw c at (R .cells))))
+
+-- ---- over the words
+module _ (s : Sizes) (t : Tables) (g : Graph) (G : Ghost) (S : Stands s t g G) (O : Sound s g) where
+  abbrev R : TablesRep s (view t) g G
+  R = S .rep
+
+  pub mark-stands : (w p x : ℕ) (c : Call) → p < length (g .jobs) → job g p .label ≡ executing
+      → TablesStand s (applied (Mark p x) t w) (marked g w p c) G
+  unfolding applied
+  mark-stands w p x c hp e =
+      let b : p < s .jobs = omega (arith, O .jobs) in
+      record {
+        kept = kept-put s (t .jobs) p LABEL 2 ∙ S .kept;
+        jobs = rows-put jobShape (s .jobs) (t .jobs) p LABEL 2 ∙ S .jobs;
+        arcs = S .arcs;
+        buckets = S .buckets;
+        queue = S .queue;
+        rep = simp (stores, columns-put jobShape (s .jobs), S .jobs, b)
+            (label-rep s (view t) g G R p hp finished _ _ (ap startedBy e));
+      }
+
+  pub get-stands : (w j name : ℕ) (q : List ℕ) → g .queue ≡ j ∷ q
+      → TablesStand s (appliedGet (Take j name (started (g .jobs))) t w) (handedOut g w j q) G
+  unfolding appliedGet
+  get-stands w j name q e =
+      let n = next-job s t g G S O j q e in
+      let b : j < s .jobs = omega (arith, O .jobs, n .0) in
+      let d : started (g .jobs) < s .jobs = omega (arith, O .jobs, O .queue-room, ap length e) in
+      record {
+        kept = kept-put s (t .jobs) j LABEL 1 ∙ S .kept;
+        jobs = rows-put jobShape (s .jobs) (t .jobs) j LABEL 1 ∙ S .jobs;
+        arcs = S .arcs;
+        buckets = S .buckets;
+        queue = simp (stores, S .queue);
+        rep = simp (
+          stores,
+          columns-put jobShape (s .jobs),
+          columns-put queueShape (s .jobs),
+          header-putHeader queueShape (s .jobs),
+          S .jobs,
+          S .queue,
+          b,
+          d,
+        )
+            (take-rep s (view t) g G R j (n .0) executing _ _ q (started (g .jobs)) (sym (R .taken)) e
+            (ap startedBy (n .1)) refl);
+      }

@@ -1,0 +1,139 @@
+-- The part of `Stands` that reads no workers: jobs, arcs, buckets and queue. It stays when only the workers change.
+-- Follows document 01, "Tables and their measures". Assumes nothing.
+use mathlib.Core.Path.{_≡_, refl}
+use mathlib.Core.Bool.{Bool, true, false, _&&_}
+use mathlib.Core.List.{List}
+use Prim.Native.Nat.{ℕ, _^_, _≤_, _<_}
+use native.Mathlib.Omega.{arith}
+use lib.Dec.{leb}
+use borrow.Author.Tests.{leb-true}
+use Rattle.terms.specs.Terms.{withinLimits, mostJobs, mostArcs, mostBits, mostWorkers}
+use Rattle.terms.specs.declared.Sizes.{Sizes}
+use Rattle.words.specs.Columns.{Rows}
+use Rattle.words.specs.Layout.{jobShape, arcShape, bucketShape, queueShape, workerShape, tables, view, sizesKept}
+use Rattle.words.specs.Layout.{Tables, View}
+use Rattle.rules.specs.Rules.{Worker, Graph}
+use Rattle.representation.specs.Rep.{Ghost, TablesRep, WorkerRep, Stands}
+
+pub record TablesStand (s : Sizes) (t : Tables) (g : Graph) (G : Ghost) : Type 0 where
+  pub kept : sizesKept s (t .jobs) ≡ true
+  pub jobs : Rows jobShape (s .jobs) (t .jobs)
+  pub arcs : Rows arcShape (s .arcs) (t .arcs)
+  pub buckets : Rows bucketShape (2 ^ s .bits) (t .buckets)
+  pub queue : Rows queueShape (s .jobs) (t .queue)
+  pub rep : TablesRep s (view t) g G
+
+pub tables-part : (s : Sizes) (t : Tables) (g : Graph) (G : Ghost) → Stands s t g G → TablesStand s t g G
+tables-part s t g G S =
+    record { kept = S .kept; jobs = S .jobs; arcs = S .arcs; buckets = S .buckets; queue = S .queue; rep = S .rep }
+
+pub stands-whole : (s : Sizes) (t : Tables) (g : Graph) (G : Ghost) → withinLimits s ≡ true → TablesStand s t g G
+    → Rows workerShape (s .workers) (t .workers)
+    → ((w : ℕ) → w < s .workers → WorkerRep (view t .worker) G w (g .workers w))
+    → Stands s t g G
+stands-whole s t g G e T r c =
+    record {
+      limits = e;
+      kept = T .kept;
+      jobs = T .jobs;
+      arcs = T .arcs;
+      buckets = T .buckets;
+      queue = T .queue;
+      workers = r;
+      rep = T .rep;
+      calls = c;
+    }
+
+-- ---- the frame
+abbrev pub withWorkers : Graph → (ℕ → Worker) → Graph
+withWorkers g h = record { jobs = g .jobs; reserved = g .reserved; queue = g .queue; workers = h }
+
+-- a view by its parts: made, reserved, taken, put; jobs, arcs, buckets, cells, workers
+abbrev pub viewOf : ℕ → ℕ → ℕ → ℕ → (ℕ → ℕ → ℕ) → (ℕ → ℕ → ℕ) → (ℕ → ℕ → ℕ) → (ℕ → ℕ → ℕ) → (ℕ → ℕ → ℕ) → View
+viewOf m r x y j a b c w =
+    record { made = m; reserved = r; taken = x; put = y; job = j; arc = a; bucket = b; cell = c; worker = w }
+
+pub rep-frame : (s : Sizes) (v : View) (g : Graph) (G : Ghost) → TablesRep s v g G → (f : ℕ → ℕ → ℕ) (h : ℕ → Worker)
+    → TablesRep s (viewOf (v .made) (v .reserved) (v .taken) (v .put) (v .job) (v .arc) (v .bucket) (v .cell) f)
+    (withWorkers g h) G
+rep-frame s v g G R f h =
+    record {
+      made = R .made;
+      reserved = R .reserved;
+      taken = R .taken;
+      put = R .put;
+      cells = R .cells;
+      rows = R .rows;
+      buckets = R .buckets;
+      lengths = R .lengths;
+      arcs = R .arcs;
+      mine = R .mine;
+    }
+
+pub frame : (s : Sizes) (t : Tables) (g : Graph) (G : Ghost) → TablesStand s t g G → (l : List ℕ) (h : ℕ → Worker)
+    → TablesStand s (tables (t .jobs) (t .arcs) (t .buckets) (t .queue) l) (withWorkers g h) G
+frame s t g G T l h =
+    record {
+      kept = T .kept;
+      jobs = T .jobs;
+      arcs = T .arcs;
+      buckets = T .buckets;
+      queue = T .queue;
+      rep = rep-frame s (view t) g G (T .rep) (view (tables (t .jobs) (t .arcs) (t .buckets) (t .queue) l) .worker) h;
+    }
+
+-- ---- the limits, as orders
+pub record Limits (s : Sizes) : Type 0 where
+  pub some-jobs : 1 ≤ s .jobs
+  pub jobs : s .jobs ≤ mostJobs
+  pub arcs : s .arcs ≤ mostArcs
+  pub some-bits : 1 ≤ s .bits
+  pub bits : s .bits ≤ mostBits
+  pub some-workers : 1 ≤ s .workers
+  pub workers : s .workers ≤ mostWorkers
+
+pub both : (a b : Bool) → (a && b) ≡ true → (a ≡ true) × (b ≡ true)
+both true b e = (refl, e)
+both false b e = let z : _≡_ {A = ℕ} 0 1 = cc in absurd (omega arith)
+
+pub limits-of : (s : Sizes) → withinLimits s ≡ true → Limits s
+unfolding withinLimits
+limits-of s e = record {
+  some-jobs = leb-true 1 (s .jobs) (both a b (low .0) .0);
+  jobs = leb-true (s .jobs) mostJobs (both a b (low .0) .1);
+  arcs = leb-true (s .arcs) mostArcs (low .1);
+  some-bits = leb-true 1 (s .bits) (bits .0);
+  bits = leb-true (s .bits) mostBits (bits .1);
+  some-workers = leb-true 1 (s .workers) (workers .0);
+  workers = leb-true (s .workers) mostWorkers (workers .1);
+}
+  where
+    a : Bool
+    a = leb 1 (s .jobs)
+
+    b : Bool
+    b = leb (s .jobs) mostJobs
+
+    c : Bool
+    c = leb (s .arcs) mostArcs
+
+    d : Bool
+    d = leb 1 (s .bits) && leb (s .bits) mostBits
+
+    f : Bool
+    f = leb 1 (s .workers) && leb (s .workers) mostWorkers
+
+    all : (a && b && c && d ≡ true) × (f ≡ true)
+    all = both (a && b && c && d) f e
+
+    some : (a && b && c ≡ true) × (d ≡ true)
+    some = both (a && b && c) d (all .0)
+
+    low : (a && b ≡ true) × (c ≡ true)
+    low = both (a && b) c (some .0)
+
+    bits : (leb 1 (s .bits) ≡ true) × (leb (s .bits) mostBits ≡ true)
+    bits = both (leb 1 (s .bits)) (leb (s .bits) mostBits) (some .1)
+
+    workers : (leb 1 (s .workers) ≡ true) × (leb (s .workers) mostWorkers ≡ true)
+    workers = both (leb 1 (s .workers)) (leb (s .workers) mostWorkers) (all .1)

@@ -1,0 +1,215 @@
+-- The plain book, fed the calls read so far in the order of their deciding steps, has each end as it did, and has the
+-- graph's jobs, labels and holds ("The plain book", demand 3), in every history. Assumes that every history's graph is
+-- sound.
+use mathlib.Core.Path.{_≡_, refl, sym, ap, _∙_, fun-ext}
+use mathlib.Core.Bool.{Bool, true, false}
+use mathlib.Core.List.{List, [], _∷_, _++_, map}
+use mathlib.Core.Option.{Option, none, some}
+use Prim.Native.Nat.{ℕ}
+use native.Mathlib.Omega.{arith}
+use lib.Dec.{eqb}
+use native.Mathlib.Decide.{ℕ-discrete}
+use lib.ListN.{length, getD, set, length-map, List·getD-map}
+use Rattle.terms.specs.Base.{pick, update, prefix}
+use Rattle.terms.specs.Terms.{Label, Arguments, wrongArguments, unknownName, namePresent, noRoom, alreadyHolding}
+use Rattle.terms.specs.Terms.{notHeld, finished, executing}
+use Rattle.terms.specs.declared.Sizes.{Sizes}
+use Rattle.terms.specs.declared.Answer.{Answer}
+use Rattle.rules.specs.Rules.{Call, idle, looking, linking, notifying, Worker, Graph, empty, job, perform, withLabel}
+use Rattle.rules.specs.Rules.{newJob, turn, withCall, entered, marked, handedOut}
+use Rattle.rules.specs.Sound.{Looking, Sound}
+use Rattle.sequential_model.specs.Book.{noEntry, Book, blank, labelled, finishedBy, next, Ends, Follows, done}
+use Rattle.sequential_model.specs.Book.{listedNames}
+use Rattle.sequential_model.specs.Book.{addEnd, add, get, finish, accepted, noneReady, handed, refused, holding, taken}
+use Rattle.sequential_model.specs.Book as book
+use Rattle.linearization.specs.Calls.{Reading, unread, becomes, decided, note, acceptedAdds}
+use Rattle.linearization.specs.Calls as reading
+use Rattle.rules_history.specs.History.{History, start, then, entryOf, entriesOf, noArguments, Booked}
+use Rattle.rules_follow_model.specs.Base.{update-at, update-other, head-occurs}
+use Rattle.rules_follow_model.specs.Change.{Change, nothing, addWrong, addPosted, finishWrong, finishPosted}
+use Rattle.rules_follow_model.specs.Change.{lookedUp}
+use Rattle.rules_follow_model.specs.Change.{nameUnknown, nameThere, roomLacking, jobEntered, tallied, arcAppended}
+use Rattle.rules_follow_model.specs.Change.{jobSettled, markedLast, markedGoing, arcNotified, lastNotified}
+use Rattle.rules_follow_model.specs.Change.{getHolding}
+use Rattle.rules_follow_model.specs.Change.{getNone, getHanded}
+use Rattle.terms.specs.Runs.{workerOf}
+use Rattle.rules_follow_model.specs.Changes.{changes}
+use Rattle.rules_follow_model.specs.Paced.{paced}
+use Rattle.rules_follow_model.specs.Entries.{entry-at, entries-length, entries-append, entries-set, entries-kept}
+use Rattle.rules_follow_model.specs.Entries.{listed-append, listed-kept, listed-length}
+use Rattle.rules_follow_model.specs.Feeding.{follows-then, Asked, askedOf, asks, accepted-asked}
+use Rattle.rules_follow_model.specs.Ends.{bookOf, name-at, finish-not, finish-held, add-wrong, add-unknown}
+use Rattle.rules_follow_model.specs.Ends.{add-there}
+use Rattle.rules_follow_model.specs.Ends.{add-no-room, add-accepted, queued-ready}
+
+-- what is kept: the book of the graph is reached, and the reserved arcs are the names in the jobs' lists
+pub record Kept (s : Sizes) (g : Graph) (r : Reading) : Type 0 where
+  pub follows : Follows s blank (r .calls) (bookOf g)
+  pub reserved : listedNames (entriesOf (g .jobs)) ≡ g .reserved
+
+-- ---- holds
+held-after : (f : ℕ → Worker) (w : ℕ) (h : Option ℕ) (c : Call)
+    → (λ v. update f w (record { held = h; call = c }) v .held) ≡ update (λ v. f v .held) w h
+unfolding update
+held-after f w h c = fun-ext (λ v. go v (eqb v w))
+  where
+    go : (v : ℕ) (b : Bool) → pick {A = Worker} b (record { held = h; call = c }) (f v) .held ≡ pick b h (f v .held)
+    go v true = refl
+    go v false = refl
+
+pub held-kept : (f : ℕ → Worker) (w : ℕ) (c : Call) (v : ℕ)
+    → update f w (record { held = f w .held; call = c }) v .held ≡ f v .held
+held-kept f w c v = elim (ℕ-discrete v w) [
+  | yes z ↦ rw (update-at f w (record { held = f w .held; call = c }) v z, z)
+  | no z ↦ rw (update-other f w (record { held = f w .held; call = c }) v z)
+]
+
+-- ---- what a call leaves in the book
+next-refused : (b : Book) (x : book.Call) (n i : ℕ) → next b x (refused n i) ≡ b
+unfolding next
+next-refused b (add w a) n i = refl
+next-refused b (get w) n i = refl
+next-refused b (finish w name) n i = refl
+
+labelled-same : (g : Graph) (j : ℕ) (l : Label)
+    → entriesOf (set (g .jobs) j (withLabel (job g j) l)) ≡ labelled (bookOf g) j l
+labelled-same g j l = entries-set (g .jobs) j (withLabel (job g j) l) ∙ rw (entry-at (g .jobs) j)
+
+labelled-listed : (g : Graph) (j : ℕ) (l : Label) → listedNames (entriesOf (g .jobs)) ≡ g .reserved
+    → listedNames (entriesOf (set (g .jobs) j (withLabel (job g j) l))) ≡ g .reserved
+labelled-listed g j l e = ap listedNames (labelled-same g j l) ∙ listed-kept (entriesOf (g .jobs)) j _ refl ∙ e
+
+module _ (s : Sizes) (g : Graph) (r : Reading) (S : Sound s g) (K : Kept s g r) (w : ℕ) where
+  same-book : (after : Graph) → entriesOf (after .jobs) ≡ entriesOf (g .jobs)
+      → ((v : ℕ) → after .workers v .held ≡ g .workers v .held)
+      → bookOf after ≡ bookOf g
+  same-book after e h = λ i. record { jobs = e i; held = λ v. h v i }
+
+  turned : (c : Call) (v : ℕ) → turn g w c v .held ≡ g .workers v .held
+  turned c v = held-kept (g .workers) w c v
+
+  looking-at : {a : Arguments} {i : ℕ} → g .workers w .call ≡ looking a i → Looking g a i
+  looking-at e = rw e at (S .calls w)
+
+  -- ---- a change that does not show in the book
+  unseen : (after : Graph) (later : Reading) → entriesOf (after .jobs) ≡ entriesOf (g .jobs)
+      → ((v : ℕ) → after .workers v .held ≡ g .workers v .held)
+      → after .reserved ≡ g .reserved → later .calls ≡ r .calls → Kept s after later
+  unseen after later e h n c = record
+      { follows = rw (c, same-book after e h) (K .follows); reserved = rw (e, n) (K .reserved) }
+
+  -- ---- a call more
+  fed : (after : Graph) (later : Reading) (x : book.Call) (e : book.End)
+      → later .calls ≡ r .calls ++ (record { call = x; end = e } ∷ [])
+      → Ends s (bookOf g) x e → bookOf after ≡ next (bookOf g) x e
+      → listedNames (entriesOf (after .jobs)) ≡ after .reserved → Kept s after later
+  fed after later x e c z same n = record { follows = rw (c, same) (follows-then (K .follows) x e z); reserved = n }
+
+  refused-now : (x : book.Call) (n i : ℕ) → Ends s (bookOf g) x (refused n i) → Kept s g (decided r x (refused n i))
+  refused-now x n i z = fed g (decided r x (refused n i)) x (refused n i) refl z (sym (next-refused (bookOf g) x n i))
+      (K .reserved)
+
+  -- the add is refused at a step, which ends it
+  refused-add : (a : Arguments) (n i : ℕ) → refused n i ≡ addEnd s (bookOf g) a
+      → Kept s (withCall g w idle) (becomes (decided r (add w a) (refused n i)) w reading.idle)
+  refused-add a n i z = fed (withCall g w idle) (becomes (decided r (add w a) (refused n i)) w reading.idle) (add w a)
+      (refused n i) refl z
+      (same-book (withCall g w idle) refl (turned idle) ∙ sym (next-refused (bookOf g) (add w a) n i)) (K .reserved)
+
+  enters : (a : Arguments) (later : Reading)
+      → later .calls ≡ r .calls ++ (record { call = add w a; end = accepted } ∷ []) → accepted ≡ addEnd s (bookOf g) a
+      → Kept s (entered g w a) later
+  unfolding next
+  enters a later c z = fed (entered g w a) later (add w a) accepted c z
+      (λ i. record {
+        jobs = entries-append (g .jobs) (newJob a) i;
+        held = λ v. turned (linking a (length (g .jobs)) 0 0) v i;
+      })
+      (rw (entries-append, listed-append) (omega (arith, K .reserved, listed-length a)))
+
+  marks : (p : ℕ) (c : Call) (later : Reading)
+      → later .calls ≡ r .calls ++ (record { call = finish w (job g p .name); end = accepted } ∷ [])
+      → g .workers w .held ≡ some p → Kept s (marked g w p c) later
+  unfolding next finishedBy
+  marks p c later l h = fed (marked g w p c) later (finish w (job g p .name)) accepted l (rw h (finish-held g p))
+      (rw (h, labelled-same g p finished, held-after (g .workers) w none c))
+      (labelled-listed g p finished (K .reserved))
+
+  hands : (j : ℕ) (q : List ℕ) → g .workers w .held ≡ none → g .queue ≡ j ∷ q
+      → Kept s (handedOut g w j q) (decided r (get w) (handed j (job g j .name)))
+  unfolding next
+  hands j q h z = fed (handedOut g w j q) (decided r (get w) (handed j (job g j .name))) (get w)
+      (handed j (job g j .name)) refl
+      (rw h (rw (name-at g j) at (taken j (queued-ready S j (rw z (head-occurs j q))))))
+      (rw (labelled-same g j executing, held-after (g .workers) w (some j) idle))
+      (labelled-listed g j executing (K .reserved))
+
+  finds-none : g .workers w .held ≡ none → Kept s g (decided r (get w) noneReady)
+  unfolding next
+  finds-none h = fed g (decided r (get w) noneReady) (get w) noneReady refl (rw h book.nothing) refl (K .reserved)
+
+  -- ---- each change
+  kept-on : (x : Answer) (after : Graph) (later : Reading) → Change s g r w x after later → Kept s after later
+  kept-on x after later nothing = K
+  kept-on x after later (addWrong a e) = refused-now (add w a) wrongArguments 0 (add-wrong s g a e)
+  kept-on x after later (addPosted a) = unseen after later refl (turned _) refl refl
+  kept-on x after later (finishWrong name e) =
+      refused-now (finish w name) notHeld 0 (finish-not g name (g .workers w .held) e)
+  kept-on x after later (finishPosted p e) = unseen after later refl (turned _) refl refl
+  kept-on x after later (lookedUp e h) = unseen after later refl (turned _) refl refl
+  kept-on x after later (nameUnknown {a} {i} e h z) =
+      refused-add a unknownName i (add-unknown s g a i (looking-at e) h z)
+  kept-on x after later (nameThere {a} j e z) =
+      refused-add a namePresent 0 (add-there s g a (looking-at e) (K .reserved) j z)
+  kept-on x after later (roomLacking {a} e z f) =
+      refused-add a noRoom 0 (add-no-room s g a (looking-at e) (K .reserved) z f)
+  kept-on x after later (jobEntered {a} e z f) =
+      enters a later refl (add-accepted s g a (looking-at e) (K .reserved) z f)
+  kept-on x after later (tallied e) = unseen after later refl (turned _) refl refl
+  kept-on x after later (arcAppended p e) = unseen after later (entries-kept (g .jobs) p _ refl) (turned _) refl refl
+  kept-on x after later (jobSettled {j} e) = unseen after later (entries-kept (g .jobs) j _ refl) (turned _) refl refl
+  kept-on x after later (markedLast p e h z) = marks p idle later refl h
+  kept-on x after later (markedGoing p e h) = marks p (notifying p 0) later refl h
+  kept-on x after later (arcNotified e) = unseen after later (entries-kept (g .jobs) _ _ refl) (turned _) refl refl
+  kept-on x after later (lastNotified e h) = unseen after later (entries-kept (g .jobs) _ _ refl) (turned _) refl refl
+  kept-on x after later (getHolding j e) = refused-now (get w) alreadyHolding 0 (rw e holding)
+  kept-on x after later (getNone e) = finds-none e
+  kept-on x after later (getHanded j {q} e f z) = hands j q e z
+
+-- ---- the accepted adds are those of the jobs, in order
+adds-booked : {s : Sizes} (g : Graph) (r : Reading) → Follows s blank (r .calls) (bookOf g) → Booked s g r
+unfolding prefix
+adds-booked g r f = record {
+  adds = sym (length-map (acceptedAdds (r .calls)) asks) ∙ ap length (sym same)
+      ∙ length-map (entriesOf (g .jobs)) askedOf ∙ entries-length (g .jobs);
+  added = λ j h. record {
+    name = ap (λ (x : Asked). x .name) (at j);
+    list = ap (λ (x : Asked). x .list) (at j);
+    class = ap (λ (x : Asked). x .class) (at j);
+  };
+  book = bookOf g;
+  follows = f;
+  jobs = refl;
+  held = λ w. refl;
+}
+  where
+    same : map askedOf (entriesOf (g .jobs)) ≡ map asks (acceptedAdds (r .calls))
+    same = accepted-asked f
+
+    at : (j : ℕ) → asks (getD (acceptedAdds (r .calls)) j noArguments) ≡ askedOf (entryOf (job g j))
+    at j =
+        sym (List·getD-map asks (acceptedAdds (r .calls)) j noArguments)
+        ∙ ap (λ m. getD m j (askedOf noEntry)) (sym same)
+        ∙ List·getD-map askedOf (entriesOf (g .jobs)) j noEntry ∙ ap askedOf (entry-at (g .jobs) j)
+
+module _ {s : Sizes} (sound : (g : Graph) (r : Reading) (e : ℕ → ℕ) → History s g r e → Sound s g) where
+  pub kept : {g : Graph} {r : Reading} {e : ℕ → ℕ} → History s g r e → Kept s g r
+  unfolding empty unread blank entriesOf listedNames
+  kept start = record { follows = done; reserved = refl }
+  kept (then {g} {r} {e} history x) =
+      kept-on s g r (sound g r e history) (kept history) (workerOf x) (perform s g x .answer) (perform s g x .state)
+      (note r x (perform s g x .answer))
+      (changes s g r (sound g r e history) (paced sound history) x)
+
+  pub booked : {g : Graph} {r : Reading} {e : ℕ → ℕ} → History s g r e → Booked s g r
+  booked {g} {r} history = adds-booked g r (kept history .follows)

@@ -1,0 +1,95 @@
+-- The plain book of a graph has each call end as the rules have it end ("The plain book", "Turned-away calls").
+-- Assumes that the graph is sound and that its reserved arcs are the names in its jobs' lists.
+use mathlib.Core.Path.{_≡_, refl, ap, _∙_}
+use mathlib.Core.Bool.{true, false}
+use mathlib.Core.Option.{Option, none, some}
+use Prim.Native.Nat.{ℕ, _<_}
+use native.Mathlib.Omega.{arith}
+use lib.ListN.{getD}
+use borrow.Author.Tests.{eq-eqb}
+use Rattle.terms.specs.Base.{pick, occurrences}
+use Rattle.terms.specs.Terms.{unexecuted, Arguments, listed, argumentsWrong, wrongArguments, unknownName, namePresent}
+use Rattle.terms.specs.Terms.{noRoom, notHeld}
+use Rattle.terms.specs.declared.Sizes.{Sizes}
+use Rattle.rules.specs.Rules.{Graph, job, find, at, missing}
+use Rattle.rules.specs.Sound.{Looking, Sound}
+use Rattle.sequential_model.specs.Book.{Entry, noEntry, Book, known, Ready, accepted, refused, firstUnknown, nowhere}
+use Rattle.sequential_model.specs.Book.{listedNames, full, addKnown, addEnd, finishEnd}
+use Rattle.sequential_model.specs.Book as book
+use Rattle.rules_history.specs.History.{entriesOf}
+use Rattle.rules_follow_model.specs.Change.{HoldsNot, noPlace}
+use Rattle.rules_follow_model.specs.Entries.{entry-at, entries-length, listed-length, known-found, unknown-at}
+use Rattle.rules_follow_model.specs.Entries.{unknown-nowhere, none-awaited, finished-not-awaited}
+
+-- the graph as the book has it
+abbrev pub bookOf : Graph → Book
+bookOf g = record { jobs = entriesOf (g .jobs); held = λ w. g .workers w .held }
+
+pub name-at : (g : Graph) (j : ℕ) → getD (entriesOf (g .jobs)) j noEntry .name ≡ job g j .name
+name-at g j = ap (λ (x : Entry). x .name) (entry-at (g .jobs) j)
+
+-- ---- a finish
+pub finish-not : (g : Graph) (name : ℕ) (h : Option ℕ) → HoldsNot g name h
+    → refused notHeld 0 ≡ finishEnd (bookOf g) name h
+unfolding finishEnd
+finish-not g name none e = refl
+finish-not g name (some p) e = rw (name-at g p, e)
+
+pub finish-held : (g : Graph) (p : ℕ) → accepted ≡ finishEnd (bookOf g) (job g p .name) (some p)
+unfolding finishEnd
+finish-held g p = rw (name-at g p, eq-eqb (job g p .name) (job g p .name) refl)
+
+-- ---- an add
+pub add-wrong : (s : Sizes) (g : Graph) (a : Arguments) → argumentsWrong a ≡ true
+    → refused wrongArguments 0 ≡ addEnd s (bookOf g) a
+unfolding addEnd
+add-wrong s g a e = rw e
+
+module _ (s : Sizes) (g : Graph) (a : Arguments) where
+  pub add-unknown : (i : ℕ) → Looking g a i → i < a .count → find g (getD (listed a) i 0) ≡ missing
+      → refused unknownName i ≡ addEnd s (bookOf g) a
+  unfolding addEnd addKnown
+  add-unknown i L h z =
+      let first : firstUnknown (entriesOf (g .jobs)) (listed a) 0 ≡ book.at i =
+      unknown-at (entriesOf (g .jobs)) (listed a) i 0 (omega (arith, listed-length a))
+      (λ q k. known-found (getD (listed a) q 0) (g .jobs) 0 ∙ rw (L .found q k .found) refl)
+      (known-found (getD (listed a) i 0) (g .jobs) 0 ∙ rw z refl)
+      ∙ ap book.at (omega arith)
+      in rw (L .right, first)
+
+  -- all names are known: what is left is 7 or 8, or the add is accepted
+  module _ (L : Looking g a (a .count)) (reserved : listedNames (entriesOf (g .jobs)) ≡ g .reserved) where
+    all-known : addEnd s (bookOf g) a
+        ≡ pick (known (a .name) (entriesOf (g .jobs))) (refused namePresent 0)
+        (pick (full s (bookOf g) a) (refused noRoom 0) accepted)
+    unfolding addEnd addKnown
+    all-known =
+        let first : firstUnknown (entriesOf (g .jobs)) (listed a) 0 ≡ nowhere =
+        unknown-nowhere (entriesOf (g .jobs)) (listed a) 0
+        (λ q k. known-found (getD (listed a) q 0) (g .jobs) 0
+        ∙ rw (L .found q (omega (arith, listed-length a)) .found) refl)
+        in rw (L .right, first)
+
+    same-room : full s (bookOf g) a ≡ noPlace s g a
+    same-room = rw (entries-length, reserved, listed-length)
+
+    pub add-there : (j : ℕ) → find g (a .name) ≡ at j → refused namePresent 0 ≡ addEnd s (bookOf g) a
+    add-there j z = rw (all-known, known-found (a .name) (g .jobs) 0, z)
+
+    pub add-no-room : find g (a .name) ≡ missing → noPlace s g a ≡ true → refused noRoom 0 ≡ addEnd s (bookOf g) a
+    add-no-room z f = rw (all-known, known-found (a .name) (g .jobs) 0, z, same-room, f)
+
+    pub add-accepted : find g (a .name) ≡ missing → noPlace s g a ≡ false → accepted ≡ addEnd s (bookOf g) a
+    add-accepted z f = rw (all-known, known-found (a .name) (g .jobs) 0, z, same-room, f)
+
+-- ---- a get
+-- a job in the queue is ready in the book
+pub queued-ready : {s : Sizes} {g : Graph} → Sound s g → (j : ℕ) → 0 < occurrences j (g .queue) → Ready (bookOf g) j
+queued-ready {g} S j h =
+    let same = entry-at (g .jobs) j in
+    record {
+      there = omega (arith, entries-length (g .jobs), S .queue-there j h);
+      unexecuted = rw same (S .queue-unexecuted j h);
+      none-left = rw same (none-awaited (entriesOf (g .jobs)) (job g j .list)
+          (λ i k. finished-not-awaited (getD (job g j .list) i 0) S (S .queue-ready j h i k)));
+    }

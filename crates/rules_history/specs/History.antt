@@ -1,0 +1,90 @@
+-- The claims of demand 3 by the rules: a history is a graph that a list of items reached, with what was read off items
+-- and answers and with the entries of each job into the queue. The statements alone; they are shown elsewhere. Assumes
+-- nothing.
+use mathlib.Core.Path.{_≡_}
+use mathlib.Core.Logic.{_↔_}
+use mathlib.Core.Bool.{Bool, true, false}
+use mathlib.Core.List.{List, [], _∷_}
+use mathlib.Core.Option.{Option, none, some}
+use Prim.Native.Nat.{ℕ, zero, suc, _+_, _-_, _*_, _≤_, _<_}
+use lib.ListN.{length, getD}
+use Rattle.terms.specs.Base.{contains, occurrences}
+use Rattle.terms.specs.Terms.{unexecuted, Arguments, listed}
+use Rattle.terms.specs.Runs.{Item}
+use Rattle.terms.specs.declared.Sizes.{Sizes}
+use Rattle.rules.specs.Rules.{Job, Call, idle, looking, linking, marking, notifying, Graph, empty, job, perform}
+use Rattle.rules.specs.Sound.{Finished}
+use Rattle.sequential_model.specs.Book.{Book, blank, Entry, awaitedNames, Follows}
+use Rattle.linearization.specs.Calls.{Pending, adding, finishing, Reading, unread, note, acceptedAdds}
+
+-- a graph, its reading, and the entries of each job, after a list of items from the empty graph
+pub data History (s : Sizes) : Graph → Reading → (ℕ → ℕ) → Type 0 where
+  start : History s empty unread (λ j. 0)
+  then : {g : Graph} {r : Reading} {e : ℕ → ℕ} → History s g r e → (i : Item)
+      → History s (perform s g i .state) (note r i (perform s g i .answer))
+      (λ j. e j + (occurrences j (perform s g i .state .queue) - occurrences j (g .queue)))
+
+-- ---- the entries
+pub record Counted (g : Graph) (r : Reading) (e : ℕ → ℕ) : Type 0 where
+  pub once : (j : ℕ) → e j ≤ 1
+  pub there : (j : ℕ) → 0 < e j → j < length (g .jobs)
+  pub after-prerequisites : (j : ℕ) → 0 < e j → (i : ℕ) → i < length (job g j .list)
+      → Finished g (getD (job g j .list) i 0)
+  pub when-ended : (j : ℕ) → j < length (g .jobs) → contains (job g j .name) (r .added) ≡ true
+      → ((i : ℕ) → i < length (job g j .list) → contains (getD (job g j .list) i 0) (r .finished) ≡ true)
+      → e j ≡ 1
+
+-- ---- the book
+abbrev pub noArguments : Arguments
+noArguments = record { name = 0; count = 0; names = []; class = 0; grower = 0 }
+
+-- the j-th accepted add is that of job j
+pub record Added (a : Arguments) (g : Graph) (j : ℕ) : Type 0 where
+  pub name : a .name ≡ job g j .name
+  pub list : listed a ≡ job g j .list
+  pub class : a .class ≡ job g j .class
+
+-- the graph's jobs as the book has them
+abbrev pub entryOf : Job → Entry
+entryOf x = record { name = x .name; list = x .list; class = x .class; grower = x .grower; label = x .label }
+
+unfoldable pub entriesOf : List Job → List Entry
+entriesOf [] = []
+entriesOf (x ∷ l) = entryOf x ∷ entriesOf l
+
+-- the book that was fed the calls read so far has the graph's jobs, labels and holds
+pub record Booked (s : Sizes) (g : Graph) (r : Reading) : Type 0 where
+  pub adds : length (acceptedAdds (r .calls)) ≡ length (g .jobs)
+  pub added : (j : ℕ) → j < length (g .jobs) → Added (getD (acceptedAdds (r .calls)) j noArguments) g j
+  pub book : Book
+  pub follows : Follows s blank (r .calls) book
+  pub jobs : book .jobs ≡ entriesOf (g .jobs)
+  pub held : (w : ℕ) → book .held w ≡ g .workers w .held
+
+-- ---- with no call half done
+abbrev pub AllIdle : Graph → Type 0
+AllIdle g = (w : ℕ) → g .workers w .call ≡ idle
+
+-- a job that waits for nothing
+pub record Free (g : Graph) (j : ℕ) : Type 0 where
+  pub there : j < length (g .jobs)
+  pub unexecuted : job g j .label ≡ unexecuted
+  pub none-left : job g j .count ≡ 0
+
+-- a job's count is how many of its listed names have jobs not finished, and the jobs in the queue are those that wait
+-- for nothing
+pub record Balanced (g : Graph) : Type 0 where
+  pub counts : (j : ℕ) → j < length (g .jobs) → job g j .count ≡ awaitedNames (entriesOf (g .jobs)) (job g j .list)
+  pub waits : (j : ℕ) → (0 < occurrences j (g .queue)) ↔ Free g j
+
+-- ---- the steps answered so far are those of the call that the worker is in
+abbrev pub PacedCall : Graph → Option ℕ → Call → Pending → Type 0
+PacedCall g h idle p = p ≡ Pending.idle
+PacedCall g h (looking a i) p = p ≡ adding a i
+PacedCall g h (linking a j i t) p = (p ≡ adding a (a .count + 1 + i)) × (a .name ≡ job g j .name)
+PacedCall g none marking p = ⊥
+PacedCall g (some j) marking p = p ≡ finishing (job g j .name) 0
+PacedCall g h (notifying j k) p = p ≡ finishing (job g j .name) (suc k)
+
+abbrev pub Paced : Graph → Reading → Type 0
+Paced g r = (w : ℕ) → PacedCall g (g .workers w .held) (g .workers w .call) (r .pending w)

@@ -1,0 +1,270 @@
+-- Linking and settling by the rules keep step with the maps. Assumes nothing.
+use mathlib.Core.Path.{_≡_, refl, sym, ap, _∙_}
+use mathlib.Core.Logic.{_≢_}
+use mathlib.Core.Bool.{Bool, true, false}
+use mathlib.Core.Option.{none}
+use mathlib.Core.List.{List, [], _∷_, _++_}
+use Prim.Native.Nat.{ℕ, suc, _+_, _-_, _≤_, _<_}
+use native.Mathlib.Omega.{arith}
+use native.Mathlib.Decide.{ℕ-discrete}
+use lib.ListN.{length, getD, set, length-set, length-append}
+use Rattle.terms.specs.Base.{update, occurrences, contains}
+use Rattle.terms.specs.Terms.{finished, Arguments, listed}
+use Rattle.terms.specs.declared.Sizes.{Sizes}
+use Rattle.rules.specs.Rules.{Job, idle, linking, Graph, noJob, job, find, at, withCall, withDependent, withCount}
+use Rattle.rules.specs.Rules.{linked, settles, settled, enqueue}
+use Rattle.linearization.specs.Calls.{Pending, Reading, becomes, addEnded}
+use Rattle.rules_invariant.specs.Base.{update-same, update-other, update-at, hit, hit-same, hit-other}
+use Rattle.rules_invariant.specs.State.{apart, adding, State, bit, linkFinished, linkDependent, settle}
+use Rattle.rules_invariant.specs.Invariant.{Invariant, occurrences-enqueue}
+use Rattle.rules_invariant.specs.Linking.{link-finished-keeps, link-dependent-keeps, settle-keeps, settles-right}
+use Rattle.rules_invariant.specs.Names.{Extends, extends-same, extends-set, length-prefix, contains-snoc}
+use Rattle.rules_invariant.specs.Relation.{Kept, known-keeps, jobRel, LinkRel, AddEnded, set-all}
+use Rattle.rules_invariant.specs.Turns.{Next, own-stage, own-call, other-add, workers-after}
+
+module _ (s : Sizes) (g : Graph) (r : Reading) (x : State) (K : Kept s g r x) (I : Invariant x) (w : ℕ) where
+  -- ---- linking
+  module _ (a : Arguments) (j i t : ℕ) (f : g .workers w .call ≡ linking a j i t) where
+    own-link : LinkRel (g .jobs) (x .linked) (x .tally) a j i t
+    own-link = own-call s g r x K I w (linking a j i t) f
+
+    at-stage : x .stage w ≡ adding j
+    at-stage = own-stage s g r x K I w (linking a j i t) f
+
+    pub long-list : length (x .prerequisites j) ≡ a .count
+    long-list = omega (
+      arith,
+      K .jobs j .known .same-length,
+      ap length (own-link .list),
+      length-prefix (a .count) (a .names),
+    )
+
+    own-paced : (r .pending w ≡ Pending.adding a (a .count + 1 + i)) × (a .name ≡ job g j .name)
+    own-paced = rw f at (K .workers w .paced)
+
+    -- the listed name is found
+    pub listed-found : i < a .count → find g (getD (listed a) i 0) ≡ at (getD (x .prerequisites j) (x .linked j) 0)
+    listed-found h =
+        rw (← (own-link .list), ← (own-link .place))
+        (K .jobs j .known .found i (omega (arith, ap length (own-link .list), length-prefix (a .count) (a .names))))
+
+    module _ (h : i < a .count) where
+      abbrev place : ℕ
+      place = getD (x .prerequisites j) (x .linked j) 0
+
+      room-left : x .linked j < length (x .prerequisites j)
+      room-left = omega (arith, own-link .place, long-list)
+
+      linked-else : (v k : ℕ) → v ≢ w → x .stage v ≡ adding k → x .linked k ≡ x .linked k + hit k j
+      linked-else v k e z = omega (arith, hit-other k j (other-add s g r x K I w j v k e at-stage z))
+
+      tally-else : (v k : ℕ) → v ≢ w → x .stage v ≡ adding k → x .tally k ≡ x .tally k + hit k j
+      tally-else v k e z = omega (arith, hit-other k j (other-add s g r x K I w j v k e at-stage z))
+
+      next-pending : Pending.adding a (suc (a .count + 1 + i)) ≡ Pending.adding a (a .count + 1 + suc i)
+      next-pending = ap (Pending.adding a) (omega arith)
+
+      pub linking-finished : job g place .label ≡ finished
+          → Next s g x (withCall g w (linking a j (suc i) (suc t)))
+          (becomes r w (Pending.adding a (suc (a .count + 1 + i))))
+      linking-finished e = record {
+        state = linkFinished x j;
+        grown = λ k. omega arith;
+        invariant = link-finished-keeps x I w j at-stage room-left (sym (K .jobs place .label) ∙ e);
+        kept = record {
+          jobs-room = K .jobs-room;
+          arcs-room = K .arcs-room;
+          size = K .size;
+          jobs = K .jobs;
+          queue = K .queue;
+          added = K .added;
+          finished = K .finished;
+          workers = workers-after s g r x K I w (withCall g w (linking a j (suc i) (suc t))) (linkFinished x j)
+              (Pending.adding a (suc (a .count + 1 + i))) _
+              (extends-same (g .jobs)) (omega arith)
+              (record {
+                held = K .workers w .held;
+                stage = at-stage;
+                call = record {
+                  right = own-link .right;
+                  there = own-link .there;
+                  list = own-link .list;
+                  place = omega (arith, own-link .place, hit-same j);
+                  tallied = omega (arith, own-link .tallied, hit-same j);
+                };
+                paced = (next-pending, own-paced .1);
+              })
+              (λ v z. record {
+                held = refl;
+                stage = refl;
+                linked = λ k y. linked-else v k z y;
+                tally = λ k y. tally-else v k z y;
+                served = λ p y. refl;
+                dependents = λ p. omega arith;
+              });
+        };
+      }
+
+      pub linking-dependent : job g place .label ≢ finished
+          → Next s g x (linked g w a j i t place) (becomes r w (Pending.adding a (suc (a .count + 1 + i))))
+      linking-dependent e =
+          let p : ℕ = place in
+          let y : State = linkDependent x j p in
+          let d : List ℕ = x .dependents p ++ (j ∷ []) in
+          let there : p < length (g .jobs) =
+          omega (arith, K .size, I .prerequisites-there j .at (x .linked j) room-left) in
+          let z : Job = withDependent (job g p) j in
+          let further : Extends (g .jobs) (set (g .jobs) p z) = extends-set (g .jobs) p z refl refl in
+          let longer : length (set (g .jobs) p z) ≡ length (g .jobs) = length-set (g .jobs) p z in
+          record {
+            state = y;
+            grown = λ k. omega arith;
+            invariant = link-dependent-keeps x I w j at-stage room-left (λ u. e (K .jobs p .label ∙ u));
+            kept = record {
+              jobs-room = omega (arith, longer, K .jobs-room);
+              arcs-room = K .arcs-room;
+              size = longer ∙ K .size;
+              queue = K .queue;
+              jobs = set-all (λ k u. jobRel (set (g .jobs) p z) y k u) (g .jobs) p z noJob there
+                  (let o = K .jobs p in record {
+                    label = o .label;
+                    count = o .count;
+                    dependents = ap (λ (l : List ℕ). l ++ (j ∷ [])) (o .dependents)
+                        ∙ sym (update-same (x .dependents) p d);
+                    known = known-keeps further (o .known);
+                  })
+                  (λ k u. let o = K .jobs k in record {
+                    label = o .label;
+                    count = o .count;
+                    dependents = o .dependents ∙ sym (update-other (x .dependents) p d k u);
+                    known = known-keeps further (o .known);
+                  });
+              workers = workers-after s g r x K I w (linked g w a j i t p) y
+                  (Pending.adding a (suc (a .count + 1 + i))) _ further (omega (arith, longer))
+                  (record {
+                    held = K .workers w .held;
+                    stage = at-stage;
+                    call = record {
+                      right = own-link .right;
+                      there = omega (arith, longer, own-link .there);
+                      list = further .list j (own-link .there) ∙ own-link .list;
+                      place = omega (arith, own-link .place, hit-same j);
+                      tallied = own-link .tallied;
+                    };
+                    paced = (next-pending, own-paced .1 ∙ sym (further .name j (own-link .there)));
+                  })
+                  (λ v u. record {
+                    held = refl;
+                    stage = refl;
+                    linked = λ k b. linked-else v k u b;
+                    tally = λ k b. refl;
+                    served = λ q b. refl;
+                    dependents = λ q. elim (ℕ-discrete q p) [
+                      | yes b ↦ rw b (omega (
+                        arith,
+                        ap length (update-same (x .dependents) p d),
+                        length-append (x .dependents p) (j ∷ []),
+                      ))
+                      | no b ↦ omega (arith, ap length (update-other (x .dependents) p d q b))
+                    ];
+                  });
+              added = λ name b. let o = K .added name b in
+                  record { job = o .job; found = further .found _ _ (o .found); ended = o .ended };
+              finished = λ name b.
+                  let o = K .finished name b in
+                  record {
+                    job = o .job;
+                    found = further .found _ _ (o .found);
+                    finished = o .finished;
+                    ended = o .ended;
+                  };
+            };
+          }
+
+    -- ---- settling
+    pub settling : a .count ≤ i
+        → Next s g x (settled g w j t (a .count)) (becomes (addEnded r (a .name)) w Pending.idle)
+    settling h =
+        let b : Bool = settles (job g j .count - t) t (a .count) in
+        let full : x .linked j ≡ length (x .prerequisites j) =
+        omega (arith, own-link .place, long-list, I .linked-within j) in
+        let left : ℕ = x .count j - x .tally j in
+        let y : State = settle x w j b in
+        let z : Job = withCount (job g j) (job g j .count - t) in
+        let left-eq : job g j .count - t ≡ left = omega (arith, K .jobs j .count, own-link .tallied) in
+        let further : Extends (g .jobs) (set (g .jobs) j z) = extends-set (g .jobs) j z refl refl in
+        let longer : length (set (g .jobs) j z) ≡ length (g .jobs) = length-set (g .jobs) j z in
+        let same-test : b ≡ settles left (x .tally j) (length (x .prerequisites j)) =
+        rw (left-eq, ← (own-link .tallied), long-list) refl in
+        let test : x .entries j + bit b ≡ 1 - left = rw same-test (settles-right x I w j at-stage full) in
+        record {
+          state = y;
+          invariant = settle-keeps x I w j b at-stage full test;
+          grown = λ k. omega (
+            arith,
+            ap (occurrences k) (K .queue),
+            occurrences-enqueue b (g .queue) j k,
+            occurrences-enqueue b (x .queue) j k,
+          );
+          kept = record {
+            jobs-room = omega (arith, longer, K .jobs-room);
+            arcs-room = K .arcs-room;
+            size = longer ∙ K .size;
+            queue = ap (λ (l : List ℕ). enqueue b l j) (K .queue);
+            jobs = set-all (λ k u. jobRel (set (g .jobs) j z) y k u) (g .jobs) j z noJob (own-link .there)
+                (let o = K .jobs j in record {
+                  label = o .label;
+                  count = left-eq ∙ sym (update-same (x .count) j left);
+                  dependents = o .dependents;
+                  known = known-keeps further (o .known);
+                })
+                (λ k u. let o = K .jobs k in record {
+                  label = o .label;
+                  count = o .count ∙ sym (update-other (x .count) j left k u);
+                  dependents = o .dependents;
+                  known = known-keeps further (o .known);
+                });
+            workers = workers-after s g r x K I w (settled g w j t (a .count)) y Pending.idle _ further
+                (omega (arith, longer))
+                (record { held = K .workers w .held; stage = update-same (x .stage) w apart; call = tt; paced = refl })
+                (λ v u. record {
+                  held = refl;
+                  stage = sym (update-other (x .stage) w apart v u);
+                  linked = λ k e. refl;
+                  tally = λ k e. sym (update-other (x .tally) j 0 k (other-add s g r x K I w j v k u at-stage e));
+                  served = λ p e. refl;
+                  dependents = λ p. omega arith;
+                });
+            added = λ name e. was-added further name (contains name (r .added)) refl e;
+            finished = λ name e.
+                let o = K .finished name e in
+                record {
+                  job = o .job;
+                  found = further .found _ _ (o .found);
+                  finished = o .finished;
+                  ended = o .ended;
+                };
+          };
+        }
+      where
+        was-added : {l : List Job} → Extends (g .jobs) l → (name : ℕ) (c : Bool) → contains name (r .added) ≡ c
+            → contains name (r .added ++ (a .name ∷ [])) ≡ true
+            → AddEnded l (update (x .adder) j none) name
+        was-added further name true p e =
+            let o = K .added name p in
+            record {
+              job = o .job;
+              found = further .found _ _ (o .found);
+              ended = elim (ℕ-discrete (o .job) j) [
+                | yes z ↦ update-at (x .adder) j none (o .job) z
+                | no z ↦ update-other (x .adder) j none (o .job) z ∙ o .ended
+              ];
+            }
+        was-added further name false p e =
+            let z : name ≡ a .name = contains-snoc name (a .name) (r .added) e p in
+            record {
+              job = j;
+              ended = update-same (x .adder) j none;
+              found = further .found name j
+                  (rw (z, own-paced .1) (K .jobs j .known .named (omega (arith, K .size, own-link .there))));
+            }

@@ -1,0 +1,316 @@
+-- Linking and settling keep the invariant, and settling queues a job exactly when it waits for nothing. Assumes
+-- nothing.
+use mathlib.Core.Path.{_≡_, refl, sym, ap, _∙_}
+use mathlib.Core.Bool.{Bool, true, false, _&&_, _||_}
+use mathlib.Core.Logic.{_≢_}
+use mathlib.Core.Option.{none, Option·none-ne-some}
+use mathlib.Core.List.{List, [], _∷_, _++_}
+use Prim.Native.Nat.{ℕ, _+_, _-_, _≤_, _<_}
+use native.Mathlib.Omega.{arith}
+use native.Mathlib.Decide.{ℕ-discrete}
+use native.Mathlib.Numerals.{add-one}
+use native.Mathlib.Nat.{add-zero}
+use borrow.Author.Tests.{eqb-true, eqb-false, ltb-true, ltb-false}
+use lib.Dec.{eqb, ltb}
+use lib.ListN.{length, getD, take, length-append, List·getD-append}
+use lib.Seq.{getD-append-seam}
+use Rattle.terms.specs.Base.{occurrences}
+use Rattle.terms.specs.Terms.{finished}
+use Rattle.rules.specs.Rules.{settles}
+use Rattle.rules_invariant.specs.Base.{update-same, update-other, update-at, hit, hit-same, hit-other}
+use Rattle.rules_invariant.specs.Base.{occurrences-take}
+use Rattle.rules_invariant.specs.Base.{occurrences-take-le, occurrences-drop-snoc, sum-at}
+use Rattle.rules_invariant.specs.Own.{owns-frame, owns-drop}
+use Rattle.rules_invariant.specs.State.{apart, adding, finishing, tag, State, bit, linkFinished, linkDependent}
+use Rattle.rules_invariant.specs.State.{settle}
+use Rattle.rules_invariant.specs.Invariant.{Invariant, unserved, Below, adding-injective, hitIf-same, hitIf-other}
+use Rattle.rules_invariant.specs.Invariant.{occurrences-enqueue, adding-there}
+
+-- one more number that is below
+below-snoc : (n : ℕ) (l : List ℕ) (x : ℕ) → Below n l → x < n → (i : ℕ) → i < length (l ++ (x ∷ []))
+    → getD (l ++ (x ∷ [])) i 0 < n
+below-snoc n l x b h i r = elim (ℕ-discrete i (length l)) [
+  | yes e ↦ rw (e, getD-append-seam l x [] 0) h
+  | no e ↦
+      let z : i < length l = omega (arith, length-append l (x ∷ [])) in
+      rw (List·getD-append l (x ∷ []) 0 i z) (b .at i z)
+]
+
+module _ (s : State) (I : Invariant s) where
+  -- ---- linking
+  module _ (w j : ℕ) (f : s .stage w ≡ adding j) (h : s .linked j < length (s .prerequisites j)) where
+    abbrev place : ℕ
+    place = getD (s .prerequisites j) (s .linked j) 0
+
+    reach-at : (p : ℕ)
+        → occurrences p (take (s .linked j + hit j j) (s .prerequisites j))
+        ≡ occurrences p (take (s .linked j) (s .prerequisites j)) + hit p place
+    reach-at p = rw (hit-same j, add-one (s .linked j)) (occurrences-take p (s .prerequisites j) (s .linked j) h)
+
+    reach-off : (p k : ℕ) → k ≢ j
+        → occurrences p (take (s .linked k + hit k j) (s .prerequisites k))
+        ≡ occurrences p (take (s .linked k) (s .prerequisites k))
+    reach-off p k e = rw (hit-other k j e, add-zero (s .linked k)) refl
+
+    linked-further : (k : ℕ) → s .linked k + hit k j ≤ length (s .prerequisites k)
+    linked-further k = elim (ℕ-discrete k j) [
+      | yes e ↦ rw e (omega (arith, hit-same j))
+      | no e ↦ omega (arith, hit-other k j e, I .linked-within k)
+    ]
+
+    busy : (k : ℕ) → s .adder k ≡ none → k ≢ j
+    busy k e z = Option·none-ne-some w (cc (I .adders .to w j f))
+
+    -- the prerequisite is finished
+    pub link-finished-keeps : s .label place ≡ finished → Invariant (linkFinished s j)
+    link-finished-keeps ready = record {
+      adders = I .adders;
+      finishers = I .finishers;
+      held-executing = I .held-executing;
+      held-by = I .held-by;
+      finisher-finished = I .finisher-finished;
+      arcs-within = I .arcs-within;
+      dependents-there = I .dependents-there;
+      finisher-done = I .finisher-done;
+      served-none = I .served-none;
+      served-within = I .served-within;
+      count-within = I .count-within;
+      prerequisites-there = I .prerequisites-there;
+      new-dependents = I .new-dependents;
+      new-prerequisites = I .new-prerequisites;
+      new-adder = I .new-adder;
+      entry = I .entry;
+      gate-within = I .gate-within;
+      gate-new = I .gate-new;
+      gate-adding = I .gate-adding;
+      gate-settled = I .gate-settled;
+      queued = I .queued;
+      balance = λ k. omega (arith, I .balance k);
+      arcs = λ p k u. elim (ℕ-discrete k j) [
+        | yes e ↦ rw e (omega (arith, reach-at p, I .arcs p j u, hit-other p place (λ z. u (ap (s .label) z ∙ ready))))
+        | no e ↦ omega (arith, reach-off p k e, I .arcs p k u)
+      ];
+      linked-within = linked-further;
+      adder-done = λ k e. omega (arith, hit-other k j (busy k e), I .adder-done k e);
+    }
+
+    -- the prerequisite is not finished
+    module _ (unready : s .label place ≢ finished) where
+      below : place < s .size
+      below = I .prerequisites-there j .at (s .linked j) h
+
+      abbrev after : State
+      after = linkDependent s j place
+
+      arcs-at : (k : ℕ) → unserved after place k ≡ unserved s place k + hit k j
+      arcs-at k = rw (update-same (s .dependents) place (s .dependents place ++ (j ∷ [])))
+          (occurrences-drop-snoc k (s .dependents place) (s .served place) j (I .served-within place))
+
+      arcs-off : (r k : ℕ) → r ≢ place → unserved after r k ≡ unserved s r k
+      arcs-off r k e = rw (update-other (s .dependents) place (s .dependents place ++ (j ∷ [])) r e) refl
+
+      pub link-dependent-keeps : Invariant after
+      link-dependent-keeps = record {
+        adders = I .adders;
+        finishers = I .finishers;
+        held-executing = I .held-executing;
+        held-by = I .held-by;
+        finisher-finished = I .finisher-finished;
+        served-none = I .served-none;
+        count-within = I .count-within;
+        prerequisites-there = I .prerequisites-there;
+        new-prerequisites = I .new-prerequisites;
+        new-adder = I .new-adder;
+        entry = I .entry;
+        gate-within = I .gate-within;
+        gate-new = I .gate-new;
+        gate-adding = I .gate-adding;
+        gate-settled = I .gate-settled;
+        queued = I .queued;
+        finisher-done = λ r e g. rw (update-other (s .dependents) place (s .dependents place ++ (j ∷ [])) r
+            (λ z. unready (cc))) (I .finisher-done r e g);
+        served-within = λ r. elim (ℕ-discrete r place) [
+          | yes e ↦ rw (e, update-same (s .dependents) place (s .dependents place ++ (j ∷ [])), length-append)
+              (omega (arith, I .served-within place))
+          | no e ↦ rw (update-other (s .dependents) place (s .dependents place ++ (j ∷ [])) r e) (I .served-within r)
+        ];
+        balance = λ k. omega (
+          arith,
+          I .balance k,
+          arcs-at k,
+          sum-at (s .size) (λ r. unserved s r k) (λ r. unserved after r k) place below (λ r e. arcs-off r k e),
+        );
+        arcs = λ r k u. elim (ℕ-discrete r place) [
+          | yes e ↦ elim (ℕ-discrete k j) [
+            | yes z ↦ rw (e, z) (omega (
+              arith,
+              arcs-at j,
+              reach-at place,
+              hit-same j,
+              hit-same place,
+              I .arcs place j unready,
+            ))
+            | no z ↦ rw e (omega (arith, arcs-at k, reach-off place k z, hit-other k j z, I .arcs place k unready))
+          ]
+          | no e ↦ elim (ℕ-discrete k j) [
+            | yes z ↦ rw z (omega (arith, arcs-off r j e, reach-at r, hit-other r place e, I .arcs r j u))
+            | no z ↦ omega (arith, arcs-off r k e, reach-off r k z, I .arcs r k u)
+          ]
+        ];
+        arcs-within = λ r k. elim (ℕ-discrete r place) [
+          | yes e ↦ elim (ℕ-discrete k j) [
+            | yes z ↦ rw (e, z) (omega (
+              arith,
+              arcs-at j,
+              reach-at place,
+              hit-same j,
+              hit-same place,
+              I .arcs place j unready,
+              occurrences-take-le place (s .prerequisites j) (s .linked j + hit j j),
+            ))
+            | no z ↦ rw e (omega (arith, arcs-at k, hit-other k j z, I .arcs-within place k))
+          ]
+          | no e ↦ omega (arith, arcs-off r k e, I .arcs-within r k)
+        ];
+        dependents-there = λ r. record {
+          at = λ i. elim (ℕ-discrete r place) [
+            | yes e ↦ rw (update-at (s .dependents) place (s .dependents place ++ (j ∷ [])) r e)
+                (below-snoc (s .size) (s .dependents place) j (I .dependents-there place) (adding-there s I w j f) i)
+            | no e ↦ rw (update-other (s .dependents) place (s .dependents place ++ (j ∷ [])) r e)
+                (I .dependents-there r .at i)
+          ];
+        };
+        linked-within = linked-further;
+        adder-done = λ k e. omega (arith, hit-other k j (busy k e), I .adder-done k e);
+        new-dependents = λ r e. update-other (s .dependents) place (s .dependents place ++ (j ∷ [])) r
+            (omega (arith, below)) ∙ I .new-dependents r e;
+      }
+
+  -- ---- settling
+  pub settle-keeps : (w j : ℕ) (b : Bool) → s .stage w ≡ adding j → s .linked j ≡ length (s .prerequisites j)
+      → s .entries j + bit b ≡ 1 - (s .count j - s .tally j) → Invariant (settle s w j b)
+  settle-keeps w j b f full hb = record {
+    held-executing = I .held-executing;
+    held-by = I .held-by;
+    finisher-finished = I .finisher-finished;
+    finisher-done = I .finisher-done;
+    served-none = I .served-none;
+    served-within = I .served-within;
+    arcs = I .arcs;
+    arcs-within = I .arcs-within;
+    dependents-there = I .dependents-there;
+    linked-within = I .linked-within;
+    prerequisites-there = I .prerequisites-there;
+    new-dependents = I .new-dependents;
+    new-prerequisites = I .new-prerequisites;
+    adders = owns-drop adding (s .stage) (s .adder) (I .adders) w j apart adding-injective f
+        (λ i e. omega (arith, ap tag e));
+    finishers = owns-frame finishing (s .stage) (s .finisher) (I .finishers) w apart
+        (λ i e. omega (arith, ap tag (sym f ∙ e))) (λ i e. omega (arith, ap tag e));
+    balance = λ k. elim (ℕ-discrete k j) [
+      | yes e ↦ rw e (omega (
+        arith,
+        update-same (s .count) j (s .count j - s .tally j),
+        update-same (s .tally) j 0,
+        I .balance j,
+      ))
+      | no e ↦ omega (
+        arith,
+        update-other (s .count) j (s .count j - s .tally j) k e,
+        update-other (s .tally) j 0 k e,
+        I .balance k,
+      )
+    ];
+    count-within = λ k. elim (ℕ-discrete k j) [
+      | yes e ↦ rw e (omega (arith, update-same (s .count) j (s .count j - s .tally j), I .count-within j))
+      | no e ↦ omega (arith, update-other (s .count) j (s .count j - s .tally j) k e, I .count-within k)
+    ];
+    adder-done = λ k a. elim (ℕ-discrete k j) [
+      | yes e ↦ rw e (full, update-same (s .tally) j 0)
+      | no e ↦ omega (
+        arith,
+        update-other (s .tally) j 0 k e,
+        I .adder-done k (sym (update-other (s .adder) j none k e) ∙ a),
+      )
+    ];
+    new-adder = λ k e. elim (ℕ-discrete k j) [
+      | yes z ↦ update-at (s .adder) j none k z
+      | no z ↦ update-other (s .adder) j none k z ∙ I .new-adder k e
+    ];
+    entry = λ k. elim (ℕ-discrete k j) [
+      | yes e ↦ rw e (omega (
+        arith,
+        update-same (s .count) j (s .count j - s .tally j),
+        update-same (s .gate) j 0,
+        hitIf-same b j,
+      ))
+      | no e ↦ omega (
+        arith,
+        update-other (s .count) j (s .count j - s .tally j) k e,
+        update-other (s .gate) j 0 k e,
+        hitIf-other b k j e,
+        I .entry k,
+      )
+    ];
+    gate-within = λ k. elim (ℕ-discrete k j) [
+      | yes e ↦ rw e (omega (arith, update-same (s .gate) j 0))
+      | no e ↦ omega (arith, update-other (s .gate) j 0 k e, I .gate-within k)
+    ];
+    gate-new = λ k e. elim (ℕ-discrete k j) [
+      | yes z ↦ absurd (Option·none-ne-some w (cc (I .adders .to w j f, I .new-adder k e)))
+      | no z ↦ update-other (s .gate) j 0 k z ∙ I .gate-new k e
+    ];
+    gate-adding = λ k v a. elim (ℕ-discrete k j) [
+      | yes e ↦ absurd (Option·none-ne-some v (cc (update-at (s .adder) j none k e)))
+      | no e ↦ update-other (s .gate) j 0 k e ∙ I .gate-adding k v (cc (update-other (s .adder) j none k e))
+    ];
+    gate-settled = λ k l a. elim (ℕ-discrete k j) [
+      | yes e ↦ update-at (s .gate) j 0 k e
+      | no e ↦ update-other (s .gate) j 0 k e ∙ I .gate-settled k l (cc (update-other (s .adder) j none k e))
+    ];
+    queued = λ k. omega (arith, occurrences-enqueue b (s .queue) j k, I .queued k);
+  }
+
+-- whether a settled job is queued is right
+module _ (x : State) (I : Invariant x) (w j : ℕ) (f : x .stage w ≡ adding j)
+    (full : x .linked j ≡ length (x .prerequisites j)) where
+  abbrev left : ℕ
+  left = x .count j - x .tally j
+
+  abbrev listing : ℕ
+  listing = length (x .prerequisites j)
+
+  by-tests : (a : Bool) → eqb left 0 ≡ a → (b : Bool) → ltb 0 (x .tally j) ≡ b → (c : Bool) → eqb listing 0 ≡ c
+      → x .entries j + bit (a && (b || c)) ≡ 1 - left
+  by-tests false p b q c r = let more : left ≢ 0 = eqb-false left 0 p in omega (arith, I .entry j)
+  by-tests true p true q c r =
+      omega (
+        arith,
+        I .entry j,
+        I .balance j,
+        I .gate-adding j w (I .adders .to w j f),
+        eqb-true left 0 p,
+        ltb-true 0 (x .tally j) q,
+      )
+  by-tests true p false q true r =
+      omega (
+        arith,
+        I .entry j,
+        I .balance j,
+        I .gate-adding j w (I .adders .to w j f),
+        eqb-true left 0 p,
+        eqb-true listing 0 r,
+      )
+  by-tests true p false q false r =
+      let more : listing ≢ 0 = eqb-false listing 0 r in
+      omega (
+        arith,
+        I .entry j,
+        I .balance j,
+        I .gate-adding j w (I .adders .to w j f),
+        eqb-true left 0 p,
+        ltb-false 0 (x .tally j) q,
+      )
+
+  pub settles-right : x .entries j + bit (settles left (x .tally j) listing) ≡ 1 - left
+  settles-right = by-tests (eqb left 0) refl (ltb 0 (x .tally j)) refl (eqb listing 0) refl

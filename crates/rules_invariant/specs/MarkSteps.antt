@@ -1,0 +1,253 @@
+-- Handing out and marking by the rules keep step with the maps. Assumes nothing.
+use mathlib.Core.Path.{_≡_, refl, sym, ap, _∙_}
+use mathlib.Core.Logic.{_≢_}
+use mathlib.Core.Bool.{Bool, true, false}
+use mathlib.Core.Option.{none, some}
+use mathlib.Core.List.{List, [], _∷_, _++_}
+use Prim.Native.Nat.{ℕ, _+_, _-_, _<_}
+use native.Mathlib.Omega.{arith}
+use native.Mathlib.Decide.{ℕ-discrete}
+use lib.ListN.{length, getD, set, length-set}
+use Rattle.terms.specs.Base.{update, occurrences, contains}
+use Rattle.terms.specs.Terms.{Label, executing, finished}
+use Rattle.terms.specs.declared.Sizes.{Sizes}
+use Rattle.rules.specs.Rules.{Job, idle, marking, notifying, Graph, noJob, job, withLabel, marked, handedOut}
+use Rattle.linearization.specs.Calls.{Pending, Reading, becomes, finishEnded}
+use Rattle.rules_invariant.specs.Base.{update-same, update-other, hit, hit-same, occurrences-cons}
+use Rattle.rules_invariant.specs.State.{apart, finishing, State, hand, mark, close}
+use Rattle.rules_invariant.specs.Invariant.{Invariant, finished-not-unexecuted, executing-not-finished}
+use Rattle.rules_invariant.specs.Invariant.{entered-there}
+use Rattle.rules_invariant.specs.Invariant.{held-there}
+use Rattle.rules_invariant.specs.Finishing.{head-waits, hand-keeps, mark-keeps, close-keeps}
+use Rattle.rules_invariant.specs.Names.{Extends, extends-set, contains-snoc}
+use Rattle.rules_invariant.specs.Relation.{Kept, known-keeps, JobRel, FinishEnded, set-all}
+use Rattle.rules_invariant.specs.Turns.{Next, own-stage, workers-after}
+
+module _ (s : Sizes) (g : Graph) (r : Reading) (x : State) (K : Kept s g r x) (I : Invariant x) (w : ℕ) where
+  -- ---- a job's label changes
+  module _ (j : ℕ) (there : j < length (g .jobs)) (l : Label) where
+    abbrev relabelled : List Job
+    relabelled = set (g .jobs) j (withLabel (job g j) l)
+
+    pub relabelled-extends : Extends (g .jobs) relabelled
+    relabelled-extends = extends-set (g .jobs) j (withLabel (job g j) l) refl refl
+
+    pub relabelled-length : length relabelled ≡ length (g .jobs)
+    relabelled-length = length-set (g .jobs) j (withLabel (job g j) l)
+
+    pub relabelled-jobs : (k : ℕ)
+        → JobRel relabelled (x .size) k (update (x .label) j l k) (x .count k) (x .dependents k) (x .prerequisites k)
+        (getD relabelled k noJob)
+    relabelled-jobs = set-all (λ k u.
+        JobRel relabelled (x .size) k (update (x .label) j l k) (x .count k) (x .dependents k) (x .prerequisites k) u)
+        (g .jobs) j (withLabel (job g j) l) noJob there
+        (let o = K .jobs j in record {
+          label = sym (update-same (x .label) j l);
+          count = o .count;
+          dependents = o .dependents;
+          known = known-keeps relabelled-extends (o .known);
+        })
+        (λ k u. let o = K .jobs k in record {
+          label = o .label ∙ sym (update-other (x .label) j l k u);
+          count = o .count;
+          dependents = o .dependents;
+          known = known-keeps relabelled-extends (o .known);
+        })
+
+  -- ---- a get
+  pub handing : (j : ℕ) (q : List ℕ) → g .workers w .call ≡ idle → g .queue ≡ j ∷ q → Next s g x (handedOut g w j q) r
+  handing j q f e =
+      let head : x .queue ≡ j ∷ q = sym (K .queue) ∙ e in
+      let has : (k : ℕ) → occurrences k (g .queue) ≡ hit k j + occurrences k q =
+      (λ k. ap (occurrences k) e ∙ occurrences-cons k j q) in
+      let there : j < length (g .jobs) =
+      omega (
+        arith,
+        K .size,
+        entered-there x I j
+            (omega (arith, has j, hit-same j, I .queued j, ap (occurrences j) (K .queue))),
+      ) in
+      let y : State = hand x w j q in
+      let further : Extends (g .jobs) (relabelled j there executing) = relabelled-extends j there executing in
+      let longer : length (relabelled j there executing) ≡ length (g .jobs) = relabelled-length j there executing in
+      let own : r .pending w ≡ Pending.idle = rw f at (K .workers w .paced) in
+      record {
+        state = y;
+        invariant = hand-keeps x I w j q head;
+        grown = λ k. omega (arith, has k);
+        kept = record {
+          jobs-room = omega (arith, longer, K .jobs-room);
+          arcs-room = K .arcs-room;
+          size = longer ∙ K .size;
+          queue = refl;
+          jobs = relabelled-jobs j there executing;
+          workers = λ v. rw (← (same-pending v (r .pending w) refl))
+              (workers-after s g r x K I w (handedOut g w j q) y (r .pending w) (record { held = some j; call = idle })
+              further (omega (arith, longer))
+              (record {
+                held = sym (update-same (x .held) w (some j));
+                stage = own-stage s g r x K I w idle f;
+                call = tt;
+                paced = own;
+              })
+              (λ u z. record {
+                held = sym (update-other (x .held) w (some j) u z);
+                stage = refl;
+                linked = λ k b. refl;
+                tally = λ k b. refl;
+                served = λ p b. refl;
+                dependents = λ p. omega arith;
+              }) v);
+          added = λ name b. let o = K .added name b in
+              record { job = o .job; found = further .found _ _ (o .found); ended = o .ended };
+          finished = λ name b.
+              let o = K .finished name b in
+              record {
+                job = o .job;
+                found = further .found _ _ (o .found);
+                ended = o .ended;
+                finished = update-other (x .label) j executing (o .job)
+                    (λ z. finished-not-unexecuted (cc (head-waits x I w j q head, o .finished))) ∙ o .finished;
+              };
+        };
+      }
+    where
+      same-pending : (v : ℕ) (p : Pending) → r .pending w ≡ p → update (r .pending) w p v ≡ r .pending v
+      same-pending v p z = elim (ℕ-discrete v w) [
+        | yes u ↦ rw u (update-same (r .pending) w p ∙ sym z)
+        | no u ↦ update-other (r .pending) w p v u
+      ]
+
+  -- ---- the mark
+  module _ (p : ℕ) (f : g .workers w .call ≡ marking) (e : g .workers w .held ≡ some p) where
+    marked-held : x .held w ≡ some p
+    marked-held = sym (K .workers w .held) ∙ e
+
+    marked-there : p < length (g .jobs)
+    marked-there = omega (arith, K .size, held-there x I w p marked-held)
+
+    marked-stage : x .stage w ≡ apart
+    marked-stage = own-stage s g r x K I w marking f
+
+    marked-unserved : x .served p ≡ 0
+    marked-unserved = I .served-none p (λ z. executing-not-finished (cc (I .held-executing w p marked-held)))
+
+    pub marked-paced : r .pending w ≡ Pending.finishing (job g p .name) 0
+    marked-paced = rw e at (rw f at (K .workers w .paced))
+
+    further : Extends (g .jobs) (relabelled p marked-there finished)
+    further = relabelled-extends p marked-there finished
+
+    longer : length (relabelled p marked-there finished) ≡ length (g .jobs)
+    longer = relabelled-length p marked-there finished
+
+    -- a finish that had ended is of another job
+    another : (name : ℕ) (o : FinishEnded (g .jobs) (x .label) (x .finisher) name) → o .job ≢ p
+    another name o z = executing-not-finished (cc (I .held-executing w p marked-held, o .finished))
+
+    pub marking-on : 0 < length (job g p .dependents)
+        → Next s g x (marked g w p (notifying p 0)) (becomes r w (Pending.finishing (job g p .name) 1))
+    marking-on h = record {
+      state = mark x w p;
+      invariant = mark-keeps x I w p marked-stage marked-held;
+      grown = λ k. omega arith;
+      kept = record {
+        jobs-room = omega (arith, longer, K .jobs-room);
+        arcs-room = K .arcs-room;
+        size = longer ∙ K .size;
+        queue = K .queue;
+        jobs = relabelled-jobs p marked-there finished;
+        workers = workers-after s g r x K I w (marked g w p (notifying p 0)) (mark x w p)
+            (Pending.finishing (job g p .name) 1) (record { held = none; call = notifying p 0 })
+            further (omega (arith, longer))
+            (record {
+              held = sym (update-same (x .held) w none);
+              stage = update-same (x .stage) w (finishing p);
+              call = record {
+                there = omega (arith, longer, marked-there);
+                place = sym marked-unserved;
+                left = omega (arith, ap length (K .jobs p .dependents));
+              };
+              paced = ap (λ (z : ℕ). Pending.finishing z 1) (sym (further .name p marked-there));
+            })
+            (λ v z. record {
+              held = sym (update-other (x .held) w none v z);
+              stage = sym (update-other (x .stage) w (finishing p) v z);
+              linked = λ k b. refl;
+              tally = λ k b. refl;
+              served = λ q b. refl;
+              dependents = λ q. omega arith;
+            });
+        added = λ name b. let o = K .added name b in
+            record { job = o .job; found = further .found _ _ (o .found); ended = o .ended };
+        finished = λ name b.
+            let o = K .finished name b in
+            record {
+              job = o .job;
+              found = further .found _ _ (o .found);
+              finished = update-other (x .label) p finished (o .job) (another name o) ∙ o .finished;
+              ended = update-other (x .finisher) p (some w) (o .job) (another name o) ∙ o .ended;
+            };
+      };
+    }
+
+    abbrev ended-state : State
+    ended-state = close (mark x w p) w p
+
+    was-finished : (name : ℕ) (c : Bool) → contains name (r .finished) ≡ c
+        → contains name (r .finished ++ (job g p .name ∷ [])) ≡ true
+        → FinishEnded (relabelled p marked-there finished) (ended-state .label) (ended-state .finisher) name
+    was-finished name true c b =
+        let o = K .finished name c in
+        record {
+          job = o .job;
+          found = further .found _ _ (o .found);
+          finished = update-other (x .label) p finished (o .job) (another name o) ∙ o .finished;
+          ended = update-other (update (x .finisher) p (some w)) p none (o .job) (another name o)
+              ∙ update-other (x .finisher) p (some w) (o .job) (another name o) ∙ o .ended;
+        }
+    was-finished name false c b =
+        let z : name ≡ job g p .name = contains-snoc name (job g p .name) (r .finished) b c in
+        record {
+          job = p;
+          found = further .found name p (rw z (K .jobs p .known .named (omega (arith, K .size, marked-there))));
+          finished = update-same (x .label) p finished;
+          ended = update-same (update (x .finisher) p (some w)) p none;
+        }
+
+    pub marking-end : length (job g p .dependents) ≡ 0
+        → Next s g x (marked g w p idle) (becomes (finishEnded r (job g p .name)) w Pending.idle)
+    marking-end h = record {
+      state = ended-state;
+      grown = λ k. omega arith;
+      invariant = close-keeps (mark x w p) (mark-keeps x I w p marked-stage marked-held) w p
+          (update-same (x .stage) w (finishing p))
+          (omega (arith, ap length (K .jobs p .dependents)));
+      kept = record {
+        jobs-room = omega (arith, longer, K .jobs-room);
+        arcs-room = K .arcs-room;
+        size = longer ∙ K .size;
+        queue = K .queue;
+        jobs = relabelled-jobs p marked-there finished;
+        workers = workers-after s g r x K I w (marked g w p idle) ended-state Pending.idle
+            (record { held = none; call = idle }) further (omega (arith, longer))
+            (record {
+              held = sym (update-same (x .held) w none);
+              stage = update-same (update (x .stage) w (finishing p)) w apart;
+              call = tt;
+              paced = refl;
+            })
+            (λ v z. record {
+              held = sym (update-other (x .held) w none v z);
+              stage = sym (update-other (update (x .stage) w (finishing p)) w apart v z
+                  ∙ update-other (x .stage) w (finishing p) v z);
+              linked = λ k b. refl;
+              tally = λ k b. refl;
+              served = λ q b. refl;
+              dependents = λ q. omega arith;
+            });
+        added = λ name b. let o = K .added name b in
+            record { job = o .job; found = further .found _ _ (o .found); ended = o .ended };
+        finished = λ name b. was-finished name (contains name (r .finished)) refl b;
+      };
+    }

@@ -1,0 +1,180 @@
+-- How the graph and its reading stand to the maps: what each job and each worker is there, and what follows when one of
+-- them changes. Assumes nothing.
+use mathlib.Core.Path.{_≡_, refl, sym, _∙_}
+use mathlib.Core.Logic.{_≢_}
+use mathlib.Core.Bool.{true, false}
+use mathlib.Core.Option.{Option, none, some}
+use mathlib.Core.List.{List, [], _∷_, _++_}
+use Prim.Native.Nat.{ℕ, _+_, _-_, _≤_, _<_}
+use native.Mathlib.Omega.{arith}
+use native.Mathlib.Decide.{ℕ-discrete, decLt}
+use lib.ListN.{length, getD, set, length-append, List·getD-append, List·getD-eq-default}
+use lib.Seq.{getD-set-same, getD-set-other, getD-append-seam}
+use Rattle.terms.specs.Base.{contains}
+use Rattle.terms.specs.Terms.{Label, finished, Arguments, listed, argumentsWrong, mostNames}
+use Rattle.terms.specs.declared.Sizes.{Sizes}
+use Rattle.rules.specs.Rules.{Job, Call, idle, looking, linking, marking, notifying, Worker, Graph, noJob, job, at}
+use Rattle.rules.specs.Rules.{seek}
+use Rattle.rules.specs.Sound.{Looking}
+use Rattle.linearization.specs.Calls.{Pending, Reading}
+use Rattle.rules_history.specs.History.{PacedCall}
+use Rattle.rules_invariant.specs.State.{Stage, apart, adding, finishing, State}
+use Rattle.rules_invariant.specs.Invariant.{Invariant}
+use Rattle.rules_invariant.specs.Names.{Extends, looking-keeps}
+
+-- ---- a job
+-- its name is found at its number, and its listed names at the numbers of its prerequisites
+pub record Known (l : List Job) (n k : ℕ) (numbers : List ℕ) (name : ℕ) (names : List ℕ) : Type 0 where
+  pub named : k < n → seek name l 0 ≡ at k
+  pub same-length : length names ≡ length numbers
+  pub short : length names ≤ mostNames
+  pub found : (i : ℕ) → i < length names → seek (getD names i 0) l 0 ≡ at (getD numbers i 0)
+
+pub known-keeps : {l h : List Job} {n k : ℕ} {numbers : List ℕ} {name : ℕ} {names : List ℕ} → Extends l h
+    → Known l n k numbers name names → Known h n k numbers name names
+known-keeps x o = record {
+  named = λ r. x .found _ _ (o .named r);
+  same-length = o .same-length;
+  short = o .short;
+  found = λ i r. x .found _ _ (o .found i r);
+}
+
+pub record JobRel (l : List Job) (n k : ℕ) (now : Label) (left : ℕ) (arcs numbers : List ℕ) (x : Job) : Type 0 where
+  pub label : x .label ≡ now
+  pub count : x .count ≡ left
+  pub dependents : x .dependents ≡ arcs
+  pub known : Known l n k numbers (x .name) (x .list)
+
+abbrev pub jobRel : List Job → State → ℕ → Job → Type 0
+jobRel l s k x = JobRel l (s .size) k (s .label k) (s .count k) (s .dependents k) (s .prerequisites k) x
+
+-- ---- a worker
+abbrev pub stageOf : Call → Stage
+stageOf idle = apart
+stageOf (looking a i) = apart
+stageOf (linking a j i t) = adding j
+stageOf marking = apart
+stageOf (notifying p k) = finishing p
+
+pub record LinkRel (l : List Job) (done tallies : ℕ → ℕ) (a : Arguments) (j i t : ℕ) : Type 0 where
+  pub right : argumentsWrong a ≡ false
+  pub there : j < length l
+  pub list : getD l j noJob .list ≡ listed a
+  pub place : i ≡ done j
+  pub tallied : t ≡ tallies j
+
+pub record NotifyRel (l : List Job) (done : ℕ → ℕ) (arcs : ℕ → List ℕ) (p k : ℕ) : Type 0 where
+  pub there : p < length l
+  pub place : k ≡ done p
+  pub left : k < length (arcs p)
+
+abbrev pub CallRel : Graph → State → Call → Type 0
+CallRel g s idle = Unit {0}
+CallRel g s (looking a i) = Looking g a i
+CallRel g s (linking a j i t) = LinkRel (g .jobs) (s .linked) (s .tally) a j i t
+CallRel g s marking = Unit {0}
+CallRel g s (notifying p k) = NotifyRel (g .jobs) (s .served) (s .dependents) p k
+
+pub record WorkerRel (g : Graph) (s : State) (v : ℕ) (p : Pending) (x : Worker) : Type 0 where
+  pub held : x .held ≡ s .held v
+  pub stage : s .stage v ≡ stageOf (x .call)
+  pub call : CallRel g s (x .call)
+  pub paced : PacedCall g (x .held) (x .call) p
+
+-- what another worker's call rests on is the same in two states
+pub record Same (s t : State) (v : ℕ) : Type 0 where
+  pub held : s .held v ≡ t .held v
+  pub stage : s .stage v ≡ t .stage v
+  pub linked : (j : ℕ) → s .stage v ≡ adding j → s .linked j ≡ t .linked j
+  pub tally : (j : ℕ) → s .stage v ≡ adding j → s .tally j ≡ t .tally j
+  pub served : (p : ℕ) → s .stage v ≡ finishing p → s .served p ≡ t .served p
+  pub dependents : (p : ℕ) → length (s .dependents p) ≤ length (t .dependents p)
+
+module _ (g h : Graph) (s t : State) (x : Extends (g .jobs) (h .jobs)) (longer : length (g .jobs) ≤ length (h .jobs))
+    (v : ℕ) (same : Same s t v) where
+  call-keeps : (c : Call) → s .stage v ≡ stageOf c → CallRel g s c → CallRel h t c
+  call-keeps idle e r = tt
+  call-keeps (looking a i) e r = looking-keeps g h x a i r
+  call-keeps (linking a j i u) e r = record {
+    right = r .right;
+    there = omega (arith, r .there);
+    list = x .list j (r .there) ∙ r .list;
+    place = r .place ∙ same .linked j e;
+    tallied = r .tallied ∙ same .tally j e;
+  }
+  call-keeps marking e r = tt
+  call-keeps (notifying p k) e r = record {
+    there = omega (arith, r .there);
+    place = r .place ∙ same .served p e;
+    left = omega (arith, r .left, same .dependents p);
+  }
+
+  paced-keeps : (o : Option ℕ) (c : Call) (p : Pending) → ((j : ℕ) → o ≡ some j → j < length (g .jobs)) → CallRel g s c
+      → PacedCall g o c p → PacedCall h o c p
+  paced-keeps o idle p there r e = e
+  paced-keeps o (looking a i) p there r e = e
+  paced-keeps o (linking a j i u) p there r e = (e .0, e .1 ∙ sym (x .name j (r .there)))
+  paced-keeps none marking p there r e = e
+  paced-keeps (some j) marking p there r e = rw (x .name j (there j refl)) e
+  paced-keeps o (notifying q k) p there r e = rw (x .name q (r .there)) e
+
+  pub worker-keeps : (p : Pending) (y : Worker) → ((j : ℕ) → y .held ≡ some j → j < length (g .jobs))
+      → WorkerRel g s v p y → WorkerRel h t v p y
+  worker-keeps p y there o = record {
+    held = o .held ∙ same .held;
+    stage = sym (same .stage) ∙ o .stage;
+    call = call-keeps (y .call) (o .stage) (o .call);
+    paced = paced-keeps (y .held) (y .call) p there (o .call) (o .paced);
+  }
+
+-- ---- the calls that have ended
+-- an add of the name has ended: its job is found, and no add works on it
+pub record AddEnded (l : List Job) (by : ℕ → Option ℕ) (name : ℕ) : Type 0 where
+  pub job : ℕ
+  pub found : seek name l 0 ≡ at job
+  pub ended : by job ≡ none
+
+-- a finish of the name has ended: its job is found and finished, and no finish works on it
+pub record FinishEnded (l : List Job) (now : ℕ → Label) (by : ℕ → Option ℕ) (name : ℕ) : Type 0 where
+  pub job : ℕ
+  pub found : seek name l 0 ≡ at job
+  pub finished : now job ≡ finished
+  pub ended : by job ≡ none
+
+-- ---- the whole
+pub record Kept (s : Sizes) (g : Graph) (r : Reading) (x : State) : Type 0 where
+  pub jobs-room : length (g .jobs) ≤ s .jobs
+  pub arcs-room : g .reserved ≤ s .arcs
+  pub size : length (g .jobs) ≡ x .size
+  pub jobs : (k : ℕ) → jobRel (g .jobs) x k (job g k)
+  pub queue : g .queue ≡ x .queue
+  pub workers : (v : ℕ) → WorkerRel g x v (r .pending v) (g .workers v)
+  pub added : (name : ℕ) → contains name (r .added) ≡ true → AddEnded (g .jobs) (x .adder) name
+  pub finished : (name : ℕ) → contains name (r .finished) ≡ true → FinishEnded (g .jobs) (x .label) (x .finisher) name
+
+pub record Reached (s : Sizes) (g : Graph) (r : Reading) (e : ℕ → ℕ) : Type 0 where
+  pub state : State
+  pub invariant : Invariant state
+  pub kept : Kept s g r state
+  pub entries : (k : ℕ) → e k ≡ state .entries k
+
+-- ---- a list changed at one place, or longer by one
+pub set-all : {A : Type 0} (P : ℕ → A → Type 0) (l : List A) (j : ℕ) (x d : A) → j < length l → P j x
+    → ((k : ℕ) → k ≢ j → P k (getD l k d))
+    → (k : ℕ) → P k (getD (set l j x) k d)
+set-all P l j x d h a b k = elim
+    (ℕ-discrete k j) [ yes e ↦ rw (e, getD-set-same l j x d h) a | no e ↦ rw (getD-set-other l j k x d e) (b k e) ]
+
+pub snoc-all : {A : Type 0} (P : ℕ → A → Type 0) (l : List A) (x d : A) → P (length l) x
+    → ((k : ℕ) → k ≢ length l → P k (getD l k d))
+    → (k : ℕ) → P k (getD (l ++ (x ∷ [])) k d)
+snoc-all P l x d a b k = elim (ℕ-discrete k (length l)) [
+  | yes e ↦ rw (e, getD-append-seam l x [] d) a
+  | no e ↦ elim (decLt k (length l)) [
+    | yes z ↦ rw (List·getD-append l (x ∷ []) d k z) (b k e)
+    | no z ↦ rw (
+      List·getD-eq-default (l ++ (x ∷ [])) d {n = k} (omega (arith, length-append l (x ∷ []))),
+      ← (List·getD-eq-default l d {n = k} (omega arith)),
+    ) (b k e)
+  ]
+]

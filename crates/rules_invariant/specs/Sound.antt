@@ -1,0 +1,162 @@
+-- Every graph that a history reaches is sound: rooms, names, dependents, the queue, the holds and the calls (document
+-- 01,
+-- "Steps"). Assumes nothing.
+use mathlib.Core.Path.{_≡_, refl, sym, ap, _∙_}
+use mathlib.Core.Option.{Option, none, some, Option·some-injective}
+use mathlib.Core.List.{List, [], _∷_}
+use Prim.Native.Nat.{ℕ, _+_, _-_, _<_}
+use native.Mathlib.Omega.{arith}
+use lib.ListN.{length, getD}
+use Rattle.terms.specs.Base.{occurrences}
+use Rattle.terms.specs.Terms.{unexecuted, finished, Arguments}
+use Rattle.terms.specs.declared.Sizes.{Sizes}
+use Rattle.rules.specs.Rules.{Job, noJob, Call, idle, looking, linking, marking, notifying, Graph, job, settles}
+use Rattle.rules.specs.Sound as rules
+use Rattle.rules.specs.Sound.{startedBy, started, Finished, MayQueue, Linking, Notifying, CallSound}
+use Rattle.linearization.specs.Calls.{Reading}
+use Rattle.rules_history.specs.History.{History}
+use Rattle.rules_invariant.specs.Base.{sum, sum-same, sum-plus, sum-first, sum-ones, sum-gap, sum-zero}
+use Rattle.rules_invariant.specs.Base.{sum-occurrences}
+use Rattle.rules_invariant.specs.State.{State, adding, finishing, bit}
+use Rattle.rules_invariant.specs.Invariant.{Invariant, startedBy-none, once, entered-there, held-there}
+use Rattle.rules_invariant.specs.Invariant.{all-finished}
+use Rattle.rules_invariant.specs.Names.{at-injective}
+use Rattle.rules_invariant.specs.Relation.{Kept, LinkRel, NotifyRel}
+use Rattle.rules_invariant.specs.Turns.{own-stage, own-call}
+use Rattle.rules_invariant.specs.Linking.{settles-right}
+use Rattle.rules_invariant.specs.LinkSteps.{long-list}
+use Rattle.rules_invariant.specs.NotifySteps.{notify-counted}
+use Rattle.rules_invariant.specs.Start.{reached}
+
+started-sum : (l : List Job) → started l ≡ sum (length l) (λ j. startedBy (getD l j noJob .label))
+unfolding started
+started-sum [] = sym (sum-zero 0 (λ j. startedBy unexecuted) (λ j. refl))
+started-sum (x ∷ l) =
+    omega (arith, sum-first (length l) (λ j. startedBy (getD (x ∷ l) j noJob .label)), started-sum l)
+
+module _ (s : Sizes) (g : Graph) (r : Reading) (x : State) (K : Kept s g r x) (I : Invariant x) where
+  -- ---- the queue
+  pub in-queue : (j : ℕ) → occurrences j (g .queue) + startedBy (job g j .label) ≡ x .entries j
+  in-queue j = omega (arith, ap (occurrences j) (K .queue), ap startedBy (K .jobs j .label), I .queued j)
+
+  pub queue-there : (j : ℕ) → 0 < occurrences j (g .queue) → j < length (g .jobs)
+  queue-there j h = omega (arith, K .size, entered-there x I j (omega (arith, in-queue j)))
+
+  -- the jobs handed out and those in the queue are those that have entered it
+  all-entries : started (g .jobs) + length (g .queue) ≡ sum (length (g .jobs)) (x .entries)
+  all-entries =
+      let n : ℕ = length (g .jobs) in
+      let q : ℕ → ℕ = (λ j. occurrences j (g .queue)) in
+      let b : ℕ → ℕ = (λ j. startedBy (job g j .label)) in
+      omega (
+        arith,
+        started-sum (g .jobs),
+        sum-occurrences n (g .queue) queue-there,
+        sum-plus n q b,
+        sum-same n (x .entries) (λ j. q j + b j) (λ j h. in-queue j),
+      )
+
+  may-queue : (j : ℕ) → j < length (g .jobs) → x .entries j ≡ 0 → MayQueue g j
+  may-queue j h e = record {
+    unexecuted = startedBy-none (job g j .label) (omega (arith, in-queue j));
+    absent = omega (arith, in-queue j);
+    room = omega (arith, all-entries, sum-gap (length (g .jobs)) (x .entries) (once x I) j h e);
+  }
+
+  pub prerequisites-finished : (j : ℕ) → 0 < x .entries j → (i : ℕ) → i < length (job g j .list)
+      → Finished g (getD (job g j .list) i 0)
+  prerequisites-finished j h i l =
+      let p : ℕ = getD (x .prerequisites j) i 0 in
+      record {
+        job = p;
+        found = K .jobs j .known .found i l;
+        finished = K .jobs p .label ∙ all-finished x I j h i (omega (arith, K .jobs j .known .same-length));
+      }
+
+  -- ---- the calls
+  module _ (w : ℕ) where
+    linking-sound : (a : Arguments) (j i t : ℕ) → g .workers w .call ≡ linking a j i t → Linking g a j i t
+    linking-sound a j i t f =
+        let o : LinkRel (g .jobs) (x .linked) (x .tally) a j i t = own-call s g r x K I w (linking a j i t) f in
+        let at-stage : x .stage w ≡ adding j = own-stage s g r x K I w (linking a j i t) f in
+        let long : length (x .prerequisites j) ≡ a .count = long-list s g r x K I w a j i t f in
+        record {
+          right = o .right;
+          within = omega (arith, o .place, I .linked-within j);
+          there = o .there;
+          list = o .list;
+          tallied = omega (arith, o .place, o .tallied, I .balance j, I .count-within j);
+          covered = omega (arith, o .tallied, K .jobs j .count, I .balance j, I .linked-within j);
+          found = λ q h. record {
+            job = getD (x .prerequisites j) q 0;
+            found = rw (← (o .list)) (K .jobs j .known .found q (omega (arith, K .jobs j .known .same-length)));
+          };
+          queues = λ full test.
+              let left-eq : job g j .count - t ≡ x .count j - x .tally j =
+              omega (arith, K .jobs j .count, o .tallied) in
+              let same-test : settles (job g j .count - t) t (a .count)
+              ≡ settles (x .count j - x .tally j) (x .tally j) (length (x .prerequisites j))
+              = rw (left-eq, ← (o .tallied), long) refl in
+              may-queue j (o .there)
+              (omega (arith, settles-right x I w j at-stage (omega (arith, o .place)), ap bit (sym same-test ∙ test)));
+        }
+
+    notifying-sound : (p k : ℕ) → g .workers w .call ≡ notifying p k → Notifying g p k
+    notifying-sound p k f =
+        let o : NotifyRel (g .jobs) (x .served) (x .dependents) p k = own-call s g r x K I w (notifying p k) f in
+        let at-stage : x .stage w ≡ finishing p = own-stage s g r x K I w (notifying p k) f in
+        let j : ℕ = getD (job g p .dependents) k 0 in
+        let counted : 0 < x .count j = notify-counted s g r x K I w p k f in
+        let below : k < length (job g p .dependents) = omega (arith, o .left, ap length (K .jobs p .dependents)) in
+        record {
+          there = o .there;
+          finished = K .jobs p .label ∙ I .finisher-finished w p (I .finishers .to w p at-stage);
+          within = below;
+          counted = omega (arith, K .jobs j .count);
+          queues = λ one. may-queue j
+              (rw (K .jobs p .dependents) (omega (arith, K .size, I .dependents-there p .at k (o .left))))
+              (omega (arith, I .entry j, K .jobs j .count));
+        }
+
+    call-sound : (o : Option ℕ) (c : Call) → g .workers w .held ≡ o → g .workers w .call ≡ c → CallSound g o c
+    call-sound o idle e f = tt
+    call-sound o (looking a i) e f = own-call s g r x K I w (looking a i) f
+    call-sound o (linking a j i t) e f = linking-sound a j i t f
+    call-sound none marking e f = rw e at (rw f at (K .workers w .paced))
+    call-sound (some p) marking e f = tt
+    call-sound o (notifying p k) e f = notifying-sound p k f
+
+  pub is-sound : rules.Sound s g
+  is-sound = record {
+    jobs = K .jobs-room;
+    arcs = K .arcs-room;
+    names = λ i j h l e. at-injective i j
+        (sym (K .jobs i .known .named (omega (arith, K .size)))
+        ∙ rw e (K .jobs j .known .named (omega (arith, K .size))));
+    counts = λ j. omega (
+      arith,
+      K .jobs j .count,
+      I .count-within j,
+      K .jobs j .known .same-length,
+      K .jobs j .known .short,
+    );
+    dependents = λ p i h.
+        rw (K .jobs p .dependents) (omega
+        (arith, K .size, I .dependents-there p .at i (omega (arith, ap length (K .jobs p .dependents)))));
+    queue-there = queue-there;
+    queue-unexecuted = λ j h. startedBy-none (job g j .label) (omega (arith, in-queue j, once x I j));
+    queue-once = λ j. omega (arith, in-queue j, once x I j);
+    queue-ready = λ j h. prerequisites-finished j (omega (arith, in-queue j));
+    queue-room = omega (arith, all-entries, sum-ones (length (g .jobs)) (x .entries) (once x I));
+    held-there = λ w j e. omega (arith, K .size, held-there x I w j (sym (K .workers w .held) ∙ e));
+    held-executing = λ w j e. K .jobs j .label ∙ I .held-executing w j (sym (K .workers w .held) ∙ e);
+    held-once = λ v w j e f. sym (I .held-by v j (sym (K .workers v .held) ∙ e))
+        ∙ I .held-by w j (sym (K .workers w .held) ∙ f);
+    calls = λ w. call-sound w (g .workers w .held) (g .workers w .call) refl refl;
+    alone = λ v w j i t k u a b e f. Option·some-injective v w
+        (sym (I .adders .to v j (own-stage s g r x K I v (linking a j i t) e))
+        ∙ I .adders .to w j (own-stage s g r x K I w (linking b j k u) f));
+  }
+
+pub sound : {s : Sizes} {g : Graph} {r : Reading} {e : ℕ → ℕ} → History s g r e → rules.Sound s g
+sound {s} {g} {r} history = let o = reached history in is-sound s g r (o .state) (o .kept) (o .invariant)

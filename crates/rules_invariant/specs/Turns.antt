@@ -1,0 +1,115 @@
+-- What a step owes, what it leaves of the other workers, and the steps that change nothing but a worker's call. Assumes
+-- nothing.
+use mathlib.Core.Path.{_≡_, refl, sym, ap, _∙_}
+use mathlib.Core.Logic.{_≢_}
+use mathlib.Core.Option.{Option·some-injective}
+use Prim.Native.Nat.{ℕ, _+_, _-_, _≤_}
+use native.Mathlib.Omega.{arith}
+use native.Mathlib.Decide.{ℕ-discrete}
+use lib.ListN.{length}
+use Rattle.terms.specs.Base.{update, occurrences, contains}
+use Rattle.terms.specs.declared.Sizes.{Sizes}
+use Rattle.rules.specs.Rules.{Call, Worker, Graph, withCall}
+use Rattle.linearization.specs.Calls.{Pending, Reading, becomes}
+use Rattle.rules_history.specs.History.{PacedCall}
+use Rattle.rules_invariant.specs.Base.{update-same, update-other}
+use Rattle.rules_invariant.specs.State.{apart, adding, finishing, State}
+use Rattle.rules_invariant.specs.Invariant.{Invariant, held-there}
+use Rattle.rules_invariant.specs.Names.{Extends, extends-same}
+use Rattle.rules_invariant.specs.Relation.{Kept, WorkerRel, CallRel, stageOf, Same, worker-keeps}
+
+-- the state after a step from g and x to h, with the reading q
+pub record Next (s : Sizes) (g : Graph) (x : State) (h : Graph) (q : Reading) : Type 0 where
+  pub state : State
+  pub invariant : Invariant state
+  pub kept : Kept s h q state
+  pub grown : (k : ℕ) → state .entries k ≡ x .entries k + (occurrences k (h .queue) - occurrences k (g .queue))
+
+-- a reading with the same calls half done and the same ended ones
+pub record Alike (r q : Reading) : Type 0 where
+  pub pending : (v : ℕ) → r .pending v ≡ q .pending v
+  pub added : r .added ≡ q .added
+  pub finished : r .finished ≡ q .finished
+
+pub alike-same : (r : Reading) → Alike r r
+alike-same r = record { pending = λ v. refl; added = refl; finished = refl }
+
+pub retold : {s : Sizes} {g h : Graph} {x : State} {r q : Reading} → Alike r q → Next s g x h r → Next s g x h q
+retold {s} {g} {h} {x} {r} {q} a n =
+    let k = n .kept in
+    record {
+      state = n .state;
+      invariant = n .invariant;
+      grown = n .grown;
+      kept = record {
+        jobs-room = k .jobs-room;
+        arcs-room = k .arcs-room;
+        size = k .size;
+        jobs = k .jobs;
+        queue = k .queue;
+        workers = λ v. rw (← (a .pending v)) (k .workers v);
+        added = λ name e. k .added name (ap (contains name) (a .added) ∙ e);
+        finished = λ name e. k .finished name (ap (contains name) (a .finished) ∙ e);
+      };
+    }
+
+pub same-state : (x : State) (v : ℕ) → Same x x v
+same-state x v = record {
+  held = refl;
+  stage = refl;
+  linked = λ j e. refl;
+  tally = λ j e. refl;
+  served = λ p e. refl;
+  dependents = λ p. omega arith;
+}
+
+module _ (s : Sizes) (g : Graph) (r : Reading) (x : State) (K : Kept s g r x) (I : Invariant x) where
+  -- nothing changes
+  pub stays : Next s g x g r
+  stays = record { state = x; invariant = I; kept = K; grown = λ k. omega arith }
+
+  module _ (w : ℕ) where
+    pub own-stage : (c : Call) → g .workers w .call ≡ c → x .stage w ≡ stageOf c
+    own-stage c f = K .workers w .stage ∙ ap stageOf f
+
+    pub own-call : (c : Call) → g .workers w .call ≡ c → CallRel g x c
+    own-call c f = rw f at (K .workers w .call)
+
+    pub other-add : (j v i : ℕ) → v ≢ w → x .stage w ≡ adding j → x .stage v ≡ adding i → i ≢ j
+    other-add j v i h f e z = h (Option·some-injective v w (cc (I .adders .to w j f, I .adders .to v i e)))
+
+    pub other-finish : (p v i : ℕ) → v ≢ w → x .stage w ≡ finishing p → x .stage v ≡ finishing i → i ≢ p
+    other-finish p v i h f e z = h (Option·some-injective v w (cc (I .finishers .to w p f, I .finishers .to v i e)))
+
+    -- the workers after a change of w's
+    pub workers-after : (h : Graph) (y : State) (p : Pending) (z : Worker) → Extends (g .jobs) (h .jobs)
+        → length (g .jobs) ≤ length (h .jobs)
+        → WorkerRel h y w p z → ((v : ℕ) → v ≢ w → Same x y v) → (v : ℕ)
+        → WorkerRel h y v (update (r .pending) w p v) (update (g .workers) w z v)
+    workers-after h y p z e l own same v = elim (ℕ-discrete v w) [
+      | yes q ↦ rw (q, update-same (r .pending) w p, update-same (g .workers) w z) own
+      | no q ↦ rw (update-other (r .pending) w p v q, update-other (g .workers) w z v q)
+          (worker-keeps g h x y e l v (same v q) (r .pending v) (g .workers v)
+          (λ j u. omega (arith, K .size, held-there x I v j (sym (K .workers v .held) ∙ u))) (K .workers v))
+    ]
+
+    -- a call that works on no job becomes another
+    pub turned : (c : Call) (p : Pending) → x .stage w ≡ apart → stageOf c ≡ apart → CallRel (withCall g w c) x c
+        → PacedCall (withCall g w c) (g .workers w .held) c p → Next s g x (withCall g w c) (becomes r w p)
+    turned c p f e d q = record {
+      state = x;
+      invariant = I;
+      grown = λ k. omega arith;
+      kept = record {
+        jobs-room = K .jobs-room;
+        arcs-room = K .arcs-room;
+        size = K .size;
+        jobs = K .jobs;
+        queue = K .queue;
+        added = K .added;
+        finished = K .finished;
+        workers = workers-after (withCall g w c) x p (record { held = g .workers w .held; call = c })
+            (extends-same (g .jobs)) (omega arith)
+            (record { held = K .workers w .held; stage = f ∙ sym e; call = d; paced = q }) (λ v z. same-state x v);
+      };
+    }

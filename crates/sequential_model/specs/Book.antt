@@ -1,0 +1,165 @@
+-- The reference model: document 01's plain book, which is fed whole calls, one after another. It keeps the jobs in
+-- order of entry and each worker's hold; counts and readiness are worked out from the labels. Assumes nothing.
+use mathlib.Core.Path.{_≡_}
+use mathlib.Core.Bool.{Bool, true, false, _&&_, _||_, not}
+use mathlib.Core.List.{List, [], _∷_, _++_}
+use mathlib.Core.Option.{Option, none, some}
+use Prim.Native.Nat.{ℕ, zero, suc, _+_, _<_}
+use lib.Dec.{ltb, leb, eqb}
+use lib.ListN.{length, getD, set}
+use Rattle.terms.specs.Base.{pick, update}
+use Rattle.terms.specs.Terms.{Label, unexecuted, executing, finished, Arguments, listed, argumentsWrong, wrongArguments}
+use Rattle.terms.specs.Terms.{unknownName, namePresent, noRoom, alreadyHolding, notHeld}
+use Rattle.terms.specs.declared.Sizes.{Sizes}
+
+-- "the jobs in order of entry (name, list, class, grower, label)"
+pub record Entry : Type 0 where
+  pub name : ℕ
+  pub list : List ℕ
+  pub class : ℕ
+  pub grower : ℕ
+  pub label : Label
+
+-- "and each worker's hold": a job, by its number in order of entry, or none
+pub record Book : Type 0 where
+  pub jobs : List Entry
+  pub held : ℕ → Option ℕ
+
+unfoldable pub blank : Book
+blank = record { jobs = []; held = λ w. none }
+
+abbrev pub noEntry : Entry
+noEntry = record { name = 0; list = []; class = 0; grower = 0; label = unexecuted }
+
+abbrev pub entry : Book → ℕ → Entry
+entry b j = getD (b .jobs) j noEntry
+
+-- ---- what is worked out from the jobs
+-- a job has the name
+unfoldable pub known : ℕ → List Entry → Bool
+known name [] = false
+known name (x ∷ l) = eqb (x .name) name || known name l
+
+abbrev pub unfinished : Label → Bool
+unfinished unexecuted = true
+unfinished executing = true
+unfinished finished = false
+
+-- the name has a job that is not finished
+unfoldable pub awaited : ℕ → List Entry → Bool
+awaited name [] = false
+awaited name (x ∷ l) = (eqb (x .name) name && unfinished (x .label)) || awaited name l
+
+unfoldable pub awaitedNames : List Entry → List ℕ → ℕ
+awaitedNames jobs [] = 0
+awaitedNames jobs (x ∷ l) = pick (awaited x jobs) 1 0 + awaitedNames jobs l
+
+-- "A job's remaining count is how many listed names have jobs not finished"
+abbrev pub remaining : Book → ℕ → ℕ
+remaining b j = awaitedNames (b .jobs) (entry b j .list)
+
+-- "it is ready, and waits, if unexecuted with count 0"
+pub record Ready (b : Book) (j : ℕ) : Type 0 where
+  pub there : j < length (b .jobs)
+  pub unexecuted : entry b j .label ≡ unexecuted
+  pub none-left : remaining b j ≡ 0
+
+-- ---- whole calls, and how they end
+pub data Call : Type 0 where
+  add : ℕ → Arguments → Call
+  get : ℕ → Call
+  finish : ℕ → ℕ → Call
+
+-- a job is handed out by its number and its name
+pub data End : Type 0 where
+  accepted : End
+  noneReady : End
+  handed : ℕ → ℕ → End
+  refused : ℕ → ℕ → End
+
+-- the first place whose name no job has
+pub data Place : Type 0 where
+  nowhere : Place
+  at : ℕ → Place
+
+unfoldable pub firstUnknown : List Entry → List ℕ → ℕ → Place
+firstUnknown jobs [] i = nowhere
+firstUnknown jobs (x ∷ l) i = pick (known x jobs) (firstUnknown jobs l (suc i)) (at i)
+
+-- the names in the lists of all jobs
+unfoldable pub listedNames : List Entry → ℕ
+listedNames [] = 0
+listedNames (x ∷ l) = length (x .list) + listedNames l
+
+-- "8 if R jobs are there or the lists of all jobs and its own together have over A names"
+abbrev pub full : Sizes → Book → Arguments → Bool
+full s b a = leb (s .jobs) (length (b .jobs)) || ltb (s .arcs) (listedNames (b .jobs) + length (listed a))
+
+-- "Add: 5 by its arguments; else 6 with the first place whose name no job has; else 7 if its own name is there; else 8"
+unfoldable pub addKnown : Sizes → Book → Arguments → Place → End
+addKnown s b a (at i) = refused unknownName i
+addKnown s b a nowhere =
+    pick (known (a .name) (b .jobs)) (refused namePresent 0) (pick (full s b a) (refused noRoom 0) accepted)
+
+unfoldable pub addEnd : Sizes → Book → Arguments → End
+addEnd s b a =
+    pick (argumentsWrong a) (refused wrongArguments 0) (addKnown s b a (firstUnknown (b .jobs) (listed a) 0))
+
+-- "Finish: 11 unless the worker holds a job of that name"
+unfoldable pub finishEnd : Book → ℕ → Option ℕ → End
+finishEnd b name none = refused notHeld 0
+finishEnd b name (some j) = pick (eqb (entry b j .name) name) accepted (refused notHeld 0)
+
+-- "Get: 10 exactly if the worker holds a job. Else the answer is none ready, or a job ready in the book", under its own
+-- name
+pub data GetEnd (b : Book) : Option ℕ → End → Type 0 where
+  holding : {j : ℕ} → GetEnd b (some j) (refused alreadyHolding 0)
+  nothing : GetEnd b none noneReady
+  taken : (j : ℕ) → Ready b j → GetEnd b none (handed j (entry b j .name))
+
+-- how the book has a call end
+abbrev pub Ends : Sizes → Book → Call → End → Type 0
+Ends s b (add w a) e = e ≡ addEnd s b a
+Ends s b (get w) e = GetEnd b (b .held w) e
+Ends s b (finish w name) e = e ≡ finishEnd b name (b .held w)
+
+-- ---- what a call leaves; "A refused call changes nothing"
+abbrev pub labelled : Book → ℕ → Label → List Entry
+labelled b j l =
+    let x = entry b j in
+    set (b .jobs) j (record { name = x .name; list = x .list; class = x .class; grower = x .grower; label = l })
+
+-- "Otherwise that job becomes finished and the hold ends"
+unfoldable pub finishedBy : Book → ℕ → Option ℕ → Book
+finishedBy b w none = b
+finishedBy b w (some j) = record { jobs = labelled b j finished; held = update (b .held) w none }
+
+unfoldable pub next : Book → Call → End → Book
+next b (add w a) accepted =
+    record {
+      jobs = b .jobs ++ (record
+          { name = a .name; list = listed a; class = a .class; grower = a .grower; label = unexecuted } ∷ []);
+      held = b .held;
+    }
+next b (get w) (handed j name) = record { jobs = labelled b j executing; held = update (b .held) w (some j) }
+next b (finish w name) accepted = finishedBy b w (b .held w)
+next b (add w a) noneReady = b
+next b (add w a) (handed j name) = b
+next b (add w a) (refused n p) = b
+next b (get w) accepted = b
+next b (get w) noneReady = b
+next b (get w) (refused n p) = b
+next b (finish w name) noneReady = b
+next b (finish w name) (handed j other) = b
+next b (finish w name) (refused n p) = b
+
+-- a whole call with how it ended
+pub record Ended : Type 0 where
+  pub call : Call
+  pub end : End
+
+-- fed the calls one after another, the book has each end as it did, and is left as it is
+pub data Follows (s : Sizes) : Book → List Ended → Book → Type 0 where
+  done : {b : Book} → Follows s b [] b
+  feed : {b c : Book} {e : Ended} {l : List Ended} → Ends s b (e .call) (e .end)
+      → Follows s (next b (e .call) (e .end)) l c → Follows s b (e ∷ l) c

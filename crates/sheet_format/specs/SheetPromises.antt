@@ -1,0 +1,134 @@
+-- What is promised of job sheets: "A job sheet written and read back gives the same jobs, and one accepted sheet has
+-- one
+-- spelling" (demand 2; document 01, "Job sheets"), and document 01's cases of sheets. Each proof names where it was
+-- shown.
+-- `Bytes s` says that s is a list of bytes; `Words e` and `Below (2 ^ 32) rows` say that the numbers are 32-bit words,
+-- as those
+-- of every value of the declared types are. Nothing else is assumed.
+use Prim.Native.Nat.{ℕ, _+_, _*_, _-_, _≤_, _<_, _^_}
+use mathlib.Core.Path.{_≡_}
+use mathlib.Core.List.{List, _++_, map}
+use lib.ListN.{length, take, drop}
+use lib.Seq.{sets}
+use Rattle.sheet_format.specs.Number.{spelt}
+use Rattle.sheet_format.specs.Job.{Job, Below, Valid, encode, encodeSheet}
+use Rattle.sheet_format.specs.Decode.{job, decode, Sheet, jobs, decodeSheet, entryOf, readingOf, readSheet}
+use Rattle.sheet_format.specs.Decode.{rowWords}
+use Rattle.sheet_format.specs.Write.{jobOf, entriesOf, written, writeEntry, sheetWritten, writeSheet}
+use Rattle.sheet_format.specs.SheetCases.{Hold, FaultsHold, case-8, whole-sheets, rules, faults, cases-hold}
+use Rattle.sheet_format.specs.NumberLaws.{Bytes, NumberRead, NumberSpelt, number-there, number-back}
+use Rattle.sheet_format.specs.EntryTrip.{entry-there, entry-back}
+use Rattle.sheet_format.specs.SheetTrip.{Each, sheet-there, sheet-back, one-spelling}
+use Rattle.sheet_format.specs.WriteTrip.{Words, cleared, entry-written, entry-reading, sheet-written}
+use Rattle.sheet_format.specs.RewriteTrip.{entry-rewritten, sheet-rewritten, sheet-rewritten-exactly}
+use Rattle.sheet_format.specs.Refusals.{entry-refused, sheet-refused, rows-refused}
+use Rattle.sheet_format.specs.declared.Entry.{Entry}
+use Rattle.sheet_format.specs.declared.Read.{Read}
+use Rattle.sheet_format.specs.declared.Wrote.{Wrote}
+use Rattle.sheet_format.specs.declared.SheetRead.{SheetRead}
+use Rattle.sheet_format.specs.declared.SheetWrote.{SheetWrote}
+
+-- A NUMBER, at every width w
+
+-- A number that w bytes can hold, where it is spelt, is read, and the rest stands just past it.
+pub a-spelt-number-is-read : (w n at : ℕ) (s rest : List ℕ) → n < 256 ^ w → at ≤ length s
+    → drop at s ≡ spelt w n ++ rest
+    → NumberRead w s at n rest
+a-spelt-number-is-read = number-there
+
+-- What is read from w bytes is spelt by those bytes, and w bytes can hold it.
+pub a-read-number-is-spelt : (w at : ℕ) (s : List ℕ) → Bytes s → at + w ≤ length s → NumberSpelt w s at
+a-read-number-is-spelt = number-back
+
+-- AN ENTRY
+
+-- Where a valid job is spelt, whatever stands before and after it, that job is read, up to the end of its spelling.
+pub a-spelt-job-is-read : (j : Job) (s rest : List ℕ) (at : ℕ) → Valid j
+    → drop at s ≡ encode j ++ rest
+    → (decode s at ≡ job j (at + length (encode j))) × (drop (at + length (encode j)) s ≡ rest)
+a-spelt-job-is-read = entry-there
+
+-- Where a job is read, it is valid, its spelling stands there, and reading goes on just past it, inside the sheet.
+pub a-read-job-is-spelt : (s : List ℕ) (at : ℕ) (j : Job) (n : ℕ) → Bytes s → decode s at ≡ job j n
+    → Valid j × (drop at s ≡ encode j ++ drop n s) × (n ≡ at + length (encode j)) × (n ≤ length s)
+a-read-job-is-spelt = entry-back
+
+-- What the writer left of an entry is read back as that entry's job.
+pub a-written-entry-is-read : (e : Entry) (out : List ℕ) (start n : ℕ) → Words e
+    → writeEntry e out start .answer ≡ Wrote.Done n
+    → decode (writeEntry e out start .out) start ≡ job (jobOf e) n
+a-written-entry-is-read = entry-written
+
+-- The reader hands out the entry that was written, with the names past its count put to 0.
+pub a-written-entry-is-handed-out : (e : Entry) (out : List ℕ) (start n : ℕ) → Words e
+    → writeEntry e out start .answer ≡ Wrote.Done n
+    → readingOf (decode (writeEntry e out start .out) start) ≡ record { answer = Read.Job n; entry = cleared e }
+a-written-entry-is-handed-out = entry-reading
+
+-- An entry that was read, written again where there is room, is the bytes that were read.
+pub a-read-entry-is-written-the-same : (s : List ℕ) (at : ℕ) (j : Job) (n : ℕ) (out : List ℕ) (start : ℕ) → Bytes s
+    → decode s at ≡ job j n → start + (n - at) ≤ length out
+    → writeEntry (entryOf j) out start
+    ≡ written (Wrote.Done (start + (n - at))) (sets out start (take (n - at) (drop at s)))
+a-read-entry-is-written-the-same = entry-rewritten
+
+-- A SHEET
+
+-- Valid jobs that are spelt one after the other are read back, all of them and in order.
+pub a-spelt-sheet-is-read : (js : List Job) → Each Valid js → decodeSheet (encodeSheet js) ≡ jobs js
+a-spelt-sheet-is-read = sheet-there
+
+-- A sheet that is read is the spelling of its jobs, and they are valid.
+pub a-read-sheet-is-spelt : (s : List ℕ) (js : List Job) → Bytes s → decodeSheet s ≡ jobs js
+    → (encodeSheet js ≡ s) × Each Valid js
+a-read-sheet-is-spelt = sheet-back
+
+-- One accepted sheet has one spelling: two with the same jobs are the same bytes.
+pub one-sheet-one-spelling : (s t : List ℕ) (js : List Job) → Bytes s → Bytes t → decodeSheet s ≡ jobs js
+    → decodeSheet t ≡ jobs js → s ≡ t
+one-sheet-one-spelling = one-spelling
+
+-- What the writer left of a row of entries is read back as their jobs, all of them and in order.
+pub a-written-sheet-is-read : (rows out : List ℕ) (k n : ℕ) → Below (2 ^ 32) rows
+    → writeSheet rows out .answer ≡ SheetWrote.Done k n
+    → decodeSheet (take n (writeSheet rows out .out)) ≡ jobs (map jobOf (entriesOf rows))
+a-written-sheet-is-read = sheet-written
+
+-- A sheet that was read into rows, the filled rows written again where there is room, is the same bytes.
+pub a-read-sheet-is-written-the-same : (s : List ℕ) (js : List Job) (rows out : List ℕ) → Bytes s
+    → decodeSheet s ≡ jobs js
+    → rowWords * length js ≤ length rows → length s ≤ length out
+    → writeSheet (take (rowWords * length js) (readSheet (decodeSheet s) rows .rows)) out
+    ≡ sheetWritten (SheetWrote.Done (length js) (length s)) (sets out 0 s)
+a-read-sheet-is-written-the-same = sheet-rewritten
+
+-- The same for rows that the jobs fill exactly.
+pub a-read-sheet-is-written-the-same-exactly : (s : List ℕ) (js : List Job) (rows out : List ℕ) → Bytes s
+    → decodeSheet s ≡ jobs js → rowWords * length js ≡ length rows → length s ≤ length out
+    → writeSheet (readSheet (decodeSheet s) rows .rows) out
+    ≡ sheetWritten (SheetWrote.Done (length js) (length s)) (sets out 0 s)
+a-read-sheet-is-written-the-same-exactly = sheet-rewritten-exactly
+
+-- REFUSALS
+
+-- A refused writing of an entry leaves the output as it was.
+pub a-refused-entry-changes-nothing : (e : Entry) (out : List ℕ) (start c a : ℕ)
+    → writeEntry e out start .answer ≡ Wrote.Refused c a → writeEntry e out start .out ≡ out
+a-refused-entry-changes-nothing = entry-refused
+
+-- A refused writing of a sheet leaves the output as it was, also where the refusal is midway.
+pub a-refused-sheet-changes-nothing : (rows out : List ℕ) (c i a : ℕ)
+    → writeSheet rows out .answer ≡ SheetWrote.Refused c i a
+    → writeSheet rows out .out ≡ out
+a-refused-sheet-changes-nothing = sheet-refused
+
+-- A refused reading of a sheet leaves the rows as they were.
+pub a-refused-reading-changes-nothing : (sheet : Sheet) (rows : List ℕ) (c a : ℕ)
+    → readSheet sheet rows .answer ≡ SheetRead.Refused c a → readSheet sheet rows .rows ≡ rows
+a-refused-reading-changes-nothing = rows-refused
+
+-- CASES
+
+-- Document 01's case 8, its sheet of 29 bytes, and rows for its rules of reading and writing are as it says.
+pub the-cases-hold : Hold case-8 × Hold whole-sheets × Hold rules × FaultsHold faults
+the-cases-hold = cases-hold

@@ -1,2 +1,0 @@
-pub mod Story
-pub mod Onward

@@ -1,0 +1,156 @@
+-- An add run whole ends, by the rules: "First one look-up for each listed name", "Next one entering step", and then the
+-- links and the settling, which Last has. Assumes nothing.
+use mathlib.Core.Path.{_≡_, refl, sym, ap, ap₂, _∙_}
+use mathlib.Core.List.{[], _∷_}
+use Prim.Native.Nat.{ℕ, zero, suc, _+_, _*_, _≤_, _<_}
+use native.Mathlib.Omega.{arith}
+use lib.ListN.{length, getD, length-append}
+use borrow.Author.Tests.{lt-ltb, le-ltb}
+use Rattle.terms.specs.Terms.{Arguments, listed, argumentsWrong, wrongArguments, unknownName, namePresent, noRoom}
+use Rattle.terms.specs.Runs.{postAdd, step, Outcome, outcome, after, events}
+use Rattle.terms.specs.declared.Sizes.{Sizes}
+use Rattle.terms.specs.declared.Answer.{Answer}
+use Rattle.terms.specs.declared.Answer.the-variants.{Going, Ended, Refused}
+use Rattle.rules.specs.Rules.{Found, at, missing, idle, looking, linking, Worker, Graph, find, newJob, withCall}
+use Rattle.rules.specs.Rules.{lookUp, entered, enter, stepCall, whenIdle, addPosted, perform}
+use Rattle.linearization.specs.Calls.{Reading}
+use Rattle.rules_history.specs.History.{History, then}
+use Rattle.rules_follow_model.specs.Base.{pick-by}
+use Rattle.rules_follow_model.specs.Change.{noPlace}
+use Rattle.rules_follow_model.specs.Own.{performed}
+use Rattle.whole_calls.specs.Whole.{stepsOf, answers, through, goingTo, Kept, Unchanged, AddLeft, WholeAdd}
+use Rattle.whole_calls.specs.Whole.{AddEnd, accepted, wrong, unknown, present, no-room}
+use Rattle.whole_calls.specs.Kept.{grown-same, entered-labels, kept-same, kept-on, turned, call-turned, with-call}
+use Rattle.whole_calls.specs.Last.{own-step, links-end}
+
+-- ---- where nothing changes at first
+unchanged : (g : Graph) (f : ℕ → Worker)
+    → Unchanged g (record { jobs = g .jobs; reserved = g .reserved; queue = g .queue; workers = f })
+unchanged g f = record { jobs = refl; reserved = refl; queue = refl }
+
+unchanged-on : {g h k : Graph} → Unchanged g h → Unchanged h k → Unchanged g k
+unchanged-on U T = record {
+  jobs = T .jobs ∙ U .jobs;
+  reserved = T .reserved ∙ U .reserved;
+  queue = T .queue ∙ U .queue;
+}
+
+module _ {a : Arguments} {g h later : Graph} {k m : ℕ} (U : Unchanged g h) (n : k ≡ m) where
+  end-so : {x : Answer} → AddEnd a h later k x → AddEnd a g later m x
+  end-so (accepted e l) = accepted (sym n ∙ e) (l ∙ ap (λ l. suc (length l)) (U .jobs))
+  end-so (wrong e T) = wrong (sym n ∙ e) (unchanged-on U T)
+  end-so (unknown i e T) = unknown i (sym n ∙ e) (unchanged-on U T)
+  end-so (present e T) = present (sym n ∙ e) (unchanged-on U T)
+  end-so (no-room e T) = no-room (sym n ∙ e) (unchanged-on U T)
+
+  left-so : {w : ℕ} {x : Answer} → Kept w g h → AddLeft w a h later k x → AddLeft w a g later m x
+  left-so K L = record { idle = L .idle; kept = kept-on K (L .kept); end = end-so (L .end) }
+
+module _ (s : Sizes) {w : ℕ} (h : w < s .workers) (a : Arguments) where
+  -- after i look-ups: so many steps that go on, and one that ends the add
+  record FromLook (g : Graph) (i : ℕ) : Type 0 where
+    more : ℕ
+    answer : Answer
+    answered : answers s g (stepsOf s w (suc more)) ≡ goingTo more answer
+    left : AddLeft w a g (through s g (stepsOf s w (suc more))) (i + suc more) answer
+
+  -- "worker idle, nothing else changed"
+  refuses : (g : Graph) (i n q : ℕ) → perform s g (step s w) ≡ outcome (Refused n q) (withCall g w idle)
+      → AddEnd a g (withCall g w idle) (i + 1) (Refused n q) → FromLook g i
+  unfolding after events
+  refuses g i n q E z =
+      let L : AddLeft w a g (perform s g (step s w) .state) (i + 1) (Refused n q) =
+      rw E (record { idle = call-turned g w idle; kept = with-call g w idle; end = z }) in
+      record { more = 0; answer = Refused n q; answered = ap (λ (o : Outcome Graph). o .answer ∷ []) E; left = L }
+
+  entering : {g : Graph} {r : Reading} {e : ℕ → ℕ} → History s g r e
+      → perform s g (step s w) ≡ outcome Going (entered g w a) → FromLook g (a .count)
+  unfolding after events
+  entering {g} history E =
+      let T = links-end s h (a .count) (then history (step s w)) a (length (g .jobs)) 0 0
+      (rw E (call-turned g w (linking a (length (g .jobs)) 0 0))) (omega arith) in
+      let K : Kept w g (perform s g (step s w) .state) =
+      rw E (turned g w (entered g w a) _ refl (entered-labels (g .jobs) (newJob a) refl) (grown-same (g .queue))) in
+      let made : length (perform s g (step s w) .state .jobs) ≡ suc (length (g .jobs)) =
+      rw (E, length-append (g .jobs) (newJob a ∷ [])) (omega arith) in
+      record {
+        more = suc (a .count);
+        answer = Ended;
+        answered = ap₂ (λ x l. x ∷ l) (ap (λ (o : Outcome Graph). o .answer) E) (T .answered);
+        left = record {
+          idle = T .idle;
+          kept = kept-on K (T .ran .kept);
+          end = accepted (omega arith) (T .ran .jobs ∙ made);
+        };
+      }
+
+  enters : {g : Graph} {r : Reading} {e : ℕ → ℕ} → History s g r e → (f : Found)
+      → perform s g (step s w) ≡ enter s g w a f → FromLook g (a .count)
+  unfolding enter
+  enters {g} history (at j) E = refuses g (a .count) namePresent 0 E (present refl (unchanged g _))
+  enters {g} history missing E = pick-by (λ o. perform s g (step s w) ≡ o → FromLook g (a .count)) (noPlace s g a)
+      (λ _ E. refuses g (a .count) noRoom 0 E (no-room refl (unchanged g _)))
+      (λ _ E. entering history E) E
+
+  looks : (g : Graph) (i : ℕ) → i < a .count
+      → (perform s g (step s w) .state .workers w .call ≡ looking a (suc i)
+      → FromLook (perform s g (step s w) .state) (suc i))
+      → (f : Found) → perform s g (step s w) ≡ lookUp g w a i f → FromLook g i
+  unfolding lookUp after events
+  looks g i l rest (at j) E =
+      let R = rest (rw E (call-turned g w (looking a (suc i)))) in
+      record {
+        more = suc (R .more);
+        answer = R .answer;
+        answered = ap₂ (λ x l. x ∷ l) (ap (λ (o : Outcome Graph). o .answer) E) (R .answered);
+        left = left-so (rw E (unchanged g _)) (omega arith) (rw E (with-call g w (looking a (suc i)))) (R .left);
+      }
+  looks g i l rest missing E = refuses g i unknownName i E (unknown l refl (unchanged g _))
+
+  looks-end : (n : ℕ) {g : Graph} {r : Reading} {e : ℕ → ℕ} → History s g r e → (i : ℕ)
+      → g .workers w .call ≡ looking a i → i + n ≡ a .count → FromLook g i
+  unfolding stepCall
+  looks-end zero {g} history i c k =
+      let all : i ≡ a .count = omega arith in
+      rw all (enters history (find g (a .name))
+      (own-step s g h (looking a i) c ∙ rw (le-ltb i (a .count) (omega arith))))
+  looks-end (suc n) {g} history i c k =
+      looks g i (omega arith) (λ d. looks-end n (then history (step s w)) (suc i) d (omega arith))
+      (find g (getD (listed a) i 0)) (own-step s g h (looking a i) c ∙ rw (lt-ltb i (a .count) (omega arith)))
+
+-- the post, by an idle worker
+posted : (s : Sizes) (g : Graph) (w : ℕ) → w < s .workers → g .workers w .call ≡ idle → (a : Arguments)
+    → perform s g (postAdd s w a) ≡ addPosted g w a
+unfolding perform whenIdle
+posted s g w h c a = performed s g w h _ ∙ rw c
+
+-- "each run whole": an add that an idle worker posts
+pub whole-add : {s : Sizes} {g : Graph} {r : Reading} {e : ℕ → ℕ} → History s g r e → (w : ℕ) → w < s .workers
+    → g .workers w .call ≡ idle → (a : Arguments) → WholeAdd s g w a
+unfolding addPosted after events
+whole-add {s} {g} history w h c a = pick-by (λ o. perform s g (postAdd s w a) ≡ o → WholeAdd s g w a) (argumentsWrong a)
+    (λ _ E. let L : AddLeft w a g (perform s g (postAdd s w a) .state) 0 (Refused wrongArguments 0) =
+    rw E (record { idle = c; kept = kept-same g w; end = wrong refl (unchanged g _) }) in
+    record {
+      steps = 0;
+      answer = Refused wrongArguments 0;
+      answered = ap (λ (o : Outcome Graph). o .answer ∷ []) E;
+      left = L;
+    })
+    (λ _ E. let R = looks-end s h a (a .count) (then history (postAdd s w a)) 0 (rw E (call-turned g w (looking a 0)))
+    (omega arith) in
+    record {
+      steps = suc (R .more);
+      answer = R .answer;
+      answered = ap₂ (λ x l. x ∷ l) (ap (λ (o : Outcome Graph). o .answer) E) (R .answered);
+      left = left-so (rw E (unchanged g _)) (omega arith) (rw E (with-call g w (looking a 0))) (R .left);
+    })
+    (posted s g w h c a)
+
+-- no add takes more steps than an accepted one
+pub steps-within : {a : Arguments} {g later : Graph} {k : ℕ} {x : Answer} → AddEnd a g later k x → k ≤ 2 * a .count + 2
+steps-within (accepted e l) = omega arith
+steps-within (wrong e U) = omega arith
+steps-within (unknown h e U) = omega arith
+steps-within (present e U) = omega arith
+steps-within (no-room e U) = omega arith

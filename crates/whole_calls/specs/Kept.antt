@@ -1,0 +1,71 @@
+-- Laws of what steps keep: the queue that only grows, the workers but one, the labels. Assumes nothing.
+use mathlib.Core.Path.{_≡_, refl, sym, ap, _∙_}
+use mathlib.Core.Logic.{_≢_}
+use mathlib.Core.Bool.{Bool, true, false}
+use mathlib.Core.List.{List, [], _∷_, _++_, append-nil, append-assoc}
+use Prim.Native.Nat.{ℕ, zero, suc}
+use native.Mathlib.Decide.{ℕ-discrete}
+use lib.ListN.{getD, set}
+use Rattle.terms.specs.Terms.{unexecuted}
+use Rattle.rules.specs.Rules.{Job, noJob, Call, idle, Worker, Graph, job, turn, withCall, enqueue}
+use Rattle.rules_history.specs.History.{AllIdle}
+use Rattle.rules_follow_model.specs.Base.{update-same, update-other, kept-field}
+use Rattle.whole_calls.specs.Whole.{Grown, Kept}
+
+-- ---- the queue
+pub grown-same : (q : List ℕ) → Grown q q
+grown-same q = record { more = []; so = sym (append-nil q) }
+
+pub grown-by : (b : Bool) (q : List ℕ) (j : ℕ) → Grown q (enqueue b q j)
+grown-by true q j = record { more = j ∷ []; so = refl }
+grown-by false q j = grown-same q
+
+pub grown-on : {q l m : List ℕ} → Grown q l → Grown l m → Grown q m
+grown-on {q} A B = record { more = A .more ++ B .more; so = B .so ∙ rw (A .so) (append-assoc q (A .more) (B .more)) }
+
+-- ---- the labels
+pub set-labels : (l : List Job) (p : ℕ) (y : Job) → y .label ≡ getD l p noJob .label
+    → (j : ℕ) → getD (set l p y) j noJob .label ≡ getD l j noJob .label
+set-labels l p y e = kept-field (λ (x : Job). x .label) l p y noJob e
+
+-- a job that enters is unexecuted
+pub entered-labels : (l : List Job) (x : Job) → x .label ≡ unexecuted
+    → (j : ℕ) → getD (l ++ (x ∷ [])) j noJob .label ≡ getD l j noJob .label
+entered-labels [] x e zero = e
+entered-labels [] x e (suc j) = refl
+entered-labels (y ∷ l) x e zero = refl
+entered-labels (y ∷ l) x e (suc j) = entered-labels l x e j
+
+-- ---- all of it
+pub kept-on : {w : ℕ} {g h k : Graph} → Kept w g h → Kept w h k → Kept w g k
+kept-on A B = record {
+  held = B .held ∙ A .held;
+  others = λ v z. B .others v z ∙ A .others v z;
+  labels = λ j. B .labels j ∙ A .labels j;
+  queue = grown-on (A .queue) (B .queue);
+}
+
+module _ (g : Graph) (w : ℕ) where
+  pub kept-same : Kept w g g
+  kept-same = record { held = refl; others = λ v z. refl; labels = λ j. refl; queue = grown-same (g .queue) }
+
+  -- only the worker's call changes among the workers
+  pub turned : (h : Graph) (c : Call) → h .workers ≡ turn g w c → ((j : ℕ) → job h j .label ≡ job g j .label)
+      → Grown (g .queue) (h .queue) → Kept w g h
+  turned h c e l q = record {
+    held = ap (λ (f : ℕ → Worker). f w .held) e ∙ ap (λ (x : Worker). x .held) (update-same (g .workers) w _);
+    others = λ v z. ap (λ (f : ℕ → Worker). f v) e ∙ update-other (g .workers) w _ v z;
+    labels = l;
+    queue = q;
+  }
+
+  pub call-turned : (c : Call) → turn g w c w .call ≡ c
+  call-turned c = ap (λ (x : Worker). x .call) (update-same (g .workers) w _)
+
+  pub with-call : (c : Call) → Kept w g (withCall g w c)
+  with-call c = turned (withCall g w c) c refl (λ j. refl) (grown-same (g .queue))
+
+-- ---- every worker is idle after a call run whole, if every worker was
+pub still-idle : (g later : Graph) (w : ℕ) → AllIdle g → later .workers w .call ≡ idle
+    → ((v : ℕ) → v ≢ w → later .workers v ≡ g .workers v) → AllIdle later
+still-idle g later w I e others v = elim (ℕ-discrete v w) [ yes z ↦ rw z e | no z ↦ rw (others v z) (I v) ]

@@ -1,0 +1,47 @@
+-- The words tell what document 01's rows say ("Checked by hand", cases 1 to 6), from tables that just suffice and were
+-- laid out over old words. Assumes nothing.
+use mathlib.Core.Path.{_≡_, refl}
+use mathlib.Core.List.{List, map}
+use Prim.Native.Nat.{_^_}
+use lib.ListN.{replicate}
+use Rattle.bucket.specs.Bucket.{productOf, bucketOf}
+use Rattle.terms.specs.Base.{contains, repeats, occurrences, prefix}
+use Rattle.terms.specs.Terms.{argumentsWrong, withinLimits}
+use Rattle.terms.specs.Runs.{after, events, entries}
+use Rattle.terms.specs.Starred.{Row, Told, telling, answersOf, steps, before, orders, rowsOf, starred, oneOfTwo}
+use Rattle.terms.specs.declared.Sizes.{Sizes}
+use Rattle.words.specs.Columns.{columns, header, put, putHeader}
+use Rattle.words.specs.Layout.{Tables, tables, need, jobShape, arcShape, bucketShape, queueShape, workerShape}
+use Rattle.words.specs.Layout.{longEnough, sizesKept, repeated, freshTables}
+use Rattle.words.specs.Words.{perform, ownOk, walk, findOf, planLookUp, planEnter, planAppend, planLink, withCell}
+use Rattle.words.specs.Words.{planSettle, planMark, planNotify, planAdd, planLinks, planCall, planPhase, admitted}
+use Rattle.words.specs.Words.{applied, stepWords, planTake, planQueue, planGet, appliedGet, getWords, posted}
+use Rattle.words.specs.Words.{addWords, finishWords, layOut}
+use Rattle.words.specs.Observed.{cells, waiting}
+
+-- a word that is left from before
+abbrev old : Sizes → Tables
+old s =
+    tables (replicate (need jobShape (s .jobs)) 7) (replicate (need arcShape (s .arcs)) 7)
+    (replicate (need bucketShape (2 ^ s .bits)) 7)
+    (replicate (need queueShape (s .jobs)) 7)
+    (replicate (need workerShape (s .workers)) 7)
+
+abbrev pub tells : Row → Told
+tells r = telling perform waiting (layOut (r .sizes) (old (r .sizes)) .state) (r .items)
+
+pub starred-rows : map tells starred ≡ map (λ r. r .tells) starred
+unfolding contains repeats occurrences prefix argumentsWrong withinLimits after events entries answersOf steps before
+    orders rowsOf starred productOf bucketOf columns header put putHeader longEnough sizesKept repeated freshTables
+    perform ownOk walk findOf planLookUp planEnter planAppend planLink withCell planSettle planMark planNotify planAdd
+    planLinks planCall planPhase admitted applied stepWords planTake planQueue planGet appliedGet getWords posted
+    addWords finishWords layOut cells
+starred-rows = refl
+
+pub one-of-two-rows : map tells oneOfTwo ≡ map (λ r. r .tells) oneOfTwo
+unfolding contains repeats occurrences prefix argumentsWrong withinLimits after events entries answersOf steps oneOfTwo
+    productOf bucketOf columns header put putHeader longEnough sizesKept repeated freshTables perform ownOk walk findOf
+    planLookUp planEnter planAppend planLink withCell planSettle planMark planNotify planAdd planLinks planCall
+    planPhase admitted applied stepWords planTake planQueue planGet appliedGet getWords posted addWords finishWords
+    layOut cells
+one-of-two-rows = refl

@@ -1,0 +1,173 @@
+-- Demand 3 on the words, from what holds of every history by the rules and from the words doing what the rules do.
+use mathlib.Core.Path.{_≡_, refl, sym, ap, _∙_, subst}
+use mathlib.Core.Logic.{_↔_}
+use mathlib.Core.Bool.{true}
+use mathlib.Core.List.{List, [], _∷_}
+use mathlib.Core.Option.{none}
+use Prim.Native.Nat.{ℕ, zero, suc, _+_, _-_, _≤_, _<_}
+use native.Mathlib.Omega.{arith}
+use lib.ListN.{length, getD}
+use Rattle.terms.specs.Base.{contains, occurrences}
+use Rattle.terms.specs.Terms.{Arguments, listed, labelNumber}
+use Rattle.terms.specs.Seen.{Same, JobSeen}
+use Rattle.terms.specs.Runs.{Item, get, Event, Outcome, after, events, entries}
+use Rattle.terms.specs.declared.Sizes.{Sizes}
+use Rattle.terms.specs.declared.Answer.{Answer}
+use Rattle.terms.specs.declared.Answer.the-variants.{Laid, NoneReady}
+use Rattle.words.specs.Layout.{Tables}
+use Rattle.words.specs.Words as words
+use Rattle.words.specs.Observed.{seen}
+use Rattle.rules.specs.Rules.{Graph, empty, job}
+use Rattle.rules.specs.Rules as rules
+use Rattle.rules.specs.Observed as rules-seen
+use Rattle.rules.specs.Sound.{Sound, Finished}
+use Rattle.sequential_model.specs.Book.{Book, entry, remaining, Ready}
+use Rattle.linearization.specs.Calls.{Reading, unread, readOn, reading, Quiet, acceptedAdds}
+use Rattle.rules_history.specs.History.{History, start, Counted, Booked, Balanced, AllIdle, entryOf, entriesOf}
+use Rattle.linearizability.specs.Demand.{entriesInto, addOf, MarkedFinished, JobShown, Shows, Demand}
+use Rattle.representation.specs.Rep.{Ghost, Stands}
+use Rattle.representation_kept.specs.Find.{found-there}
+use Rattle.representation_kept.specs.Queue.{waiting-queue}
+use Rattle.words_refine_rules.specs.Items.{item}
+use Rattle.words_refine_rules.specs.Seen.{shown}
+use Rattle.audit.specs.TurnedAway.{turned-away}
+use Rattle.rules_follow_model.specs.Entries.{entries-length, listed-length}
+use Rattle.rules_follow_model.specs.Settled.{same-entry, counts, waiting-ready, none-ready}
+use Rattle.rules_history.specs.Onward.{entriesBy, onward}
+
+-- the theorems about every history by the rules are the section's parameters
+module _ (s : Sizes)
+    (sound : (g : Graph) (r : Reading) (e : ℕ → ℕ) → History s g r e → Sound s g)
+    (counted : (g : Graph) (r : Reading) (e : ℕ → ℕ) → History s g r e → Counted g r e)
+    (booked : (g : Graph) (r : Reading) (e : ℕ → ℕ) → History s g r e → Booked s g r)
+    (balanced : (g : Graph) (r : Reading) (e : ℕ → ℕ) → History s g r e → Quiet r → AllIdle g × Balanced g) where
+  -- ---- along the items: the same entries, the same events, and tables that stand for the graph
+  pub record Along (t : Tables) (g : Graph) (is : List Item) : Type 0 where
+    pub entered : (j : ℕ) → entriesInto words.perform seen s t is j ≡ entriesBy s g is j
+    pub told : events words.perform t is ≡ events (rules.perform s) g is
+    pub ghost : Ghost
+    pub stands : Stands s (after words.perform t is) (after (rules.perform s) g is) ghost
+
+  pub along : (t : Tables) (g : Graph) (G : Ghost) (r : Reading) (e : ℕ → ℕ) → Stands s t g G → History s g r e
+      → (is : List Item) → Along t g is
+  unfolding entries after events
+  along t g G r e S history [] = record { entered = λ j. refl; told = refl; ghost = G; stands = S }
+  along t g G r e S history (i ∷ is) =
+      let a = item s t g G S (sound g r e history) i in
+      let rest = along (words.perform t i .state) (rules.perform s g i .state) (a .ghost) _ _ (a .stands)
+      (History.then history i) is in
+      let here = waiting-queue S in
+      let next = waiting-queue (a .stands) in
+      record {
+        entered = λ j. rw (here, next, rest .entered j);
+        told = rw (a .answer, rest .told);
+        ghost = rest .ghost;
+        stands = rest .stands;
+      }
+
+  -- ---- the claim
+  module _ (t : Tables) (G : Ghost) (S : Stands s t empty G) (items : List Item) where
+    abbrev pub g : Graph
+    g = after (rules.perform s) empty items
+
+    abbrev pub r : Reading
+    r = reading (events (rules.perform s) empty items)
+
+    abbrev e : ℕ → ℕ
+    e = λ j. 0 + entriesBy s empty items j
+
+    history : History s g r e
+    history = onward s start items
+
+    walk : Along t empty items
+    walk = along t empty G unread (λ j. 0) S start items
+
+    abbrev pub T : Tables
+    T = after words.perform t items
+
+    told : reading (events words.perform t items) ≡ r
+    told = ap reading (walk .told)
+
+    O : Sound s g
+    O = sound g r e history
+
+    C : Counted g r e
+    C = counted g r e history
+
+    K : Booked s g r
+    K = booked g r e history
+
+    entered : (j : ℕ) → entriesInto words.perform seen s t items j ≡ e j
+    entered j = omega (arith, walk .entered j)
+
+    abbrev pub adds : List Arguments
+    adds = acceptedAdds (r .calls)
+
+    -- the listed names of job j's add are the job's list
+    list-length : (j : ℕ) → j < length (g .jobs) → addOf adds j .count ≡ length (job g j .list)
+    list-length j h = sym (listed-length (addOf adds j)) ∙ ap length (K .added j h .list)
+
+    -- what is seen in the words is what is seen in the rules' graph
+    does : Same s (seen T) (rules-seen.seen g)
+    does = shown (walk .stands) O
+
+    pub marked : (name : ℕ) → Finished g name → MarkedFinished (seen T) adds name
+    marked name f =
+        let at = found-there g name (f .job) (f .found) in
+        record {
+          job = f .job;
+          there = omega (arith, at .0, K .adds);
+          named = K .added (f .job) (at .0) .name ∙ at .1;
+          marked = ap (λ (x : JobSeen). x .label) (does .jobs (f .job) (at .0)) ∙ ap labelNumber (f .finished);
+        }
+
+    shows : Quiet r → Shows s (seen T) (K .book)
+    shows quiet =
+        let both = balanced g r e history quiet in
+        let B = both .1 in
+        let n : length (K .book .jobs) ≡ length (g .jobs) = ap length (K .jobs) ∙ entries-length (g .jobs) in
+        record {
+          made = does .made ∙ sym n;
+          jobs = λ j h.
+              let there : j < length (g .jobs) = omega (arith, n) in
+              let row = does .jobs j there in
+              let same = same-entry K B j in
+              record {
+                name = ap (λ (x : JobSeen). x .name) row ∙ sym (ap (λ x. x .name) same);
+                class = ap (λ (x : JobSeen). x .class) row ∙ sym (ap (λ x. x .class) same);
+                grower = ap (λ (x : JobSeen). x .grower) row ∙ sym (ap (λ x. x .grower) same);
+                label = ap (λ (x : JobSeen). x .label) row ∙ sym (ap (λ x. labelNumber (x .label)) same);
+                count = ap (λ (x : JobSeen). x .count) row ∙ counts K B j there;
+              };
+          waits = λ j. rw (does .waiting) (waiting-ready K B j);
+          holds = λ w h. does .held w h ∙ sym (K .held w);
+        }
+
+    none-ready-shown : Quiet r → (w : ℕ) → w < s .workers → K .book .held w ≡ none
+        → (words.perform T (get s w) .answer ≡ NoneReady) ↔ ((j : ℕ) → Ready (K .book) j → ⊥)
+    none-ready-shown quiet w h z =
+        let both = balanced g r e history quiet in
+        rw (item s T g (walk .ghost) (walk .stands) O (get s w) .answer) (none-ready K (both .1) (both .0) w h z)
+
+    pub holds : Demand words.perform seen s t items
+    holds = record {
+      answers = walk .told;
+      does = does;
+      once = λ j. rw (entered j) (C .once j);
+      after-prerequisites = λ j. rw (told, entered j) (λ h.
+          let there = C .there j h in (
+            omega (arith, there, K .adds),
+            λ i l. rw (K .added j there .list)
+                (marked _ (C .after-prerequisites j h i (omega (arith, list-length j there)))),
+          ));
+      when-ended = λ j. rw (told, entered j) (λ h a f.
+          let there : j < length (g .jobs) = omega (arith, K .adds) in
+          let same = K .added j there in
+          C .when-ended j there (rw (same .name) at a)
+          (λ i l. rw (same .list) at (f i (omega (arith, list-length j there)))));
+      book = K .book;
+      follows = rw told (K .follows);
+      shows = rw told shows;
+      none-ready = rw told none-ready-shown;
+      turns-away = λ i. rw (told, item s T g (walk .ghost) (walk .stands) O i .answer) (turned-away history i);
+    }

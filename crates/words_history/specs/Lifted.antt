@@ -1,0 +1,243 @@
+-- What holds by the rules of every list of items, on the words: how calls end, what the auditor asked, and the words of
+-- workers. Assumes nothing.
+use mathlib.Core.Path.{_≡_, refl, sym, ap, _∙_}
+use mathlib.Core.Logic.{_↔_, _≢_}
+use mathlib.Core.Bool.{true}
+use mathlib.Core.List.{List, [], _∷_}
+use mathlib.Core.Option.{none}
+use Prim.Native.Nat.{ℕ, _+_, _^_, _≤_, _<_}
+use native.Mathlib.Omega.{arith}
+use lib.ListN.{length, getD}
+use Rattle.bucket.specs.Bucket.{bucketOf}
+use Rattle.terms.specs.Base.{contains, occurrences}
+use Rattle.terms.specs.Terms.{Arguments, listed, sameSizes, mostNames, labelNumber, unexecuted, finished}
+use Rattle.terms.specs.Runs.{Item, step, get, after, events}
+use Rattle.terms.specs.Seen.{JobSeen, CallSeen, Same}
+use Rattle.terms.specs.Seen as seen-as
+use Rattle.terms.specs.declared.Sizes.{Sizes}
+use Rattle.terms.specs.declared.Answer.the-variants.{Laid, NoneReady, Handed}
+use Rattle.words.specs.Layout.{Tables, view, workerShape, NAME, HELD, LIST-COUNT, NAMES, IDLE, bareWorker}
+use Rattle.words.specs.Layout as words
+use Rattle.words.specs.Words.{perform, layOut}
+use Rattle.words.specs.Observed.{bucketFrom, newestFirst, seen}
+use Rattle.rules.specs.Rules.{Call, idle, looking, linking, marking, notifying, Graph, empty, job, takeNext}
+use Rattle.rules.specs.Rules as rules
+use Rattle.rules.specs.Observed as rules-seen
+use Rattle.rules.specs.Sound.{Sound, Finished}
+use Rattle.linearization.specs.Calls.{Pending, adding, finishing, Reading, reading, Quiet, acceptedAdds}
+use Rattle.linearization.specs.Calls.{acceptedFinishes}
+use Rattle.linearization.specs.Calls as reading
+use Rattle.rules_history.specs.History.{History, start, Paced, Booked}
+use Rattle.rules_history.specs.Onward.{entriesBy, onward}
+use Rattle.linearizability.specs.Demand.{addOf, HandedRightly, JobFinished, handedOut}
+use Rattle.linearizability.specs.Ends.{AddStep, FinishStep, FinishOf}
+use Rattle.representation.specs.Rep.{Stands}
+use Rattle.representation_kept.specs.Find.{found-there}
+use Rattle.representation_kept.specs.Arcs.{few-arcs}
+use Rattle.representation_kept.specs.Chains.{chains}
+use Rattle.words_refine_rules.specs.Items.{item}
+use Rattle.words_refine_rules.specs.Reset.{idle-fresh, past-count}
+use Rattle.rules_follow_model.specs.Base.{head-occurs}
+use Rattle.rules_follow_model.specs.Entries.{listed-length}
+use Rattle.rules_follow_model.specs.Settled.{get-answer}
+use Rattle.rules_follow_model.specs.Paced.{paced, worker-idle, all-idle}
+use Rattle.rules_follow_model.specs.Steps.{add-step, finish-step, pending-there}
+use Rattle.rules_invariant.specs.Sound.{sound}
+use Rattle.audit.specs.Gets.{handed-ready}
+use Rattle.audit.specs.Gets as gets
+use Rattle.audit.specs.Handed.{handed-once}
+use Rattle.audit.specs.Finishes.{finishedBy, finishes, occurs-there, finished-once}
+use Rattle.audit.specs.Drained as audit
+use Rattle.words_history.specs.Theorem.{Reached, after-items, marked-finished, same-events, demand}
+
+module _ (s : Sizes) (t : Tables) (laid : layOut s t .answer ≡ Laid) (items : List Item) where
+  abbrev T : Tables
+  T = after perform (layOut s t .state) items
+
+  abbrev g : Graph
+  g = after (rules.perform s) empty items
+
+  abbrev r : Reading
+  r = reading (events (rules.perform s) empty items)
+
+  abbrev read : Reading
+  read = reading (events perform (layOut s t .state) items)
+
+  soundly : (g : Graph) (r : Reading) (e : ℕ → ℕ) → History s g r e → Sound s g
+  soundly g r e history = sound history
+
+  history : History s g r (λ j. 0 + entriesBy s empty items j)
+  history = onward s start items
+
+  R : Reached s t laid items
+  R = after-items s t laid items
+
+  does : Same s (seen T) (rules-seen.seen g)
+  does = demand s t laid items .does
+
+  told : read ≡ r
+  told = ap reading (same-events s t laid items)
+
+  pacing : Paced g r
+  pacing = paced soundly history
+
+  -- the words answer the next item as the rules do
+  next : (i : Item) → perform T i .answer ≡ rules.perform s g i .answer
+  next i = item s T g (R .ghost) (R .stands) (R .sound) i .answer
+
+  -- ---- how calls end
+  pub add-ends : (w : ℕ) (a : Arguments) (k : ℕ) → read .pending w ≡ adding a k
+      → AddStep a k (perform T (step s w) .answer)
+  add-ends w a k = rw told (λ e.
+      let there = pending-there soundly history w (λ z. absurd (distinct a k (sym e ∙ z))) in
+      rw (next (step s w)) (add-step soundly history w there a k e))
+    where
+      distinct : (a : Arguments) (k : ℕ) → adding a k ≡ reading.idle → ⊥
+      distinct a k z = let no : _≡_ {A = ℕ} 0 1 = cc in omega arith
+
+  pub finish-ends : (w name k : ℕ) → read .pending w ≡ finishing name k
+      → FinishOf (seen T) name k (perform T (step s w) .answer)
+  finish-ends w name k = rw told (λ e.
+      let there = pending-there soundly history w (λ z. absurd (distinct name k (sym e ∙ z))) in
+      let f = finish-step soundly history w there name k e in
+      let row = does .jobs (f .job) (f .there) in
+      rw (next (step s w)) (record {
+        job = f .job;
+        there = rw (does .made) (f .there);
+        named = ap (λ (x : JobSeen). x .name) row ∙ f .named;
+        step = rw (ap (λ (x : JobSeen). x .arcs) row) (f .step);
+      }))
+    where
+      distinct : (name k : ℕ) → finishing name k ≡ reading.idle → ⊥
+      distinct name k z = let no : _≡_ {A = ℕ} 0 1 = cc in omega arith
+
+  -- ---- what the auditor asked
+  pub once-handed : (j : ℕ) → occurrences j (handedOut (events perform (layOut s t .state) items)) ≤ 1
+  once-handed j = rw (same-events s t laid items) (handed-once s items j)
+
+  pub once-finished : (name : ℕ) → occurrences name (acceptedFinishes (read .calls)) ≤ 1
+  once-finished name = rw told (finished-once s items name)
+
+  K : Booked s g r
+  K = rw told at (R .booked)
+
+  abbrev adds : List Arguments
+  adds = acceptedAdds (r .calls)
+
+  -- a finished job's name is among the accepted finishes
+  finishes-of : (j : ℕ) → j < length (g .jobs) → job g j .label ≡ finished
+      → contains (job g j .name) (acceptedFinishes (r .calls)) ≡ true
+  finishes-of j h e = occurs-there _ _ (omega (arith, finishes history .of-job j h ∙ ap finishedBy e))
+
+  finished-name : (name : ℕ) → Finished g name → contains name (acceptedFinishes (r .calls)) ≡ true
+  finished-name name f =
+      let at = found-there g name (f .job) (f .found) in rw (at .1) at (finishes-of (f .job) (at .0) (f .finished))
+
+  pub rightly-handed : (q : Sizes) (w j name : ℕ) → perform T (get q w) .answer ≡ Handed j name
+      → HandedRightly (seen T) (read .calls) j name
+  rightly-handed q w j name = rw (told, next (get q w)) (λ e.
+      let h = handed-ready history q w j name e in
+      let same = K .added j (h .there) in
+      let n : addOf adds j .count ≡ length (job g j .list) =
+      sym (listed-length (addOf adds j)) ∙ ap length (same .list) in
+      record {
+        there = omega (arith, h .there, K .adds);
+        named = h .named ∙ sym (same .name);
+        unexecuted = ap (λ (x : JobSeen). x .label) (does .jobs j (h .there)) ∙ ap labelNumber (h .unexecuted);
+        prerequisites = λ i l. rw (same .list)
+            (marked-finished s t laid items _ (h .prerequisites i (omega (arith, n))));
+        finishes = λ i l. rw (same .list) (finished-name _ (h .prerequisites i (omega (arith, n))));
+      })
+
+  pub drained : Quiet read → ((w : ℕ) → w < s .workers → seen T .held w ≡ none) → seen T .waiting ≡ []
+      → (j : ℕ) → j < length (acceptedAdds (read .calls)) → JobFinished (seen T) (read .calls) j
+  drained = rw told (λ quiet free empty-queue j h.
+      let there : j < length (g .jobs) = omega (arith, K .adds) in
+      let done = audit.drained history (all-idle g r pacing quiet) (λ w b. sym (does .held w b) ∙ free w b)
+      (sym (does .waiting) ∙ empty-queue) j there in
+      record {
+        label = ap (λ (x : JobSeen). x .label) (does .jobs j there) ∙ ap labelNumber done;
+        finish = rw (K .added j there .name) (finishes-of j there done);
+      })
+
+  -- a call that is seen as none is none
+  seen-idle : (c : Call) → rules-seen.callSeen g c ≡ seen-as.idle → c ≡ idle
+  seen-idle idle e = refl
+  seen-idle (looking a i) e = cc
+  seen-idle (linking a j i u) e = cc
+  seen-idle marking e = cc
+  seen-idle (notifying p k) e = cc
+
+  -- ---- a worker that is idle and jobless is handed the job longest in the queue
+  pub hands-out : (w j : ℕ) (rest : List ℕ) → w < s .workers → seen T .call w ≡ seen-as.idle → seen T .held w ≡ none
+      → seen T .waiting ≡ j ∷ rest → perform T (get s w) .answer ≡ Handed j (seen T .job j .name)
+  unfolding takeNext
+  hands-out w j rest h c f q =
+      let queue : g .queue ≡ j ∷ rest = sym (does .waiting) ∙ q in
+      let there : j < length (g .jobs) = R .sound .queue-there j (rw queue (head-occurs j rest)) in
+      let named : seen T .job j .name ≡ job g j .name = ap (λ (x : JobSeen). x .name) (does .jobs j there) in
+      next (get s w)
+      ∙ ap (λ o. o .answer) (get-answer s g w h (seen-idle _ (sym (does .calls w h) ∙ c)) (sym (does .held w h) ∙ f))
+      ∙ rw (queue, named)
+
+  -- ---- "With an empty queue it says none ready, and then only"
+  pub none-ready : (q : Sizes) (w : ℕ) → (perform T (get q w) .answer ≡ NoneReady)
+      ↔ ((sameSizes q s ≡ true) × (w < s .workers) × (seen T .call w ≡ seen-as.idle) × (seen T .held w ≡ none)
+      × (seen T .waiting ≡ []))
+  none-ready q w = (
+    (λ e.
+        let f = gets.none-ready s q g w .0 (sym (next (get q w)) ∙ e) in (
+          f .0,
+          f .1,
+          does .calls w (f .1) ∙ ap (rules-seen.callSeen g) (f .2),
+          does .held w (f .1)
+              ∙ f .3,
+          does .waiting ∙ f .4,
+        )),
+    (λ f.
+        next (get q w)
+        ∙ gets.none-ready s q g w .1 (
+          f .0,
+          f .1,
+          seen-idle (g .workers w .call) (sym (does .calls w (f .1)) ∙ f .2),
+          sym (does .held w (f .1)) ∙ f .3,
+          sym (does .waiting) ∙ f .4,
+        )),
+  )
+
+  -- ---- the words of workers
+  pub fresh-call : (w : ℕ) → w < s .workers → read .pending w ≡ reading.idle → (k : ℕ) → k < workerShape .width
+      → k ≢ HELD
+      → view T .worker k w ≡ getD (bareWorker IDLE words.none) k 0
+  fresh-call w h = rw told (λ e. idle-fresh (R .stands) w h (worker-idle g r pacing w e))
+
+  pub names-past : (w : ℕ) → w < s .workers → (q : ℕ) → view T .worker LIST-COUNT w ≤ q → q < mostNames
+      → view T .worker (NAMES + q) w ≡ 0
+  names-past w h q = past-count (R .stands) w h q
+
+  -- ---- names and buckets
+  pub one-of-a-name : (i j : ℕ) → i < seen T .made → j < seen T .made → seen T .job i .name ≡ seen T .job j .name
+      → i ≡ j
+  one-of-a-name i j h l e =
+      let a : i < length (g .jobs) = rw (does .made) at h in
+      let b : j < length (g .jobs) = rw (does .made) at l in
+      R .sound .names i j a b
+      (sym (ap (λ (x : JobSeen). x .name) (does .jobs i a)) ∙ e ∙ ap (λ (x : JobSeen). x .name) (does .jobs j b))
+
+  pub one-add-of-a-name : (i j : ℕ) → i < length (acceptedAdds (read .calls)) → j < length (acceptedAdds (read .calls))
+      → addOf (acceptedAdds (read .calls)) i .name ≡ addOf (acceptedAdds (read .calls)) j .name → i ≡ j
+  one-add-of-a-name i j = rw told (λ h l e.
+      let a : i < length (g .jobs) = omega (arith, K .adds) in
+      let b : j < length (g .jobs) = omega (arith, K .adds) in
+      R .sound .names i j a b (sym (K .added i a .name) ∙ e ∙ K .added j b .name))
+
+  pub arcs-fit : (j : ℕ) → j < seen T .made
+      → (length (seen T .job j .arcs) ≤ seen T .reserved) × (seen T .reserved ≤ s .arcs)
+  arcs-fit j h =
+      let there : j < length (g .jobs) = rw (does .made) at h in
+      rw (ap (λ (x : JobSeen). x .arcs) (does .jobs j there), does .reserved) (few-arcs (R .stands) j, R .sound .arcs)
+
+  pub newest-first : (k : ℕ) → k < 2 ^ s .bits
+      → bucketFrom (view T) (view T .bucket 0 k)
+      ≡ newestFirst (λ j. bucketOf (view T .job NAME j) (s .bits)) k (view T .made)
+  newest-first = chains (R .stands) (R .sound)

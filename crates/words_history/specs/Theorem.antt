@@ -1,0 +1,121 @@
+-- The theorems, put together: what holds of every list of items from tables that were laid out, by any sizes. Assumes
+-- nothing.
+use mathlib.Core.Path.{_≡_, refl, sym, ap, _∙_}
+use mathlib.Core.Bool.{Bool, true, false}
+use mathlib.Core.List.{List, _++_}
+use Prim.Native.Nat.{ℕ, suc, _+_, _*_, _<_}
+use native.Mathlib.Omega.{arith}
+use lib.ListN.{length, getD}
+use Rattle.terms.specs.Base.{pick}
+use Rattle.terms.specs.Terms.{Arguments, damaged, wrongSizes}
+use Rattle.terms.specs.Runs.{Item, step, Outcome, outcome, after, events}
+use Rattle.terms.specs.declared.Sizes.{Sizes}
+use Rattle.terms.specs.declared.Answer.{Answer}
+use Rattle.terms.specs.declared.Answer.the-variants.{Laid, Ended, Refused}
+use Rattle.words.specs.Layout.{Tables, roomFor, freshTables}
+use Rattle.words.specs.Words.{perform, layOut}
+use Rattle.words.specs.Observed.{waiting, seen}
+use Rattle.rules.specs.Rules.{Graph, empty, job, find, at}
+use Rattle.rules.specs.Rules as rules
+use Rattle.rules.specs.Sound.{Sound, Finished}
+use Rattle.linearization.specs.Calls.{Reading, unread, reading, Quiet, acceptedAdds}
+use Rattle.rules_history.specs.History.{History, start, Counted, Booked, Balanced, AllIdle}
+use Rattle.linearizability.specs.Demand.{MarkedFinished, Demand, gives, handedOut}
+use Rattle.representation.specs.Rep.{Ghost, Stands}
+use Rattle.representation_kept.specs.Fresh.{noGhost, fresh-stands}
+use Rattle.representation_kept.specs.Queue.{waiting-queue}
+use Rattle.words_refine_rules.specs.Runs.{runs}
+use Rattle.words_refine_rules.specs.Never.{words-never-damaged}
+use Rattle.rules_follow_model.specs.Paced.{paced, all-idle}
+use Rattle.rules_follow_model.specs.Booked.{booked}
+use Rattle.rules_invariant.specs.Sound.{sound}
+use Rattle.rules_invariant.specs.Counted.{counted}
+use Rattle.rules_invariant.specs.Balanced.{balanced}
+use Rattle.rules_history.specs.Onward.{onward}
+use Rattle.words_history.specs.Holds.{Along, along, marked, holds}
+use Rattle.words_history.specs.InOrder.{Moved, in-order, kth}
+
+laid-stands : (s : Sizes) (t : Tables) → roomFor s t ≡ true → Stands s (layOut s t .state) empty noGhost
+unfolding layOut
+laid-stands s t e = rw e (fresh-stands s t e)
+
+module _ (s : Sizes) where
+  soundly : (g : Graph) (r : Reading) (e : ℕ → ℕ) → History s g r e → Sound s g
+  soundly g r e history = sound history
+
+  countedly : (g : Graph) (r : Reading) (e : ℕ → ℕ) → History s g r e → Counted g r e
+  countedly g r e history = counted history
+
+  bookedly : (g : Graph) (r : Reading) (e : ℕ → ℕ) → History s g r e → Booked s g r
+  bookedly g r e history = booked soundly history
+
+  quietly : (g : Graph) (r : Reading) (e : ℕ → ℕ) → History s g r e → Quiet r → AllIdle g × Balanced g
+  quietly g r e history q = let idle = all-idle g r (paced soundly history) q in (idle, balanced history idle)
+
+  reached : (more : List Item) → Sound s (after (rules.perform s) empty more)
+  reached more = sound (onward s start more)
+
+  -- laying out that answers so had room
+  module _ (t : Tables) (laid : layOut s t .answer ≡ Laid) where
+    room : roomFor s t ≡ true
+    unfolding layOut
+    room = go (roomFor s t) laid
+      where
+        go : (b : Bool)
+            → pick {A = Outcome Tables} b (outcome Laid (freshTables s t)) (outcome (Refused wrongSizes 0) t) .answer
+            ≡ Laid → b ≡ true
+        go true e = refl
+        go false e = let z : _≡_ {A = ℕ} 0 1 = cc in absurd (omega arith)
+
+    abbrev T : Tables
+    T = layOut s t .state
+
+    fresh : Stands s T empty noGhost
+    fresh = laid-stands s t room
+
+    pub same-events : (items : List Item) → events perform T items ≡ events (rules.perform s) empty items
+    same-events items = runs s t room reached items .same-events
+
+    pub never-damaged : (items : List Item) → gives damaged (events perform T items) ≡ false
+    never-damaged items = words-never-damaged s t room reached items
+
+    pub demand : (items : List Item) → Demand perform seen s T items
+    demand items = holds s soundly countedly bookedly quietly T noGhost fresh items
+
+    -- what is finished by the rules is marked finished in the words
+    pub marked-finished : (items : List Item) (name : ℕ) → Finished (after (rules.perform s) empty items) name
+        → MarkedFinished (seen (after perform T items))
+        (acceptedAdds (reading (events (rules.perform s) empty items) .calls))
+        name
+    marked-finished items = marked s soundly countedly bookedly quietly T noGhost fresh items
+
+    walked : (items : List Item) → Along s soundly countedly bookedly quietly T empty items
+    walked items = along s soundly countedly bookedly quietly T empty noGhost unread (λ j. 0) fresh start items
+
+    -- what is known of the tables after the items
+    pub record Reached (items : List Item) : Type 0 where
+      pub ghost : Ghost
+      pub stands : Stands s (after perform T items) (after (rules.perform s) empty items) ghost
+      pub sound : Sound s (after (rules.perform s) empty items)
+      pub booked : Booked s (after (rules.perform s) empty items) (reading (events perform T items))
+
+    pub after-items : (items : List Item) → Reached items
+    after-items items = record {
+      ghost = walked items .ghost;
+      stands = walked items .stands;
+      sound = reached items;
+      booked = rw (same-events items) (bookedly _ _ _ (onward s start items));
+    }
+
+    -- first in, first out
+    pub in-turn : (items later : List Item) (k : ℕ)
+        → k < length (handedOut (events perform (after perform T items) later))
+        → k < length (waiting (after perform T items))
+        → getD (handedOut (events perform (after perform T items) later)) k 0
+        ≡ getD (waiting (after perform T items)) k 0
+    in-turn items later k =
+        let a = walked items in
+        let history = onward s start items in
+        let b = along s soundly countedly bookedly quietly (after perform T items)
+        (after (rules.perform s) empty items) (a .ghost) _ _ (a .stands) history later in
+        rw (b .told, waiting-queue (a .stands)) (λ h l. kth _ _ _ (in-order soundly history later) k h l)

@@ -1,0 +1,105 @@
+-- The words do what the rules do, in one item: the answers are the same, and the tables left stand for the graph left.
+-- Follows document 01, "Steps" and "Turned-away calls". Assumes of the graph what the rules keep (`Sound`).
+use mathlib.Core.Path.{_≡_, refl}
+use Prim.Native.Nat.{ℕ, _<_}
+use lib.Dec.{eqb}
+use Rattle.terms.specs.Base.{pick}
+use Rattle.terms.specs.Terms.{Arguments, argumentsWrong, nothingToStep, halfDone, wrongArguments, alreadyHolding}
+use Rattle.terms.specs.Terms.{notHeld}
+use Rattle.terms.specs.Runs.{Item, postAdd, postFinish, step, get}
+use Rattle.terms.specs.declared.Sizes.{Sizes}
+use Rattle.words.specs.Layout.{HELD, MARKING, bareWorker, view, Tables}
+use Rattle.words.specs.Layout as layout
+use Rattle.words.specs.Words.{planPhase, applied, planGet, planQueue, appliedGet, judgedAdd, judgedFinish, holdsName}
+use Rattle.words.specs.Words.{addingWorker, refusal, posted, stepWords, getWords, addWords, finishWords}
+use Rattle.words.specs.Words.{judgedCounters}
+use Rattle.words.specs.Words as words
+use Rattle.words.specs.declared.Plan.the-variants.{Refuse}
+use Rattle.words.specs.declared.GetPlan.the-variants.{RefuseGet}
+use Rattle.rules.specs.Rules.{Call, idle, looking, linking, marking, notifying, Graph, addPosted, finishPosted, getJob}
+use Rattle.rules.specs.Rules.{whenIdle, stepCall}
+use Rattle.rules.specs.Rules as rules
+use Rattle.rules.specs.Sound.{Sound, CallSound}
+use Rattle.representation.specs.Rep.{Ghost, CallRep, Stands}
+use Rattle.words_refine_rules.specs.Agree.{Agrees, refused, admit, when-idle}
+use Rattle.words_refine_rules.specs.Step.{done}
+use Rattle.words_refine_rules.specs.Look.{looking-agrees}
+use Rattle.words_refine_rules.specs.Link.{linking-agrees}
+use Rattle.words_refine_rules.specs.Finish.{marking-agrees, notifying-agrees}
+use Rattle.words_refine_rules.specs.Post.{doneGet, add-agrees, finish-agrees, get-agrees}
+
+module _ (s : Sizes) (t : Tables) (g : Graph) (G : Ghost) (S : Stands s t g G) (O : Sound s g) where
+  module _ (w : ℕ) (hw : w < s .workers) where
+    -- ---- a step, whatever call the worker is in
+    step-call : (c : Call) → g .workers w .call ≡ c → CallSound g (g .workers w .held) c
+        → CallRep (view t .worker) G w c
+        → Agrees s (done (planPhase s (view t) w) t w) (stepCall s g w c)
+    unfolding planPhase applied stepCall
+    step-call idle e o r = rw (r .phase) (refused s t g G S O nothingToStep)
+    step-call (looking a i) e o r = looking-agrees s t g G S O w hw a i o r
+    step-call (linking a j i u) e o r = linking-agrees s t g G S O w hw a j i u e o r
+    step-call marking e o r = marking-agrees s t g G S O w hw (g .workers w .held) refl o r
+    step-call (notifying p k) e o r = notifying-agrees s t g G S O w hw p k o r
+
+    pub step-agrees : Agrees s (done (planPhase s (view t) w) t w) (stepCall s g w (g .workers w .call))
+    step-agrees = step-call (g .workers w .call) refl (O .calls w) (S .calls w hw .call)
+
+    -- ---- a get, and the posts
+    pub getting-agrees : Agrees s (doneGet (planGet s (view t) w) t w)
+        (whenIdle g (g .workers w .call) (getJob g w (g .workers w .held)))
+    unfolding planGet appliedGet
+    getting-agrees =
+        when-idle s t g G S O w hw (λ p. doneGet p t w)
+        (pick (eqb (view t .worker HELD w) layout.none) (planQueue s (view t)) (RefuseGet alreadyHolding))
+        (RefuseGet halfDone)
+        (getJob g w (g .workers w .held))
+        refl
+        (λ e B. get-agrees s t g G S O w hw B)
+
+    pub adding-agrees : (a : Arguments)
+        → Agrees s (posted (judgedAdd s (view t) w a) t w (addingWorker (view t .worker HELD w) a))
+        (whenIdle g (g .workers w .call) (addPosted g w a))
+    unfolding posted
+    adding-agrees a =
+        when-idle s t g G S O w hw (λ n. posted n t w (addingWorker (view t .worker HELD w) a))
+        (pick (argumentsWrong a) wrongArguments (judgedCounters s (view t)))
+        halfDone
+        (addPosted g w a)
+        refl
+        (λ e B. add-agrees s t g G S O w hw B a)
+
+    pub finishing-agrees : (name : ℕ)
+        → Agrees s (posted (judgedFinish s (view t) w name) t w (bareWorker MARKING (view t .worker HELD w)))
+        (whenIdle g (g .workers w .call) (finishPosted g w name (g .workers w .held)))
+    unfolding posted
+    finishing-agrees name =
+        when-idle s t g G S O w hw (λ n. posted n t w (bareWorker MARKING (view t .worker HELD w)))
+        (pick (holdsName (view t) w name) (judgedCounters s (view t)) notHeld)
+        halfDone
+        (finishPosted g w name (g .workers w .held))
+        refl
+        (λ e B. finish-agrees s t g G S O w hw B name)
+
+  -- ---- an item
+  pub item : (i : Item) → Agrees s (words.perform t i) (rules.perform s g i)
+  unfolding words.perform rules.perform stepWords getWords addWords finishWords applied appliedGet posted
+  item (postAdd r w a) =
+      admit s t g G S O w refusal (λ z. judgedAdd z (view t) w a)
+      (λ n. posted n t w (addingWorker (view t .worker HELD w) a))
+      _
+      refl
+      refl
+      (λ hw. adding-agrees w hw a)
+      r
+  item (postFinish r w name) =
+      admit s t g G S O w refusal (λ z. judgedFinish z (view t) w name)
+      (λ n. posted n t w (bareWorker MARKING (view t .worker HELD w)))
+      _
+      refl
+      refl
+      (λ hw. finishing-agrees w hw name)
+      r
+  item (step r w) = admit s t g G S O w Refuse (λ z. planPhase z (view t) w) (λ p. done p t w) _ refl refl
+      (step-agrees w) r
+  item (get r w) = admit s t g G S O w RefuseGet (λ z. planGet z (view t) w) (λ p. doneGet p t w) _ refl refl
+      (getting-agrees w) r

@@ -1,0 +1,184 @@
+-- The posts and the get of an idle worker: the words judge and store what the rules say. Follows document 01, "Steps":
+-- post, get; "Turned-away calls" (numbers 5, 10, 11). Assumes of the graph what the rules keep (`Sound`).
+use mathlib.Core.Path.{_≡_, refl, sym, ap, _∙_}
+use mathlib.Core.Bool.{Bool, true, false}
+use mathlib.Core.List.{List, [], _∷_}
+use mathlib.Core.Option.{Option, none, some}
+use Prim.Native.Nat.{ℕ, _+_, _≤_, _<_}
+use native.Mathlib.Omega.{arith}
+use lib.Dec.{eqb}
+use lib.ListN.{length}
+use borrow.Author.Tests.{eq-eqb, ne-eqb, lt-ltb, le-leb}
+use Rattle.terms.specs.Base.{pick}
+use Rattle.terms.specs.Terms.{labelNumber, Arguments, argumentsWrong, wrongArguments, alreadyHolding, notHeld}
+use Rattle.terms.specs.Runs.{Outcome, outcome}
+use Rattle.terms.specs.declared.Sizes.{Sizes}
+use Rattle.terms.specs.declared.Answer.the-variants.{Posted, NoneReady, Handed, Refused}
+use Rattle.words.specs.Columns.{columns, columns-put, update-same}
+use Rattle.words.specs.Layout.{LABEL, workerShape, HELD, IDLE, MARKING, bareWorker, tables, view, Tables}
+use Rattle.words.specs.Layout as layout
+use Rattle.words.specs.Words.{putWorker, planTake, planQueue, answerGet, appliedGet, holdsName, addingWorker, posted}
+use Rattle.words.specs.Words.{judgedCounters}
+use Rattle.words.specs.declared.GetPlan.{GetPlan}
+use Rattle.words.specs.declared.GetPlan.the-variants.{RefuseGet, Wait, Take}
+use Rattle.rules.specs.Rules.{Call, idle, looking, marking, Graph, job, withCall, addPosted, finishPosted, handedOut}
+use Rattle.rules.specs.Rules.{takeNext, getJob}
+use Rattle.rules.specs.Sound.{Sound, started}
+use Rattle.representation.specs.Rep.{Ghost, TablesRep, holdWord, BareWords, WorkerRep, Stands}
+use Rattle.representation_kept.specs.Stand.{tables-part, frame}
+use Rattle.representation_kept.specs.Labels.{get-stands}
+use Rattle.representation_kept.specs.Queue.{put-there, queue-end, next-cell, next-job}
+use Rattle.words_refine_rules.specs.Workers.{record-only, bare-fits, bare-held, bare-words, adding-fits}
+use Rattle.words_refine_rules.specs.Workers.{adding-held}
+use Rattle.words_refine_rules.specs.Workers.{adding-words, held-words}
+use Rattle.words_refine_rules.specs.Own.{counters-ok, job-place}
+use Rattle.words_refine_rules.specs.Agree.{Agrees, refused, agrees}
+use Rattle.words_refine_rules.specs.Step.{turned, unchanged, here, field}
+
+-- what a plan of a get does
+abbrev pub doneGet : GetPlan → Tables → ℕ → Outcome Tables
+doneGet p t w = outcome (answerGet p) (appliedGet p t w)
+
+module _ (s : Sizes) (t : Tables) (g : Graph) (G : Ghost) (S : Stands s t g G) (O : Sound s g) (w : ℕ)
+    (hw : w < s .workers)
+    (B : BareWords (view t .worker) w IDLE layout.none) where
+  abbrev R : TablesRep s (view t) g G
+  R = S .rep
+
+  abbrev f : ℕ → ℕ → ℕ
+  f = view t .worker
+
+  -- ---- a call posted: a whole record r, of the call c
+  post-agrees : (r : List ℕ) (c : Call) → length r ≤ workerShape .width
+      → WorkerRep (columns workerShape (putWorker (t .workers) w r)) G w (turned g w c)
+      → Agrees s (outcome Posted (tables (t .jobs) (t .arcs) (t .buckets) (t .queue) (putWorker (t .workers) w r)))
+      (outcome Posted (withCall g w c))
+  post-agrees r c b own =
+      agrees s t g G S O w (outcome Posted
+      (tables (t .jobs) (t .arcs) (t .buckets) (t .queue) (putWorker (t .workers) w r)))
+      (outcome Posted (withCall g w c)) G (turned g w c) refl
+      (frame s t g G (tables-part s t g G S) (putWorker (t .workers) w r) _)
+      refl
+      (record-only (s .workers) (t .workers) w (S .workers) hw r b)
+      (unchanged g G w)
+      own
+
+  -- the counters pass
+  judged : judgedCounters s (view t) ≡ 0
+  judged = rw (counters-ok s t g G S O)
+
+  pub add-agrees : (a : Arguments)
+      → Agrees s
+      (posted (pick (argumentsWrong a) wrongArguments (judgedCounters s (view t))) t w (addingWorker (f HELD w) a))
+      (addPosted g w a)
+  unfolding posted addPosted
+  add-agrees a = rw judged (go (argumentsWrong a))
+    where
+      go : (b : Bool) → Agrees s (posted (pick b wrongArguments 0) t w (addingWorker (f HELD w) a))
+          (pick b (outcome (Refused wrongArguments 0) g) (outcome Posted (withCall g w (looking a 0))))
+      go true = refused s t g G S O wrongArguments
+      go false = post-agrees (addingWorker (f HELD w) a) (looking a 0)
+          (adding-fits (s .workers) (t .workers) w (S .workers) hw (f HELD w) a)
+          (record {
+            held = adding-held (s .workers) (t .workers) w (S .workers) hw (f HELD w) a ∙ S .calls w hw .held;
+            call = adding-words (s .workers) (t .workers) w (S .workers) hw (f HELD w) a;
+          })
+
+  -- ---- the post of a finish
+  finish-word : (name : ℕ) → f HELD w ≡ holdWord (g .workers w .held) → (h : Option ℕ) → g .workers w .held ≡ h
+      → Agrees s (posted (pick (holdsName (view t) w name) 0 notHeld) t w (bareWorker MARKING (f HELD w)))
+      (finishPosted g w name h)
+  unfolding posted finishPosted
+  finish-word name e none z =
+      let held : f HELD w ≡ layout.none = e ∙ ap holdWord z in
+      rw held (refused s t g G S O notHeld)
+  finish-word name e (some p) z =
+      let held : f HELD w ≡ p = e ∙ ap holdWord z in
+      let there = O .held-there w p z in
+      rw (held, job-place s t g G S O w hw p there, R .rows p (omega (arith, O .jobs)) .name)
+      (go (eqb (job g p .name) name))
+    where
+      go : (b : Bool) → Agrees s (posted (pick b 0 notHeld) t w (bareWorker MARKING p))
+          (pick b (outcome Posted (withCall g w marking)) (outcome (Refused notHeld 0) g))
+      go true = post-agrees (bareWorker MARKING p) marking
+          (bare-fits (s .workers) (t .workers) w (S .workers) hw MARKING p)
+          (record {
+            held = bare-held (s .workers) (t .workers) w (S .workers) hw MARKING p ∙ sym (e ∙ ap holdWord z) ∙ e;
+            call = bare-words (s .workers) (t .workers) w (S .workers) hw MARKING p;
+          })
+      go false = refused s t g G S O notHeld
+
+  pub finish-agrees : (name : ℕ)
+      → Agrees s
+      (posted (pick (holdsName (view t) w name) (judgedCounters s (view t)) notHeld) t w
+      (bareWorker MARKING (f HELD w)))
+      (finishPosted g w name (g .workers w .held))
+  unfolding posted
+  finish-agrees name = rw judged (finish-word name (S .calls w hw .held) (g .workers w .held) refl)
+
+  -- ---- the get
+  abbrev taken : ℕ
+  taken = started (g .jobs)
+
+  take-agrees : (j : ℕ) (q : List ℕ) → g .queue ≡ j ∷ q
+      → Agrees s (doneGet (Take j (job g j .name) taken) t w) (outcome (Handed j (job g j .name)) (handedOut g w j q))
+  unfolding appliedGet
+  take-agrees j q e =
+      agrees s t g G S O w (doneGet (Take j (job g j .name) taken) t w)
+      (outcome (Handed j (job g j .name)) (handedOut g w j q)) G (record { held = some j; call = idle }) refl
+      (get-stands s t g G S O w j (job g j .name) q e)
+      refl
+      (field s t g G S O w hw (t .workers) (here s t g G S O w hw) HELD j refl)
+      (unchanged g G w)
+      (rw (columns-put workerShape (s .workers) (t .workers) w HELD j refl (S .workers) hw)
+      (record { held = update-same (f HELD) w j; call = held-words f w IDLE layout.none B j }))
+
+  plan-next : (j : ℕ) (q : List ℕ) → g .queue ≡ j ∷ q → planQueue s (view t) ≡ Take j (job g j .name) taken
+  unfolding planQueue planTake
+  plan-next j q e =
+      let n = next-job s t g G S O j q e in
+      let row = R .rows j (omega (arith, O .jobs, n .0)) in
+      let label : view t .job LABEL j ≡ 0 = row .label ∙ ap labelNumber (n .1) in
+      rw (
+        counters-ok s t g G S O,
+        put-there s t g G S O,
+        R .taken,
+        queue-end s t g G S O,
+        le-leb taken (taken + length (g .queue)) (omega arith),
+        ne-eqb taken (taken + length (g .queue)) (omega (arith, ap length e)),
+        next-cell s t g G S O j q e,
+        label,
+        row .name,
+        R .made,
+        lt-ltb j (length (g .jobs)) (n .0),
+      )
+
+  wait-agrees : Agrees s (doneGet Wait t w) (outcome NoneReady g)
+  unfolding appliedGet
+  wait-agrees = record { answer = refl; ghost = G; stands = S }
+
+  queue-agrees : (l : List ℕ) → g .queue ≡ l → Agrees s (doneGet (planQueue s (view t)) t w) (takeNext g w l)
+  unfolding planQueue takeNext
+  queue-agrees [] e =
+      rw (
+        counters-ok s t g G S O,
+        put-there s t g G S O,
+        R .taken,
+        queue-end s t g G S O,
+        le-leb taken (taken + length (g .queue)) (omega arith),
+        eq-eqb taken (taken + length (g .queue)) (omega (arith, ap length e)),
+      )
+      wait-agrees
+  queue-agrees (j ∷ q) e = rw (plan-next j q e) (take-agrees j q e)
+
+  pub get-agrees : Agrees s (doneGet
+      (pick (eqb (f HELD w) layout.none) (planQueue s (view t)) (RefuseGet alreadyHolding)) t w)
+      (getJob g w (g .workers w .held))
+  unfolding getJob appliedGet
+  get-agrees = rw (S .calls w hw .held) (go (g .workers w .held) refl)
+    where
+      go : (h : Option ℕ) → g .workers w .held ≡ h
+          → Agrees s (doneGet (pick (eqb (holdWord h) layout.none) (planQueue s (view t)) (RefuseGet alreadyHolding)) t
+          w) (getJob g w h)
+      go none e = queue-agrees (g .queue) refl
+      go (some j) e = rw (job-place s t g G S O w hw j (O .held-there w j e)) (refused s t g G S O alreadyHolding)

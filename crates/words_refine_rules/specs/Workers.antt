@@ -1,0 +1,246 @@
+-- The workers' words: what the stores of a call leave of the words of its own worker, and that they leave those of
+-- every other worker. Follows document 01, "Tables and their measures". Assumes nothing.
+use mathlib.Core.Path.{_≡_, refl, sym, ap, _∙_}
+use mathlib.Core.Logic.{_≢_}
+use mathlib.Core.Bool.{true}
+use mathlib.Core.List.{List, [], _∷_}
+use Prim.Native.Nat.{ℕ, zero, suc, _+_, _≤_, _<_}
+use native.Mathlib.Omega.{arith}
+use native.Mathlib.Decide.{ℕ-discrete}
+use lib.Dec.{ltb}
+use lib.ListN.{length, getD, length-replicate}
+use borrow.Author.Tests.{eq-eqb, ne-eqb, ltb-true}
+use Rattle.terms.specs.Base.{prefix}
+use Rattle.terms.specs.Terms.{mostNames, Arguments, listed}
+use Rattle.words.specs.Columns.{Rows, columns, columns-put, rows-put, store, update-same, update-other}
+use Rattle.words.specs.Layout.{none, workerShape, PHASE, HELD, TALLY, PLACE, OWN-JOB, OWN-ARC, NAMES, LOOKING, LINKING}
+use Rattle.words.specs.Layout.{NOTIFYING, LIST-COUNT, bareWorker}
+use Rattle.words.specs.Words.{putField, putWorker, addingWorker, firstArc}
+use Rattle.representation.specs.Rep.{AddWords, BareWords}
+use Rattle.representation_kept.specs.Records.{record-at, record-off, rows-sets}
+use Rattle.representation_kept.specs.Lists.{bare-name, length-prefix}
+
+-- ---- one field stored
+store-off : (f : ℕ → ℕ → ℕ) (i k x q u : ℕ) → u ≢ i → store f i k x q u ≡ f q u
+store-off f i k x q u e = elim (ℕ-discrete q k) [
+  | yes z ↦ rw (eq-eqb q k z) (update-other (f k) i x u e ∙ ap (λ y. f y u) (sym z))
+  | no z ↦ rw (ne-eqb q k z)
+]
+
+-- a field before the names leaves the names
+store-names : (f : ℕ → ℕ → ℕ) (i k x q u : ℕ) → ltb k NAMES ≡ true → store f i k x (NAMES + q) u ≡ f (NAMES + q) u
+store-names f i k x q u e = rw (ne-eqb (NAMES + q) k (omega (arith, ltb-true k NAMES e)))
+
+-- the first n of a list
+getD-prefix : (n : ℕ) (r : List ℕ) (q : ℕ) → q < n → getD (prefix n r) q 0 ≡ getD r q 0
+unfolding prefix
+getD-prefix zero r q h = absurd (omega arith)
+getD-prefix (suc n) [] zero h = refl
+getD-prefix (suc n) [] (suc q) h = getD-prefix n [] q (omega arith)
+getD-prefix (suc n) (x ∷ r) zero h = refl
+getD-prefix (suc n) (x ∷ r) (suc q) h = getD-prefix n r q (omega arith)
+
+-- ---- the list m is the list l, but for the words of worker w
+pub record Only (P : ℕ) (l m : List ℕ) (w : ℕ) : Type 0 where
+  pub long : Rows workerShape P m
+  pub others : (q u : ℕ) → u ≢ w → columns workerShape m q u ≡ columns workerShape l q u
+
+module _ (P : ℕ) (l : List ℕ) (w : ℕ) (long : Rows workerShape P l) (hw : w < P) where
+  pub same-only : Only P l l w
+  same-only = record { long = long; others = λ q u e. refl }
+
+  pub fields : (m : List ℕ) → Only P l m w → (k x : ℕ) → ltb k (workerShape .width) ≡ true
+      → columns workerShape (putField m w k x) ≡ store (columns workerShape m) w k x
+  fields m o k x e = columns-put workerShape P m w k x e (o .long) hw
+
+  pub field-only : (m : List ℕ) → Only P l m w → (k x : ℕ) → ltb k (workerShape .width) ≡ true
+      → Only P l (putField m w k x) w
+  field-only m o k x e = record {
+    long = rows-put workerShape P m w k x ∙ o .long;
+    others = λ q u n. ap (λ f. f q u) (fields m o k x e) ∙ store-off (columns workerShape m) w k x q u n
+        ∙ o .others q u n;
+  }
+
+  pub record-only : (r : List ℕ) → length r ≤ workerShape .width → Only P l (putWorker l w r) w
+  record-only r b = record {
+    long = rows-sets workerShape P l _ r ∙ long;
+    others = λ q u n. record-off workerShape P l w r b q u n;
+  }
+
+  -- a whole record of a call with no arguments
+  pub bare-fits : (ph held : ℕ) → length (bareWorker ph held) ≤ workerShape .width
+  bare-fits ph held = omega (arith, length-replicate {A = ℕ} mostNames 0)
+
+  bare-at : (ph held q : ℕ) → q < workerShape .width
+      → columns workerShape (putWorker l w (bareWorker ph held)) q w ≡ getD (bareWorker ph held) q 0
+  bare-at ph held q b =
+      record-at workerShape P l w (bareWorker ph held) (bare-fits ph held) long hw q
+      (omega (arith, length-replicate {A = ℕ} mostNames 0))
+
+  pub bare-held : (ph held : ℕ) → columns workerShape (putWorker l w (bareWorker ph held)) HELD w ≡ held
+  bare-held ph held = bare-at ph held 1 (omega arith)
+
+  pub bare-words : (ph held : ℕ) → BareWords (columns workerShape (putWorker l w (bareWorker ph held))) w ph none
+  bare-words ph held = record {
+    phase = bare-at ph held 0 (omega arith);
+    name = bare-at ph held 2 (omega arith);
+    count = bare-at ph held 3 (omega arith);
+    class = bare-at ph held 4 (omega arith);
+    grower = bare-at ph held 5 (omega arith);
+    tally = bare-at ph held 6 (omega arith);
+    place = bare-at ph held 7 (omega arith);
+    job = bare-at ph held 8 (omega arith);
+    arc = bare-at ph held 9 (omega arith);
+    names = λ q b. bare-at ph held (NAMES + q) (omega arith) ∙ bare-name ph held q b;
+  }
+
+  -- a whole record of an add that was posted
+  pub adding-fits : (held : ℕ) (a : Arguments) → length (addingWorker held a) ≤ workerShape .width
+  adding-fits held a = omega (arith, length-prefix mostNames (listed a))
+
+  adding-at : (held : ℕ) (a : Arguments) (q : ℕ) → q < workerShape .width
+      → columns workerShape (putWorker l w (addingWorker held a)) q w ≡ getD (addingWorker held a) q 0
+  adding-at held a q b =
+      record-at workerShape P l w (addingWorker held a) (adding-fits held a) long hw q
+      (omega (arith, length-prefix mostNames (listed a)))
+
+  pub adding-held : (held : ℕ) (a : Arguments) → columns workerShape (putWorker l w (addingWorker held a)) HELD w ≡ held
+  adding-held held a = adding-at held a 1 (omega arith)
+
+  name-at : (held : ℕ) (a : Arguments) (q : ℕ)
+      → getD (addingWorker held a) (NAMES + q) 0 ≡ getD (prefix mostNames (listed a)) q 0
+  name-at held a q =
+      ap (λ k. getD (addingWorker held a) k 0) {x = NAMES + q}
+      {y = suc (suc (suc (suc (suc (suc (suc (suc (suc (suc q)))))))))} (omega arith)
+
+  pub adding-words : (held : ℕ) (a : Arguments)
+      → AddWords (columns workerShape (putWorker l w (addingWorker held a))) w a LOOKING 0 0 none none
+  adding-words held a = record {
+    phase = adding-at held a 0 (omega arith);
+    name = adding-at held a 2 (omega arith);
+    count = adding-at held a 3 (omega arith);
+    class = adding-at held a 4 (omega arith);
+    grower = adding-at held a 5 (omega arith);
+    tally = adding-at held a 6 (omega arith);
+    place = adding-at held a 7 (omega arith);
+    job = adding-at held a 8 (omega arith);
+    arc = adding-at held a 9 (omega arith);
+    names = λ q h.
+        adding-at held a (NAMES + q) (omega arith) ∙ name-at held a q ∙ getD-prefix mostNames (listed a) q h;
+  }
+
+-- ---- the fields that the steps of an add store
+module _ (f : ℕ → ℕ → ℕ) (w : ℕ) (a : Arguments) (ph ta pl jo ar : ℕ) (A : AddWords f w a ph ta pl jo ar) where
+  abbrev pub nextWords : ℕ → ℕ → ℕ
+  nextWords = store f w PLACE (f PLACE w + 1)
+
+  next-names : (q : ℕ) → q < mostNames → nextWords (NAMES + q) w ≡ getD (listed a) q 0
+  next-names q h = store-names f w PLACE (f PLACE w + 1) q w refl ∙ A .names q h
+
+  next-place : nextWords PLACE w ≡ suc pl
+  next-place = omega (arith, update-same (f PLACE) w (f PLACE w + 1), A .place)
+
+  pub next-words : AddWords nextWords w a ph ta (suc pl) jo ar
+  next-words = record {
+    phase = A .phase;
+    name = A .name;
+    count = A .count;
+    class = A .class;
+    grower = A .grower;
+    tally = A .tally;
+    place = next-place;
+    job = A .job;
+    arc = A .arc;
+    names = next-names;
+  }
+
+  pub tally-words : AddWords (store nextWords w TALLY (f TALLY w + 1)) w a ph (suc ta) (suc pl) jo ar
+  tally-words = record {
+    phase = A .phase;
+    name = A .name;
+    count = A .count;
+    class = A .class;
+    grower = A .grower;
+    tally = omega (arith, update-same (f TALLY) w (f TALLY w + 1), A .tally);
+    place = next-place;
+    job = A .job;
+    arc = A .arc;
+    names = λ q h. store-names nextWords w TALLY (f TALLY w + 1) q w refl ∙ next-names q h;
+  }
+
+  abbrev inPhase : ℕ → ℕ → ℕ
+  inPhase = store f w PHASE LINKING
+
+  abbrev atStart : ℕ → ℕ → ℕ
+  atStart = store inPhase w PLACE 0
+
+  abbrev withJob : ℕ → ℕ → ℕ → ℕ
+  withJob j = store atStart w OWN-JOB j
+
+  pub enter-words : (j x : ℕ)
+      → AddWords (store (withJob j) w OWN-ARC (firstArc (f LIST-COUNT w) x)) w a LINKING ta 0 j (firstArc (a .count) x)
+  enter-words j x = record {
+    phase = update-same (f PHASE) w LINKING;
+    name = A .name;
+    count = A .count;
+    class = A .class;
+    grower = A .grower;
+    tally = A .tally;
+    place = update-same (f PLACE) w 0;
+    job = update-same (f OWN-JOB) w j;
+    arc = update-same (f OWN-ARC) w (firstArc (f LIST-COUNT w) x) ∙ ap (λ d. firstArc d x) (A .count);
+    names = λ q h.
+        store-names (withJob j) w OWN-ARC (firstArc (f LIST-COUNT w) x) q w refl
+        ∙ store-names atStart w OWN-JOB j q w refl
+        ∙ store-names inPhase w PLACE 0 q w refl
+        ∙ store-names f w PHASE LINKING q w refl
+        ∙ A .names q h;
+  }
+
+-- ---- the fields that a finish and a get store
+module _ (f : ℕ → ℕ → ℕ) (w ph ar : ℕ) (B : BareWords f w ph ar) where
+  pub arc-words : (x : ℕ) → BareWords (store f w OWN-ARC x) w ph x
+  arc-words x = record {
+    phase = B .phase;
+    name = B .name;
+    count = B .count;
+    class = B .class;
+    grower = B .grower;
+    tally = B .tally;
+    place = B .place;
+    job = B .job;
+    arc = update-same (f OWN-ARC) w x;
+    names = λ q h. store-names f w OWN-ARC x q w refl ∙ B .names q h;
+  }
+
+  pub mark-words : (x : ℕ) → BareWords (store (store (store f w PHASE NOTIFYING) w HELD none) w OWN-ARC x) w NOTIFYING x
+  mark-words x = record {
+    phase = update-same (f PHASE) w NOTIFYING;
+    name = B .name;
+    count = B .count;
+    class = B .class;
+    grower = B .grower;
+    tally = B .tally;
+    place = B .place;
+    job = B .job;
+    arc = update-same (f OWN-ARC) w x;
+    names = λ q h.
+        store-names (store (store f w PHASE NOTIFYING) w HELD none) w OWN-ARC x q w refl
+        ∙ store-names (store f w PHASE NOTIFYING) w HELD none q w refl
+        ∙ store-names f w PHASE NOTIFYING q w refl
+        ∙ B .names q h;
+  }
+
+  pub held-words : (x : ℕ) → BareWords (store f w HELD x) w ph ar
+  held-words x = record {
+    phase = B .phase;
+    name = B .name;
+    count = B .count;
+    class = B .class;
+    grower = B .grower;
+    tally = B .tally;
+    place = B .place;
+    job = B .job;
+    arc = B .arc;
+    names = λ q h. store-names f w HELD x q w refl ∙ B .names q h;
+  }
