@@ -2,7 +2,7 @@
 //! what the proved library is timed beside. The layout of the tables is that of `include/taskgraph.h`. The
 //! five calls are never inlined, as those of the library cannot be.
 
-use library::graph::{kind, Answer, Entry, Sizes, Tables};
+use taskgraph::raw::{kind, Answer, Entry, Sizes, Tables};
 
 const NONE: u32 = u32::MAX;
 const FACTOR: u32 = 2_654_435_769;

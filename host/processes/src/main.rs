@@ -21,10 +21,10 @@ use std::{
 };
 
 use check::{Check, Words};
-use conformance::random::{seed, Random};
-use library::graph::{self, kind};
+use compare_sheets::random::{seed, Random};
 use plan::Plan;
 use shared::{Shared, JOBS, WORKERS};
+use taskgraph::raw::{self, kind};
 use worker::Worker;
 
 /// A run that takes longer has failed.
@@ -100,7 +100,7 @@ impl Run {
         let folder = env::temp_dir().join(format!("taskgraph-processes-{}-{seed}", process::id()));
         fs::create_dir_all(&folder).map_err(text)?;
         let shared = Shared::new(&folder.join("words")).map_err(text)?;
-        let answer = shared.lock().call(graph::lay_out);
+        let answer = shared.lock().call(raw::lay_out);
         if answer.kind != kind::LAID_OUT {
             return Err(format!("laying out answers {answer:?}"));
         }

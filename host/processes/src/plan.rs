@@ -2,8 +2,8 @@
 
 use std::collections::HashMap;
 
-use conformance::random::Random;
-use library::{Entry, MAX_NAMES};
+use compare_sheets::random::Random;
+use taskgraph::raw::{Entry, MAX_NAMES};
 
 use crate::shared::{ARCS, JOBS};
 

@@ -7,7 +7,7 @@ use std::{
     thread,
 };
 
-use library::graph::{self, Answer, Sizes, Tables};
+use taskgraph::raw::{self, Answer, Sizes, Tables};
 
 use crate::mapping::Mapping;
 
@@ -48,8 +48,8 @@ pub struct Shared {
 
 impl Shared {
     pub fn new(path: &Path) -> io::Result<Shared> {
-        let need = graph::words_needed(SIZES);
-        let need = [need.jobs, need.arcs, need.buckets, need.queue, need.workers].map(|words| words as usize);
+        let need = raw::words_needed(SIZES);
+        let need = [need.jobs, need.arcs, need.buckets, need.queue, need.workers];
         Ok(Shared { mapping: Mapping::new(path, CONTROL + need.iter().sum::<usize>())?, need })
     }
 

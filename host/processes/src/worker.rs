@@ -9,8 +9,8 @@ use std::{
     time::{Duration, Instant},
 };
 
-use conformance::random::Random;
-use library::graph::{self, kind, Answer, Sizes, Tables};
+use compare_sheets::random::Random;
+use taskgraph::raw::{self, kind, Answer, Sizes, Tables};
 
 use crate::{
     log::Line,
@@ -51,7 +51,7 @@ impl Worker {
             }
             let shared = &self.shared;
             let mut locked = shared.lock();
-            let answer = call(&mut locked, self.number, graph::get);
+            let answer = call(&mut locked, self.number, raw::get);
             match answer.kind {
                 kind::HANDED_OUT => {
                     locked.set_busy(self.number, true);
@@ -96,11 +96,11 @@ impl Worker {
         };
         let entry = self.plan.entry(job);
         let number = self.number;
-        let post = |sizes, tables: &mut Tables, worker| graph::post_add(sizes, tables, worker, entry);
+        let post = |sizes, tables: &mut Tables, worker| raw::post_add(sizes, tables, worker, entry);
         let mut answer = call(&mut self.shared.lock(), number, post);
         while answer.kind == kind::POSTED || answer.kind == kind::GOING_ON {
             let mut locked = self.shared.lock();
-            answer = call(&mut locked, number, graph::step);
+            answer = call(&mut locked, number, raw::step);
             if answer.kind == kind::ENDED {
                 locked.set_added(job);
                 locked.set_busy(number, false);
@@ -141,11 +141,11 @@ impl Worker {
     }
 
     fn finish(&mut self, name: u32) -> io::Result<()> {
-        let post = |sizes, tables: &mut Tables, worker| graph::post_finish(sizes, tables, worker, name);
+        let post = |sizes, tables: &mut Tables, worker| raw::post_finish(sizes, tables, worker, name);
         let mut answer = call(&mut self.shared.lock(), self.number, post);
         while answer.kind == kind::POSTED || answer.kind == kind::GOING_ON {
             let mut locked = self.shared.lock();
-            answer = call(&mut locked, self.number, graph::step);
+            answer = call(&mut locked, self.number, raw::step);
             if answer.kind == kind::ENDED {
                 locked.set_busy(self.number, self.claimed.is_some());
             }
