@@ -14,10 +14,7 @@ fn main() {
     println!("cargo:rustc-link-search=native={}", folder.display());
     println!("cargo:rustc-link-lib=static=taskgraph");
     if !archive.is_file() {
-        println!(
-            "cargo:warning={} is missing, so nothing links",
-            archive.display()
-        );
+        println!("cargo:warning={} is missing, so nothing links", archive.display());
         println!("cargo:warning=`bash scripts/library`, in the repository of taskgraph, writes it");
     }
 }

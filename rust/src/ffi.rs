@@ -1,101 +1,154 @@
-//! The declarations of `include/taskgraph.h`; what each answers is said there.
+//! The declarations of `include/taskgraph.h`, which says what each function answers. `scripts/check-interface` holds
+//! them to it.
 
 use std::mem::size_of;
 
+/// The longest list of prerequisites.
 pub const MAX_NAMES: usize = 32;
+/// The words of an entry, which is a row of a sheet that was read.
 pub const ENTRY_WORDS: usize = 36;
 
+/// A job as an entry of a sheet: the first `count` of `names` are its prerequisites.
 #[repr(C)]
 #[derive(Clone, Copy, Debug, Default, PartialEq, Eq)]
 pub struct Entry {
+    /// The job's name.
     pub name: u32,
+    /// How many prerequisites it has.
     pub count: u32,
+    /// Its class.
     pub class: u32,
+    /// Its grower.
     pub grower: u32,
+    /// The names of its prerequisites.
     pub names: [u32; MAX_NAMES],
 }
 
+/// What reading an entry answers.
 #[repr(C)]
 #[derive(Clone, Copy, Debug, Default, PartialEq, Eq)]
 pub struct Reading {
+    /// 0, 12, 13 or 14.
     pub number: u32,
+    /// 1 where there is an entry, else 0.
     pub found: u32,
+    /// The offset past the entry, or that of the field refused.
     pub at: usize,
+    /// The entry, all 0 where there is none.
     pub entry: Entry,
 }
 
+/// What writing an entry answers.
 #[repr(C)]
 #[derive(Clone, Copy, Debug, Default, PartialEq, Eq)]
 pub struct Written {
+    /// 0, 14 or 15.
     pub number: u32,
+    /// The offset past the entry, or for 14 that of the field from the entry's start.
     pub at: usize,
 }
 
+/// What reading a whole sheet answers.
 #[repr(C)]
 #[derive(Clone, Copy, Debug, Default, PartialEq, Eq)]
 pub struct Sheet {
+    /// 0, 12, 13, 14 or 15.
     pub number: u32,
+    /// How many entries it has.
     pub entries: usize,
+    /// The offset of the field refused.
     pub at: usize,
 }
 
+/// What writing a whole sheet answers.
 #[repr(C)]
 #[derive(Clone, Copy, Debug, Default, PartialEq, Eq)]
 pub struct SheetWritten {
+    /// 0, 1, 14 or 15.
     pub number: u32,
+    /// How many entries were written, or for 14 which one is refused.
     pub entry: usize,
+    /// How many bytes were written, or for 14 the offset of the field from the entry's start.
     pub at: usize,
 }
 
+/// A job as the board reads it.
 #[repr(C)]
 #[derive(Clone, Copy, Debug, Default, PartialEq, Eq)]
 pub struct JobRecord {
+    /// 0 unexecuted, 1 executing, 2 finished.
     pub label: u32,
+    /// 0 to 15.
     pub class: u32,
 }
 
+/// What the board answers, by label.
 #[repr(C)]
 #[derive(Clone, Copy, Debug, Default, PartialEq, Eq)]
 pub struct Totals {
+    /// 0, 1 or 9.
     pub number: u32,
+    /// The jobs under each label.
     pub jobs: [u32; 3],
+    /// The sums of their minutes.
     pub minutes: [u32; 3],
 }
 
+/// The sizes of a graph, which laying out judges and keeps.
 #[repr(C)]
 #[derive(Clone, Copy, Debug, Default, PartialEq, Eq)]
 pub struct Sizes {
+    /// The most jobs, 1 to 4,096.
     pub jobs: u32,
+    /// The most listed names of all jobs together, 0 to 32,768.
     pub arcs: u32,
+    /// Bucket bits, 1 to 8: a look-up by name walks one of 2 to this power buckets.
     pub bits: u32,
+    /// Workers, 1 to 16, numbered from 0.
     pub workers: u32,
 }
 
+/// What a call of the task graph answers; fields that do not belong to its kind are 0.
 #[repr(C)]
 #[derive(Clone, Copy, Debug, Default, PartialEq, Eq)]
 pub struct Answer {
+    /// One of [`kind`](crate::raw::kind).
     pub kind: u32,
+    /// The number of a refusal.
     pub number: u32,
+    /// For number 6, the place in the list.
     pub place: u32,
+    /// The number of the job handed out.
     pub job: u32,
+    /// Its name.
     pub name: u32,
 }
 
+/// The words that each table needs.
 #[repr(C)]
 #[derive(Clone, Copy, Debug, Default, PartialEq, Eq)]
 pub struct Need {
+    /// 0, or 1 where a size is off its limits.
     pub number: u32,
+    /// Words of the jobs table.
     pub jobs: usize,
+    /// Words of the arcs table.
     pub arcs: usize,
+    /// Words of the buckets table.
     pub buckets: usize,
+    /// Words of the queue table.
     pub queue: usize,
+    /// Words of the workers table.
     pub workers: usize,
 }
 
+/// What the day list answers.
 #[repr(C)]
 #[derive(Clone, Copy, Debug, Default, PartialEq, Eq)]
 pub struct Day {
+    /// 0, 1 or 15.
     pub number: u32,
+    /// How many bytes the lines take.
     pub bytes: usize,
 }
 
@@ -112,26 +165,27 @@ const _: () = assert!(size_of::<Need>() == 48);
 const _: () = assert!(size_of::<Day>() == 16);
 
 extern "C" {
+    /// The entry at an offset of a sheet.
     pub fn tg_read_entry(sheet: *const u8, sheet_len: usize, at: usize) -> Reading;
+    /// Writes an entry at an offset.
     pub fn tg_write_entry(out: *mut u8, out_len: usize, at: usize, entry: Entry) -> Written;
+    /// Judges a whole sheet and counts its entries.
     pub fn tg_scan_sheet(sheet: *const u8, sheet_len: usize) -> Sheet;
-    pub fn tg_read_sheet(
-        sheet: *const u8,
-        sheet_len: usize,
-        rows: *mut u32,
-        rows_len: usize,
-    ) -> Sheet;
-    pub fn tg_write_sheet(
-        rows: *const u32,
-        rows_len: usize,
-        out: *mut u8,
-        out_len: usize,
-    ) -> SheetWritten;
+    /// Reads a whole sheet into rows of words.
+    pub fn tg_read_sheet(sheet: *const u8, sheet_len: usize, rows: *mut u32, rows_len: usize) -> Sheet;
+    /// Writes the entries of all rows.
+    pub fn tg_write_sheet(rows: *const u32, rows_len: usize, out: *mut u8, out_len: usize) -> SheetWritten;
+    /// The bucket of a name.
     pub fn tg_bucket(name: u32, bits: u32) -> u32;
+    /// The minutes of a class.
     pub fn tg_minutes(class: u32) -> u32;
+    /// The totals of records given as words.
     pub fn tg_totals_of_words(words: *const u32, words_len: usize) -> Totals;
+    /// The totals of a row of records.
     pub fn tg_totals_of_records(records: *const JobRecord, records_len: usize) -> Totals;
+    /// The words that each table needs.
     pub fn tg_words_needed(sizes: Sizes) -> Need;
+    /// Makes a fresh graph.
     pub fn tg_lay_out(
         sizes: Sizes,
         jobs: *mut u32,
@@ -145,6 +199,7 @@ extern "C" {
         workers: *mut u32,
         workers_len: usize,
     ) -> Answer;
+    /// Posts an add.
     pub fn tg_post_add(
         sizes: Sizes,
         jobs: *mut u32,
@@ -160,6 +215,7 @@ extern "C" {
         worker: u32,
         entry: Entry,
     ) -> Answer;
+    /// Posts a finish.
     pub fn tg_post_finish(
         sizes: Sizes,
         jobs: *mut u32,
@@ -175,6 +231,7 @@ extern "C" {
         worker: u32,
         name: u32,
     ) -> Answer;
+    /// One step of the worker's call.
     pub fn tg_step(
         sizes: Sizes,
         jobs: *mut u32,
@@ -189,6 +246,7 @@ extern "C" {
         workers_len: usize,
         worker: u32,
     ) -> Answer;
+    /// Takes the job longest in the queue.
     pub fn tg_get(
         sizes: Sizes,
         jobs: *mut u32,
@@ -203,12 +261,8 @@ extern "C" {
         workers_len: usize,
         worker: u32,
     ) -> Answer;
+    /// The totals of the jobs made.
     pub fn tg_totals_of_graph(sizes: Sizes, jobs: *const u32, jobs_len: usize) -> Totals;
-    pub fn tg_day_list(
-        sheet: *const u8,
-        sheet_len: usize,
-        workers: u32,
-        out: *mut u8,
-        out_len: usize,
-    ) -> Day;
+    /// What the day list prints of a sheet.
+    pub fn tg_day_list(sheet: *const u8, sheet_len: usize, workers: u32, out: *mut u8, out_len: usize) -> Day;
 }

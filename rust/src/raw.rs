@@ -4,27 +4,38 @@
 use crate::ffi;
 
 pub use crate::ffi::{
-    Answer, Day, Entry, JobRecord, Need, Reading, Sheet, SheetWritten, Sizes, Totals, Written,
-    ENTRY_WORDS, MAX_NAMES,
+    Answer, Day, Entry, JobRecord, Need, Reading, Sheet, SheetWritten, Sizes, Totals, Written, ENTRY_WORDS, MAX_NAMES,
 };
 
 /// The kinds of an answer.
 pub mod kind {
+    /// Turned away, by `number`.
     pub const REFUSED: u32 = 0;
+    /// A fresh graph was made.
     pub const LAID_OUT: u32 = 1;
+    /// The call was posted, and steps follow.
     pub const POSTED: u32 = 2;
+    /// The call has more steps.
     pub const GOING_ON: u32 = 3;
+    /// The call has ended.
     pub const ENDED: u32 = 4;
+    /// No job waits.
     pub const NONE_READY: u32 = 5;
+    /// `job` was taken, whose name is `name`.
     pub const HANDED_OUT: u32 = 6;
 }
 
-/// The five lent tables.
+/// The five lent tables; `include/taskgraph.h` says which words they hold.
 pub struct Tables<'a> {
+    /// Sizes, the jobs made, and a record for each job.
     pub jobs: &'a mut [u32],
+    /// The arcs reserved, and a record for each arc.
     pub arcs: &'a mut [u32],
+    /// The first job of each bucket.
     pub buckets: &'a mut [u32],
+    /// Jobs taken and put, and a cell for each job.
     pub queue: &'a mut [u32],
+    /// A record for each worker.
     pub workers: &'a mut [u32],
 }
 
@@ -101,15 +112,7 @@ pub fn totals_of_records(records: &[JobRecord]) -> Totals {
 
 /// What the day list prints of a sheet.
 pub fn day_list(sheet: &[u8], workers: u32, out: &mut [u8]) -> Day {
-    unsafe {
-        ffi::tg_day_list(
-            sheet.as_ptr(),
-            sheet.len(),
-            workers,
-            out.as_mut_ptr(),
-            out.len(),
-        )
-    }
+    unsafe { ffi::tg_day_list(sheet.as_ptr(), sheet.len(), workers, out.as_mut_ptr(), out.len()) }
 }
 
 /// The entry at offset `at` of a sheet.

@@ -10,8 +10,8 @@ use std::{
     time::Duration,
 };
 
-/// The longest time for one history, generously.
-const LIMIT: Duration = Duration::from_secs(120);
+/// A history takes milliseconds; one that takes so long hangs.
+const LIMIT: Duration = Duration::from_secs(3_600);
 
 pub struct Watchdog {
     number: Arc<AtomicU64>,
