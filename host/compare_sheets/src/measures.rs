@@ -18,8 +18,9 @@ impl Case for Bucket {
     }
 
     fn smaller(&self) -> Box<dyn Iterator<Item = Self> + '_> {
-        let pair = shrink::lower_words(&[self.name, self.bits]).collect::<Vec<_>>();
-        Box::new(pair.into_iter().map(|pair| Bucket { name: pair[0], bits: pair[1] }))
+        let names = shrink::lower(u64::from(self.name)).map(|name| Bucket { name: name as u32, ..*self });
+        let bits = shrink::lower(u64::from(self.bits)).map(|bits| Bucket { bits: bits as u32, ..*self });
+        Box::new(names.chain(bits))
     }
 
     fn show(&self) -> String {

@@ -90,7 +90,7 @@ pub fn hex(bytes: &[u8]) -> String {
 
 /// Words in hexadecimal, `per_line` in a line; of lines that repeat, the first and their number.
 pub fn hex_words(words: &[u32], per_line: usize) -> String {
-    let mut text = String::new();
+    let mut shown = Vec::new();
     let mut lines = words.chunks(per_line).peekable();
     while let Some(line) = lines.next() {
         let mut times = 1;
@@ -98,10 +98,7 @@ pub fn hex_words(words: &[u32], per_line: usize) -> String {
             times += 1;
         }
         let digits: String = line.iter().map(|word| format!(" {word:x}")).collect();
-        text += &format!("\n  {digits}");
-        if times > 1 {
-            text += &format!("   ({times} such lines)");
-        }
+        shown.push(if times == 1 { format!("\n  {digits}") } else { format!("\n  {digits}   ({times} such lines)") });
     }
-    text
+    shown.concat()
 }

@@ -36,12 +36,12 @@ impl Case for EntryAt {
     }
 
     fn smaller(&self) -> Box<dyn Iterator<Item = Self> + '_> {
-        let row = self.entry.to_row();
-        let entries = shrink::lower_words(&row).map(|row| from_row(&row)).collect::<Vec<_>>();
-        let entries = entries.into_iter().map(|entry| EntryAt { entry, ..*self });
+        let lowered = |row: Vec<u32>| EntryAt { entry: from_row(&row), ..*self };
+        let mut entries = Vec::new();
+        entries.extend(shrink::lower_words(&self.entry.to_row()).map(lowered));
         let offsets = shrink::lower_size(self.at).map(|at| EntryAt { at, ..*self });
         let outputs = shrink::lower_size(self.out_len).map(|out_len| EntryAt { out_len, ..*self });
-        Box::new(entries.chain(offsets).chain(outputs))
+        Box::new(entries.into_iter().chain(offsets).chain(outputs))
     }
 
     fn show(&self) -> String {
