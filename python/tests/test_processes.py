@@ -1,31 +1,27 @@
-"""Worker processes over one graph in shared memory, under one lock."""
+"""Two worker processes over one graph in shared memory, under one lock."""
 import multiprocessing
 import unittest
+from concurrent.futures import ProcessPoolExecutor
 from multiprocessing.shared_memory import SharedMemory
 
-from support import random_entry, seeded
+from support import seeded
 from taskgraph import Entry, Graph, Refusal, Sizes
 
-SIZES = Sizes(jobs=600, arcs=4000, bits=4, workers=2)
+SIZES = Sizes(jobs=500, arcs=1500, bits=4, workers=2)
+BASE, COMMON = range(50), range(5000, 5050)
 
 
-def work(worker, name, lock, entries, report):
-    """Adds its entries, then takes jobs until all that entered are finished. Reports what happened, in order."""
-    memory = SharedMemory(name)
-    try:
-        with Graph(SIZES, memory.buf, lock) as graph:
-            entered = [entry.name for entry in entries if added(graph, worker, entry)]
-            done = []
-            while True:
-                job = graph.get(worker)
-                if job is not None:
-                    done.append(job.name)
-                    graph.finish(worker, job.name)
-                elif sum(graph.totals().jobs[:2]) == 0:
-                    break
-            report.put((worker, entered, done))
-    finally:
-        memory.close()
+def set_up(*given):
+    """What a process has from its parent: these do not go through a task's arguments."""
+    global NAME, LOCK, START, COUNTER
+    NAME, LOCK, START, COUNTER = given
+
+
+def moment():
+    """A number greater than all those given before, in any process."""
+    with COUNTER.get_lock():
+        COUNTER.value += 1
+        return COUNTER.value
 
 
 def added(graph, worker, entry):
@@ -33,40 +29,73 @@ def added(graph, worker, entry):
         graph.add(worker, entry)
         return True
     except Refusal as refusal:
-        if refusal.number not in (5, 6, 7):
+        if refusal.number != 7:
             raise
         return False
 
 
-class Order:
-    """A lock that writes down, under itself, who called: the true order of the calls is not judged by a clock."""
+def work(worker, entries):
+    """Adds entries, then takes jobs until all that entered are finished.
+
+    Answers the entries that entered, and of each job its name, a moment after it was handed out and one before
+    its finish.
+    """
+    memory = SharedMemory(NAME)
+    try:
+        with Graph(SIZES, memory.buf, LOCK) as graph:
+            START.wait()
+            entered = [entry for entry in entries if added(graph, worker, entry)]
+            done = []
+            while sum(graph.totals().jobs[:2]):
+                job = graph.get(worker)
+                if job is not None:
+                    done.append((job.name, moment(), moment()))
+                    graph.finish(worker, job.name)
+            return entered, done
+    finally:
+        memory.close()
+
+
+def sheet(source, worker):
+    """Names of the worker's own, which need those before them, and names that both workers add."""
+    own = range(1000 * (worker + 1), 1000 * (worker + 1) + 150)
+    known = list(BASE)
+    entries = []
+    for name in own:
+        entries.append(Entry(name, tuple(source.sample(known, source.randrange(4)))))
+        known.append(name)
+    entries += [Entry(name, tuple(source.sample(BASE, 2))) for name in COMMON]
+    return own, entries
 
 
 class TwoProcesses(unittest.TestCase):
-    def test_each_job_is_worked_once(self):
-        source = seeded("two processes")
-        sheets = [[random_entry(source, 300) for _ in range(250)] for _ in range(2)]
-        sheets = [[Entry(e.name, e.prerequisites[:3], e.class_, e.grower) for e in sheet] for sheet in sheets]
+    def run_both(self, sheets):
+        """The reports of two processes that work on the sheets, and the totals afterwards."""
         context = multiprocessing.get_context("spawn")
-        lock, report = context.Lock(), context.Queue()
+        lock, start, counter = context.Lock(), context.Barrier(2), context.Value("Q")
         memory = SharedMemory(create=True, size=Graph.room(SIZES))
         self.addCleanup(memory.unlink)
         self.addCleanup(memory.close)
         with Graph(SIZES, memory.buf, lock) as graph:
             graph.lay_out()
-            graph.add(0, Entry(2**32 - 1))
-            processes = [
-                context.Process(target=work, args=(worker, memory.name, lock, sheets[worker], report))
-                for worker in range(2)
-            ]
-            for process in processes:
-                process.start()
-            reports = [report.get(timeout=120) for _ in processes]
-            for process in processes:
-                process.join()
-            self.assertEqual([process.exitcode for process in processes], [0, 0])
-            names = [2**32 - 1] + [name for _, entered, _ in reports for name in entered]
-            worked = [name for _, _, done in reports for name in done]
-            self.assertEqual(len(set(names)), len(names))
-            self.assertEqual(sorted(worked), sorted(names))
-            self.assertEqual(graph.totals().jobs, (0, 0, len(names)))
+            for name in BASE:
+                graph.add(0, Entry(name))
+            with ProcessPoolExecutor(2, context, set_up, (memory.name, lock, start, counter)) as pool:
+                tasks = [pool.submit(work, worker, entries) for worker, entries in enumerate(sheets)]
+                return [task.result() for task in tasks], graph.totals()
+
+    def test_each_job_is_worked_once_and_after_its_prerequisites(self):
+        source = seeded("two processes")
+        names, sheets = zip(*(sheet(source, worker) for worker in range(2)))
+        reports, totals = self.run_both(sheets)
+        entered = [entry for entries, _ in reports for entry in entries]
+        done = [row for _, rows in reports for row in rows]
+        expected = sorted([*names[0], *names[1], *COMMON])
+        self.assertEqual(sorted(entry.name for entry in entered), expected)
+        self.assertEqual(sorted(name for name, _, _ in done), sorted([*BASE, *expected]))
+        self.assertEqual(totals.jobs, (0, 0, len(done)))
+        handed = {name: after for name, after, _ in done}
+        finish = {name: before for name, _, before in done}
+        for entry in entered:
+            for name in entry.prerequisites:
+                self.assertLess(finish[name], handed[entry.name])
