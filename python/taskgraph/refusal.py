@@ -1,23 +1,24 @@
 """Calls that were turned away, and what each number says."""
 from __future__ import annotations
 
+from ._arguments import word
 from ._library import loaded
 
-# For libraries without tg_message.
+# The library's own texts, for where it has no tg_message or was not loaded.
 MESSAGES = {
-    1: "a size is off its limits or not the one laid out, or a table is too short",
-    2: "there is no such worker",
+    1: "a size off its limits or not the one laid out, or a table too short",
+    2: "no such worker",
     3: "the worker's call is half done",
     4: "the worker has no call to step",
-    5: "the class, the grower or the list of prerequisites is off its limits",
-    6: "no job has a name of the list",
-    7: "a job has this name already",
-    8: "there is no room for the job or its arcs",
-    9: "the tables are damaged",
+    5: "wrong class, grower or list",
+    6: "a listed name has no job",
+    7: "the name has a job already",
+    8: "no room for the job or its arcs",
+    9: "damaged words",
     10: "the worker holds a job",
-    11: "the worker does not hold this job",
+    11: "the worker holds no job of that name",
     12: "the sheet ends inside an entry",
-    13: "the map byte is wrong",
+    13: "wrong map byte",
     14: "a field's value is off its limits",
     15: "the output lacks room",
 }
@@ -25,11 +26,12 @@ MESSAGES = {
 
 def message(number: int) -> str:
     """What a refusal's number says: the library's text, where it has one."""
+    word(number, "the number")
     library = loaded()
     if library is not None and hasattr(library, "tg_message"):
         text: bytes = library.tg_message(number)
         return text.decode()
-    return MESSAGES.get(number, "an unknown number")
+    return MESSAGES.get(number, "unknown number")
 
 
 class Refusal(Exception):

@@ -2,7 +2,7 @@
 import unittest
 
 from support import FOUR, SMALL
-from taskgraph import Entry, Graph, Sizes, bucket, day_list, minutes, read_sheet, write_sheet
+from taskgraph import Entry, Graph, Sizes, bucket, day_list, message, minutes, read_sheet, write_sheet
 
 # calls with one number left open
 NUMBERS = {
@@ -17,6 +17,7 @@ NUMBERS = {
     "bucket's name": lambda n: bucket(n, 2),
     "bucket's bits": lambda n: bucket(1, n),
     "minutes": lambda n: minutes(n),
+    "message": lambda n: message(n),
     "day_list": lambda n: day_list(FOUR, n),
     "write_sheet": lambda n: write_sheet([Entry(1)], most=n if n is not None else "none"),
     "post_add": lambda n: GRAPH.post_add(n, Entry(1)),

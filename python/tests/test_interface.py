@@ -4,7 +4,7 @@ import re
 import unittest
 
 from support import TOP
-from taskgraph import _interface
+from taskgraph import Call, _interface
 
 KINDS = {"uint32_t": ctypes.c_uint32, "size_t": ctypes.c_size_t}
 # Of these a host in Python has no need: whole sheets are read and written, and the board is the graph's.
@@ -15,7 +15,7 @@ def header():
     text = (TOP / "include/taskgraph.h").read_text()
     text = re.sub(r"/\*.*?\*/", " ", text, flags=re.S)
     constants = dict(re.findall(r"\b(TG_\w+) = (\d+)", text))
-    text = re.sub(r"#define TG_TABLES(.*?[^\\])\n", "", text, flags=re.S)
+    text = re.sub(r"^#(?:.*\\\n)*.*$", "", text, flags=re.M)
     return text.replace("TG_MAX_NAMES]", constants["TG_MAX_NAMES"] + "]"), constants
 
 
@@ -30,8 +30,8 @@ def fields(body):
 
 
 def arguments(text):
-    """How many arguments a declaration has; TG_TABLES stands for ten."""
-    return sum(10 if argument.strip() == "TG_TABLES" else 1 for argument in text.split(","))
+    """How many arguments a declaration has; TG_TABLES and TG_TABLES_READ stand for ten."""
+    return sum(10 if argument.strip().startswith("TG_TABLES") else 1 for argument in text.split(","))
 
 
 class Interface(unittest.TestCase):
@@ -69,3 +69,6 @@ class Interface(unittest.TestCase):
         self.assertEqual(int(constants["TG_ENTRY_WORDS"]) * 4, ctypes.sizeof(_interface.tg_entry))
         for name in ("REFUSED", "GOING_ON", "HANDED_OUT"):
             self.assertEqual(int(constants[f"TG_{name}"]), getattr(_interface, name))
+        calls = {name: int(value) for name, value in constants.items() if name.startswith("TG_CALL_")}
+        if calls:
+            self.assertEqual(calls, {f"TG_CALL_{call.name}": call.value for call in Call})

@@ -113,4 +113,4 @@ class Messages(unittest.TestCase):
                     self.assertEqual(library.tg_message(number).decode(), text)
 
     def test_another_number(self):
-        self.assertTrue(message(16))
+        self.assertEqual(message(16), "unknown number")
