@@ -1,10 +1,17 @@
-"""Two worker processes over one graph in shared memory, under one lock."""
+"""Worker processes over one graph: two in shared memory under one lock, and one that is killed."""
+import fcntl
+import mmap
 import multiprocessing
+import os
+import signal
+import subprocess
+import sys
+import tempfile
 import unittest
 from concurrent.futures import ProcessPoolExecutor
 from multiprocessing.shared_memory import SharedMemory
 
-from support import seeded
+from support import SMALL, TOP, seeded
 from taskgraph import Entry, Graph, Refusal, Sizes
 
 SIZES = Sizes(jobs=500, arcs=1500, bits=4, workers=2)
@@ -99,3 +106,48 @@ class TwoProcesses(unittest.TestCase):
         for entry in entered:
             for name in entry.prerequisites:
                 self.assertLess(finish[name], handed[entry.name])
+
+
+class FileLock:
+    """A lock that the system frees when its owner dies."""
+
+    def __init__(self, file):
+        self.file = file
+
+    def __enter__(self):
+        fcntl.flock(self.file, fcntl.LOCK_EX)
+
+    def __exit__(self, *_):
+        fcntl.flock(self.file, fcntl.LOCK_UN)
+
+
+def mapped(file):
+    """The graph in a file."""
+    return Graph(SMALL, mmap.mmap(file.fileno(), 0), FileLock(file))
+
+
+def die_in_a_finish(path):
+    """Takes a job as worker 1, marks it finished, and is killed before its dependents are told."""
+    graph = mapped(open(path, "r+b"))
+    graph.post_finish(1, graph.get(1).name)
+    graph.step(1)
+    os.kill(os.getpid(), signal.SIGKILL)
+
+
+class KilledProcess(unittest.TestCase):
+    def test_its_call_is_stepped_to_the_end(self):
+        file = tempfile.NamedTemporaryFile()
+        self.addCleanup(file.close)
+        file.truncate(Graph.room(SMALL))
+        graph = mapped(file)
+        graph.lay_out()
+        graph.add(0, Entry(5))
+        graph.add(0, Entry(6, (5,)))
+        program = "import sys, test_processes; test_processes.die_in_a_finish(sys.argv[1])"
+        environment = {**os.environ, "PYTHONPATH": str(TOP / "python/tests")}
+        killed = subprocess.run([sys.executable, "-c", program, file.name], env=environment)
+        self.assertEqual(killed.returncode, -signal.SIGKILL)
+        self.assertIsNone(graph.get(0))
+        self.assertFalse(graph.step(1))
+        self.assertEqual(graph.get(0).name, 6)
+        self.assertEqual(graph.totals().jobs, (0, 1, 1))
