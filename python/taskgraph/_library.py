@@ -10,9 +10,8 @@ VARIABLE = "TASKGRAPH_LIBRARY"
 INSTALLED = ("libtaskgraph.so.1", "libtaskgraph.so")
 HOW = f"""\
 Build one in the repository of the task graph:
-    bash scripts/library
-    gcc -shared -o libtaskgraph.so -Wl,--whole-archive target/staticlib/libtaskgraph.a -Wl,--no-whole-archive
-and name it in the environment variable {VARIABLE}, or by taskgraph.load(PATH)."""
+    bash scripts/install PREFIX
+and name PREFIX/lib/libtaskgraph.so in the environment variable {VARIABLE}, or by taskgraph.load(PATH)."""
 
 
 class LibraryError(OSError):

@@ -1,4 +1,5 @@
 """How the shared library is found, and what is said where it is not."""
+import _ctypes
 import os
 import pathlib
 import shutil
@@ -62,7 +63,7 @@ class Missing(unittest.TestCase):
         with mock.patch.dict(os.environ, environment), self.assertRaises(LibraryError) as caught:
             _library.find(*path)
         text = str(caught.exception)
-        self.assertIn("bash scripts/", text)
+        self.assertIn("bash scripts/install PREFIX", text)
         self.assertIn("TASKGRAPH_LIBRARY", text)
         return text
 
@@ -75,9 +76,7 @@ class Missing(unittest.TestCase):
         self.assertIn(str(TOP), self.refused(TOP))
 
     def test_another_library(self):
-        import _ctypes  # a shared object that Python has
-        path = getattr(_ctypes, "__file__", None) or sys.executable
-        self.assertIn("it has no function tg_", self.refused(path))
+        self.assertIn("it has no function tg_", self.refused(_ctypes.__file__))
 
     def test_nothing_installed(self):
         with mock.patch.object(_library, "INSTALLED", ("libtaskgraph-nowhere.so.1", "libtaskgraph-nowhere.so")):
