@@ -1,4 +1,4 @@
-//! A host in Rust: reads the job sheet of document 01, adds its jobs, and lets two workers take and finish them in
+//! A host in Rust: reads the job sheet of `docs/RULES.md`, adds its jobs, and lets two workers take and finish them in
 //! turn. It prints what the day list prints.
 
 use taskgraph::{read_sheet, Graph, Refusal, Sizes, TaskGraph};

@@ -1,10 +1,12 @@
-//! The day list (document 01, "The board and the day list").
+//! The day list (`docs/RULES.md`, "The board and the day list").
 
-use crate::{raw, Refusal};
+use crate::{
+    raw::{self, DAY_JOBS, MAX_DAY_LIST},
+    Refusal,
+};
 
-/// More bytes than the greatest output has: 97,979 with 2 workers, and at most a byte for each of 256 jobs, and
-/// one, more with 10 and more.
-const ROOM: usize = 100_000;
+/// Room for the longest output: with 10 workers and more, their number and those of the lines may have a digit more.
+const ROOM: usize = MAX_DAY_LIST + 1 + DAY_JOBS;
 
 /// What the day list prints of a sheet, with so many workers.
 ///

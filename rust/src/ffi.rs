@@ -1,12 +1,18 @@
 //! The declarations of `include/taskgraph.h`, which says what each function answers. `scripts/check-interface` holds
 //! them to it.
 
-use std::mem::size_of;
+use std::{mem::size_of, os::raw::c_char};
 
 /// The longest list of prerequisites.
 pub const MAX_NAMES: usize = 32;
 /// The words of an entry, which is a row of a sheet that was read.
 pub const ENTRY_WORDS: usize = 36;
+/// The longest entry of a sheet, in bytes.
+pub const MAX_ENTRY_BYTES: usize = 137;
+/// The longest day list of two workers, in bytes.
+pub const MAX_DAY_LIST: usize = 97_979;
+/// The jobs that a day list has room for.
+pub const DAY_JOBS: usize = 256;
 
 /// A job as an entry of a sheet: the first `count` of `names` are its prerequisites.
 #[repr(C)]
@@ -165,6 +171,10 @@ const _: () = assert!(size_of::<Need>() == 48);
 const _: () = assert!(size_of::<Day>() == 16);
 
 extern "C" {
+    /// The text of a refusal's number.
+    pub fn tg_message(number: u32) -> *const c_char;
+    /// The library's version.
+    pub fn tg_version() -> *const c_char;
     /// The entry at an offset of a sheet.
     pub fn tg_read_entry(sheet: *const u8, sheet_len: usize, at: usize) -> Reading;
     /// Writes an entry at an offset.

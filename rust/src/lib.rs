@@ -48,7 +48,7 @@ mod totals;
 pub use day::day_list;
 pub use graph::{Graph, HandedOut, Progress, TaskGraph};
 pub use job::Job;
-pub use raw::{bucket, minutes, Sizes};
+pub use raw::{bucket, minutes, version, Sizes};
 pub use refusal::Refusal;
 #[cfg(all(target_os = "linux", target_pointer_width = "64"))]
 pub use shared::{Locked, SharedError, SharedGraph};

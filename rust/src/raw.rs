@@ -1,10 +1,13 @@
 //! A safe function for each function of the C interface, `include/taskgraph.h`, over lent slices. Every one
 //! answers for all arguments, so nothing is tested here; what each answers, the header says.
 
+use std::{ffi::CStr, os::raw::c_char};
+
 use crate::ffi;
 
 pub use crate::ffi::{
-    Answer, Day, Entry, JobRecord, Need, Reading, Sheet, SheetWritten, Sizes, Totals, Written, ENTRY_WORDS, MAX_NAMES,
+    Answer, Day, Entry, JobRecord, Need, Reading, Sheet, SheetWritten, Sizes, Totals, Written, DAY_JOBS, ENTRY_WORDS,
+    MAX_DAY_LIST, MAX_ENTRY_BYTES, MAX_NAMES,
 };
 
 /// The kinds of an answer.
@@ -148,6 +151,23 @@ pub fn bucket(name: u32, bits: u32) -> u32 {
 /// The minutes of a class, or 0.
 pub fn minutes(class: u32) -> u32 {
     unsafe { ffi::tg_minutes(class) }
+}
+
+/// The text of a refusal's number.
+pub fn message(number: u32) -> &'static str {
+    // SAFETY: no pointer is passed.
+    text(unsafe { ffi::tg_message(number) })
+}
+
+/// The library's version.
+pub fn version() -> &'static str {
+    // SAFETY: no pointer is passed.
+    text(unsafe { ffi::tg_version() })
+}
+
+fn text(constant: *const c_char) -> &'static str {
+    // SAFETY: the library answers a constant text, which ends with a zero byte.
+    unsafe { CStr::from_ptr(constant) }.to_str().expect("the library's texts are ASCII")
 }
 
 impl Entry {

@@ -1,6 +1,8 @@
-//! Why a call is turned away (document 01, "Turned-away calls").
+//! Why a call is turned away (`docs/RULES.md`, "Turned-away calls").
 
 use std::{error::Error, fmt};
+
+use crate::raw;
 
 /// A number of the list of turned-away calls, with the place or offset where the list has one.
 ///
@@ -110,23 +112,12 @@ impl Refusal {
 
 impl fmt::Display for Refusal {
     fn fmt(&self, f: &mut fmt::Formatter<'_>) -> fmt::Result {
-        f.write_str(match self {
-            Refusal::Size => "a size is off its limits or not the one laid out, or a table is too short",
-            Refusal::Worker => "there is no such worker",
-            Refusal::HalfDone => "the worker's call is half done",
-            Refusal::Idle => "the worker has no call to step",
-            Refusal::Arguments => "the job's class, grower or list is wrong",
-            Refusal::UnknownName { place } => return write!(f, "no job has the name at place {place} of the list"),
-            Refusal::NamePresent => "there is a job of that name already",
-            Refusal::Full => "there is no room for the job or for its arcs",
-            Refusal::Damaged => "the words are damaged",
-            Refusal::Holding => "the worker holds a job already",
-            Refusal::NotHeld => "the worker does not hold a job of that name",
-            Refusal::Cut { at } => return write!(f, "the sheet ends inside the field at byte {at}"),
-            Refusal::Map { at } => return write!(f, "the map byte at byte {at} is wrong"),
-            Refusal::Value { at } => return write!(f, "the value of the field at byte {at} is off its limits"),
-            Refusal::NoRoom => "the output lacks room",
-        })
+        f.write_str(raw::message(self.number()))?;
+        match self {
+            Refusal::UnknownName { place } => write!(f, " (place {place} of the list)"),
+            Refusal::Cut { at } | Refusal::Map { at } | Refusal::Value { at } => write!(f, " (byte {at})"),
+            _ => Ok(()),
+        }
     }
 }
 
@@ -146,8 +137,9 @@ mod tests {
     }
 
     #[test]
-    fn places_are_said() {
-        assert_eq!(Refusal::of(6, 3).to_string(), "no job has the name at place 3 of the list");
-        assert_eq!(Refusal::of(12, 20).to_string(), "the sheet ends inside the field at byte 20");
+    fn texts_are_the_librarys_with_places() {
+        assert_eq!(Refusal::of(2, 0).to_string(), "no such worker");
+        assert_eq!(Refusal::of(6, 3).to_string(), "a listed name has no job (place 3 of the list)");
+        assert_eq!(Refusal::of(12, 20).to_string(), "the sheet ends inside an entry (byte 20)");
     }
 }

@@ -1,11 +1,11 @@
-//! Job sheets (document 01, "Job sheets").
+//! Job sheets (`docs/SHEETS.md`).
 
 use std::{error::Error, fmt};
 
-use crate::{raw, Job, Refusal};
-
-/// The most bytes of an entry: map, name, count, 32 names, class and grower.
-const MOST_ENTRY: usize = 137;
+use crate::{
+    raw::{self, MAX_ENTRY_BYTES},
+    Job, Refusal,
+};
 
 /// The jobs of a sheet, in its order.
 ///
@@ -40,7 +40,7 @@ pub fn write_sheet(jobs: &[Job]) -> Result<Vec<u8>, WriteRefusal> {
     let mut sheet = Vec::new();
     for (entry, job) in jobs.iter().enumerate() {
         let at = sheet.len();
-        sheet.resize(at + MOST_ENTRY, 0);
+        sheet.resize(at + MAX_ENTRY_BYTES, 0);
         let written = raw::write_entry(&mut sheet, at, job.to_entry());
         Refusal::unless_accepted(written.number, written.at).map_err(|refusal| WriteRefusal { entry, refusal })?;
         sheet.truncate(written.at);

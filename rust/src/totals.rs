@@ -1,4 +1,4 @@
-//! The board of totals (document 01, "The board and the day list").
+//! The board of totals (`docs/RULES.md`, "The board and the day list").
 
 use crate::{raw, Refusal};
 

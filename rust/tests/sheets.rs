@@ -1,8 +1,8 @@
 //! Job sheets and the day list through the safe interface.
 
-use taskgraph::{bucket, day_list, minutes, read_sheet, write_sheet, Job, Refusal, WriteRefusal};
+use taskgraph::{bucket, day_list, minutes, read_sheet, version, write_sheet, Job, Refusal, WriteRefusal};
 
-/// Document 01's sheet: jobs 1, 2, 3 and 4 needing 1 and 2.
+/// The sheet of `docs/RULES.md`: jobs 1, 2, 3 and 4 needing 1 and 2.
 const FOUR_JOBS: [u8; 29] = [1, 1, 0, 0, 0, 1, 2, 0, 0, 0, 1, 3, 0, 0, 0, 3, 4, 0, 0, 0, 2, 1, 0, 0, 0, 2, 0, 0, 0];
 
 fn four_jobs() -> Vec<Job> {
@@ -10,7 +10,7 @@ fn four_jobs() -> Vec<Job> {
 }
 
 #[test]
-fn document_01s_sheet() {
+fn the_sheet_of_the_rules() {
     assert_eq!(read_sheet(&FOUR_JOBS), Ok(four_jobs()));
     assert_eq!(write_sheet(&four_jobs()), Ok(FOUR_JOBS.to_vec()));
     let day = "jobs 4 workers 2\n0 1 0\n1 2 1\n2 3 0\n3 4 1\nleft 0\n";
@@ -43,7 +43,7 @@ fn jobs_that_cannot_be_written() {
     assert_eq!(write_sheet(&[Job::new(1, &[]), Job::new(2, &long)]), refused(1, 5));
     assert_eq!(write_sheet(&[Job { class: 16, ..Job::new(1, &[2]) }]), refused(0, 10));
     let text = write_sheet(&[Job { grower: 65_536, ..Job::new(1, &[]) }]).map_err(|error| error.to_string());
-    assert_eq!(text, Err("entry 0: the value of the field at byte 5 is off its limits".into()));
+    assert_eq!(text, Err("entry 0: a field's value is off its limits (byte 5)".into()));
 }
 
 #[test]
@@ -65,6 +65,11 @@ fn the_greatest_day_list_has_room() {
     assert_eq!(day_list(&sheet, 2).map(|day| day.len()), Ok(97_979));
     // A byte more for each hand-out of the workers 10 to 15, and one for their number.
     assert_eq!(day_list(&sheet, 16).map(|day| day.len()), Ok(97_979 + 256 / 16 * 6 + 1));
+}
+
+#[test]
+fn the_library_is_of_this_packages_version() {
+    assert_eq!(version(), env!("CARGO_PKG_VERSION"));
 }
 
 #[test]
