@@ -21,13 +21,13 @@ queueOk s v = leb (v .taken) (v .put) && leb (v .put) (s .jobs)
 abbrev pub wordsOk : Sizes → View → Bool
 wordsOk s v = every (ownOk s v) (s .workers) && (countersOk s v && queueOk s v)
 
--- a worker that is idle and holds nothing
-abbrev pub free : View → ℕ → Bool
-free v w = eqb (v .worker PHASE w) IDLE && eqb (v .worker HELD w) none
+-- by the fields of each worker: a worker that is idle and holds nothing
+abbrev pub free : (ℕ → ℕ → ℕ) → ℕ → Bool
+free f w = eqb (f PHASE w) IDLE && eqb (f HELD w) none
 
 -- the queue is empty, and every worker is idle and holds nothing
 abbrev pub isDrained : Sizes → View → Bool
-isDrained s v = eqb (v .taken) (v .put) && every (free v) (s .workers)
+isDrained s v = eqb (v .taken) (v .put) && every (free (v .worker)) (s .workers)
 
 -- a refusal has its number, and 0 elsewhere
 abbrev pub refused : ℕ → Drained
