@@ -1,5 +1,5 @@
 -- Whether nothing is left to do, by the words of the tables, for ALL tables. Assumes nothing.
-use mathlib.Core.Bool.{Bool, true, false, _&&_}
+use mathlib.Core.Bool.{Bool, true, _&&_}
 use Prim.Native.Nat.{ℕ, zero, suc}
 use lib.Dec.{leb, eqb}
 use Rattle.terms.specs.Base.{pick}
