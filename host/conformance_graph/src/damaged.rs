@@ -2,8 +2,11 @@
 //! the one that document 01's list and `docs/TABLES.md` settle, and the tables hold afterwards what the list
 //! says.
 
-use conformance::{case::Case, random::Random};
-use library::graph::{self as proved, kind};
+use conformance::{
+    case::{differ, Case},
+    random::Random,
+};
+use library::graph::{self as proved, call, kind};
 use reference::{
     bucket::bucket,
     graph::{judged_list, Graph, Sizes},
@@ -207,12 +210,25 @@ impl Lent {
         let sizes = call.sizes.unwrap_or(self.sizes);
         let expected = expected_answer(&self.tables, sizes, call);
         let before = self.tables.clone();
+        if let Some(fault) = self.wrong_state(sizes, call) {
+            return (expected, Some(fault));
+        }
         let answer = call_library(sizes, &mut self.tables.lent(call.short), &call.item);
         if answer != expected {
             return (answer, Some(format!("the answer is {answer:?}, not {expected:?}")));
         }
         let after = Change { before: &before, after: &self.tables, item: &call.item };
         (answer, after.fault(answer).or_else(|| self.touched_past_the_need(&before)))
+    }
+
+    /// What the worker of a call holds and whether the graph is drained, asked with the call's sizes and tables.
+    fn wrong_state(&mut self, sizes: Sizes, call: &Call) -> Option<String> {
+        let holding = expected_holding(&self.tables, sizes, call);
+        let drained = expected_drained(&self.tables, sizes, call.short);
+        let tables = &self.tables.lent(call.short);
+        let answer = proved::held(to_library(sizes), tables, worker_of(&call.item));
+        differ("tg_held", answer, holding)
+            .or_else(|| differ("tg_drained", proved::drained(to_library(sizes), tables), drained))
     }
 
     fn touched_past_the_need(&self, before: &Tables) -> Option<String> {
@@ -240,7 +256,7 @@ impl Lent {
             totals::of_words(&pairs.collect::<Vec<u32>>())
         };
         let answer = proved::totals(to_library(self.sizes), words);
-        conformance::case::differ("tg_totals_of_graph", answer, conformance::totals::expected(expected))
+        differ("tg_totals_of_graph", answer, conformance::totals::expected(expected))
     }
 
     /// Every call half done ends, or is refused, after a bounded number of steps: an add has at most
@@ -271,24 +287,65 @@ fn refused(number: u32) -> proved::Answer {
     proved::Answer { number, ..of_kind(kind::REFUSED) }
 }
 
+/// The words, unless number 1 comes first; one of the tables may be cut short.
+fn sized(tables: &Tables, sizes: Sizes, short: Option<(usize, usize)>) -> Result<Words<'_>, u32> {
+    let stored = [sizes.jobs, sizes.arcs, sizes.bits, sizes.workers];
+    let stand = sizes.within_limits()
+        && layout::suffice(tables.cut_lens(short), sizes)
+        && tables.words(JOBS)[..layout::MADE] == stored;
+    if stand {
+        Ok(Words { tables, sizes })
+    } else {
+        Err(refusal::SIZE)
+    }
+}
+
+/// The words and the worker's own, unless 1, 2 or 9 for these comes first.
+fn admitted<'a>(tables: &'a Tables, sizes: Sizes, call: &Call) -> Result<(Words<'a>, &'a [u32]), u32> {
+    let words = sized(tables, sizes, call.short)?;
+    if worker_of(&call.item) >= sizes.workers {
+        return Err(refusal::WORKER);
+    }
+    let own = words.worker(worker_of(&call.item));
+    if words.own_words_fit(own) {
+        Ok((words, own))
+    } else {
+        Err(refusal::DAMAGED)
+    }
+}
+
+/// What the worker of a call holds, whatever the words.
+fn expected_holding(tables: &Tables, sizes: Sizes, call: &Call) -> proved::Holding {
+    let (words, own) = match admitted(tables, sizes, call) {
+        Ok(found) => found,
+        Err(number) => return proved::Holding { number, ..proved::Holding::default() },
+    };
+    let call = match own[worker::PHASE] {
+        phase::IDLE => call::NONE,
+        phase::LOOKING_UP | phase::LINKING => call::ADD,
+        _ => call::FINISH,
+    };
+    match own[worker::HELD] {
+        NONE => proved::Holding { call, ..proved::Holding::default() },
+        held => proved::Holding { number: 0, holds: 1, job: held, name: words.job(held)[job::NAME], call },
+    }
+}
+
+/// Whether the graph is drained, whatever the words.
+fn expected_drained(tables: &Tables, sizes: Sizes, short: Option<(usize, usize)>) -> proved::Drained {
+    let at_rest = sized(tables, sizes, short).and_then(|words| words.at_rest().map_err(|Harm| refusal::DAMAGED));
+    match at_rest {
+        Ok(at_rest) => proved::Drained { number: 0, drained: u32::from(at_rest) },
+        Err(number) => proved::Drained { number, drained: 0 },
+    }
+}
+
 /// The answer that the list settles, whatever the words.
 fn expected_answer(tables: &Tables, sizes: Sizes, call: &Call) -> proved::Answer {
-    let number = worker_of(&call.item);
-    let stored = [sizes.jobs, sizes.arcs, sizes.bits, sizes.workers];
-    if !sizes.within_limits()
-        || !layout::suffice(tables.cut_lens(call.short), sizes)
-        || tables.words(JOBS)[..layout::MADE] != stored
-    {
-        return refused(refusal::SIZE);
-    }
-    if number >= sizes.workers {
-        return refused(refusal::WORKER);
-    }
-    let words = Words { tables, sizes };
-    let own = words.worker(number);
-    if !words.own_words_fit(own) {
-        return refused(refusal::DAMAGED);
-    }
+    let (words, own) = match admitted(tables, sizes, call) {
+        Ok(found) => found,
+        Err(number) => return refused(number),
+    };
     let idle = own[worker::PHASE] == phase::IDLE;
     let held = own[worker::HELD];
     let before_the_words_read = match &call.item {
@@ -384,6 +441,19 @@ impl<'a> Words<'a> {
         let (taken, put) = (self.tables.words(QUEUE)[layout::TAKEN], self.tables.words(QUEUE)[layout::PUT]);
         harm_unless(taken <= put && put <= self.sizes.jobs)?;
         Ok((taken, put))
+    }
+
+    /// The queue is empty, and every worker is idle and holds nothing.
+    fn at_rest(&self) -> Result<bool, Harm> {
+        self.judge_counters()?;
+        let (taken, put) = self.queue_counters()?;
+        let mut at_rest = taken == put;
+        for number in 0..self.sizes.workers {
+            let own = self.worker(number);
+            harm_unless(self.own_words_fit(own))?;
+            at_rest &= own[worker::PHASE] == phase::IDLE && own[worker::HELD] == NONE;
+        }
+        Ok(at_rest)
     }
 
     /// One more job is put in the queue, which must not pass its end.

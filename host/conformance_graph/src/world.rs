@@ -5,15 +5,15 @@ use conformance::case::differ;
 use library::graph as proved;
 use reference::{
     book::{Book, Ending},
-    graph::{self, Answer, Graph, Refusal, Reply, Sizes},
+    graph::{self, Answer, Graph, HalfDone, Holding, Refusal, Reply, Sizes},
     history::{Entries, History, Item},
     refusal,
     sheet::Entry,
-    totals,
+    totals::{self, Label},
 };
 
 use crate::{
-    event::{Call, Event},
+    event::{worker_of, Call, Event},
     layout,
     tables::{Setup, Tables, JOBS},
 };
@@ -64,6 +64,32 @@ pub fn answer_to_library(answer: &Answer) -> proved::Answer {
         Ok(Reply::Ended) => of_kind(kind::ENDED),
         Ok(Reply::NoneReady) => of_kind(kind::NONE_READY),
         Ok(Reply::HandedOut { job, name }) => proved::Answer { job: job as u32, name, ..of_kind(kind::HANDED_OUT) },
+    }
+}
+
+/// What a worker holds, in the shape of the C interface.
+pub fn holding_to_library(holding: Result<Holding, Refusal>) -> proved::Holding {
+    use proved::{call, Holding as Told};
+    let Holding { held, call } = match holding {
+        Err(Refusal { number, .. }) => return Told { number, ..Told::default() },
+        Ok(holding) => holding,
+    };
+    let call = match call {
+        HalfDone::Nothing => call::NONE,
+        HalfDone::Add => call::ADD,
+        HalfDone::Finish => call::FINISH,
+    };
+    match held {
+        None => Told { call, ..Told::default() },
+        Some((job, name)) => Told { number: 0, holds: 1, job: job as u32, name, call },
+    }
+}
+
+/// Whether the graph is drained, in the shape of the C interface.
+pub fn drained_to_library(drained: Result<bool, Refusal>) -> proved::Drained {
+    match drained {
+        Err(Refusal { number, .. }) => proved::Drained { number, drained: 0 },
+        Ok(drained) => proved::Drained { number: 0, drained: u32::from(drained) },
     }
 }
 
@@ -170,12 +196,37 @@ impl World {
         if let Some(before) = before {
             none_or_err(Tables::difference(&before, &self.tables))?;
         }
+        self.check_state(sizes, call)?;
         self.check_tables()?;
         if let (true, Item::Get { .. }, Ok(reply)) = (quiet, &call.item, expected) {
             self.check_none_ready(reply)?;
         }
         self.history.take(&call.item, &expected);
+        self.check_drained()?;
         self.check_history()
+    }
+
+    /// What the worker of a call holds and whether the graph is drained, asked with the call's sizes and tables.
+    fn check_state(&mut self, sizes: Sizes, call: &Call) -> Result<(), String> {
+        let long_enough = layout::suffice(self.tables.cut_lens(call.short), self.graph.sizes());
+        let (holding, drained) = if long_enough {
+            (self.graph.held(sizes, worker_of(&call.item)), self.graph.drained(sizes))
+        } else {
+            (graph::refused(refusal::SIZE), graph::refused(refusal::SIZE))
+        };
+        let tables = &self.tables.lent(call.short);
+        let answer = proved::held(to_library(sizes), tables, worker_of(&call.item));
+        none_or_err(differ("tg_held", answer, holding_to_library(holding)))?;
+        let answer = proved::drained(to_library(sizes), tables);
+        none_or_err(differ("tg_drained", answer, drained_to_library(drained)))
+    }
+
+    /// The graph is drained exactly if no call is half done and every job that entered is finished.
+    fn check_drained(&mut self) -> Result<(), String> {
+        let finished = self.graph.jobs().iter().all(|job| job.label == Label::Finished);
+        let expected = drained_to_library(Ok(finished && !self.history.is_half_done()));
+        let answer = proved::drained(to_library(self.graph.sizes()), &self.tables.lent(None));
+        none_or_err(differ("tg_drained, beside labels and history", answer, expected))
     }
 
     fn check_tables(&mut self) -> Result<(), String> {

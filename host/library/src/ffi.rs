@@ -94,6 +94,23 @@ pub struct Need {
 
 #[repr(C)]
 #[derive(Clone, Copy, Debug, Default, PartialEq, Eq)]
+pub struct Holding {
+    pub number: u32,
+    pub holds: u32,
+    pub job: u32,
+    pub name: u32,
+    pub call: u32,
+}
+
+#[repr(C)]
+#[derive(Clone, Copy, Debug, Default, PartialEq, Eq)]
+pub struct Drained {
+    pub number: u32,
+    pub drained: u32,
+}
+
+#[repr(C)]
+#[derive(Clone, Copy, Debug, Default, PartialEq, Eq)]
 pub struct Day {
     pub number: u32,
     pub bytes: usize,
@@ -109,6 +126,8 @@ const _: () = assert!(size_of::<Totals>() == 28);
 const _: () = assert!(size_of::<Sizes>() == 16);
 const _: () = assert!(size_of::<Answer>() == 20);
 const _: () = assert!(size_of::<Need>() == 48);
+const _: () = assert!(size_of::<Holding>() == 20);
+const _: () = assert!(size_of::<Drained>() == 8);
 const _: () = assert!(size_of::<Day>() == 16);
 
 extern "C" {
@@ -193,6 +212,33 @@ extern "C" {
         workers_len: usize,
         worker: u32,
     ) -> Answer;
+    pub fn tg_held(
+        sizes: Sizes,
+        jobs: *const u32,
+        jobs_len: usize,
+        arcs: *const u32,
+        arcs_len: usize,
+        buckets: *const u32,
+        buckets_len: usize,
+        queue: *const u32,
+        queue_len: usize,
+        workers: *const u32,
+        workers_len: usize,
+        worker: u32,
+    ) -> Holding;
+    pub fn tg_drained(
+        sizes: Sizes,
+        jobs: *const u32,
+        jobs_len: usize,
+        arcs: *const u32,
+        arcs_len: usize,
+        buckets: *const u32,
+        buckets_len: usize,
+        queue: *const u32,
+        queue_len: usize,
+        workers: *const u32,
+        workers_len: usize,
+    ) -> Drained;
     pub fn tg_totals_of_graph(sizes: Sizes, jobs: *const u32, jobs_len: usize) -> Totals;
     pub fn tg_day_list(sheet: *const u8, sheet_len: usize, workers: u32, out: *mut u8, out_len: usize) -> Day;
 }

@@ -2,7 +2,7 @@
 
 use crate::ffi;
 
-pub use ffi::{Answer, Day, Entry, Need, Sizes, Totals};
+pub use ffi::{Answer, Day, Drained, Entry, Holding, Need, Sizes, Totals};
 
 /// The kinds of an answer.
 pub mod kind {
@@ -15,6 +15,13 @@ pub mod kind {
     pub const HANDED_OUT: u32 = 6;
 }
 
+/// The call that a worker has half done.
+pub mod call {
+    pub const NONE: u32 = 0;
+    pub const ADD: u32 = 1;
+    pub const FINISH: u32 = 2;
+}
+
 /// The five lent tables.
 pub struct Tables<'a> {
     pub jobs: &'a mut [u32],
@@ -24,28 +31,38 @@ pub struct Tables<'a> {
     pub workers: &'a mut [u32],
 }
 
-/// Calls a function of the library with sizes and tables; the pointers and lengths are those of slices.
-macro_rules! call {
-    ($function:ident, $sizes:expr, $tables:expr $(, $more:expr)*) => {{
+/// Calls a function of the library with sizes and tables; the pointers, got by the method named, and the lengths are
+/// those of slices.
+macro_rules! lend {
+    ($pointer:ident, $function:ident, $sizes:expr, $tables:expr $(, $more:expr)*) => {{
         let Tables { jobs, arcs, buckets, queue, workers } = $tables;
         // SAFETY: the five slices are lent for the call, and no two of them overlap.
         unsafe {
             ffi::$function(
                 $sizes,
-                jobs.as_mut_ptr(),
+                jobs.$pointer(),
                 jobs.len(),
-                arcs.as_mut_ptr(),
+                arcs.$pointer(),
                 arcs.len(),
-                buckets.as_mut_ptr(),
+                buckets.$pointer(),
                 buckets.len(),
-                queue.as_mut_ptr(),
+                queue.$pointer(),
                 queue.len(),
-                workers.as_mut_ptr(),
+                workers.$pointer(),
                 workers.len(),
                 $($more),*
             )
         }
     }};
+}
+
+macro_rules! call {
+    ($($arguments:tt)*) => { lend!(as_mut_ptr, $($arguments)*) };
+}
+
+/// The same of a function that only reads the tables.
+macro_rules! ask {
+    ($($arguments:tt)*) => { lend!(as_ptr, $($arguments)*) };
 }
 
 /// The words that each table needs.
@@ -77,6 +94,16 @@ pub fn step(sizes: Sizes, tables: &mut Tables, worker: u32) -> Answer {
 /// Takes the job longest in the queue.
 pub fn get(sizes: Sizes, tables: &mut Tables, worker: u32) -> Answer {
     call!(tg_get, sizes, tables, worker)
+}
+
+/// What a worker holds, and the call that it has half done.
+pub fn held(sizes: Sizes, tables: &Tables, worker: u32) -> Holding {
+    ask!(tg_held, sizes, tables, worker)
+}
+
+/// Whether the queue is empty and every worker is idle and holds nothing.
+pub fn drained(sizes: Sizes, tables: &Tables) -> Drained {
+    ask!(tg_drained, sizes, tables)
 }
 
 /// The totals of the jobs made.
