@@ -146,7 +146,11 @@ module _ (s : Sizes) (t : Tables) (laid : layOut s t .answer ≡ Laid) (items : 
 
   words-ok : wordsOk s (view T) ≡ true
   words-ok =
-      rw (every-true (ownOk s (view T)) (s .workers) owned, counters-ok s T g (R .ghost) (R .stands) (R .sound), queue-ok)
+      rw (
+        every-true (ownOk s (view T)) (s .workers) owned,
+        counters-ok s T g (R .ghost) (R .stands) (R .sound),
+        queue-ok,
+      )
 
   pub drained-answers : drainedWords s T ≡ record { number = 0; drained = pick (isDrained s (view T)) 1 0 }
   unfolding drainedWords

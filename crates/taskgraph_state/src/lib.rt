@@ -1,5 +1,5 @@
 // What a worker holds and whether the graph is drained, as C has it: the sizes, the five lent tables, then the worker.
-// A slice is a pointer and a count of elements in C; the answer is a struct by value. include/taskgraph.h declares both.
+// A slice is a pointer and a count of elements in C; an answer is a struct by value. include/taskgraph.h declares it.
 // Follows document 01, "Tables and their measures" and "Turned-away calls".
 // Assumes nothing but that a pointer with a count points to that many elements.
 ghost use mathlib.Core.Path.{_≡_};
