@@ -152,7 +152,7 @@ module _ (s : Sizes) (t : Tables) (laid : layOut s t .answer ≡ Laid) (items : 
         queue-ok,
       )
 
-  pub drained-answers : drainedWords s T ≡ record { number = 0; drained = pick (isDrained s (view T)) 1 0 }
+  drained-answers : drainedWords s T ≡ record { number = 0; drained = pick (isDrained s (view T)) 1 0 }
   unfolding drainedWords
   drained-answers = rw (fits, words-ok)
 
