@@ -9,14 +9,17 @@ use native.Mathlib.Omega.{arith}
 use lib.ListN.{length, getD, set, length-set, length-append, List·getD-append, List·getD-eq-default}
 use lib.Seq.{getD-set-same, getD-set-other, getD-append-seam}
 use Rattle.terms.specs.Base.{occurrences}
-use Rattle.terms.specs.Terms.{Label, executing, finished, Arguments, listed}
+use Rattle.terms.specs.Terms.{Label, executing, finished, Arguments, listed, finishOf}
 use Rattle.terms.specs.Runs.{Item}
 use Rattle.terms.specs.declared.Sizes.{Sizes}
+use Rattle.terms.specs.Order.{without}
+use Rattle.terms.specs.OrderLaws.{first-occurs}
+use Rattle.terms.specs.declared.HandOut.{HandOut}
 use Rattle.terms.specs.declared.Answer.{Answer}
 use Rattle.terms.specs.declared.Answer.the-variants.{Handed}
 use Rattle.rules.specs.Rules as rules
 use Rattle.rules.specs.Rules.{Job, noJob, idle, notifying, Worker, Graph, job, withLabel, newJob}
-use Rattle.rules.specs.Rules.{marked, handedOut, entered, perform}
+use Rattle.rules.specs.Rules.{marked, handedOut, entered, perform, nextOut, handOut, order}
 use Rattle.rules.specs.Sound.{Named, Looking, Sound}
 use Rattle.sequential_model.specs.Book.{Entry, Ended, Call, add, get, finish, End, accepted, noneReady, handed, refused}
 use Rattle.linearization.specs.Calls.{Reading, decided, note, acceptedFinishes}
@@ -24,7 +27,7 @@ use Rattle.rules_history.specs.History.{History, entryOf}
 use Rattle.linearizability.specs.Demand.{orHanded}
 use Rattle.rules_invariant.specs.Relation.{snoc-all}
 use Rattle.rules_invariant.specs.Sound.{sound}
-use Rattle.rules_follow_model.specs.Base.{never, update-same, update-other, kept-field, head-occurs}
+use Rattle.rules_follow_model.specs.Base.{never, update-same, update-other, kept-field}
 use Rattle.rules_follow_model.specs.Change.{Change, nothing, addWrong, addPosted, finishWrong, finishPosted, lookedUp}
 use Rattle.rules_follow_model.specs.Change.{nameUnknown, nameThere, roomLacking, jobEntered, tallied, arcAppended}
 use Rattle.rules_follow_model.specs.Change.{jobSettled}
@@ -70,7 +73,7 @@ pub data Deed (s : Sizes) (g : Graph) (w : ℕ) (before : List ℕ) : Answer →
       → OthersHold g h w → Deed s g w before x h (before ++ (job g p .name ∷ []))
   hands : {h : Graph} (j : ℕ) → w < s .workers → 0 < occurrences j (g .queue) → g .workers w .held ≡ none
       → Labels g h j executing → h .workers w .held ≡ some j → OthersHold g h w
-      → Deed s g w before (Handed j (job g j .name)) h before
+      → Deed s g w before (Handed (handOut g j)) h before
 
 -- worker w's item was answered x, and left the graph and the reading so
 pub record Did (s : Sizes) (g : Graph) (r : Reading) (w : ℕ) (x : Answer) (h : Graph) (q : Reading) : Type 0 where
@@ -83,10 +86,10 @@ finishes-after : (c : Call) (e : End) (l m : List Ended) (k : List ℕ) → acce
 unfolding acceptedFinishes
 finishes-after (add w a) e l m k z = z
 finishes-after (get w) e l m k z = z
-finishes-after (finish w name) accepted l m k z = ap (λ n. name ∷ n) z
-finishes-after (finish w name) noneReady l m k z = z
-finishes-after (finish w name) (handed j other) l m k z = z
-finishes-after (finish w name) (refused n i) l m k z = z
+finishes-after (finish w f) accepted l m k z = ap (λ n. f .name ∷ n) z
+finishes-after (finish w f) noneReady l m k z = z
+finishes-after (finish w f) (handed h) l m k z = z
+finishes-after (finish w f) (refused n i) l m k z = z
 
 finishes-then : (l : List Ended) (x : Ended)
     → acceptedFinishes (l ++ (x ∷ [])) ≡ acceptedFinishes l ++ acceptedFinishes (x ∷ [])
@@ -170,37 +173,39 @@ module _ (s : Sizes) (g : Graph) (r : Reading) (S : Sound s g) (w : ℕ) where
       (labels-kept h p y e (ap (λ (m : Entry). m .label) k)) v f
 
   marking : (x : Answer) (p : ℕ) (c : rules.Call) (q : Reading) → HandsNone x → g .workers w .held ≡ some p
-      → q .calls ≡ r .calls ++ (record { call = finish w (job g p .name); end = accepted } ∷ [])
+      → q .calls ≡ r .calls ++ (record { call = finish w (finishOf (job g p .name)); end = accepted } ∷ [])
       → Did s g r w x (marked g w p c) q
   unfolding acceptedFinishes
   marking x p c q z h e = record {
     grown = grown-set (marked g w p c) p (withLabel (job g p) finished) refl refl refl;
-    deed = rw (e, finishes-then (r .calls) (record { call = finish w (job g p .name); end = accepted }))
+    deed = rw (e, finishes-then (r .calls) (record { call = finish w (finishOf (job g p .name)); end = accepted }))
         (marks p z h (labels-set (marked g w p c) p finished refl (S .held-there w p h))
         (λ v u. ap (λ (y : Worker). y .held) (update-other (g .workers) w _ v u)));
   }
 
-  handing : (j : ℕ) (l : List ℕ) → w < s .workers → g .workers w .held ≡ none → g .queue ≡ j ∷ l
-      → Did s g r w (Handed j (job g j .name)) (handedOut g w j l) (decided r (get w) (handed j (job g j .name)))
+  handing : (j : ℕ) → w < s .workers → g .workers w .held ≡ none → nextOut g ≡ some j
+      → Did s g r w (Handed (handOut g j)) (handedOut g w j (without j (g .queue)))
+      (decided r (get w) (handed (handOut g j)))
   unfolding acceptedFinishes
-  handing j l b h e =
-      let queued : 0 < occurrences j (g .queue) = rw e (head-occurs j l) in
+  handing j b h e =
+      let queued : 0 < occurrences j (g .queue) = first-occurs (order g) (g .queue) j e in
+      let after : Graph = handedOut g w j (without j (g .queue)) in
       record {
-        grown = grown-set (handedOut g w j l) j (withLabel (job g j) executing) refl refl refl;
-        deed = rw (no-finish (r .calls) (record { call = get w; end = handed j (job g j .name) }) refl)
-            (hands j b queued h (labels-set (handedOut g w j l) j executing refl (S .queue-there j queued))
+        grown = grown-set after j (withLabel (job g j) executing) refl refl refl;
+        deed = rw (no-finish (r .calls) (record { call = get w; end = handed (handOut g j) }) refl)
+            (hands j b queued h (labels-set after j executing refl (S .queue-there j queued))
             (ap (λ (y : Worker). y .held) (update-same (g .workers) w _))
             (λ v u. ap (λ (y : Worker). y .held) (update-other (g .workers) w _ v u)));
       }
 
   -- ---- each change
-  did : (x : Answer) (h : Graph) (q : Reading) → ((j name : ℕ) → x ≡ Handed j name → w < s .workers)
+  did : (x : Answer) (h : Graph) (q : Reading) → ((o : HandOut) → x ≡ Handed o → w < s .workers)
       → Change s g r w x h q → Did s g r w x h q
   unfolding acceptedFinishes
   did x h q b nothing = alone x h q (λ l. refl) refl (λ v. refl) refl
   did x h q b (addWrong a e) = alone x h q (λ l. refl) refl (λ v. refl) (no-finish (r .calls) _ refl)
   did x h q b (addPosted a) = alone x h q (λ l. refl) refl (held-still _) refl
-  did x h q b (finishWrong name e) = alone x h q (λ l. refl) refl (λ v. refl) (no-finish (r .calls) _ refl)
+  did x h q b (finishWrong f e) = alone x h q (λ l. refl) refl (λ v. refl) (no-finish (r .calls) _ refl)
   did x h q b (finishPosted p e) = alone x h q (λ l. refl) refl (held-still _) refl
   did x h q b (lookedUp e k) = alone x h q (λ l. refl) refl (held-still _) refl
   did x h q b (nameUnknown e k z) = alone x h q (λ l. refl) refl (held-still _) (no-finish (r .calls) _ refl)
@@ -217,11 +222,11 @@ module _ (s : Sizes) (g : Graph) (r : Reading) (S : Sound s g) (w : ℕ) where
   did x h q b (lastNotified e k) = changed x h q _ _ (λ l. refl) refl refl (held-still _) refl
   did x h q b (getHolding j e) = alone x h q (λ l. refl) refl (λ v. refl) (no-finish (r .calls) _ refl)
   did x h q b (getNone e) = alone x h q (λ l. refl) refl (λ v. refl) (no-finish (r .calls) _ refl)
-  did x h q b (getHanded j {q = l} e f z) = handing j l (b j (job g j .name) refl) e z
+  did x h q b (getHanded j e f z) = handing j (b (handOut g j) refl) e z
 
 -- every item of a history does one of these
 pub deeds : {s : Sizes} {g : Graph} {r : Reading} {e : ℕ → ℕ} → History s g r e → (i : Item)
     → Did s g r (workerOf i) (perform s g i .answer) (perform s g i .state) (note r i (perform s g i .answer))
 deeds {s} {g} {r} history i = did s g r (sound history) (workerOf i) _ _ _
-    (λ j name z. worker-below s g i (λ n k e. never (cc)))
+    (λ o z. worker-below s g i (λ n k e. never (cc)))
     (changes s g r (sound history) (paced (λ g r e t. sound t) history) i)

@@ -9,13 +9,13 @@ use lib.Dec.{ltb, leb, eqb}
 use lib.ListN.{length, getD}
 use Rattle.terms.specs.Base.{pick}
 use Rattle.terms.specs.Terms.{Label, unexecuted, executing, finished, Arguments, listed, argumentsWrong, sameSizes}
-use Rattle.terms.specs.Terms.{wrongSizes, noSuchWorker}
+use Rattle.terms.specs.Terms.{wrongSizes, noSuchWorker, Finish}
 use Rattle.terms.specs.Runs.{Item, postAdd, postFinish, step, get, Outcome, outcome, sizesOf, workerOf}
 use Rattle.terms.specs.declared.Sizes.{Sizes}
 use Rattle.terms.specs.declared.Answer.the-variants.{Ended, Refused}
 use Rattle.rules.specs.Rules.{Call, idle, looking, linking, marking, notifying, Graph, Found, at, missing, job, find}
 use Rattle.rules.specs.Rules.{lookUp, enter, linkTo, link, settled, mark, markDependents, notify, stepCall, whenIdle}
-use Rattle.rules.specs.Rules.{addPosted, finishPosted, takeNext, getJob, admitted, perform}
+use Rattle.rules.specs.Rules.{addPosted, finishPosted, takeNext, getJob, admitted, perform, nextOut}
 use Rattle.linearization.specs.Calls.{Pending, adding, finishing, Reading}
 use Rattle.linearization.specs.Calls as reading
 use Rattle.rules_history.specs.History.{History, PacedCall}
@@ -66,18 +66,18 @@ module _ (s : Sizes) (g : Graph) (w : ℕ) where
   unfolding addPosted
   posts-add a = either (argumentsWrong a) _ _ refl refl
 
-  posts-finish : (name : ℕ) (h : Option ℕ) → Passed (finishPosted g w name h)
+  posts-finish : (f : Finish) (h : Option ℕ) → Passed (finishPosted g w f h)
   unfolding finishPosted
-  posts-finish name none = refl
-  posts-finish name (some p) = either (eqb (job g p .name) name) _ _ refl refl
+  posts-finish f none = refl
+  posts-finish f (some p) = either (eqb (job g p .name) (f .name)) _ _ refl refl
 
   gets : (h : Option ℕ) → Passed (getJob g w h)
   unfolding getJob takeNext
-  gets none = by (g .queue)
+  gets none = by (nextOut g)
     where
-      by : (q : List ℕ) → Passed (takeNext g w q)
-      by [] = refl
-      by (j ∷ q) = refl
+      by : (o : Option ℕ) → Passed (takeNext g w o)
+      by none = refl
+      by (some j) = refl
   gets (some j) = refl
 
   -- ---- 3 and 4, by the call that the worker is in, which its pending call tells
@@ -130,7 +130,7 @@ turned-away {s} {g} {r} history i = by i
 
     by : (i : Item) → turnedAwayBy (perform s g i .answer) ≡ turningAway s r i
     by (postAdd q w a) = admits s q g w _ _ (waits s g w _ _ _ (P w) _ (posts-add s g w a))
-    by (postFinish q w name) = admits s q g w _ _
-        (waits s g w _ _ _ (P w) _ (posts-finish s g w name (g .workers w .held)))
+    by (postFinish q w f) = admits s q g w _ _
+        (waits s g w _ _ _ (P w) _ (posts-finish s g w f (g .workers w .held)))
     by (step q w) = admits s q g w _ _ (steps s g w _ _ _ (P w))
     by (get q w) = admits s q g w _ _ (waits s g w _ _ _ (P w) _ (gets s g w (g .workers w .held)))

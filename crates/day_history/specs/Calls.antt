@@ -12,22 +12,26 @@ use lib.ListN.{length, getD}
 use borrow.Author.Tests.{ltb-true, ltb-false, eq-eqb}
 use Rattle.terms.specs.Base.{update, occurrences}
 use Rattle.terms.specs.Terms.{Label, unexecuted, executing, finished, Arguments, listed, argumentsWrong}
-use Rattle.terms.specs.Terms.{wrongArguments, unknownName, namePresent, noRoom}
+use Rattle.terms.specs.Terms.{wrongArguments, unknownName, namePresent, noRoom, finishOf}
 use Rattle.terms.specs.Runs.{postAdd, postFinish, step, get, Outcome, outcome}
+use Rattle.terms.specs.Order.{without}
+use Rattle.terms.specs.OrderLaws.{none-first, first-occurs}
 use Rattle.terms.specs.declared.Sizes.{Sizes}
+use Rattle.terms.specs.declared.HandOut.{HandOut}
 use Rattle.terms.specs.declared.Answer.the-variants.{Going, Posted, Ended, NoneReady, Handed, Refused}
 use Rattle.words.specs.Layout.{Tables}
 use Rattle.words.specs.Words.{getWords, stepWords, addWords}
 use Rattle.words.specs.Words as words
 use Rattle.rules.specs.Rules.{Job, noJob, Found, at, missing, Call, idle, looking, linking, marking, notifying, Graph}
 use Rattle.rules.specs.Rules.{job, find, lookUp, enter, link, linkTo, mark, markDependents, notify, stepCall, whenIdle}
-use Rattle.rules.specs.Rules.{addPosted, finishPosted, getJob, takeNext, withDependent, withCount, withLabel}
+use Rattle.rules.specs.Rules.{addPosted, finishPosted, getJob, takeNext, withDependent, withCount, withLabel, nextOut}
+use Rattle.rules.specs.Rules.{order}
 use Rattle.rules.specs.Rules as rules
 use Rattle.rules.specs.Sound.{startedBy, Linking, Notifying}
 use Rattle.day_format.specs.Whole.{andThen, stepsOf, wholeAdd, wholeFinish}
 use Rattle.whole_calls.specs.Last.{own-step}
 use Rattle.whole_calls.specs.Arcs.{arcs-within}
-use Rattle.rules_follow_model.specs.Base.{pick-by, kept-field, head-occurs}
+use Rattle.rules_follow_model.specs.Base.{pick-by, kept-field}
 use Rattle.rules_follow_model.specs.Own.{performed}
 use Rattle.rules_follow_model.specs.Change.{noPlace}
 use Rattle.day_history.specs.Jobs.{Jobs, All, changed, handed, withNew, entered, entered-all}
@@ -52,8 +56,8 @@ pub data FinishEnds (P : Tables → Type 0) : Outcome Tables → Type 0 where
   ended : {t : Tables} → P t → FinishEnds P (outcome Ended t)
 
 -- how a get is answered
-pub data GetEnds (P : ℕ → ℕ → Tables → Type 0) (Q : Tables → Type 0) : Outcome Tables → Type 0 where
-  handed-out : {t : Tables} {j name : ℕ} → P j name t → GetEnds P Q (outcome (Handed j name) t)
+pub data GetEnds (P : HandOut → Tables → Type 0) (Q : Tables → Type 0) : Outcome Tables → Type 0 where
+  handed-out : {t : Tables} {h : HandOut} → P h t → GetEnds P Q (outcome (Handed h) t)
   none-ready : {t : Tables} → Q t → GetEnds P Q (outcome NoneReady t)
 
 module _ (s : Sizes) (w : ℕ) (hw : w < s .workers) where
@@ -285,11 +289,11 @@ module _ (s : Sizes) (w : ℕ) (hw : w < s .workers) where
     unfolding wholeFinish rules.perform finishPosted whenIdle words.perform
     whole-finish t D =
         let g = D .graph in
-        let o = onward (D .at) (postFinish s w (name p)) in
+        let o = onward (D .at) (postFinish s w (finishOf (name p))) in
         let named : eqb (job g p .name) (name p) ≡ true = eq-eqb (job g p .name) (name p) (D .jobs .named p) in
-        let posts : rules.perform s g (postFinish s w (name p)) ≡ outcome Posted (rules.withCall g w marking) =
-        performed s g w hw _ ∙ ap (λ c. whenIdle g c (finishPosted g w (name p) (g .workers w .held))) (D .team .own)
-        ∙ ap (finishPosted g w (name p)) (D .team .held w ∙ holds)
+        let posts : rules.perform s g (postFinish s w (finishOf (name p))) ≡ outcome Posted (rules.withCall g w marking) =
+        performed s g w hw _ ∙ ap (λ c. whenIdle g c (finishPosted g w (finishOf (name p)) (g .workers w .held))) (D .team .own)
+        ∙ ap (finishPosted g w (finishOf (name p))) (D .team .held w ∙ holds)
         ∙ rw named in
         rw (o .0, posts)
         (rw (add-one (s .arcs)) (marks (s .arcs) _
@@ -303,9 +307,9 @@ module _ (s : Sizes) (w : ℕ) (hw : w < s .workers) where
 
   -- ---- a get
   module _ (n h : ℕ) (hold : ℕ → Option ℕ) (name : ℕ → ℕ) (free : hold w ≡ none) where
-    pub record Handing (j called : ℕ) (t : Tables) : Type 0 where
-      pub same-name : called ≡ name j
-      pub now : During s n (suc h) (update hold w (some j)) name w idle t
+    pub record Handing (o : HandOut) (t : Tables) : Type 0 where
+      pub same-name : o .name ≡ name (o .job)
+      pub now : During s n (suc h) (update hold w (some (o .job))) name w idle t
 
     pub record Drained (t : Tables) : Type 0 where
       pub now : During s n h hold name w idle t
@@ -316,23 +320,26 @@ module _ (s : Sizes) (w : ℕ) (hw : w < s .workers) where
     whole-get t D =
         let g = D .graph in
         let o = onward (D .at) (get s w) in
-        let gets : rules.perform s g (get s w) ≡ takeNext g w (g .queue) =
+        let gets : rules.perform s g (get s w) ≡ takeNext g w (nextOut g) =
         performed s g w hw _ ∙ rw (D .team .own, D .team .held w, free) refl in
         let ends : GetEnds Handing Drained (outcome (getWords s t w .answer) (getWords s t w .state)) =
-        rw (o .0, gets) (by-queue (g .queue) refl _ (rw gets at (o .1))) in
+        rw (o .0, gets) (by-next (nextOut g) refl _ (rw gets at (o .1))) in
         ends
       where
-        by-queue : (q : List ℕ) → D .graph .queue ≡ q → (v : Tables) → At s v (takeNext (D .graph) w q .state)
-            → GetEnds Handing Drained (outcome (takeNext (D .graph) w q .answer) v)
-        by-queue [] e v A =
-            none-ready (record { now = record { graph = D .graph; at = A; jobs = D .jobs; team = D .team }; empty = e })
-        by-queue (j ∷ q) e v A =
+        by-next : (x : Option ℕ) → nextOut (D .graph) ≡ x → (v : Tables) → At s v (takeNext (D .graph) w x .state)
+            → GetEnds Handing Drained (outcome (takeNext (D .graph) w x .answer) v)
+        by-next none e v A = none-ready (record {
+          now = record { graph = D .graph; at = A; jobs = D .jobs; team = D .team };
+          empty = none-first (order (D .graph)) (D .graph .queue) e;
+        })
+        by-next (some j) e v A =
             let S = sound-at (D .at) in
-            let first : 0 < occurrences j (D .graph .queue) = rw e (head-occurs j q) in
+            let first : 0 < occurrences j (D .graph .queue) =
+            first-occurs (order (D .graph)) (D .graph .queue) j e in
             handed-out (record {
               same-name = D .jobs .named j;
               now = record {
-                graph = rules.handedOut (D .graph) w j q;
+                graph = rules.handedOut (D .graph) w j (without j (D .graph .queue));
                 at = A;
                 jobs = handed (D .graph .jobs) n h name (D .jobs) j (withLabel (job (D .graph) j) executing) refl
                     (S .queue-there j first) (ap startedBy (S .queue-unexecuted j first)) refl;

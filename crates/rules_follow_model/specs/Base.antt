@@ -38,8 +38,3 @@ pub kept-field : {A B : Type 0} (f : A → B) (l : List A) (i : ℕ) (y d : A) �
     → f (getD (set l i y) j d) ≡ f (getD l j d)
 kept-field f l i y d e j =
     sym (List·getD-map f (set l i y) j d) ∙ ap (λ m. getD m j (f d)) (map-set-same f l i y d e) ∙ List·getD-map f l j d
-
--- ---- the first of a list is in it
-pub head-occurs : (j : ℕ) (q : List ℕ) → 0 < occurrences j (j ∷ q)
-unfolding occurrences
-head-occurs j q = rw (eq-eqb j j refl) (omega arith)

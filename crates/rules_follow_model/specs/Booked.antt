@@ -12,11 +12,13 @@ use native.Mathlib.Decide.{ℕ-discrete}
 use lib.ListN.{length, getD, set, length-map, List·getD-map}
 use Rattle.terms.specs.Base.{pick, update, prefix}
 use Rattle.terms.specs.Terms.{Label, Arguments, wrongArguments, unknownName, namePresent, noRoom, alreadyHolding}
-use Rattle.terms.specs.Terms.{notHeld, finished, executing}
+use Rattle.terms.specs.Terms.{notHeld, finished, executing, finishOf}
+use Rattle.terms.specs.Order.{without}
+use Rattle.terms.specs.OrderLaws.{first-occurs}
 use Rattle.terms.specs.declared.Sizes.{Sizes}
 use Rattle.terms.specs.declared.Answer.{Answer}
 use Rattle.rules.specs.Rules.{Call, idle, looking, linking, notifying, Worker, Graph, empty, job, perform, withLabel}
-use Rattle.rules.specs.Rules.{newJob, turn, withCall, entered, marked, handedOut}
+use Rattle.rules.specs.Rules.{newJob, turn, withCall, entered, marked, handedOut, nextOut, handOut, order}
 use Rattle.rules.specs.Sound.{Looking, Sound}
 use Rattle.sequential_model.specs.Book.{noEntry, Book, blank, labelled, finishedBy, next, Ends, Follows, done}
 use Rattle.sequential_model.specs.Book.{listedNames}
@@ -25,7 +27,7 @@ use Rattle.sequential_model.specs.Book as book
 use Rattle.linearization.specs.Calls.{Reading, unread, becomes, decided, note, acceptedAdds}
 use Rattle.linearization.specs.Calls as reading
 use Rattle.rules_history.specs.History.{History, start, then, entryOf, entriesOf, noArguments, Booked}
-use Rattle.rules_follow_model.specs.Base.{update-at, update-other, head-occurs}
+use Rattle.rules_follow_model.specs.Base.{update-at, update-other}
 use Rattle.rules_follow_model.specs.Change.{Change, nothing, addWrong, addPosted, finishWrong, finishPosted}
 use Rattle.rules_follow_model.specs.Change.{lookedUp}
 use Rattle.rules_follow_model.specs.Change.{nameUnknown, nameThere, roomLacking, jobEntered, tallied, arcAppended}
@@ -69,7 +71,7 @@ next-refused : (b : Book) (x : book.Call) (n i : ℕ) → next b x (refused n i)
 unfolding next
 next-refused b (add w a) n i = refl
 next-refused b (get w) n i = refl
-next-refused b (finish w name) n i = refl
+next-refused b (finish w f) n i = refl
 
 labelled-same : (g : Graph) (j : ℕ) (l : Label)
     → entriesOf (set (g .jobs) j (withLabel (job g j) l)) ≡ labelled (bookOf g) j l
@@ -128,19 +130,19 @@ module _ (s : Sizes) (g : Graph) (r : Reading) (S : Sound s g) (K : Kept s g r) 
       (rw (entries-append, listed-append) (omega (arith, K .reserved, listed-length a)))
 
   marks : (p : ℕ) (c : Call) (later : Reading)
-      → later .calls ≡ r .calls ++ (record { call = finish w (job g p .name); end = accepted } ∷ [])
+      → later .calls ≡ r .calls ++ (record { call = finish w (finishOf (job g p .name)); end = accepted } ∷ [])
       → g .workers w .held ≡ some p → Kept s (marked g w p c) later
   unfolding next finishedBy
-  marks p c later l h = fed (marked g w p c) later (finish w (job g p .name)) accepted l (rw h (finish-held g p))
+  marks p c later l h = fed (marked g w p c) later (finish w (finishOf (job g p .name))) accepted l (rw h (finish-held g p))
       (rw (h, labelled-same g p finished, held-after (g .workers) w none c))
       (labelled-listed g p finished (K .reserved))
 
-  hands : (j : ℕ) (q : List ℕ) → g .workers w .held ≡ none → g .queue ≡ j ∷ q
-      → Kept s (handedOut g w j q) (decided r (get w) (handed j (job g j .name)))
+  hands : (j : ℕ) → g .workers w .held ≡ none → nextOut g ≡ some j
+      → Kept s (handedOut g w j (without j (g .queue))) (decided r (get w) (handed (handOut g j)))
   unfolding next
-  hands j q h z = fed (handedOut g w j q) (decided r (get w) (handed j (job g j .name))) (get w)
-      (handed j (job g j .name)) refl
-      (rw h (rw (name-at g j) at (taken j (queued-ready S j (rw z (head-occurs j q))))))
+  hands j h z = fed (handedOut g w j (without j (g .queue))) (decided r (get w) (handed (handOut g j))) (get w)
+      (handed (handOut g j)) refl
+      (rw h (rw (name-at g j) at (taken j (queued-ready S j (first-occurs (order g) (g .queue) j z)))))
       (rw (labelled-same g j executing, held-after (g .workers) w (some j) idle))
       (labelled-listed g j executing (K .reserved))
 
@@ -153,8 +155,8 @@ module _ (s : Sizes) (g : Graph) (r : Reading) (S : Sound s g) (K : Kept s g r) 
   kept-on x after later nothing = K
   kept-on x after later (addWrong a e) = refused-now (add w a) wrongArguments 0 (add-wrong s g a e)
   kept-on x after later (addPosted a) = unseen after later refl (turned _) refl refl
-  kept-on x after later (finishWrong name e) =
-      refused-now (finish w name) notHeld 0 (finish-not g name (g .workers w .held) e)
+  kept-on x after later (finishWrong f e) =
+      refused-now (finish w f) notHeld 0 (finish-not g f (g .workers w .held) e)
   kept-on x after later (finishPosted p e) = unseen after later refl (turned _) refl refl
   kept-on x after later (lookedUp e h) = unseen after later refl (turned _) refl refl
   kept-on x after later (nameUnknown {a} {i} e h z) =
@@ -174,7 +176,7 @@ module _ (s : Sizes) (g : Graph) (r : Reading) (S : Sound s g) (K : Kept s g r) 
   kept-on x after later (lastNotified e h) = unseen after later (entries-kept (g .jobs) _ _ refl) (turned _) refl refl
   kept-on x after later (getHolding j e) = refused-now (get w) alreadyHolding 0 (rw e holding)
   kept-on x after later (getNone e) = finds-none e
-  kept-on x after later (getHanded j {q} e f z) = hands j q e z
+  kept-on x after later (getHanded j e f z) = hands j e z
 
 -- ---- the accepted adds are those of the jobs, in order
 adds-booked : {s : Sizes} (g : Graph) (r : Reading) → Follows s blank (r .calls) (bookOf g) → Booked s g r

@@ -8,14 +8,15 @@ use Prim.Native.Nat.{ℕ, suc, _+_, _≤_, _<_}
 use lib.Dec.{ltb, leb, eqb}
 use lib.ListN.{length, getD}
 use Rattle.terms.specs.Terms.{Arguments, listed, argumentsWrong, wrongArguments, unknownName, namePresent, noRoom}
-use Rattle.terms.specs.Terms.{alreadyHolding, notHeld}
+use Rattle.terms.specs.Terms.{alreadyHolding, notHeld, Finish, finishOf}
 use Rattle.terms.specs.Runs.{Item, postAdd, postFinish, step}
+use Rattle.terms.specs.Order.{without}
 use Rattle.terms.specs.declared.Sizes.{Sizes}
 use Rattle.terms.specs.declared.Answer.{Answer}
 use Rattle.terms.specs.declared.Answer.the-variants.{Posted, Going, Ended, NoneReady, Handed, Refused}
 use Rattle.rules.specs.Rules as rules
 use Rattle.rules.specs.Rules.{Graph, job, find, at, missing, looking, linking, marking, notifying, withCall, entered}
-use Rattle.rules.specs.Rules.{linked, settled, marked, notified, handedOut}
+use Rattle.rules.specs.Rules.{linked, settled, marked, notified, handedOut, nextOut, handOut}
 use Rattle.sequential_model.specs.Book.{add, get, finish, accepted, noneReady, handed, refused}
 use Rattle.linearization.specs.Calls.{idle, adding, finishing, Reading, becomes, decided, addEnded, finishEnded}
 
@@ -36,10 +37,10 @@ pub data Change (s : Sizes) (g : Graph) (r : Reading) (w : ℕ) : Answer → Gra
   addWrong : (a : Arguments) → argumentsWrong a ≡ true
       → Change s g r w (Refused wrongArguments 0) g (decided r (add w a) (refused wrongArguments 0))
   addPosted : (a : Arguments) → Change s g r w Posted (withCall g w (looking a 0)) (becomes r w (adding a 0))
-  finishWrong : (name : ℕ) → HoldsNot g name (g .workers w .held)
-      → Change s g r w (Refused notHeld 0) g (decided r (finish w name) (refused notHeld 0))
+  finishWrong : (f : Finish) → HoldsNot g (f .name) (g .workers w .held)
+      → Change s g r w (Refused notHeld 0) g (decided r (finish w f) (refused notHeld 0))
   finishPosted : (p : ℕ) → g .workers w .held ≡ some p
-      → Change s g r w Posted (withCall g w marking) (becomes r w (finishing (job g p .name) 0))
+      → Change s g r w Posted (withCall g w marking) (becomes r w (finishing (finishOf (job g p .name)) 0))
   -- the look-ups of an add
   lookedUp : {a : Arguments} {i : ℕ} → g .workers w .call ≡ looking a i → i < a .count
       → Change s g r w Going (withCall g w (looking a (suc i))) (becomes r w (adding a (suc i)))
@@ -69,14 +70,14 @@ pub data Change (s : Sizes) (g : Graph) (r : Reading) (w : ℕ) : Answer → Gra
   -- the mark of a finish
   markedLast : (p : ℕ) → g .workers w .call ≡ marking → g .workers w .held ≡ some p → job g p .dependents ≡ []
       → Change s g r w Ended (marked g w p rules.idle)
-      (becomes (finishEnded (decided r (finish w (job g p .name)) accepted) (job g p .name)) w idle)
+      (becomes (finishEnded (decided r (finish w (finishOf (job g p .name))) accepted) (job g p .name)) w idle)
   markedGoing : (p : ℕ) → g .workers w .call ≡ marking → g .workers w .held ≡ some p
       → Change s g r w Going (marked g w p (notifying p 0))
-      (becomes (decided r (finish w (job g p .name)) accepted) w (finishing (job g p .name) 1))
+      (becomes (decided r (finish w (finishOf (job g p .name))) accepted) w (finishing (finishOf (job g p .name)) 1))
   -- the arcs of a finish
   arcNotified : {p k : ℕ} → g .workers w .call ≡ notifying p k
       → Change s g r w Going (notified g w (getD (job g p .dependents) k 0) (notifying p (suc k)))
-      (becomes r w (finishing (job g p .name) (suc (suc k))))
+      (becomes r w (finishing (finishOf (job g p .name)) (suc (suc k))))
   lastNotified : {p k : ℕ} → g .workers w .call ≡ notifying p k → length (job g p .dependents) ≤ suc k
       → Change s g r w Ended (notified g w (getD (job g p .dependents) k 0) rules.idle)
       (becomes (finishEnded r (job g p .name)) w idle)
@@ -84,5 +85,6 @@ pub data Change (s : Sizes) (g : Graph) (r : Reading) (w : ℕ) : Answer → Gra
   getHolding : (j : ℕ) → g .workers w .held ≡ some j
       → Change s g r w (Refused alreadyHolding 0) g (decided r (get w) (refused alreadyHolding 0))
   getNone : g .workers w .held ≡ none → Change s g r w NoneReady g (decided r (get w) noneReady)
-  getHanded : (j : ℕ) {q : List ℕ} → g .workers w .held ≡ none → g .workers w .call ≡ rules.idle → g .queue ≡ j ∷ q
-      → Change s g r w (Handed j (job g j .name)) (handedOut g w j q) (decided r (get w) (handed j (job g j .name)))
+  getHanded : (j : ℕ) → g .workers w .held ≡ none → g .workers w .call ≡ rules.idle → nextOut g ≡ some j
+      → Change s g r w (Handed (handOut g j)) (handedOut g w j (without j (g .queue)))
+      (decided r (get w) (handed (handOut g j)))

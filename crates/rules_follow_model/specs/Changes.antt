@@ -1,5 +1,5 @@
 -- Every item changes a sound and paced graph, with its reading, in one of the ways of Change. Assumes nothing.
-use mathlib.Core.Path.{_≡_, refl, sym}
+use mathlib.Core.Path.{_≡_, refl, sym, subst}
 use mathlib.Core.Bool.{false, not}
 use mathlib.Core.List.{List, [], _∷_}
 use mathlib.Core.Option.{Option, none, some}
@@ -9,13 +9,13 @@ use lib.Dec.{ltb, eqb}
 use lib.ListN.{length, getD}
 use borrow.Author.Tests.{eq-eqb, ne-eqb, ltb-true, ltb-false, eqb-true, le-ltb, lt-leb}
 use Rattle.terms.specs.Terms.{Label, unexecuted, executing, finished, Arguments, listed, argumentsWrong, wrongSizes}
-use Rattle.terms.specs.Terms.{noSuchWorker, halfDone, nothingToStep, damaged, sameSizes}
+use Rattle.terms.specs.Terms.{noSuchWorker, halfDone, nothingToStep, damaged, sameSizes, finishOf, Finish}
 use Rattle.terms.specs.Runs.{Item, postAdd, postFinish, step, get, Outcome, outcome}
 use Rattle.terms.specs.declared.Sizes.{Sizes}
-use Rattle.terms.specs.declared.Answer.the-variants.{Going, Ended, Refused}
+use Rattle.terms.specs.declared.Answer.the-variants.{Going, Ended, Refused, Posted}
 use Rattle.rules.specs.Rules.{Found, at, missing, Call, idle, looking, linking, marking, notifying, Graph, job, find}
 use Rattle.rules.specs.Rules.{lookUp, enter, link, linkTo, settled, markDependents, mark, notify, stepCall, whenIdle}
-use Rattle.rules.specs.Rules.{addPosted, finishPosted, takeNext, getJob, admitted, perform}
+use Rattle.rules.specs.Rules.{addPosted, finishPosted, takeNext, getJob, admitted, perform, nextOut, withCall}
 use Rattle.rules.specs.Sound.{CallSound, Sound}
 use Rattle.linearization.specs.Calls.{Pending, adding, finishing, Reading, becomes, endsCall, noteStep, noteAdd}
 use Rattle.linearization.specs.Calls.{noteFinish}
@@ -32,12 +32,12 @@ noted-step : (r : Reading) (w : ℕ) (p : Pending) (n i : ℕ) → endsCall n �
 unfolding noteStep
 noted-step r w reading.idle n i e = refl
 noted-step r w (adding a k) n i e = rw e
-noted-step r w (finishing name k) n i e = rw e
+noted-step r w (finishing f k) n i e = rw e
 
 noted : (r : Reading) (x : Item) (n i : ℕ) → endsCall n ≡ false → note r x (Refused n i) ≡ r
 unfolding note noteAdd noteFinish noteGet
 noted r (postAdd s w a) n i e = rw e
-noted r (postFinish s w name) n i e = rw e
+noted r (postFinish s w f) n i e = rw e
 noted r (step s w) n i e = noted-step r w (r .pending w) n i e
 noted r (get s w) n i e = rw e
 
@@ -71,25 +71,26 @@ module _ (s : Sizes) (g : Graph) (r : Reading) where
   post-add t w a = pick-by (λ o. Done s g r w (postAdd t w a) o) (argumentsWrong a) (λ e. to.addWrong a e)
       (λ e. to.addPosted a)
 
-  post-finish : (t : Sizes) (w name : ℕ) (h : Option ℕ) → g .workers w .held ≡ h
-      → Done s g r w (postFinish t w name) (finishPosted g w name h)
+  post-finish : (t : Sizes) (w : ℕ) (f : Finish) (h : Option ℕ) → g .workers w .held ≡ h
+      → Done s g r w (postFinish t w f) (finishPosted g w f h)
   unfolding finishPosted note noteFinish
-  post-finish t w name none e = to.finishWrong name (rw e tt)
-  post-finish t w name (some p) e = pick-by (λ o. Done s g r w (postFinish t w name) o) (eqb (job g p .name) name)
-      (λ z. rw (sym (eqb-true (job g p .name) name z)) (to.finishPosted p e))
-      (λ z. to.finishWrong name (rw e z))
+  post-finish t w f none e = to.finishWrong f (rw e tt)
+  post-finish t w f (some p) e = pick-by (λ o. Done s g r w (postFinish t w f) o) (eqb (job g p .name) (f .name))
+      (λ z. subst (λ n. Done s g r w (postFinish t w (finishOf n)) (outcome Posted (withCall g w marking)))
+      (eqb-true (job g p .name) (f .name) z) (to.finishPosted p e))
+      (λ z. to.finishWrong f (rw e z))
 
   -- ---- gets
-  take-next : (t : Sizes) (w : ℕ) (q : List ℕ) → g .queue ≡ q → g .workers w .held ≡ none → g .workers w .call ≡ idle
-      → Done s g r w (get t w) (takeNext g w q)
+  take-next : (t : Sizes) (w : ℕ) (o : Option ℕ) → nextOut g ≡ o → g .workers w .held ≡ none
+      → g .workers w .call ≡ idle → Done s g r w (get t w) (takeNext g w o)
   unfolding takeNext note noteGet
-  take-next t w [] z e f = to.getNone e
-  take-next t w (j ∷ q) z e f = to.getHanded j e f z
+  take-next t w none z e f = to.getNone e
+  take-next t w (some j) z e f = to.getHanded j e f z
 
   get-job : (t : Sizes) (w : ℕ) (h : Option ℕ) → g .workers w .held ≡ h → g .workers w .call ≡ idle
       → Done s g r w (get t w) (getJob g w h)
   unfolding getJob note noteGet
-  get-job t w none e f = take-next t w (g .queue) refl e f
+  get-job t w none e f = take-next t w (nextOut g) refl e f
   get-job t w (some j) e f = to.getHolding j e
 
   -- ---- the steps of an add
@@ -144,12 +145,12 @@ module _ (s : Sizes) (g : Graph) (r : Reading) where
   module _ (t : Sizes) (w p : ℕ) where
     mark-dependents : (l : List ℕ) → job g p .dependents ≡ l → g .workers w .call ≡ marking
         → g .workers w .held ≡ some p
-        → r .pending w ≡ finishing (job g p .name) 0 → Done s g r w (step t w) (markDependents g w p l)
+        → r .pending w ≡ finishing (finishOf (job g p .name)) 0 → Done s g r w (step t w) (markDependents g w p l)
     unfolding markDependents note noteStep
     mark-dependents [] z e h q = rw q (to.markedLast p e h z)
     mark-dependents (j ∷ l) z e h q = rw q (to.markedGoing p e h)
 
-    notifies : (k : ℕ) → g .workers w .call ≡ notifying p k → r .pending w ≡ finishing (job g p .name) (suc k)
+    notifies : (k : ℕ) → g .workers w .call ≡ notifying p k → r .pending w ≡ finishing (finishOf (job g p .name)) (suc k)
         → Done s g r w (step t w) (notify g w p k)
     unfolding notify note noteStep
     notifies k e q = pick-by (λ o. Done s g r w (step t w) o) (ltb (suc k) (length (job g p .dependents)))
@@ -180,8 +181,8 @@ module _ (s : Sizes) (g : Graph) (r : Reading) where
   unfolding perform
   changes S P (postAdd t w a) =
       admits t w (postAdd t w a) (when-idle w (postAdd t w a) (g .workers w .call) (λ e. post-add t w a))
-  changes S P (postFinish t w name) = admits t w (postFinish t w name)
-      (when-idle w (postFinish t w name) (g .workers w .call) (λ e. post-finish t w name (g .workers w .held) refl))
+  changes S P (postFinish t w f) = admits t w (postFinish t w f)
+      (when-idle w (postFinish t w f) (g .workers w .call) (λ e. post-finish t w f (g .workers w .held) refl))
   changes S P (step t w) = admits t w (step t w)
       (steps t w (g .workers w .held) (g .workers w .call) refl refl (S .calls w) (P w))
   changes S P (get t w) = admits t w (get t w)

@@ -11,11 +11,12 @@ use lib.ListN.{length, getD}
 use borrow.Author.Tests.{eq-eqb, lt-ltb, le-ltb}
 use Rattle.terms.specs.Base.{update}
 use Rattle.terms.specs.Terms.{Label, unexecuted, executing, finished, Arguments, listed, argumentsWrong, sameSizes}
+use Rattle.terms.specs.Terms.{Finish}
 use Rattle.terms.specs.Runs.{Item, postAdd, postFinish, step, get, Outcome}
 use Rattle.terms.specs.declared.Sizes.{Sizes}
 use Rattle.rules.specs.Rules.{Found, at, missing, Call, idle, looking, linking, marking, notifying, Worker, Graph, job}
 use Rattle.rules.specs.Rules.{find, lookUp, enter, link, linkTo, markDependents, mark, notify, stepCall, whenIdle}
-use Rattle.rules.specs.Rules.{addPosted, finishPosted, takeNext, getJob, admitted, perform}
+use Rattle.rules.specs.Rules.{addPosted, finishPosted, takeNext, getJob, admitted, perform, nextOut}
 use Rattle.rules_follow_model.specs.Base.{update-other, pick-by}
 use Rattle.rules_follow_model.specs.Change.{noPlace}
 use Rattle.terms.specs.Runs.{workerOf}
@@ -40,7 +41,7 @@ never s g t w h o = rw (le-ltb w (s .workers) h)
 pub turned-away : (s : Sizes) (g : Graph) (i : Item) → s .workers ≤ workerOf i → perform s g i .state ≡ g
 unfolding perform
 turned-away s g (postAdd t w a) h = never s g t w h _
-turned-away s g (postFinish t w name) h = never s g t w h _
+turned-away s g (postFinish t w f) h = never s g t w h _
 turned-away s g (step t w) h = never s g t w h _
 turned-away s g (get t w) h = never s g t w h _
 
@@ -106,19 +107,19 @@ module _ (s : Sizes) (g : Graph) (w v : ℕ) (other : v ≢ w) where
   steps (notifying p k) = pick-by Left (ltb (suc k) (length (job g p .dependents))) (λ _. replaced _) (λ _. replaced _)
 
   -- ---- posts and gets
-  posts-finish : (name : ℕ) (h : Option ℕ) → Left (finishPosted g w name h)
+  posts-finish : (f : Finish) (h : Option ℕ) → Left (finishPosted g w f h)
   unfolding finishPosted
-  posts-finish name none = refl
-  posts-finish name (some p) = pick-by Left (eqb (job g p .name) name) (λ _. replaced _) (λ _. refl)
+  posts-finish f none = refl
+  posts-finish f (some p) = pick-by Left (eqb (job g p .name) (f .name)) (λ _. replaced _) (λ _. refl)
 
-  takes : (q : List ℕ) → Left (takeNext g w q)
+  takes : (o : Option ℕ) → Left (takeNext g w o)
   unfolding takeNext
-  takes [] = refl
-  takes (j ∷ q) = replaced _
+  takes none = refl
+  takes (some j) = replaced _
 
   gets : (h : Option ℕ) → Left (getJob g w h)
   unfolding getJob
-  gets none = takes (g .queue)
+  gets none = takes (nextOut g)
   gets (some j) = refl
 
 pub others : (s : Sizes) (g : Graph) (i : Item) (v : ℕ) → v ≢ workerOf i
@@ -126,8 +127,8 @@ pub others : (s : Sizes) (g : Graph) (i : Item) (v : ℕ) → v ≢ workerOf i
 unfolding perform addPosted
 others s g (postAdd t w a) v z = admits s g w v z t _ (when-idle s g w v z (g .workers w .call) _
     (pick-by (Left s g w v z) (argumentsWrong a) (λ _. refl) (λ _. replaced s g w v z _)))
-others s g (postFinish t w name) v z =
-    admits s g w v z t _ (when-idle s g w v z (g .workers w .call) _ (posts-finish s g w v z name (g .workers w .held)))
+others s g (postFinish t w f) v z =
+    admits s g w v z t _ (when-idle s g w v z (g .workers w .call) _ (posts-finish s g w v z f (g .workers w .held)))
 others s g (step t w) v z = admits s g w v z t _ (steps s g w v z (g .workers w .call))
 others s g (get t w) v z =
     admits s g w v z t _ (when-idle s g w v z (g .workers w .call) _ (gets s g w v z (g .workers w .held)))

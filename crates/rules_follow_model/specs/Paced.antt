@@ -9,7 +9,7 @@ use native.Mathlib.Decide.{ℕ-discrete}
 use lib.ListN.{length, getD, set, List·getD-append}
 use lib.Seq.{getD-append-seam}
 use Rattle.terms.specs.Base.{update}
-use Rattle.terms.specs.Terms.{Arguments}
+use Rattle.terms.specs.Terms.{Arguments, finishOf}
 use Rattle.terms.specs.declared.Sizes.{Sizes}
 use Rattle.terms.specs.declared.Answer.{Answer}
 use Rattle.rules.specs.Rules.{Job, noJob, Call, idle, looking, linking, marking, notifying, Worker, Graph, empty, job}
@@ -76,7 +76,7 @@ module _ (s : Sizes) (g : Graph) (r : Reading) (S : Sound s g) (P : Paced g r) (
   paced-on x after later nothing = P
   paced-on x after later (addWrong a e) = P
   paced-on x after later (addPosted a) = moved after later _ _ (λ j h. refl) refl refl refl
-  paced-on x after later (finishWrong name e) = P
+  paced-on x after later (finishWrong f e) = P
   paced-on x after later (finishPosted p e) = moved after later _ _ (λ j h. refl) refl refl (rw e refl)
   paced-on x after later (lookedUp e h) = moved after later _ _ (λ j h. refl) refl refl refl
   paced-on x after later (nameUnknown e h z) = moved after later _ _ (λ j h. refl) refl refl refl
@@ -92,9 +92,9 @@ module _ (s : Sizes) (g : Graph) (r : Reading) (S : Sound s g) (P : Paced g r) (
   paced-on x after later (jobSettled {j} e) = moved after later _ _ (λ i h. same-names j _ refl i) refl refl refl
   paced-on x after later (markedLast p e h z) = moved after later _ _ (λ j h. same-names p _ refl j) refl refl refl
   paced-on x after later (markedGoing p e h) = moved after later _ _ (λ j h. same-names p _ refl j) refl refl
-      (ap (λ n. finishing n 1) (sym (same-names p _ refl p)))
+      (ap (λ n. finishing (finishOf n) 1) (sym (same-names p _ refl p)))
   paced-on x after later (arcNotified {p} {k} e) = moved after later _ _ (λ j h. same-names _ _ refl j) refl refl
-      (ap (λ n. finishing n (suc (suc k))) (sym (same-names _ _ refl p)))
+      (ap (λ n. finishing (finishOf n) (suc (suc k))) (sym (same-names _ _ refl p)))
   paced-on x after later (lastNotified e h) = moved after later _ _ (λ j h. same-names _ _ refl j) refl refl refl
   paced-on x after later (getHolding j e) = P
   paced-on x after later (getNone e) = P

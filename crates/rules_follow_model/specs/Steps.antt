@@ -11,7 +11,7 @@ use native.Mathlib.Decide.{decLt, ℕ-discrete}
 use lib.Dec.{ltb}
 use lib.ListN.{length, getD}
 use borrow.Author.Tests.{ltb-true, ltb-false}
-use Rattle.terms.specs.Terms.{Label, unexecuted, executing, finished, Arguments, listed}
+use Rattle.terms.specs.Terms.{Label, unexecuted, executing, finished, Arguments, listed, Finish}
 use Rattle.terms.specs.Runs.{step, Outcome}
 use Rattle.terms.specs.declared.Sizes.{Sizes}
 use Rattle.terms.specs.declared.Answer.{Answer}
@@ -35,7 +35,7 @@ use Rattle.rules_follow_model.specs.Paced.{paced}
 abbrev StepOf : Graph → Pending → Answer → Type 0
 StepOf g reading.idle x = Unit {0}
 StepOf g (adding a k) x = AddStep a k x
-StepOf g (finishing name k) x = FinishOf (seen g) name k x
+StepOf g (finishing f k) x = FinishOf (seen g) (f .name) k x
 
 module _ (s : Sizes) (g : Graph) (w : ℕ) where
   abbrev Adds : Arguments → ℕ → Outcome Graph → Type 0
@@ -123,8 +123,9 @@ module _ {s : Sizes} (sound : (g : Graph) (r : Reading) (e : ℕ → ℕ) → Hi
 
   -- a finish "takes 1 step more than it has arcs"
   pub finish-step : {g : Graph} {r : Reading} {e : ℕ → ℕ} → History s g r e → (w : ℕ) → w < s .workers
-      → (name k : ℕ) → r .pending w ≡ finishing name k → FinishOf (seen g) name k (perform s g (step s w) .answer)
-  finish-step history w h name k e = rw e at (step-of history w h)
+      → (f : Finish) (k : ℕ) → r .pending w ≡ finishing f k
+      → FinishOf (seen g) (f .name) k (perform s g (step s w) .answer)
+  finish-step history w h f k e = rw e at (step-of history w h)
 
   -- ---- only a worker below P is in a call: 2, "worker number not below P", comes first
   idle-past : {g : Graph} {r : Reading} {e : ℕ → ℕ} → History s g r e → (w : ℕ) → s .workers ≤ w

@@ -3,7 +3,7 @@ use mathlib.Core.Path.{_≡_, refl}
 use mathlib.Core.Bool.{Bool, true, false}
 use Prim.Native.Nat.{ℕ, suc}
 use lib.Dec.{ltb, leb, eqb}
-use Rattle.terms.specs.Terms.{finished, Arguments}
+use Rattle.terms.specs.Terms.{finished, Arguments, Finish}
 use Rattle.terms.specs.declared.Answer.the-variants.{Going, Ended, Refused}
 use Rattle.rules.specs.Rules.{Call, idle}
 use Rattle.sequential_model.specs.Book.{End}
@@ -44,7 +44,7 @@ module _ (r : Reading) (w : ℕ) where
   unfolding noteStep
   not-noted Pending.idle n i e = alike-same r
   not-noted (Pending.adding a k) n i e = rw e (alike-same r)
-  not-noted (Pending.finishing name k) n i e = rw e (alike-same r)
+  not-noted (Pending.finishing f k) n i e = rw e (alike-same r)
 
   pub noted-refusal : (p : Pending) (a : Arguments) (k n i : ℕ) → p ≡ Pending.adding a k → endsCall n ≡ true
       → Alike (becomes r w Pending.idle) (noteStep r w p (Refused n i))
@@ -63,13 +63,13 @@ module _ (r : Reading) (w : ℕ) where
   unfolding noteStep
   noted-added p a k e = rw e (alike-added (leb k (a .count)) r (book.add w a) book.accepted w (a .name))
 
-  pub noted-finish : (p : Pending) (name k : ℕ) → p ≡ Pending.finishing name k
-      → Alike (becomes r w (Pending.finishing name (suc k))) (noteStep r w p Going)
+  pub noted-finish : (p : Pending) (f : Finish) (k : ℕ) → p ≡ Pending.finishing f k
+      → Alike (becomes r w (Pending.finishing f (suc k))) (noteStep r w p Going)
   unfolding noteStep
-  noted-finish p name k e = rw e
-      (alike-becomes (eqb k 0) r (book.finish w name) book.accepted w (Pending.finishing name (suc k)))
+  noted-finish p f k e = rw e
+      (alike-becomes (eqb k 0) r (book.finish w f) book.accepted w (Pending.finishing f (suc k)))
 
-  pub noted-finished : (p : Pending) (name k : ℕ) → p ≡ Pending.finishing name k
-      → Alike (becomes (finishEnded r name) w Pending.idle) (noteStep r w p Ended)
+  pub noted-finished : (p : Pending) (f : Finish) (k : ℕ) → p ≡ Pending.finishing f k
+      → Alike (becomes (finishEnded r (f .name)) w Pending.idle) (noteStep r w p Ended)
   unfolding noteStep
-  noted-finished p name k e = rw e (alike-ended (eqb k 0) r (book.finish w name) book.accepted w name)
+  noted-finished p f k e = rw e (alike-ended (eqb k 0) r (book.finish w f) book.accepted w (f .name))

@@ -11,13 +11,14 @@ use lib.Dec.{eqb, ltb, leb}
 use lib.ListN.{length, getD}
 use Rattle.terms.specs.Base.{pick}
 use Rattle.terms.specs.Terms.{Label, unexecuted, executing, finished, Arguments, listed, argumentsWrong, sameSizes}
-use Rattle.terms.specs.Terms.{wrongSizes, noSuchWorker}
+use Rattle.terms.specs.Terms.{wrongSizes, noSuchWorker, Finish, notHeld, finishOf}
 use Rattle.terms.specs.Runs.{Item, postAdd, postFinish, step, get, Outcome, outcome}
 use Rattle.terms.specs.declared.Sizes.{Sizes}
 use Rattle.terms.specs.declared.Answer.the-variants.{Posted, Going, Ended, Refused}
 use Rattle.rules.specs.Rules.{Call, idle, looking, linking, marking, notifying, Graph, job, Found, at, missing, find}
 use Rattle.rules.specs.Rules.{withCall, lookUp, entered, enter, linkTo, link, settled, markDependents, mark, notified}
 use Rattle.rules.specs.Rules.{notify, stepCall, whenIdle, addPosted, finishPosted, takeNext, getJob, admitted, perform}
+use Rattle.rules.specs.Rules.{nextOut, handOut}
 use Rattle.rules.specs.Sound.{Looking}
 use Rattle.sequential_model.specs.Book as book
 use Rattle.linearization.specs.Calls.{Pending, Reading, endsCall, noteAdd, noteFinish, noteGet, note}
@@ -48,9 +49,9 @@ module _ (s : Sizes) (g : Graph) (r : Reading) (x : State) (K : Kept s g r x) (I
     unfolding note noteAdd
     refused-add a n i = retold (alike-decided (endsCall n) r (book.add w a) (book.refused n i)) (stays s g r x K I)
 
-    refused-finish : (name n i : ℕ) → Made (postFinish m w name) (outcome (Refused n i) g)
+    refused-finish : (f : Finish) (n i : ℕ) → Made (postFinish m w f) (outcome (Refused n i) g)
     unfolding note noteFinish
-    refused-finish name n i = retold (alike-decided (endsCall n) r (book.finish w name) (book.refused n i))
+    refused-finish f n i = retold (alike-decided (endsCall n) r (book.finish w f) (book.refused n i))
         (stays s g r x K I)
 
     refused-get : (n i : ℕ) → Made (get m w) (outcome (Refused n i) g)
@@ -163,10 +164,10 @@ module _ (s : Sizes) (g : Graph) (r : Reading) (x : State) (K : Kept s g r x) (I
           → Made (step m w) (markDependents g w p l)
       unfolding markDependents note
       marks-dependents p e [] d =
-          retold (noted-finished r w (r .pending w) (job g p .name) 0 (marked-paced s g r x K I w p f e))
+          retold (noted-finished r w (r .pending w) (finishOf (job g p .name)) 0 (marked-paced s g r x K I w p f e))
           (marking-end s g r x K I w p f e (ap length d))
       marks-dependents p e (j ∷ l) d =
-          retold (noted-finish r w (r .pending w) (job g p .name) 0 (marked-paced s g r x K I w p f e))
+          retold (noted-finish r w (r .pending w) (finishOf (job g p .name)) 0 (marked-paced s g r x K I w p f e))
           (marking-on s g r x K I w p f e (omega (arith, ap length d)))
 
       marks : (o : Option ℕ) → g .workers w .held ≡ o → Made (step m w) (mark g w o)
@@ -184,10 +185,10 @@ module _ (s : Sizes) (g : Graph) (r : Reading) (x : State) (K : Kept s g r x) (I
               (outcome Going (notified g w (getD (job g p .dependents) k 0) (notifying p (suc k))))
               (outcome Ended (notified g w (getD (job g p .dependents) k 0) idle)))
           go true e =
-              retold (noted-finish r w (r .pending w) (job g p .name) (suc k) (notify-paced s g r x K I w p k f))
+              retold (noted-finish r w (r .pending w) (finishOf (job g p .name)) (suc k) (notify-paced s g r x K I w p k f))
               (notifying-on s g r x K I w p k f (ltb-true (suc k) (length (job g p .dependents)) e))
           go false e =
-              retold (noted-finished r w (r .pending w) (job g p .name) (suc k) (notify-paced s g r x K I w p k f))
+              retold (noted-finished r w (r .pending w) (finishOf (job g p .name)) (suc k) (notify-paced s g r x K I w p k f))
               (notifying-end s g r x K I w p k f (ltb-false (suc k) (length (job g p .dependents)) e))
 
     steps : (c : Call) → g .workers w .call ≡ c → Made (step m w) (stepCall s g w c)
@@ -218,27 +219,27 @@ module _ (s : Sizes) (g : Graph) (r : Reading) (x : State) (K : Kept s g r x) (I
         go false e = turned s g r x K I w (looking a 0) (Pending.adding a 0) (own-stage s g r x K I w idle f) refl
             (record { right = e; within = omega arith; found = λ q h. absurd (omega arith) }) refl
 
-    finishes : (name : ℕ) → g .workers w .call ≡ idle → (o : Option ℕ) → g .workers w .held ≡ o
-        → Made (postFinish m w name) (finishPosted g w name o)
+    finishes : (f : Finish) → g .workers w .call ≡ idle → (o : Option ℕ) → g .workers w .held ≡ o
+        → Made (postFinish m w f) (finishPosted g w f o)
     unfolding finishPosted note noteFinish
-    finishes name f none e = refused-finish name 11 0
-    finishes name f (some p) e = go (eqb (job g p .name) name) refl
+    finishes f u none e = refused-finish f notHeld 0
+    finishes f u (some p) e = go (eqb (job g p .name) (f .name)) refl
       where
-        go : (b : Bool) → eqb (job g p .name) name ≡ b
-            → Made (postFinish m w name) (pick b (outcome Posted (withCall g w marking)) (outcome (Refused 11 0) g))
-        go true z = turned s g r x K I w marking (Pending.finishing name 0) (own-stage s g r x K I w idle f) refl tt
-            (rw e (ap (λ (n : ℕ). Pending.finishing n 0) (sym (eqb-true (job g p .name) name z))))
-        go false z = refused-finish name 11 0
+        go : (b : Bool) → eqb (job g p .name) (f .name) ≡ b
+            → Made (postFinish m w f) (pick b (outcome Posted (withCall g w marking)) (outcome (Refused notHeld 0) g))
+        go true z = turned s g r x K I w marking (Pending.finishing f 0) (own-stage s g r x K I w idle u) refl tt
+            (rw e (ap (λ (n : ℕ). Pending.finishing (finishOf n) 0) (sym (eqb-true (job g p .name) (f .name) z))))
+        go false z = refused-finish f notHeld 0
 
-    takes : g .workers w .call ≡ idle → (q : List ℕ) → g .queue ≡ q → Made (get m w) (takeNext g w q)
+    takes : g .workers w .call ≡ idle → (o : Option ℕ) → nextOut g ≡ o → Made (get m w) (takeNext g w o)
     unfolding takeNext note noteGet
-    takes f [] e = retold (alike-decided true r (book.get w) book.noneReady) (stays s g r x K I)
-    takes f (j ∷ q) e = retold (alike-decided true r (book.get w) (book.handed j (job g j .name)))
-        (handing s g r x K I w j q f e)
+    takes f none e = retold (alike-decided true r (book.get w) book.noneReady) (stays s g r x K I)
+    takes f (some j) e = retold (alike-decided true r (book.get w) (book.handed (handOut g j)))
+        (handing s g r x K I w j f e)
 
     gets : g .workers w .call ≡ idle → (o : Option ℕ) → Made (get m w) (getJob g w o)
     unfolding getJob
-    gets f none = takes f (g .queue) refl
+    gets f none = takes f (nextOut g) refl
     gets f (some j) = refused-get 10 0
 
     admits : (i : Item) (o : Outcome Graph) → Made i (outcome (Refused 1 0) g) → Made i (outcome (Refused 2 0) g)
@@ -257,10 +258,10 @@ module _ (s : Sizes) (g : Graph) (r : Reading) (x : State) (K : Kept s g r x) (I
   performs (postAdd m w a) =
       admits w m (postAdd m w a) _ (refused-add w m a 1 0) (refused-add w m a 2 0)
       (when-idle w m (postAdd m w a) _ (refused-add w m a 3 0) (g .workers w .call) refl (λ f. adds w m a f))
-  performs (postFinish m w name) =
-      admits w m (postFinish m w name) _ (refused-finish w m name 1 0) (refused-finish w m name 2 0)
-      (when-idle w m (postFinish m w name) _ (refused-finish w m name 3 0) (g .workers w .call) refl
-      (λ f. finishes w m name f (g .workers w .held) refl))
+  performs (postFinish m w f) =
+      admits w m (postFinish m w f) _ (refused-finish w m f 1 0) (refused-finish w m f 2 0)
+      (when-idle w m (postFinish m w f) _ (refused-finish w m f 3 0) (g .workers w .call) refl
+      (λ u. finishes w m f u (g .workers w .held) refl))
   performs (step m w) =
       admits w m (step m w) _ (refused-step w m 1 0 refl) (refused-step w m 2 0 refl)
       (steps w m (g .workers w .call) refl)

@@ -8,7 +8,7 @@ use native.Mathlib.Omega.{arith}
 use lib.ListN.{length, length-set}
 use lib.Seq.{getD-set-same, getD-set-other}
 use borrow.Author.Tests.{eq-eqb}
-use Rattle.terms.specs.Terms.{finished, notHeld}
+use Rattle.terms.specs.Terms.{finished, notHeld, Finish, finishOf}
 use Rattle.terms.specs.Runs.{postFinish, step, Outcome, outcome, after, events}
 use Rattle.terms.specs.declared.Sizes.{Sizes}
 use Rattle.terms.specs.declared.Answer.the-variants.{Posted, Ended, Refused}
@@ -25,23 +25,23 @@ use Rattle.whole_calls.specs.Kept.{kept-same, call-turned, with-call}
 use Rattle.whole_calls.specs.Last.{own-step, Ran, arcs-end}
 
 -- the post, by an idle worker
-posted : (s : Sizes) (g : Graph) (w name : ℕ) (o : Option ℕ) → w < s .workers → g .workers w .call ≡ idle
-    → g .workers w .held ≡ o → perform s g (postFinish s w name) ≡ finishPosted g w name o
+posted : (s : Sizes) (g : Graph) (w : ℕ) (f : Finish) (o : Option ℕ) → w < s .workers → g .workers w .call ≡ idle
+    → g .workers w .held ≡ o → perform s g (postFinish s w f) ≡ finishPosted g w f o
 unfolding perform whenIdle
-posted s g w name o h c e = performed s g w h _ ∙ rw (c, e)
+posted s g w f o h c e = performed s g w h _ ∙ rw (c, e)
 
 -- 11: "finish of a name that this worker does not hold", "nothing changed"
-refused : (g : Graph) (w name : ℕ) (o : Option ℕ) → HoldsNot g name o
-    → finishPosted g w name o ≡ outcome (Refused notHeld 0) g
+refused : (g : Graph) (w : ℕ) (f : Finish) (o : Option ℕ) → HoldsNot g (f .name) o
+    → finishPosted g w f o ≡ outcome (Refused notHeld 0) g
 unfolding finishPosted
-refused g w name none e = refl
-refused g w name (some p) e = rw e
+refused g w f none e = refl
+refused g w f (some p) e = rw e
 
 pub finish-refused : (s : Sizes) (g : Graph) (w : ℕ) → w < s .workers → g .workers w .call ≡ idle
-    → (name : ℕ) → HoldsNot g name (g .workers w .held)
-    → perform s g (postFinish s w name) ≡ outcome (Refused notHeld 0) g
-finish-refused s g w h c name e =
-    posted s g w name (g .workers w .held) h c refl ∙ refused g w name (g .workers w .held) e
+    → (f : Finish) → HoldsNot g (f .name) (g .workers w .held)
+    → perform s g (postFinish s w f) ≡ outcome (Refused notHeld 0) g
+finish-refused s g w h c f e =
+    posted s g w f (g .workers w .held) h c refl ∙ refused g w f (g .workers w .held) e
 
 -- ---- the mark
 module _ (g : Graph) (w p : ℕ) where
@@ -105,9 +105,9 @@ pub whole-finish : {s : Sizes} {g : Graph} {r : Reading} {e : ℕ → ℕ} → H
     → g .workers w .call ≡ idle → (p : ℕ) → g .workers w .held ≡ some p → WholeFinish s g w p
 unfolding finishPosted stepCall mark after events
 whole-finish {s} {g} history w h c p e =
-    let i = postFinish s w (job g p .name) in
+    let i = postFinish s w (finishOf (job g p .name)) in
     let E : perform s g i ≡ outcome Posted (withCall g w marking) =
-    posted s g w (job g p .name) (some p) h c e ∙ rw (eq-eqb (job g p .name) (job g p .name) refl) in
+    posted s g w (finishOf (job g p .name)) (some p) h c e ∙ rw (eq-eqb (job g p .name) (job g p .name) refl) in
     let m = perform s g i .state in
     let called : m .workers w .call ≡ marking = rw E (call-turned g w marking) in
     let held : m .workers w .held ≡ some p = rw E (with-call g w marking .held ∙ e) in

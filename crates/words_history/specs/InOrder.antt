@@ -9,6 +9,7 @@ use native.Mathlib.Omega.{arith}
 use lib.Dec.{eqb}
 use lib.ListN.{length, getD, List·getD-append}
 use Rattle.terms.specs.Runs.{Item, after, events}
+use Rattle.terms.specs.OrderLaws.{first-head}
 use Rattle.terms.specs.declared.Sizes.{Sizes}
 use Rattle.terms.specs.declared.Answer.{Answer}
 use Rattle.terms.specs.declared.Answer.the-variants.{Laid, Posted, Going, Ended, NoneReady, Handed, Refused}
@@ -53,7 +54,7 @@ handed-first Posted l = refl
 handed-first Going l = refl
 handed-first Ended l = refl
 handed-first NoneReady l = refl
-handed-first (Handed j name) l = refl
+handed-first (Handed h) l = refl
 handed-first (Refused n i) l = refl
 
 -- the dependent of the k-th arc of p
@@ -83,7 +84,8 @@ moves {g = g} (arcNotified {p} {k} e) = notified-queue g p k
 moves {g = g} (lastNotified {p} {k} e h) = notified-queue g p k
 moves {g = g} (getHolding j e) = kept (g .queue)
 moves {g = g} (getNone e) = kept (g .queue)
-moves {g = g} (getHanded j {q} e f z) = record { entered = []; same = sym (append-nil (g .queue) ∙ z) }
+moves {g = g} (getHanded j e f z) =
+    record { entered = []; same = sym (append-nil (g .queue) ∙ first-head (g .queue) j z) }
 
 module _ {s : Sizes} (sound : (g : Graph) (r : Reading) (e : ℕ → ℕ) → History s g r e → Sound s g) where
   pub in-order : {g : Graph} {r : Reading} {e : ℕ → ℕ} → History s g r e → (is : List Item)

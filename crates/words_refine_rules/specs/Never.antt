@@ -10,7 +10,7 @@ use lib.ListN.{length, getD}
 use borrow.Author.Tests.{ltb-true}
 use Rattle.terms.specs.Base.{pick}
 use Rattle.terms.specs.Terms.{Label, unexecuted, executing, finished, Arguments, listed, argumentsWrong, sameSizes}
-use Rattle.terms.specs.Terms.{damaged}
+use Rattle.terms.specs.Terms.{damaged, Finish}
 use Rattle.terms.specs.Runs.{Item, postAdd, postFinish, step, get, Outcome, outcome, after, events}
 use Rattle.terms.specs.declared.Sizes.{Sizes}
 use Rattle.terms.specs.declared.Answer.the-variants.{Ended}
@@ -19,7 +19,7 @@ use Rattle.words.specs.Words.{layOut}
 use Rattle.words.specs.Words as words
 use Rattle.rules.specs.Rules.{empty, Call, idle, looking, linking, marking, notifying, Graph, Found, at, missing, job}
 use Rattle.rules.specs.Rules.{find, lookUp, enter, linkTo, link, settled, mark, markDependents, notify, stepCall}
-use Rattle.rules.specs.Rules.{whenIdle, addPosted, finishPosted, takeNext, getJob, admitted, perform}
+use Rattle.rules.specs.Rules.{whenIdle, addPosted, finishPosted, takeNext, getJob, admitted, perform, nextOut}
 use Rattle.rules.specs.Sound.{Sound, CallSound, Linking}
 use Rattle.words_refine_rules.specs.Runs.{runs}
 use Rattle.linearizability.specs.Demand.{isNumber, gives}
@@ -91,19 +91,19 @@ module _ (s : Sizes) (g : Graph) (w : ℕ) where
   unfolding addPosted
   add-fine a = either (argumentsWrong a) _ _ refl refl
 
-  finish-fine : (name : ℕ) (h : Option ℕ) → Fine (finishPosted g w name h)
+  finish-fine : (f : Finish) (h : Option ℕ) → Fine (finishPosted g w f h)
   unfolding finishPosted
-  finish-fine name none = refl
-  finish-fine name (some p) = either (eqb (job g p .name) name) _ _ refl refl
+  finish-fine f none = refl
+  finish-fine f (some p) = either (eqb (job g p .name) (f .name)) _ _ refl refl
 
-  take-fine : (q : List ℕ) → Fine (takeNext g w q)
+  take-fine : (o : Option ℕ) → Fine (takeNext g w o)
   unfolding takeNext
-  take-fine [] = refl
-  take-fine (j ∷ q) = refl
+  take-fine none = refl
+  take-fine (some j) = refl
 
   get-fine : (h : Option ℕ) → Fine (getJob g w h)
   unfolding getJob
-  get-fine none = take-fine (g .queue)
+  get-fine none = take-fine (nextOut g)
   get-fine (some j) = refl
 
   admit-fine : (r : Sizes) (o : Outcome Graph) → Fine o → Fine (admitted s r g w o)
@@ -114,8 +114,8 @@ module _ (s : Sizes) (g : Graph) (w : ℕ) where
 pub item-fine : (s : Sizes) (g : Graph) → Sound s g → (i : Item) → Fine (perform s g i)
 unfolding perform
 item-fine s g O (postAdd r w a) = admit-fine s g w r _ (idle-fine s g w (g .workers w .call) _ (add-fine s g w a))
-item-fine s g O (postFinish r w name) =
-    admit-fine s g w r _ (idle-fine s g w (g .workers w .call) _ (finish-fine s g w name (g .workers w .held)))
+item-fine s g O (postFinish r w f) =
+    admit-fine s g w r _ (idle-fine s g w (g .workers w .call) _ (finish-fine s g w f (g .workers w .held)))
 item-fine s g O (step r w) = admit-fine s g w r _ (step-fine s g w (g .workers w .call) (O .calls w))
 item-fine s g O (get r w) = admit-fine s g w r _
     (idle-fine s g w (g .workers w .call) _ (get-fine s g w (g .workers w .held)))
