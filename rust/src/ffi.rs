@@ -148,6 +148,32 @@ pub struct Need {
     pub workers: usize,
 }
 
+/// What a worker holds, and the call that it has half done.
+#[repr(C)]
+#[derive(Clone, Copy, Debug, Default, PartialEq, Eq)]
+pub struct Holding {
+    /// 0, 1, 2 or 9.
+    pub number: u32,
+    /// 1 where it holds a job, else 0.
+    pub holds: u32,
+    /// The number of the job that it holds.
+    pub job: u32,
+    /// Its name.
+    pub name: u32,
+    /// [`CALL_NONE`](crate::raw::CALL_NONE), or the call that is half done.
+    pub call: u32,
+}
+
+/// Whether nothing is left to do.
+#[repr(C)]
+#[derive(Clone, Copy, Debug, Default, PartialEq, Eq)]
+pub struct DrainedAnswer {
+    /// 0, 1 or 9.
+    pub number: u32,
+    /// 1 where no job waits and every worker is idle and holds nothing, else 0.
+    pub drained: u32,
+}
+
 /// What the day list answers.
 #[repr(C)]
 #[derive(Clone, Copy, Debug, Default, PartialEq, Eq)]
@@ -168,6 +194,8 @@ const _: () = assert!(size_of::<Totals>() == 28);
 const _: () = assert!(size_of::<Sizes>() == 16);
 const _: () = assert!(size_of::<Answer>() == 20);
 const _: () = assert!(size_of::<Need>() == 48);
+const _: () = assert!(size_of::<Holding>() == 20);
+const _: () = assert!(size_of::<DrainedAnswer>() == 8);
 const _: () = assert!(size_of::<Day>() == 16);
 
 extern "C" {
@@ -271,6 +299,35 @@ extern "C" {
         workers_len: usize,
         worker: u32,
     ) -> Answer;
+    /// What a worker holds, and the call that it has half done.
+    pub fn tg_held(
+        sizes: Sizes,
+        jobs: *const u32,
+        jobs_len: usize,
+        arcs: *const u32,
+        arcs_len: usize,
+        buckets: *const u32,
+        buckets_len: usize,
+        queue: *const u32,
+        queue_len: usize,
+        workers: *const u32,
+        workers_len: usize,
+        worker: u32,
+    ) -> Holding;
+    /// Whether nothing is left to do.
+    pub fn tg_drained(
+        sizes: Sizes,
+        jobs: *const u32,
+        jobs_len: usize,
+        arcs: *const u32,
+        arcs_len: usize,
+        buckets: *const u32,
+        buckets_len: usize,
+        queue: *const u32,
+        queue_len: usize,
+        workers: *const u32,
+        workers_len: usize,
+    ) -> DrainedAnswer;
     /// The totals of the jobs made.
     pub fn tg_totals_of_graph(sizes: Sizes, jobs: *const u32, jobs_len: usize) -> Totals;
     /// What the day list prints of a sheet.

@@ -6,8 +6,8 @@ use std::{ffi::CStr, os::raw::c_char};
 use crate::ffi;
 
 pub use crate::ffi::{
-    Answer, Day, Entry, JobRecord, Need, Reading, Sheet, SheetWritten, Sizes, Totals, Written, DAY_JOBS, ENTRY_WORDS,
-    MAX_DAY_LIST, MAX_ENTRY_BYTES, MAX_NAMES,
+    Answer, Day, DrainedAnswer, Entry, Holding, JobRecord, Need, Reading, Sheet, SheetWritten, Sizes, Totals, Written,
+    DAY_JOBS, ENTRY_WORDS, MAX_DAY_LIST, MAX_ENTRY_BYTES, MAX_NAMES,
 };
 
 /// The kinds of an answer.
@@ -28,6 +28,13 @@ pub mod kind {
     pub const HANDED_OUT: u32 = 6;
 }
 
+/// A worker has no call half done.
+pub const CALL_NONE: u32 = 0;
+/// A worker has an add half done.
+pub const CALL_ADD: u32 = 1;
+/// A worker has a finish half done.
+pub const CALL_FINISH: u32 = 2;
+
 /// The five lent tables; `include/taskgraph.h` says which words they hold.
 pub struct Tables<'a> {
     /// Sizes, the jobs made, and a record for each job.
@@ -42,27 +49,27 @@ pub struct Tables<'a> {
     pub workers: &'a mut [u32],
 }
 
-/// Calls a function of the library with sizes and tables; the pointers and lengths are those of slices.
+/// A function of the library with sizes and tables, the pointers got by the method that is named.
+macro_rules! lend {
+    ($pointer:ident, $function:ident, $sizes:expr, [$($table:ident)*] $(, $more:expr)*) => {
+        // SAFETY: the pointers and lengths are those of slices, of which no two overlap where they are written.
+        unsafe { ffi::$function($sizes, $($table.$pointer(), $table.len(),)* $($more),*) }
+    };
+}
+
+/// A function that writes the tables.
 macro_rules! call {
     ($function:ident, $sizes:expr, $tables:expr $(, $more:expr)*) => {{
         let Tables { jobs, arcs, buckets, queue, workers } = $tables;
-        // SAFETY: the five slices are lent for the call, and no two of them overlap.
-        unsafe {
-            ffi::$function(
-                $sizes,
-                jobs.as_mut_ptr(),
-                jobs.len(),
-                arcs.as_mut_ptr(),
-                arcs.len(),
-                buckets.as_mut_ptr(),
-                buckets.len(),
-                queue.as_mut_ptr(),
-                queue.len(),
-                workers.as_mut_ptr(),
-                workers.len(),
-                $($more),*
-            )
-        }
+        lend!(as_mut_ptr, $function, $sizes, [jobs arcs buckets queue workers] $(, $more)*)
+    }};
+}
+
+/// A function that only reads the tables.
+macro_rules! ask {
+    ($function:ident, $sizes:expr, $words:expr $(, $more:expr)*) => {{
+        let [jobs, arcs, buckets, queue, workers] = $words;
+        lend!(as_ptr, $function, $sizes, [jobs arcs buckets queue workers] $(, $more)*)
     }};
 }
 
@@ -95,6 +102,16 @@ pub fn step(sizes: Sizes, tables: &mut Tables, worker: u32) -> Answer {
 /// Takes the job longest in the queue.
 pub fn get(sizes: Sizes, tables: &mut Tables, worker: u32) -> Answer {
     call!(tg_get, sizes, tables, worker)
+}
+
+/// What a worker holds, and the call that it has half done; the tables are in the order of [`Tables`].
+pub fn held(sizes: Sizes, tables: [&[u32]; 5], worker: u32) -> Holding {
+    ask!(tg_held, sizes, tables, worker)
+}
+
+/// Whether nothing is left to do; the tables are in the order of [`Tables`].
+pub fn drained(sizes: Sizes, tables: [&[u32]; 5]) -> DrainedAnswer {
+    ask!(tg_drained, sizes, tables)
 }
 
 /// The totals of the jobs made.

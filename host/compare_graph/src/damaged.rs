@@ -6,7 +6,7 @@ mod answer;
 mod change;
 mod make;
 
-use compare_sheets::case::Case;
+use compare_sheets::case::{differ, Case};
 use second_implementation::{
     graph::{Graph, Sizes},
     history::Item,
@@ -17,14 +17,14 @@ use second_implementation::{
 use taskgraph::raw::{self as proved, kind};
 
 use crate::{
-    event::{Call, Event, History},
+    event::{worker_of, Call, Event, History},
     expected_words,
     layout::{self, job},
     tables::{Tables, JOBS},
     world::{call_library, to_library},
 };
 
-use answer::{expected_answer, of_kind, refused};
+use answer::{expected_answer, expected_drained, expected_holding, of_kind, refused};
 use change::Change;
 
 pub use make::{history, numbered};
@@ -94,6 +94,9 @@ impl Lent {
     fn call(&mut self, call: &Call) -> (proved::Answer, Option<String>) {
         let sizes = call.sizes.unwrap_or(self.sizes);
         let expected = expected_answer(&self.tables, sizes, call);
+        if let Some(fault) = self.wrong_state(sizes, call) {
+            return (expected, Some(fault));
+        }
         let before = self.tables.clone();
         let answer = call_library(sizes, &mut self.tables.lent(call.short), &call.item);
         if answer != expected {
@@ -101,6 +104,15 @@ impl Lent {
         }
         let after = Change { before: &before, after: &self.tables, item: &call.item };
         (answer, after.fault(answer).or_else(|| self.touched_past_the_need(&before)))
+    }
+
+    /// What the worker of a call holds and whether the graph is drained, asked with the call's sizes and tables.
+    fn wrong_state(&self, sizes: Sizes, call: &Call) -> Option<String> {
+        let holding = expected_holding(&self.tables, sizes, call);
+        let drained = expected_drained(&self.tables, sizes, call.short);
+        let tables = self.tables.read(call.short);
+        differ("tg_held", proved::held(to_library(sizes), tables, worker_of(&call.item)), holding)
+            .or_else(|| differ("tg_drained", proved::drained(to_library(sizes), tables), drained))
     }
 
     fn touched_past_the_need(&self, before: &Tables) -> Option<String> {
@@ -128,7 +140,7 @@ impl Lent {
             totals::of_words(&pairs.collect::<Vec<u32>>())
         };
         let answer = proved::totals_of_graph(to_library(self.sizes), words);
-        compare_sheets::case::differ("tg_totals_of_graph", answer, compare_sheets::totals::expected(expected))
+        differ("tg_totals_of_graph", answer, compare_sheets::totals::expected(expected))
     }
 
     /// Every call half done ends, or is refused, after a bounded number of steps: an add has at most

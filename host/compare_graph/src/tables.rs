@@ -89,6 +89,12 @@ impl Tables {
         }
     }
 
+    /// The tables as they are lent for reading, one of them perhaps cut short.
+    pub fn read(&self, short: Option<(usize, usize)>) -> [&[u32]; 5] {
+        let lens = self.cut_lens(short);
+        [JOBS, ARCS, BUCKETS, QUEUE, WORKERS].map(|table| &self.words(table)[..lens[table]])
+    }
+
     /// The first word, guards included, in which two states of the tables differ.
     pub fn difference(before: &Tables, after: &Tables) -> Option<String> {
         (0..5).find_map(|table| {

@@ -4,16 +4,16 @@
 use compare_sheets::case::differ;
 use second_implementation::{
     book::{Book, Ending},
-    graph::{self, Answer, Graph, Refusal, Reply, Sizes},
+    graph::{self, Answer, Graph, HalfDone, Holding, Refusal, Reply, Sizes},
     history::{Entries, History, Item},
     refusal,
     sheet::Entry,
-    totals,
+    totals::{self, Label},
 };
 use taskgraph::raw as proved;
 
 use crate::{
-    event::{Call, Event},
+    event::{worker_of, Call, Event},
     expected_words, layout,
     tables::{Setup, Tables, JOBS},
     view,
@@ -65,6 +65,32 @@ pub fn answer_to_library(answer: &Answer) -> proved::Answer {
         Ok(Reply::Ended) => of_kind(kind::ENDED),
         Ok(Reply::NoneReady) => of_kind(kind::NONE_READY),
         Ok(Reply::HandedOut { job, name }) => proved::Answer { job: job as u32, name, ..of_kind(kind::HANDED_OUT) },
+    }
+}
+
+/// What a worker holds, in the shape of the C interface.
+pub fn holding_to_library(holding: Result<Holding, Refusal>) -> proved::Holding {
+    use proved::{Holding as Told, CALL_ADD, CALL_FINISH, CALL_NONE};
+    let Holding { held, call } = match holding {
+        Err(Refusal { number, .. }) => return Told { number, ..Told::default() },
+        Ok(holding) => holding,
+    };
+    let call = match call {
+        HalfDone::Nothing => CALL_NONE,
+        HalfDone::Add => CALL_ADD,
+        HalfDone::Finish => CALL_FINISH,
+    };
+    match held {
+        None => Told { call, ..Told::default() },
+        Some((job, name)) => Told { number: 0, holds: 1, job: job as u32, name, call },
+    }
+}
+
+/// Whether the graph is drained, in the shape of the C interface.
+pub fn drained_to_library(drained: Result<bool, Refusal>) -> proved::DrainedAnswer {
+    match drained {
+        Err(Refusal { number, .. }) => proved::DrainedAnswer { number, drained: 0 },
+        Ok(drained) => proved::DrainedAnswer { number: 0, drained: u32::from(drained) },
     }
 }
 
@@ -168,12 +194,37 @@ impl World {
         if let Some(before) = before {
             none_or_err(Tables::difference(&before, &self.tables))?;
         }
+        self.check_state(sizes, call)?;
         self.check_tables()?;
         if let (true, Item::Get { .. }, Ok(reply)) = (quiet, &call.item, expected) {
             self.check_none_ready(reply)?;
         }
         self.history.take(&call.item, &expected);
+        self.check_drained()?;
         self.check_history()
+    }
+
+    /// What the worker of a call holds and whether the graph is drained, asked with the call's sizes and tables.
+    fn check_state(&self, sizes: Sizes, call: &Call) -> Result<(), String> {
+        let long_enough = layout::suffice(self.tables.cut_lens(call.short), self.graph.sizes());
+        let (holding, drained) = if long_enough {
+            (self.graph.held(sizes, worker_of(&call.item)), self.graph.drained(sizes))
+        } else {
+            (graph::refused(refusal::SIZE), graph::refused(refusal::SIZE))
+        };
+        let tables = self.tables.read(call.short);
+        let answer = proved::held(to_library(sizes), tables, worker_of(&call.item));
+        none_or_err(differ("tg_held", answer, holding_to_library(holding)))?;
+        let answer = proved::drained(to_library(sizes), tables);
+        none_or_err(differ("tg_drained", answer, drained_to_library(drained)))
+    }
+
+    /// The graph is drained exactly if no call is half done and every job that entered is finished.
+    fn check_drained(&self) -> Result<(), String> {
+        let finished = self.graph.jobs().iter().all(|job| job.label == Label::Finished);
+        let expected = drained_to_library(Ok(finished && !self.history.is_half_done()));
+        let answer = proved::drained(to_library(self.graph.sizes()), self.tables.read(None));
+        none_or_err(differ("tg_drained, beside labels and history", answer, expected))
     }
 
     fn check_tables(&mut self) -> Result<(), String> {

@@ -112,6 +112,21 @@ pub struct Worker {
     pub call: Option<Call>,
 }
 
+/// The kind of a call half done.
+#[derive(Clone, Copy, Debug, PartialEq, Eq)]
+pub enum HalfDone {
+    Nothing,
+    Add,
+    Finish,
+}
+
+/// What a worker that restarts is told: the held job with its name, and its call.
+#[derive(Clone, Copy, Debug, PartialEq, Eq)]
+pub struct Holding {
+    pub held: Option<(usize, u32)>,
+    pub call: HalfDone,
+}
+
 #[derive(Clone, Debug)]
 pub struct Graph {
     sizes: Sizes,
@@ -222,6 +237,25 @@ impl Graph {
                 Ok(Reply::HandedOut { job, name: self.jobs[job].name })
             }
         }
+    }
+
+    pub fn held(&self, sizes: Sizes, worker: u32) -> Result<Holding, Refusal> {
+        let worker = &self.workers[self.worker(sizes, worker)?];
+        let call = match worker.call {
+            None => HalfDone::Nothing,
+            Some(Call::Add(_)) => HalfDone::Add,
+            Some(Call::Finish(_)) => HalfDone::Finish,
+        };
+        Ok(Holding { held: worker.held.map(|job| (job, self.jobs[job].name)), call })
+    }
+
+    /// Nothing waits, and no worker holds a job or is in a call.
+    pub fn drained(&self, sizes: Sizes) -> Result<bool, Refusal> {
+        if sizes != self.sizes {
+            return refused(refusal::SIZE);
+        }
+        let at_rest = |worker: &Worker| worker.held.is_none() && worker.call.is_none();
+        Ok(self.taken == self.queue.len() && self.workers.iter().all(at_rest))
     }
 
     /// Numbers 1 and 2.

@@ -1,4 +1,5 @@
-//! The answer that the list settles for each call, whatever the words.
+//! The answer that the list settles for each call, whatever the words; what a worker holds, and whether the graph is
+//! drained.
 
 use second_implementation::{
     bucket::bucket,
@@ -7,7 +8,7 @@ use second_implementation::{
     refusal,
     sheet::{MAX_CLASS, MAX_GROWER, MAX_NAMES},
 };
-use taskgraph::raw::{kind, Answer};
+use taskgraph::raw::{kind, Answer, DrainedAnswer, Holding, CALL_ADD, CALL_FINISH, CALL_NONE};
 
 use crate::{
     event::{worker_of, Call},
@@ -23,24 +24,65 @@ pub fn refused(number: u32) -> Answer {
     Answer { number, ..of_kind(kind::REFUSED) }
 }
 
+/// The words, unless number 1 comes first; one of the tables may be cut short.
+fn sized(tables: &Tables, sizes: Sizes, short: Option<(usize, usize)>) -> Result<Words<'_>, u32> {
+    let stored = [sizes.jobs, sizes.arcs, sizes.bits, sizes.workers];
+    let stand = sizes.within_limits()
+        && layout::suffice(tables.cut_lens(short), sizes)
+        && tables.words(JOBS)[..layout::MADE] == stored;
+    if stand {
+        Ok(Words { tables, sizes })
+    } else {
+        Err(refusal::SIZE)
+    }
+}
+
+/// The words and the worker's own, unless 1, 2 or 9 for these comes first.
+fn admitted<'a>(tables: &'a Tables, sizes: Sizes, call: &Call) -> Result<(Words<'a>, &'a [u32]), u32> {
+    let words = sized(tables, sizes, call.short)?;
+    if worker_of(&call.item) >= sizes.workers {
+        return Err(refusal::WORKER);
+    }
+    let own = words.worker(worker_of(&call.item));
+    if words.own_words_fit(own) {
+        Ok((words, own))
+    } else {
+        Err(refusal::DAMAGED)
+    }
+}
+
+/// What the worker of a call holds, whatever the words.
+pub fn expected_holding(tables: &Tables, sizes: Sizes, call: &Call) -> Holding {
+    let (words, own) = match admitted(tables, sizes, call) {
+        Ok(found) => found,
+        Err(number) => return Holding { number, ..Holding::default() },
+    };
+    let call = match own[worker::PHASE] {
+        phase::IDLE => CALL_NONE,
+        phase::LOOKING_UP | phase::LINKING => CALL_ADD,
+        _ => CALL_FINISH,
+    };
+    match own[worker::HELD] {
+        NONE => Holding { call, ..Holding::default() },
+        held => Holding { number: 0, holds: 1, job: held, name: words.job(held)[job::NAME], call },
+    }
+}
+
+/// Whether the graph is drained, whatever the words.
+pub fn expected_drained(tables: &Tables, sizes: Sizes, short: Option<(usize, usize)>) -> DrainedAnswer {
+    let at_rest = sized(tables, sizes, short).and_then(|words| words.at_rest().map_err(|Harm| refusal::DAMAGED));
+    match at_rest {
+        Ok(at_rest) => DrainedAnswer { number: 0, drained: u32::from(at_rest) },
+        Err(number) => DrainedAnswer { number, drained: 0 },
+    }
+}
+
 /// The answer that the list settles, whatever the words.
 pub fn expected_answer(tables: &Tables, sizes: Sizes, call: &Call) -> Answer {
-    let number = worker_of(&call.item);
-    let stored = [sizes.jobs, sizes.arcs, sizes.bits, sizes.workers];
-    if !sizes.within_limits()
-        || !layout::suffice(tables.cut_lens(call.short), sizes)
-        || tables.words(JOBS)[..layout::MADE] != stored
-    {
-        return refused(refusal::SIZE);
-    }
-    if number >= sizes.workers {
-        return refused(refusal::WORKER);
-    }
-    let words = Words { tables, sizes };
-    let own = words.worker(number);
-    if !words.own_words_fit(own) {
-        return refused(refusal::DAMAGED);
-    }
+    let (words, own) = match admitted(tables, sizes, call) {
+        Ok(found) => found,
+        Err(number) => return refused(number),
+    };
     let idle = own[worker::PHASE] == phase::IDLE;
     let held = own[worker::HELD];
     let before_the_words_read = match &call.item {
@@ -136,6 +178,19 @@ impl<'a> Words<'a> {
         let (taken, put) = (self.tables.words(QUEUE)[layout::TAKEN], self.tables.words(QUEUE)[layout::PUT]);
         harm_unless(taken <= put && put <= self.sizes.jobs)?;
         Ok((taken, put))
+    }
+
+    /// The queue is empty, and every worker is idle and holds nothing.
+    fn at_rest(&self) -> Result<bool, Harm> {
+        self.judge_counters()?;
+        let (taken, put) = self.queue_counters()?;
+        let mut at_rest = taken == put;
+        for number in 0..self.sizes.workers {
+            let own = self.worker(number);
+            harm_unless(self.own_words_fit(own))?;
+            at_rest &= own[worker::PHASE] == phase::IDLE && own[worker::HELD] == NONE;
+        }
+        Ok(at_rest)
     }
 
     /// One more job is put in the queue, which must not pass its end.

@@ -244,3 +244,32 @@ fn first_in_first_out_and_oldest_arc_first() {
     });
     assert_eq!(graph.get(0), NONE_READY);
 }
+
+#[test]
+fn what_a_worker_holds_and_when_all_is_done() {
+    let mut graph = Small::new(4, 4);
+    let sizes = graph.0.sizes();
+    let told = |graph: &Small| (graph.0.held(sizes, 1), graph.0.drained(sizes));
+    let holding = |held, call| Ok(Holding { held, call });
+    assert_eq!(told(&graph), (holding(None, HalfDone::Nothing), Ok(true)));
+    assert_eq!(graph.post_add(1, 9, &[]), POSTED);
+    assert_eq!(told(&graph), (holding(None, HalfDone::Add), Ok(false)));
+    assert_eq!(graph.run(1), (2, ENDED));
+    assert_eq!(told(&graph), (holding(None, HalfDone::Nothing), Ok(false)), "a job waits");
+    assert_eq!(graph.get(1), handed_out(0, 9));
+    assert_eq!(told(&graph), (holding(Some((0, 9)), HalfDone::Nothing), Ok(false)));
+    assert_eq!(graph.add(0, 8, &[9]), ENDED);
+    assert_eq!(graph.post_finish(1, 9), POSTED);
+    assert_eq!(told(&graph), (holding(Some((0, 9)), HalfDone::Finish), Ok(false)));
+    assert_eq!(graph.step(1), GOING_ON);
+    assert_eq!(told(&graph), (holding(None, HalfDone::Finish), Ok(false)), "the mark frees the hold");
+    assert_eq!(graph.step(1), ENDED);
+    assert_eq!(graph.get(0), handed_out(1, 8));
+    assert_eq!(told(&graph), (holding(None, HalfDone::Nothing), Ok(false)), "the other worker holds a job");
+    assert_eq!(graph.post_finish(0, 8), POSTED);
+    assert_eq!(graph.run(0), (1, ENDED));
+    assert_eq!(told(&graph), (holding(None, HalfDone::Nothing), Ok(true)));
+    assert_eq!(graph.0.held(sizes, 2), Err(Refusal { number: 2, place: 0 }));
+    let other = Sizes { workers: 1, ..sizes };
+    assert_eq!((graph.0.held(other, 2).is_err(), graph.0.drained(other)), (true, refused(1)));
+}
