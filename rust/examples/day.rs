@@ -31,6 +31,7 @@ fn main() -> Result<(), Refusal> {
             graph.finish(worker, name)?;
         }
     }
+    assert!(graph.drained()?);
     println!("left {}", jobs.len() as u32 - graph.totals()?.finished.jobs);
     Ok(())
 }

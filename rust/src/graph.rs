@@ -1,7 +1,7 @@
 //! The task graph: its calls over any memory, and a graph in memory of its own.
 
 use crate::{
-    raw::{self, kind, Answer, Sizes, Tables},
+    raw::{self, kind, Answer, Sizes, Tables, CALL_ADD, CALL_NONE},
     Job, Refusal, Totals,
 };
 
@@ -12,6 +12,37 @@ pub struct HandedOut {
     pub job: u32,
     /// Its name, which the finish brings.
     pub name: u32,
+}
+
+/// A call that was posted and has not ended.
+#[derive(Clone, Copy, Debug, PartialEq, Eq, Hash)]
+pub enum HalfDone {
+    /// An add.
+    Add,
+    /// A finish.
+    Finish,
+}
+
+/// What a worker has taken on: for a process that acts for it anew.
+#[derive(Clone, Copy, Debug, Default, PartialEq, Eq, Hash)]
+pub struct Holding {
+    /// The job that it holds.
+    pub job: Option<HandedOut>,
+    /// The call that it has half done, which [`run`](TaskGraph::run) takes to its end.
+    pub call: Option<HalfDone>,
+}
+
+impl Holding {
+    fn of(answer: raw::Holding) -> Result<Holding, Refusal> {
+        Refusal::unless_accepted(answer.number, 0)?;
+        let job = (answer.holds == 1).then_some(HandedOut { job: answer.job, name: answer.name });
+        let call = match answer.call {
+            CALL_NONE => None,
+            CALL_ADD => Some(HalfDone::Add),
+            _ => Some(HalfDone::Finish),
+        };
+        Ok(Holding { job, call })
+    }
 }
 
 /// What a step that is not refused answers.
@@ -98,6 +129,25 @@ pub trait TaskGraph {
     fn run(&mut self, worker: u32) -> Result<(), Refusal> {
         while self.step(worker)? == Progress::GoingOn {}
         Ok(())
+    }
+
+    /// What a worker holds, and the call that it has half done.
+    ///
+    /// # Errors
+    /// 2 where there is no such worker.
+    fn held(&self, worker: u32) -> Result<Holding, Refusal> {
+        Holding::of(raw::held(self.sizes(), self.words(), worker))
+    }
+
+    /// Whether nothing is left to do: no job waits, no worker holds one, and no call is half done. Where only these
+    /// calls wrote the words, every job that entered is finished then.
+    ///
+    /// # Errors
+    /// 1 or 9, where the words are not those of a graph of these sizes.
+    fn drained(&self) -> Result<bool, Refusal> {
+        let answer = raw::drained(self.sizes(), self.words());
+        Refusal::unless_accepted(answer.number, 0)?;
+        Ok(answer.drained == 1)
     }
 
     /// The jobs and minutes under each label.

@@ -28,6 +28,7 @@
 //! let third = graph.get(0)?.expect("a job waits");
 //! assert_eq!(third.name, 3);
 //! graph.finish(0, third.name)?;
+//! assert!(graph.drained()?);
 //! assert_eq!(graph.totals()?.finished.jobs, 3);
 //! # Ok::<(), Refusal>(())
 //! ```
@@ -46,7 +47,7 @@ mod sheet;
 mod totals;
 
 pub use day::day_list;
-pub use graph::{Graph, HandedOut, Progress, TaskGraph};
+pub use graph::{Graph, HalfDone, HandedOut, Holding, Progress, TaskGraph};
 pub use job::Job;
 pub use raw::{bucket, minutes, version, Sizes};
 pub use refusal::Refusal;

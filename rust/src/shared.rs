@@ -11,7 +11,7 @@ use file::{SharedFile, TORN, WHOLE, WRITING};
 
 use crate::{
     raw::{Sizes, Tables},
-    HandedOut, Job, Progress, Refusal, TaskGraph, Totals,
+    HandedOut, Holding, Job, Progress, Refusal, TaskGraph, Totals,
 };
 
 pub use error::SharedError;
@@ -26,8 +26,9 @@ pub use error::SharedError;
 /// The lock is freed, and the others go on:
 ///
 /// - Between two calls or steps: the words are what its last step left. A job that it held stays held, and a call half
-///   done stays half done, until a successor that acts for the same worker takes the call to its end with
-///   [`run`](SharedGraph::run), and finishes the job. Other workers are served meanwhile.
+///   done stays half done, until a successor that acts for the same worker learns of them from
+///   [`held`](SharedGraph::held), takes the call to its end with [`run`](SharedGraph::run), and finishes the job. Other
+///   workers are served meanwhile.
 /// - While it held the lock, before a call had begun: nothing is lost.
 /// - While it held the lock, after a call had begun: some words of that call may be written and others not. No
 ///   statement of the library covers such words; a later call might answer 9, or do the wrong thing. So every later
@@ -130,6 +131,22 @@ impl SharedGraph {
     /// As [`TaskGraph::get`], and as [`lock`](SharedGraph::lock).
     pub fn get(&self, worker: u32) -> Result<Option<HandedOut>, SharedError> {
         self.call(|graph| graph.get(worker))
+    }
+
+    /// What a worker holds, and the call that it has half done.
+    ///
+    /// # Errors
+    /// As [`TaskGraph::held`], and as [`lock`](SharedGraph::lock).
+    pub fn held(&self, worker: u32) -> Result<Holding, SharedError> {
+        self.call(|graph| graph.held(worker))
+    }
+
+    /// Whether nothing is left to do.
+    ///
+    /// # Errors
+    /// As [`TaskGraph::drained`], and as [`lock`](SharedGraph::lock).
+    pub fn drained(&self) -> Result<bool, SharedError> {
+        self.call(|graph| graph.drained())
     }
 
     /// The jobs and minutes under each label.

@@ -1,6 +1,6 @@
 //! The calls of a graph in memory of its own, and the refusals that each may answer.
 
-use taskgraph::{Graph, HandedOut, Job, Progress, Refusal, Sizes, Sum, TaskGraph};
+use taskgraph::{Graph, HalfDone, HandedOut, Holding, Job, Progress, Refusal, Sizes, Sum, TaskGraph};
 
 const SIZES: Sizes = Sizes { jobs: 4, arcs: 3, bits: 2, workers: 2 };
 
@@ -35,6 +35,29 @@ fn step_by_step() {
     let steps = [(); 4].map(|()| graph.step(1));
     assert_eq!(steps, [Ok(Progress::GoingOn), Ok(Progress::GoingOn), Ok(Progress::GoingOn), Ok(Progress::Ended)]);
     assert_eq!(graph.step(1), Err(Refusal::Idle));
+}
+
+#[test]
+fn what_a_worker_holds() {
+    let mut graph = fresh();
+    assert_eq!(graph.drained(), Ok(true));
+    assert_eq!(graph.post_add(1, &Job::new(7, &[])), Ok(()));
+    assert_eq!(graph.held(1), Ok(Holding { job: None, call: Some(HalfDone::Add) }));
+    assert_eq!(graph.held(0), Ok(Holding::default()));
+    assert_eq!(graph.drained(), Ok(false), "a call is half done");
+    assert_eq!(graph.run(1), Ok(()));
+    assert_eq!(graph.drained(), Ok(false), "a job waits");
+    let job = Some(HandedOut { job: 0, name: 7 });
+    assert_eq!(graph.get(0), Ok(job));
+    assert_eq!(graph.drained(), Ok(false), "a job is held");
+    assert_eq!(graph.post_finish(0, 7), Ok(()));
+    assert_eq!(graph.held(0), Ok(Holding { job, call: Some(HalfDone::Finish) }));
+    assert_eq!(graph.run(0), Ok(()));
+    assert_eq!(graph.drained(), Ok(true));
+    assert_eq!(graph.held(2), Err(Refusal::Worker));
+    // The phase of worker 1.
+    graph.tables().workers[42] = 5;
+    assert_eq!((graph.held(1), graph.drained()), (Err(Refusal::Damaged), Err(Refusal::Damaged)));
 }
 
 #[test]

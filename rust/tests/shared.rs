@@ -10,7 +10,7 @@ use std::{
     process::{self, Child, Command, Stdio},
 };
 
-use taskgraph::{HandedOut, Job, Progress, Refusal, SharedError, SharedGraph, Sizes, TaskGraph};
+use taskgraph::{HalfDone, HandedOut, Holding, Job, Progress, Refusal, SharedError, SharedGraph, Sizes, TaskGraph};
 
 const SIZES: Sizes = Sizes { jobs: 400, arcs: 2_000, bits: 4, workers: 4 };
 
@@ -107,6 +107,7 @@ fn processes_share_a_graph() {
     while let Some(job) = graph.get(0).expect("the worker holds no job") {
         graph.finish(0, job.name).expect("the worker holds the job");
     }
+    assert!(graph.drained().expect("the graph is not damaged"));
     let totals = graph.totals().expect("the graph is not damaged");
     assert_eq!((totals.unexecuted.jobs, totals.executing.jobs, totals.finished.jobs), (0, 0, 400));
 }
@@ -133,6 +134,8 @@ fn a_call_left_half_done_is_stepped_on() {
     let refused = graph.get(1).expect_err("the worker's call is half done");
     assert!(matches!(refused, SharedError::Refused(Refusal::HalfDone)));
     assert_eq!(graph.get(0).expect("worker 0 is served"), Some(HandedOut { job: 0, name: 1 }));
+    let held = graph.held(1).expect("worker 1 is one of four");
+    assert_eq!(held, Holding { job: None, call: Some(HalfDone::Add) });
     graph.run(1).expect("the add goes on");
     graph.finish(0, 1).expect("worker 0 holds job 1");
     assert_eq!(graph.get(1).expect("worker 1 is idle"), Some(HandedOut { job: 1, name: 2 }));

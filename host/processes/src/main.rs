@@ -125,6 +125,9 @@ impl Run {
         check.order()?;
         check.progress(killed)?;
         check.tables(&self.words()?, killed)?;
+        if !kill && !self.shared.lock()?.graph.drained()? {
+            return Err("the graph is not drained".into());
+        }
         Ok(format!(
             "{} of {JOBS} jobs finished by {WORKERS} processes in {:.1} s",
             check.finished(),
