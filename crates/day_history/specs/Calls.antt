@@ -29,7 +29,7 @@ use Rattle.whole_calls.specs.Last.{own-step}
 use Rattle.whole_calls.specs.Arcs.{arcs-within}
 use Rattle.rules_follow_model.specs.Base.{pick-by, kept-field, head-occurs}
 use Rattle.rules_follow_model.specs.Own.{performed}
-use Rattle.rules_follow_model.specs.Change.{noPlace}
+use Rattle.rules_cases.specs.Deed.{noPlace}
 use Rattle.day_history.specs.Jobs.{Jobs, All, changed, handed, withNew, entered, entered-all}
 use Rattle.day_history.specs.Team.{Team, replaced, turned, all-rest}
 use Rattle.day_history.specs.At.{At, sound-at, onward}

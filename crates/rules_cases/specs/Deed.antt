@@ -84,31 +84,30 @@ pub data Stepped (s : Sizes) (g : Graph) (w : ℕ) : Call → Answer → Graph �
   lastNotified : {p k : ℕ} → length (job g p .dependents) ≤ suc k
       → Stepped s g w (notifying p k) Ended (notified g w (getD (job g p .dependents) k 0) idle)
 
--- ---- an item
+-- ---- a post or a get of an idle worker
+pub data Made (s : Sizes) (g : Graph) : Item → Answer → Graph → Type 0 where
+  addWrong : {t : Sizes} {w : ℕ} {a : Arguments} → argumentsWrong a ≡ true
+      → Made s g (postAdd t w a) (Refused wrongArguments 0) g
+  addPosted : {t : Sizes} {w : ℕ} {a : Arguments} → argumentsWrong a ≡ false
+      → Made s g (postAdd t w a) Posted (withCall g w (looking a 0))
+  finishWrong : {t : Sizes} {w name : ℕ} → HoldsNot g name (g .workers w .held)
+      → Made s g (postFinish t w name) (Refused notHeld 0) g
+  finishPosted : {t : Sizes} {w name : ℕ} (p : ℕ) → g .workers w .held ≡ some p → job g p .name ≡ name
+      → Made s g (postFinish t w name) Posted (withCall g w marking)
+  getHolding : {t : Sizes} {w : ℕ} (j : ℕ) → g .workers w .held ≡ some j
+      → Made s g (get t w) (Refused alreadyHolding 0) g
+  getNone : {t : Sizes} {w : ℕ} → g .workers w .held ≡ none → g .queue ≡ [] → Made s g (get t w) NoneReady g
+  getHanded : {t : Sizes} {w : ℕ} → g .workers w .held ≡ none → (j : ℕ) {q : List ℕ} → g .queue ≡ j ∷ q
+      → Made s g (get t w) (Handed j (job g j .name)) (handedOut g w j q)
+
+-- ---- an item: turned away, or by the call that its worker is in
 pub data Deed (s : Sizes) (g : Graph) : Item → Answer → Graph → Type 0 where
-  -- turned away
   otherSizes : {i : Item} → sameSizes (sizesOf i) s ≡ false → Deed s g i (Refused wrongSizes 0) g
   workerUnknown : {i : Item} → sameSizes (sizesOf i) s ≡ true → s .workers ≤ workerOf i
       → Deed s g i (Refused noSuchWorker 0) g
   callHalfDone : {i : Item} → Admitted s i → isStep i ≡ false → g .workers (workerOf i) .call ≢ idle
       → Deed s g i (Refused halfDone 0) g
-  -- posts
-  addWrong : {t : Sizes} {w : ℕ} {a : Arguments} → Admitted s (postAdd t w a) → g .workers w .call ≡ idle
-      → argumentsWrong a ≡ true → Deed s g (postAdd t w a) (Refused wrongArguments 0) g
-  addPosted : {t : Sizes} {w : ℕ} {a : Arguments} → Admitted s (postAdd t w a) → g .workers w .call ≡ idle
-      → argumentsWrong a ≡ false → Deed s g (postAdd t w a) Posted (withCall g w (looking a 0))
-  finishWrong : {t : Sizes} {w name : ℕ} → Admitted s (postFinish t w name) → g .workers w .call ≡ idle
-      → HoldsNot g name (g .workers w .held) → Deed s g (postFinish t w name) (Refused notHeld 0) g
-  finishPosted : {t : Sizes} {w name : ℕ} → Admitted s (postFinish t w name) → g .workers w .call ≡ idle
-      → (p : ℕ) → g .workers w .held ≡ some p → job g p .name ≡ name
-      → Deed s g (postFinish t w name) Posted (withCall g w marking)
-  -- gets
-  getHolding : {t : Sizes} {w : ℕ} → Admitted s (get t w) → g .workers w .call ≡ idle
-      → (j : ℕ) → g .workers w .held ≡ some j → Deed s g (get t w) (Refused alreadyHolding 0) g
-  getNone : {t : Sizes} {w : ℕ} → Admitted s (get t w) → g .workers w .call ≡ idle → g .workers w .held ≡ none
-      → g .queue ≡ [] → Deed s g (get t w) NoneReady g
-  getHanded : {t : Sizes} {w : ℕ} → Admitted s (get t w) → g .workers w .call ≡ idle → g .workers w .held ≡ none
-      → (j : ℕ) {q : List ℕ} → g .queue ≡ j ∷ q → Deed s g (get t w) (Handed j (job g j .name)) (handedOut g w j q)
-  -- a step of the call that the worker is in
+  made : {i : Item} {x : Answer} {h : Graph} → Admitted s i → g .workers (workerOf i) .call ≡ idle → Made s g i x h
+      → Deed s g i x h
   stepped : {t : Sizes} {w : ℕ} {x : Answer} {h : Graph} → Admitted s (step t w)
       → {c : Call} → g .workers w .call ≡ c → Stepped s g w c x h → Deed s g (step t w) x h

@@ -16,8 +16,9 @@ use Rattle.terms.specs.declared.Sizes.{Sizes}
 use Rattle.rules.specs.Rules.{Found, at, missing, Call, idle, looking, linking, marking, notifying, Graph, job, find}
 use Rattle.rules.specs.Rules.{lookUp, enter, link, linkTo, markDependents, mark, notify, stepCall, whenIdle}
 use Rattle.rules.specs.Rules.{addPosted, finishPosted, takeNext, getJob, admitted, perform}
+use Rattle.rules.specs.Sound.{CallSound}
 use Rattle.rules_cases.specs.Deed as to
-use Rattle.rules_cases.specs.Deed.{Admitted, isStep, noPlace, Stepped, Deed}
+use Rattle.rules_cases.specs.Deed.{Admitted, isStep, noPlace, Broken, Stepped, Made, Deed}
 
 -- 0 is not 1, which two different constructors would make them
 pub never : {A : Type 0} → _≡_ {A = ℕ} 0 1 → A
@@ -84,8 +85,34 @@ module _ (s : Sizes) (g : Graph) (w : ℕ) where
       (λ z. to.arcNotified (ltb-true (suc k) (length (job g p .dependents)) z))
       (λ z. to.lastNotified (ltb-false (suc k) (length (job g p .dependents)) z))
 
--- ---- an item
 module _ (s : Sizes) (g : Graph) where
+  -- ---- a post or a get
+  abbrev By-made : Item → Outcome Graph → Type 0
+  By-made i o = Made s g i (o .answer) (o .state)
+
+  module _ (t : Sizes) (w : ℕ) where
+    posts-add : (a : Arguments) → By-made (postAdd t w a) (addPosted g w a)
+    unfolding addPosted
+    posts-add a = pick-by (By-made (postAdd t w a)) (argumentsWrong a) (λ z. to.addWrong z) (λ z. to.addPosted z)
+
+    posts-finish : (name : ℕ) (h : Option ℕ) → g .workers w .held ≡ h
+        → By-made (postFinish t w name) (finishPosted g w name h)
+    unfolding finishPosted
+    posts-finish name none e = to.finishWrong {w = w} {name = name} (rw e tt)
+    posts-finish name (some p) e = pick-by (By-made (postFinish t w name)) (eqb (job g p .name) name)
+        (λ z. to.finishPosted p e (eqb-true (job g p .name) name z)) (λ z. to.finishWrong {w = w} {name = name} (rw e z))
+
+    takes : g .workers w .held ≡ none → (q : List ℕ) → g .queue ≡ q → By-made (get t w) (takeNext g w q)
+    unfolding takeNext
+    takes e [] z = to.getNone e z
+    takes e (j ∷ q) z = to.getHanded e j z
+
+    gets : (h : Option ℕ) → g .workers w .held ≡ h → By-made (get t w) (getJob g w h)
+    unfolding getJob
+    gets none e = takes e (g .queue) refl
+    gets (some j) e = to.getHolding j e
+
+  -- ---- an item
   abbrev Does : Item → Outcome Graph → Type 0
   Does i o = Deed s g i (o .answer) (o .state)
 
@@ -99,45 +126,30 @@ module _ (s : Sizes) (g : Graph) where
       (λ e. to.otherSizes e)
 
   when-idle : (i : Item) → isStep i ≡ false → Admitted s i → {o : Outcome Graph}
-      → (c : Call) → g .workers (workerOf i) .call ≡ c
-      → (g .workers (workerOf i) .call ≡ idle → Does i o) → Does i (whenIdle g c o)
+      → (c : Call) → g .workers (workerOf i) .call ≡ c → By-made i o → Does i (whenIdle g c o)
   unfolding whenIdle
-  when-idle i n A idle e d = d e
-  when-idle i n A (looking a k) e d = to.callHalfDone A n (λ z. never (cc))
-  when-idle i n A (linking a j k t) e d = to.callHalfDone A n (λ z. never (cc))
-  when-idle i n A marking e d = to.callHalfDone A n (λ z. never (cc))
-  when-idle i n A (notifying p k) e d = to.callHalfDone A n (λ z. never (cc))
-
-  module _ (t : Sizes) (w : ℕ) (e : g .workers w .call ≡ idle) where
-    posts-add : (a : Arguments) → Admitted s (postAdd t w a) → Does (postAdd t w a) (addPosted g w a)
-    unfolding addPosted
-    posts-add a A = pick-by (Does (postAdd t w a)) (argumentsWrong a) (λ z. to.addWrong A e z) (λ z. to.addPosted A e z)
-
-    posts-finish : (name : ℕ) → Admitted s (postFinish t w name) → (h : Option ℕ) → g .workers w .held ≡ h
-        → Does (postFinish t w name) (finishPosted g w name h)
-    unfolding finishPosted
-    posts-finish name A none f = to.finishWrong A e (rw f tt)
-    posts-finish name A (some p) f = pick-by (Does (postFinish t w name)) (eqb (job g p .name) name)
-        (λ z. to.finishPosted A e p f (eqb-true (job g p .name) name z)) (λ z. to.finishWrong A e (rw f z))
-
-    module _ (A : Admitted s (get t w)) where
-      takes : g .workers w .held ≡ none → (q : List ℕ) → g .queue ≡ q → Does (get t w) (takeNext g w q)
-      unfolding takeNext
-      takes f [] z = to.getNone A e f z
-      takes f (j ∷ q) z = to.getHanded A e f j z
-
-      gets : (h : Option ℕ) → g .workers w .held ≡ h → Does (get t w) (getJob g w h)
-      unfolding getJob
-      gets none f = takes f (g .queue) refl
-      gets (some j) f = to.getHolding A e j f
+  when-idle i n A idle e M = to.made A e M
+  when-idle i n A (looking a k) e M = to.callHalfDone A n (λ z. never (cc))
+  when-idle i n A (linking a j k t) e M = to.callHalfDone A n (λ z. never (cc))
+  when-idle i n A marking e M = to.callHalfDone A n (λ z. never (cc))
+  when-idle i n A (notifying p k) e M = to.callHalfDone A n (λ z. never (cc))
 
   pub deed : (i : Item) → Deed s g i (perform s g i .answer) (perform s g i .state)
   unfolding perform
   deed (postAdd t w a) = admits (postAdd t w a)
-      (λ A. when-idle (postAdd t w a) refl A (g .workers w .call) refl (λ e. posts-add t w e a A))
+      (λ A. when-idle (postAdd t w a) refl A (g .workers w .call) refl (posts-add t w a))
   deed (postFinish t w name) = admits (postFinish t w name)
       (λ A. when-idle (postFinish t w name) refl A (g .workers w .call) refl
-      (λ e. posts-finish t w e name A (g .workers w .held) refl))
+      (posts-finish t w name (g .workers w .held) refl))
   deed (step t w) = admits (step t w) (λ A. to.stepped A refl (steps s g w (g .workers w .call)))
   deed (get t w) = admits (get t w)
-      (λ A. when-idle (get t w) refl A (g .workers w .call) refl (λ e. gets t w e A (g .workers w .held) refl))
+      (λ A. when-idle (get t w) refl A (g .workers w .call) refl (gets t w (g .workers w .held) refl))
+
+-- ---- a sound graph excludes number 9
+pub unbroken : (g : Graph) (h : Option ℕ) (c : Call) → CallSound g h c → Broken g h c → ⊥
+unbroken g h idle S b = b
+unbroken g h (looking a i) S b = b
+unbroken g h (linking a j i t) S b = let n = S .found i (b .0) in never (cc (n .found, b .1))
+unbroken g none marking S b = S
+unbroken g (some p) marking S b = never (cc)
+unbroken g h (notifying p k) S b = b

@@ -1,6 +1,4 @@
 pub mod Base
-pub mod Change
-pub mod Changes
 pub mod Own
 pub mod Paced
 pub mod Entries

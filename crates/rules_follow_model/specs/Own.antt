@@ -1,133 +1,100 @@
 -- An item that brings the sizes laid out and a worker below P does what its call's own rules say, and any item leaves
 -- the other workers as they were ("Turned-away calls"). Assumes nothing.
-use mathlib.Core.Path.{_≡_, refl}
+use mathlib.Core.Path.{_≡_, refl, sym, _∙_}
 use mathlib.Core.Logic.{_≢_}
-use mathlib.Core.Bool.{Bool, true}
-use mathlib.Core.List.{List, [], _∷_}
-use mathlib.Core.Option.{Option, none, some}
-use Prim.Native.Nat.{ℕ, suc, _≤_, _<_}
-use lib.Dec.{ltb, eqb}
-use lib.ListN.{length, getD}
-use borrow.Author.Tests.{eq-eqb, lt-ltb, le-ltb}
-use Rattle.terms.specs.Base.{update}
-use Rattle.terms.specs.Terms.{Label, unexecuted, executing, finished, Arguments, listed, argumentsWrong, sameSizes}
-use Rattle.terms.specs.Runs.{Item, postAdd, postFinish, step, get, Outcome}
+use mathlib.Core.Bool.{true, false, true≢false}
+use Prim.Native.Nat.{ℕ, _≤_, _<_}
+use native.Mathlib.Omega.{arith}
+use borrow.Author.Tests.{eq-eqb, lt-ltb}
+use Rattle.terms.specs.Terms.{sameSizes}
+use Rattle.terms.specs.Runs.{Item, step, Outcome, sizesOf, workerOf}
 use Rattle.terms.specs.declared.Sizes.{Sizes}
-use Rattle.rules.specs.Rules.{Found, at, missing, Call, idle, looking, linking, marking, notifying, Worker, Graph, job}
-use Rattle.rules.specs.Rules.{find, lookUp, enter, link, linkTo, markDependents, mark, notify, stepCall, whenIdle}
-use Rattle.rules.specs.Rules.{addPosted, finishPosted, takeNext, getJob, admitted, perform}
-use Rattle.rules_follow_model.specs.Base.{update-other, pick-by}
-use Rattle.rules_follow_model.specs.Change.{noPlace}
-use Rattle.terms.specs.Runs.{workerOf}
+use Rattle.terms.specs.declared.Answer.{Answer}
+use Rattle.rules.specs.Rules.{Call, idle, Graph, admitted, perform}
+use Rattle.rules_cases.specs.Deed as by
+use Rattle.rules_cases.specs.Deed.{isStep, Stepped, Made, Deed}
+use Rattle.rules_cases.specs.Deeds.{deed}
+use Rattle.rules_follow_model.specs.Base.{update-other}
 
-pub performed : (s : Sizes) (g : Graph) (w : ℕ) → w < s .workers → (o : Outcome Graph) → admitted s s g w o ≡ o
-unfolding admitted sameSizes
-performed s g w h o = rw (
+pub own-sizes : (s : Sizes) → sameSizes s s ≡ true
+unfolding sameSizes
+own-sizes s = rw (
   eq-eqb (s .jobs) (s .jobs) refl,
   eq-eqb (s .arcs) (s .arcs) refl,
   eq-eqb (s .bits) (s .bits) refl,
   eq-eqb (s .workers) (s .workers) refl,
-  lt-ltb w (s .workers) h,
 )
 
-never : (s : Sizes) (g : Graph) (t : Sizes) (w : ℕ) → s .workers ≤ w → (o : Outcome Graph)
-    → admitted s t g w o .state ≡ g
+pub performed : (s : Sizes) (g : Graph) (w : ℕ) → w < s .workers → (o : Outcome Graph) → admitted s s g w o ≡ o
 unfolding admitted
-never s g t w h o = rw (le-ltb w (s .workers) h)
-    (pick-by (λ (o : Outcome Graph). o .state ≡ g) (sameSizes t s) (λ _. refl) (λ _. refl))
+performed s g w h o = rw (own-sizes s, lt-ltb w (s .workers) h)
+
+-- a step is one of the call that the worker is in
+pub own-step : (s : Sizes) (g : Graph) {w : ℕ} → w < s .workers → {c : Call} → g .workers w .call ≡ c
+    → Stepped s g w c (perform s g (step s w) .answer) (perform s g (step s w) .state)
+own-step s g {w} l {c} e = of (deed s g (step s w))
+  where
+    of : {x : Answer} {h : Graph} → Deed s g (step s w) x h → Stepped s g w c x h
+    of (by.otherSizes z) = absurd (true≢false (sym (own-sizes s) ∙ z))
+    of (by.workerUnknown z m) = absurd (omega arith)
+    of (by.callHalfDone A n d) = absurd (true≢false n)
+    of (by.stepped A d S) = rw (sym d ∙ e) at S
+
+-- a post or a get of an idle worker is one by its own rules
+pub own-made : (s : Sizes) (g : Graph) (i : Item) → sameSizes (sizesOf i) s ≡ true → workerOf i < s .workers
+    → isStep i ≡ false → g .workers (workerOf i) .call ≡ idle
+    → Made s g i (perform s g i .answer) (perform s g i .state)
+own-made s g i same l n e = of (deed s g i) same n l e
+  where
+    of : {i : Item} {x : Answer} {h : Graph} → Deed s g i x h → sameSizes (sizesOf i) s ≡ true → isStep i ≡ false
+        → workerOf i < s .workers → g .workers (workerOf i) .call ≡ idle → Made s g i x h
+    of (by.otherSizes z) same n l e = absurd (true≢false (sym same ∙ z))
+    of (by.workerUnknown z m) same n l e = absurd (omega arith)
+    of (by.callHalfDone A m d) same n l e = absurd (d e)
+    of (by.made A d M) same n l e = M
+    of (by.stepped A d S) same n l e = absurd (true≢false n)
 
 -- a worker not below P changes nothing
 pub turned-away : (s : Sizes) (g : Graph) (i : Item) → s .workers ≤ workerOf i → perform s g i .state ≡ g
-unfolding perform
-turned-away s g (postAdd t w a) h = never s g t w h _
-turned-away s g (postFinish t w name) h = never s g t w h _
-turned-away s g (step t w) h = never s g t w h _
-turned-away s g (get t w) h = never s g t w h _
+turned-away s g i l = of (deed s g i) l
+  where
+    of : {i : Item} {x : Answer} {h : Graph} → Deed s g i x h → s .workers ≤ workerOf i → h ≡ g
+    of (by.otherSizes e) l = refl
+    of (by.workerUnknown e m) l = refl
+    of (by.callHalfDone A n c) l = refl
+    of (by.made A c M) l = absurd (omega (arith, A .worker))
+    of (by.stepped A c S) l = absurd (omega (arith, A .worker))
 
--- ---- another worker
-module _ (s : Sizes) (g : Graph) (w v : ℕ) (other : v ≢ w) where
-  -- it is as it was
-  abbrev Left : Outcome Graph → Type 0
-  Left o = o .state .workers v ≡ g .workers v
-
-  replaced : (x : Worker) → update (g .workers) w x v ≡ g .workers v
-  replaced x = update-other (g .workers) w x v other
-
-  admits : (t : Sizes) (o : Outcome Graph) → Left o → Left (admitted s t g w o)
-  unfolding admitted
-  admits t o l = pick-by Left (sameSizes t s) (λ _. pick-by Left (ltb w (s .workers)) (λ _. l) (λ _. refl)) (λ _. refl)
-
-  when-idle : (c : Call) (o : Outcome Graph) → Left o → Left (whenIdle g c o)
-  unfolding whenIdle
-  when-idle idle o l = l
-  when-idle (looking a i) o l = refl
-  when-idle (linking a j i t) o l = refl
-  when-idle marking o l = refl
-  when-idle (notifying p k) o l = refl
-
-  -- ---- steps
-  looks : (a : Arguments) (i : ℕ) (f : Found) → Left (lookUp g w a i f)
-  unfolding lookUp
-  looks a i (at j) = replaced _
-  looks a i missing = replaced _
-
-  enters : (a : Arguments) (f : Found) → Left (enter s g w a f)
-  unfolding enter
-  enters a (at j) = replaced _
-  enters a missing = pick-by Left (noPlace s g a) (λ _. replaced _) (λ _. replaced _)
-
-  links-to : (a : Arguments) (j i t p : ℕ) (l : Label) → Left (linkTo g w a j i t p l)
-  unfolding linkTo
-  links-to a j i t p unexecuted = replaced _
-  links-to a j i t p executing = replaced _
-  links-to a j i t p finished = replaced _
-
-  links : (a : Arguments) (j i t : ℕ) (f : Found) → Left (link g w a j i t f)
-  unfolding link
-  links a j i t (at p) = links-to a j i t p (job g p .label)
-  links a j i t missing = refl
-
-  marks-dependents : (p : ℕ) (l : List ℕ) → Left (markDependents g w p l)
-  unfolding markDependents
-  marks-dependents p [] = replaced _
-  marks-dependents p (j ∷ l) = replaced _
-
-  marks : (h : Option ℕ) → Left (mark g w h)
-  unfolding mark
-  marks (some p) = marks-dependents p (job g p .dependents)
-  marks none = refl
-
-  steps : (c : Call) → Left (stepCall s g w c)
-  unfolding stepCall notify
-  steps idle = refl
-  steps (looking a i) = pick-by Left (ltb i (a .count)) (λ _. looks a i _) (λ _. enters a _)
-  steps (linking a j i t) = pick-by Left (ltb i (a .count)) (λ _. links a j i t _) (λ _. replaced _)
-  steps marking = marks (g .workers w .held)
-  steps (notifying p k) = pick-by Left (ltb (suc k) (length (job g p .dependents))) (λ _. replaced _) (λ _. replaced _)
-
-  -- ---- posts and gets
-  posts-finish : (name : ℕ) (h : Option ℕ) → Left (finishPosted g w name h)
-  unfolding finishPosted
-  posts-finish name none = refl
-  posts-finish name (some p) = pick-by Left (eqb (job g p .name) name) (λ _. replaced _) (λ _. refl)
-
-  takes : (q : List ℕ) → Left (takeNext g w q)
-  unfolding takeNext
-  takes [] = refl
-  takes (j ∷ q) = replaced _
-
-  gets : (h : Option ℕ) → Left (getJob g w h)
-  unfolding getJob
-  gets none = takes (g .queue)
-  gets (some j) = refl
-
+-- another worker is as it was
 pub others : (s : Sizes) (g : Graph) (i : Item) (v : ℕ) → v ≢ workerOf i
     → perform s g i .state .workers v ≡ g .workers v
-unfolding perform addPosted
-others s g (postAdd t w a) v z = admits s g w v z t _ (when-idle s g w v z (g .workers w .call) _
-    (pick-by (Left s g w v z) (argumentsWrong a) (λ _. refl) (λ _. replaced s g w v z _)))
-others s g (postFinish t w name) v z =
-    admits s g w v z t _ (when-idle s g w v z (g .workers w .call) _ (posts-finish s g w v z name (g .workers w .held)))
-others s g (step t w) v z = admits s g w v z t _ (steps s g w v z (g .workers w .call))
-others s g (get t w) v z =
-    admits s g w v z t _ (when-idle s g w v z (g .workers w .call) _ (gets s g w v z (g .workers w .held)))
+others s g i v z = of (deed s g i) z
+  where
+    of-step : {w : ℕ} {c : Call} {x : Answer} {h : Graph} → Stepped s g w c x h → v ≢ w → h .workers v ≡ g .workers v
+    of-step by.noCall z = refl
+    of-step (by.broken b) z = refl
+    of-step (by.lookedUp j l e) z = update-other (g .workers) _ _ v z
+    of-step (by.nameUnknown l e) z = update-other (g .workers) _ _ v z
+    of-step (by.nameThere j l e) z = update-other (g .workers) _ _ v z
+    of-step (by.roomLacking l e f) z = update-other (g .workers) _ _ v z
+    of-step (by.jobEntered l e f) z = update-other (g .workers) _ _ v z
+    of-step (by.tallied p l e f) z = update-other (g .workers) _ _ v z
+    of-step (by.arcAppended p l e f) z = update-other (g .workers) _ _ v z
+    of-step (by.jobSettled l) z = update-other (g .workers) _ _ v z
+    of-step (by.markedLast p e f) z = update-other (g .workers) _ _ v z
+    of-step (by.markedGoing p e f) z = update-other (g .workers) _ _ v z
+    of-step (by.arcNotified l) z = update-other (g .workers) _ _ v z
+    of-step (by.lastNotified l) z = update-other (g .workers) _ _ v z
+
+    of : {i : Item} {x : Answer} {h : Graph} → Deed s g i x h → v ≢ workerOf i → h .workers v ≡ g .workers v
+    of (by.otherSizes e) z = refl
+    of (by.workerUnknown e m) z = refl
+    of (by.callHalfDone A n c) z = refl
+    of (by.made A c (by.addWrong e)) z = refl
+    of (by.made A c (by.addPosted e)) z = update-other (g .workers) _ _ v z
+    of (by.made A c (by.finishWrong e)) z = refl
+    of (by.made A c (by.finishPosted p e n)) z = update-other (g .workers) _ _ v z
+    of (by.made A c (by.getHolding j e)) z = refl
+    of (by.made A c (by.getNone e f)) z = refl
+    of (by.made A c (by.getHanded e j f)) z = update-other (g .workers) _ _ v z
+    of (by.stepped A c S) z = of-step S z

@@ -16,7 +16,7 @@ use Rattle.rules.specs.Rules.{lookUp, entered, enter, stepCall, whenIdle, addPo
 use Rattle.linearization.specs.Calls.{Reading}
 use Rattle.rules_history.specs.History.{History, then}
 use Rattle.rules_follow_model.specs.Base.{pick-by}
-use Rattle.rules_follow_model.specs.Change.{noPlace}
+use Rattle.rules_cases.specs.Deed.{noPlace}
 use Rattle.rules_follow_model.specs.Own.{performed}
 use Rattle.whole_calls.specs.Whole.{stepsOf, answers, through, goingTo, Kept, Unchanged, AddLeft, WholeAdd}
 use Rattle.whole_calls.specs.Whole.{AddEnd, accepted, wrong, unknown, present, no-room}

@@ -18,7 +18,7 @@ use Rattle.linearization.specs.Calls.{Reading}
 use Rattle.rules_history.specs.History.{History}
 use Rattle.rules_invariant.specs.Sound.{sound}
 use Rattle.rules_follow_model.specs.Base.{update-same, update-other, kept-field}
-use Rattle.rules_follow_model.specs.Change.{HoldsNot}
+use Rattle.rules_cases.specs.Deed.{HoldsNot}
 use Rattle.rules_follow_model.specs.Own.{performed}
 use Rattle.whole_calls.specs.Whole.{stepsOf, answers, through, goingTo, FinishLeft, WholeFinish}
 use Rattle.whole_calls.specs.Kept.{kept-same, call-turned, with-call}
