@@ -1,7 +1,7 @@
 -- With no call half done: the graph's counts are the book's remaining counts, and the jobs in its queue are those ready
 -- in the book ("The plain book", demand 3). Assumes that the graph is booked and balanced.
-use mathlib.Core.Path.{_≡_, refl, sym, ap, _∙_}
-use mathlib.Core.List.{List, [], _∷_}
+use mathlib.Core.Path.{_≡_, refl, sym, _∙_}
+use mathlib.Core.List.{List, _∷_}
 use mathlib.Core.Option.{none}
 use mathlib.Core.Logic.{_↔_}
 use Prim.Native.Nat.{ℕ, _<_}

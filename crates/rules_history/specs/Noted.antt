@@ -1,20 +1,19 @@
 -- What is read of each way in which an item can end by the rules ("Deciding steps"): where the steps answered so far are
 -- those of the worker's call, what is noted of the item and its answer is what the case says. Assumes nothing.
-use mathlib.Core.Path.{_≡_, refl, sym}
-use mathlib.Core.Bool.{true, false}
-use mathlib.Core.Option.{Option, none, some}
+use mathlib.Core.Path.{_≡_, refl}
+use mathlib.Core.Bool.{false}
 use Prim.Native.Nat.{ℕ, suc, _+_, _≤_}
 use native.Mathlib.Omega.{arith}
 use borrow.Author.Tests.{eq-eqb, ne-eqb, le-ltb, lt-leb}
-use Rattle.terms.specs.Terms.{Arguments, wrongSizes, noSuchWorker, halfDone, nothingToStep, wrongArguments, unknownName}
+use Rattle.terms.specs.Terms.{Arguments, wrongSizes, noSuchWorker, halfDone, wrongArguments, unknownName}
 use Rattle.terms.specs.Terms.{namePresent, noRoom, damaged, alreadyHolding, notHeld}
 use Rattle.terms.specs.Runs.{Item, postAdd, postFinish, step, get, workerOf}
 use Rattle.terms.specs.declared.Sizes.{Sizes}
 use Rattle.terms.specs.declared.Answer.{Answer}
 use Rattle.terms.specs.declared.Answer.the-variants.{Refused}
-use Rattle.rules.specs.Rules.{Call, looking, linking, marking, Graph, job}
+use Rattle.rules.specs.Rules.{Call, looking, Graph, job}
 use Rattle.rules_cases.specs.Deed as by
-use Rattle.rules_cases.specs.Deed.{Stepped, Made, Deed}
+use Rattle.rules_cases.specs.Deed.{Stepped, Deed}
 use Rattle.sequential_model.specs.Book as book
 use Rattle.sequential_model.specs.Book.{add, finish, accepted, noneReady, handed, refused}
 use Rattle.linearization.specs.Calls.{Pending, idle, adding, finishing, Reading, becomes, decided, addEnded, finishEnded}
@@ -22,7 +21,7 @@ use Rattle.linearization.specs.Calls.{endsCall, noteStep, noteAdd, noteFinish, 
 use Rattle.rules_history.specs.History.{PacedCall}
 
 -- ---- what is read
-abbrev readsStep : {s : Sizes} {g : Graph} {w : ℕ} {c : Call} {x : Answer} {h : Graph} → Reading → Stepped s g w c x h
+abbrev pub readsStep : {s : Sizes} {g : Graph} {w : ℕ} {c : Call} {x : Answer} {h : Graph} → Reading → Stepped s g w c x h
     → Reading
 readsStep r by.noCall = r
 readsStep r (by.broken b) = r

@@ -4,7 +4,7 @@ use mathlib.Core.Logic.{_≢_}
 use mathlib.Core.Bool.{Bool, true, false}
 use mathlib.Core.Option.{none, some}
 use mathlib.Core.List.{List, [], _∷_, _++_}
-use Prim.Native.Nat.{ℕ, _+_, _-_, _<_}
+use Prim.Native.Nat.{ℕ, _+_, _<_}
 use native.Mathlib.Omega.{arith}
 use native.Mathlib.Decide.{ℕ-discrete}
 use lib.ListN.{length, getD, set, length-set}
@@ -131,9 +131,6 @@ module _ (s : Sizes) (g : Graph) (r : Reading) (x : State) (K : Kept s g r x) (I
 
     marked-unserved : x .served p ≡ 0
     marked-unserved = I .served-none p (λ z. executing-not-finished (cc (I .held-executing w p marked-held)))
-
-    pub marked-paced : r .pending w ≡ Pending.finishing (job g p .name) 0
-    marked-paced = rw e at (rw f at (K .workers w .paced))
 
     further : Extends (g .jobs) (relabelled p marked-there finished)
     further = relabelled-extends p marked-there finished

@@ -41,9 +41,6 @@ module _ (s : Sizes) (g : Graph) (r : Reading) (x : State) (K : Kept s g r x) (I
     pub own-finishing : x .stage w ≡ finishing p
     own-finishing = own-stage s g r x K I w (notifying p k) f
 
-    pub notify-paced : r .pending w ≡ Pending.finishing (job g p .name) (suc k)
-    notify-paced = rw f at (K .workers w .paced)
-
     abbrev j : ℕ
     j = getD (job g p .dependents) k 0
 
