@@ -27,7 +27,7 @@ use Rattle.rules_history.specs.Noted.{reads}
 use Rattle.linearizability.specs.Demand.{orHanded}
 use Rattle.rules_invariant.specs.Relation.{snoc-all}
 use Rattle.rules_invariant.specs.Sound.{sound}
-use Rattle.rules_follow_model.specs.Base.{update-same, update-other, kept-field, head-occurs}
+use Rattle.rules_cases.specs.Base.{update-same, update-other, kept-field, head-occurs}
 use Rattle.rules_follow_model.specs.Paced.{paced, read}
 use Rattle.rules_follow_model.specs.Booked.{held-kept}
 use Rattle.rules_follow_model.specs.Entries.{listed-length}

@@ -17,11 +17,11 @@ use Rattle.rules.specs.Rules.{idle, Graph, job, perform}
 use Rattle.rules.specs.Sound.{Sound, Finished}
 use Rattle.rules_cases.specs.Deed as by
 use Rattle.rules_cases.specs.Deed.{Made, Deed}
-use Rattle.rules_cases.specs.Deeds.{never, deed}
+use Rattle.rules_cases.specs.Base.{never, head-occurs}
+use Rattle.rules_cases.specs.Deeds.{deed}
 use Rattle.linearization.specs.Calls.{Reading}
 use Rattle.rules_history.specs.History.{History}
-use Rattle.rules_follow_model.specs.Base.{head-occurs}
-use Rattle.rules_follow_model.specs.Own.{own-made}
+use Rattle.rules_cases.specs.Own.{own-made}
 use Rattle.rules_invariant.specs.Sound.{sound}
 
 -- ---- "none ready", exactly

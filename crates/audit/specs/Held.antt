@@ -10,7 +10,7 @@ use Rattle.terms.specs.declared.Answer.{Answer}
 use Rattle.rules.specs.Rules.{Graph, empty, job}
 use Rattle.linearization.specs.Calls.{Reading}
 use Rattle.rules_history.specs.History.{History, start, then}
-use Rattle.rules_follow_model.specs.Base.{never}
+use Rattle.rules_cases.specs.Base.{never}
 use Rattle.audit.specs.Deeds.{Deed, plain, marks, hands, deeds}
 
 pub record Holder (s : Sizes) (g : Graph) (j : ℕ) : Type 0 where

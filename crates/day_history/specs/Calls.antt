@@ -24,11 +24,11 @@ use Rattle.rules.specs.Rules as rules
 use Rattle.rules.specs.Sound.{startedBy, Linking, Notifying}
 use Rattle.rules_cases.specs.Deed as by
 use Rattle.rules_cases.specs.Deed.{Stepped, Made}
-use Rattle.rules_cases.specs.Deeds.{never, unbroken}
+use Rattle.rules_cases.specs.Base.{never, kept-field, head-occurs}
+use Rattle.rules_cases.specs.Deeds.{unbroken}
 use Rattle.day_format.specs.Whole.{andThen, stepsOf, wholeAdd, wholeFinish}
 use Rattle.whole_calls.specs.Arcs.{arcs-within}
-use Rattle.rules_follow_model.specs.Base.{kept-field, head-occurs}
-use Rattle.rules_follow_model.specs.Own.{own-sizes, own-step, own-made}
+use Rattle.rules_cases.specs.Own.{own-sizes, own-step, own-made}
 use Rattle.day_history.specs.Jobs.{Jobs, All, changed, handed, withNew, entered, entered-all}
 use Rattle.day_history.specs.Team.{Team, replaced, turned, all-rest}
 use Rattle.day_history.specs.At.{At, sound-at, onward}

@@ -1,6 +1,6 @@
 -- Every item ends by the rules in one of the ways of `Deed`: the one case analysis of the rules. Assumes nothing.
 use mathlib.Core.Path.{_≡_, refl, ap}
-use mathlib.Core.Bool.{Bool, true, false}
+use mathlib.Core.Bool.{false}
 use mathlib.Core.List.{List, [], _∷_}
 use mathlib.Core.Option.{Option, none, some}
 use Prim.Native.Nat.{ℕ, suc, _≤_, _<_}
@@ -8,7 +8,6 @@ use native.Mathlib.Omega.{arith}
 use lib.Dec.{ltb, eqb}
 use lib.ListN.{length, getD}
 use borrow.Author.Tests.{ltb-true, ltb-false, eqb-true}
-use Rattle.terms.specs.Base.{pick}
 use Rattle.terms.specs.Terms.{Label, unexecuted, executing, finished, Arguments, listed, argumentsWrong, sameSizes}
 use Rattle.terms.specs.Runs.{Item, postAdd, postFinish, step, get, Outcome, sizesOf, workerOf}
 use Rattle.terms.specs.declared.Sizes.{Sizes}
@@ -16,17 +15,9 @@ use Rattle.rules.specs.Rules.{Found, at, missing, Call, idle, looking, linking,
 use Rattle.rules.specs.Rules.{lookUp, enter, link, linkTo, markDependents, mark, notify, stepCall, whenIdle}
 use Rattle.rules.specs.Rules.{addPosted, finishPosted, takeNext, getJob, admitted, perform}
 use Rattle.rules.specs.Sound.{CallSound}
+use Rattle.rules_cases.specs.Base.{never, pick-by}
 use Rattle.rules_cases.specs.Deed as to
 use Rattle.rules_cases.specs.Deed.{Admitted, isStep, noPlace, Broken, Stepped, Made, Deed}
-
--- 0 is not 1, which two different constructors would make them
-pub never : {A : Type 0} → _≡_ {A = ℕ} 0 1 → A
-never e = absurd (omega arith)
-
--- what holds of both sides of a choice holds of the choice
-pub pick-by : {A : Type 0} (Q : A → Type 0) (b : Bool) {x y : A} → (b ≡ true → Q x) → (b ≡ false → Q y) → Q (pick b x y)
-pick-by Q true f g = f refl
-pick-by Q false f g = g refl
 
 -- ---- a step
 module _ (s : Sizes) (g : Graph) (w : ℕ) where

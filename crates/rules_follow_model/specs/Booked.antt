@@ -30,7 +30,7 @@ use Rattle.linearization.specs.Calls.{Reading, unread, becomes, decided, accept
 use Rattle.linearization.specs.Calls as reading
 use Rattle.rules_history.specs.History.{History, start, then, entryOf, entriesOf, noArguments, Booked}
 use Rattle.rules_history.specs.Noted.{reads}
-use Rattle.rules_follow_model.specs.Base.{update-at, update-other, head-occurs}
+use Rattle.rules_cases.specs.Base.{update-at, update-other, head-occurs}
 use Rattle.rules_follow_model.specs.Paced.{paced, read}
 use Rattle.rules_follow_model.specs.Entries.{entry-at, entries-length, entries-append, entries-set, entries-kept}
 use Rattle.rules_follow_model.specs.Entries.{listed-append, listed-kept, listed-length}

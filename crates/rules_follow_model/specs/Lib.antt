@@ -1,5 +1,3 @@
-pub mod Base
-pub mod Own
 pub mod Paced
 pub mod Entries
 pub mod Feeding

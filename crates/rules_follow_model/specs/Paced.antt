@@ -22,7 +22,7 @@ use Rattle.linearization.specs.Calls.{Pending, finishing, Reading, unread, Quie
 use Rattle.linearization.specs.Calls as reading
 use Rattle.rules_history.specs.History.{History, start, then, PacedCall, Paced, AllIdle}
 use Rattle.rules_history.specs.Noted.{reads, noted}
-use Rattle.rules_follow_model.specs.Base.{update-same, update-other, kept-field}
+use Rattle.rules_cases.specs.Base.{update-same, update-other, kept-field}
 
 -- every job keeps its name
 abbrev SameNames : Graph → Graph → Type 0

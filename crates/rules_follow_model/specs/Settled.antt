@@ -15,12 +15,11 @@ use Rattle.terms.specs.declared.Answer.the-variants.{NoneReady, Handed}
 use Rattle.rules.specs.Rules.{idle, Graph, job, perform}
 use Rattle.rules_cases.specs.Deed as by
 use Rattle.rules_cases.specs.Deed.{Made}
-use Rattle.rules_cases.specs.Deeds.{never}
+use Rattle.rules_cases.specs.Base.{never, head-occurs}
 use Rattle.sequential_model.specs.Book.{entry, awaitedNames, remaining, Ready}
 use Rattle.linearization.specs.Calls.{Reading}
 use Rattle.rules_history.specs.History.{entryOf, entriesOf, Booked, Balanced, Free, AllIdle}
-use Rattle.rules_follow_model.specs.Base.{head-occurs}
-use Rattle.rules_follow_model.specs.Own.{own-sizes, own-made}
+use Rattle.rules_cases.specs.Own.{own-sizes, own-made}
 use Rattle.rules_follow_model.specs.Entries.{entry-at, entries-length}
 
 -- ---- a get by an idle worker that holds nothing

@@ -21,7 +21,7 @@ use Rattle.linearization.specs.Calls as reading
 use Rattle.rules_history.specs.History.{History, start, then, PacedCall}
 use Rattle.linearizability.specs.Ends.{AddStep, looked-up, unknown, entered, present, no-room, linked, settled}
 use Rattle.linearizability.specs.Ends.{FinishStep, goes-on, ends, FinishOf}
-use Rattle.rules_follow_model.specs.Own.{own-step, turned-away, others}
+use Rattle.rules_cases.specs.Own.{own-step, turned-away, others}
 use Rattle.rules_follow_model.specs.Paced.{paced}
 
 -- what a step of the call half done may answer

@@ -13,7 +13,7 @@ use Rattle.terms.specs.declared.Sizes.{Sizes}
 use Rattle.rules.specs.Rules.{Job, looking, linking, Graph, noJob, job, find, at, missing, newJob, entered, linked}
 use Rattle.rules.specs.Sound.{Looking}
 use Rattle.linearization.specs.Calls.{Pending, Reading, becomes}
-use Rattle.rules_invariant.specs.Base.{update-same, update-other}
+use Rattle.rules_cases.specs.Base.{update-same, update-other}
 use Rattle.rules_invariant.specs.State.{adding, State, enter}
 use Rattle.rules_invariant.specs.Invariant.{Invariant, Below, startedBy-none}
 use Rattle.rules_invariant.specs.Entering.{enter-keeps}

@@ -14,7 +14,8 @@ use Rattle.terms.specs.declared.Sizes.{Sizes}
 use Rattle.rules.specs.Rules.{Job, idle, linking, Graph, noJob, job, find, at, withCall, withDependent, withCount}
 use Rattle.rules.specs.Rules.{linked, settles, settled, enqueue}
 use Rattle.linearization.specs.Calls.{Pending, Reading, becomes, addEnded}
-use Rattle.rules_invariant.specs.Base.{update-same, update-other, update-at, hit, hit-same, hit-other}
+use Rattle.rules_cases.specs.Base.{update-same, update-other, update-at}
+use Rattle.rules_invariant.specs.Base.{hit, hit-same, hit-other}
 use Rattle.rules_invariant.specs.State.{apart, adding, State, bit, linkFinished, linkDependent, settle}
 use Rattle.rules_invariant.specs.Invariant.{Invariant, occurrences-enqueue}
 use Rattle.rules_invariant.specs.Linking.{link-finished-keeps, link-dependent-keeps, settle-keeps, settles-right}

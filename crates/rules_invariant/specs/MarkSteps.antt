@@ -13,7 +13,8 @@ use Rattle.terms.specs.Terms.{Label, executing, finished}
 use Rattle.terms.specs.declared.Sizes.{Sizes}
 use Rattle.rules.specs.Rules.{Job, idle, marking, notifying, Graph, noJob, job, withLabel, marked, handedOut}
 use Rattle.linearization.specs.Calls.{Pending, Reading, becomes, finishEnded}
-use Rattle.rules_invariant.specs.Base.{update-same, update-other, hit, hit-same, occurrences-cons}
+use Rattle.rules_cases.specs.Base.{update-same, update-other}
+use Rattle.rules_invariant.specs.Base.{hit, hit-same, occurrences-cons}
 use Rattle.rules_invariant.specs.State.{apart, finishing, State, hand, mark, close}
 use Rattle.rules_invariant.specs.Invariant.{Invariant, finished-not-unexecuted, executing-not-finished}
 use Rattle.rules_invariant.specs.Invariant.{entered-there}

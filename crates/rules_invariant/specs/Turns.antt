@@ -14,7 +14,7 @@ use Rattle.rules.specs.Rules.{Call, Worker, Graph, withCall}
 use Rattle.sequential_model.specs.Book.{Ended}
 use Rattle.linearization.specs.Calls.{Pending, Reading, becomes}
 use Rattle.rules_history.specs.History.{PacedCall}
-use Rattle.rules_invariant.specs.Base.{update-same, update-other}
+use Rattle.rules_cases.specs.Base.{update-same, update-other}
 use Rattle.rules_invariant.specs.State.{apart, adding, finishing, State}
 use Rattle.rules_invariant.specs.Invariant.{Invariant, held-there}
 use Rattle.rules_invariant.specs.Names.{Extends, extends-same}

@@ -15,7 +15,7 @@ use Rattle.rules_cases.specs.Deed as by
 use Rattle.rules_cases.specs.Deed.{Stepped, Made}
 use Rattle.linearization.specs.Calls.{Reading}
 use Rattle.rules_history.specs.History.{History, then}
-use Rattle.rules_follow_model.specs.Own.{own-sizes, own-step, own-made}
+use Rattle.rules_cases.specs.Own.{own-sizes, own-step, own-made}
 use Rattle.whole_calls.specs.Whole.{stepsOf, answers, through, goingTo, Kept, Unchanged, AddLeft, WholeAdd}
 use Rattle.whole_calls.specs.Whole.{AddEnd, accepted, wrong, unknown, present, no-room}
 use Rattle.whole_calls.specs.Kept.{grown-same, entered-labels, kept-same, kept-on, turned, call-turned, with-call}

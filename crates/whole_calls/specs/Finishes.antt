@@ -18,12 +18,11 @@ use Rattle.rules.specs.Rules.{Job, noJob, Call, idle, marking, notifying, Worke
 use Rattle.rules.specs.Rules.{marked, perform}
 use Rattle.rules_cases.specs.Deed as by
 use Rattle.rules_cases.specs.Deed.{HoldsNot, Stepped, Made}
-use Rattle.rules_cases.specs.Deeds.{never}
+use Rattle.rules_cases.specs.Base.{never, update-same, update-other, kept-field}
 use Rattle.linearization.specs.Calls.{Reading}
 use Rattle.rules_history.specs.History.{History}
 use Rattle.rules_invariant.specs.Sound.{sound}
-use Rattle.rules_follow_model.specs.Base.{update-same, update-other, kept-field}
-use Rattle.rules_follow_model.specs.Own.{own-sizes, own-step, own-made}
+use Rattle.rules_cases.specs.Own.{own-sizes, own-step, own-made}
 use Rattle.whole_calls.specs.Whole.{stepsOf, answers, through, goingTo, FinishLeft, WholeFinish}
 use Rattle.whole_calls.specs.Kept.{kept-same, call-turned, with-call}
 use Rattle.whole_calls.specs.Last.{Ran, arcs-end}

@@ -20,8 +20,8 @@ use Rattle.rules_cases.specs.Deeds.{unbroken}
 use Rattle.linearization.specs.Calls.{Reading}
 use Rattle.rules_history.specs.History.{History, then}
 use Rattle.rules_invariant.specs.Sound.{sound}
-use Rattle.rules_follow_model.specs.Base.{kept-field}
-use Rattle.rules_follow_model.specs.Own.{own-step}
+use Rattle.rules_cases.specs.Base.{kept-field}
+use Rattle.rules_cases.specs.Own.{own-step}
 use Rattle.whole_calls.specs.Whole.{stepsOf, answers, through, goingTo, Grown, Kept}
 use Rattle.whole_calls.specs.Kept.{grown-same, grown-by, set-labels, kept-on, turned, call-turned}
 

@@ -37,7 +37,7 @@ use Rattle.representation_kept.specs.Arcs.{few-arcs}
 use Rattle.representation_kept.specs.Chains.{chains}
 use Rattle.words_refine_rules.specs.Items.{item}
 use Rattle.words_refine_rules.specs.Reset.{idle-fresh, past-count}
-use Rattle.rules_follow_model.specs.Base.{head-occurs}
+use Rattle.rules_cases.specs.Base.{head-occurs}
 use Rattle.rules_follow_model.specs.Entries.{listed-length}
 use Rattle.rules_follow_model.specs.Settled.{hands-head}
 use Rattle.rules_follow_model.specs.Paced.{paced, worker-idle, all-idle}

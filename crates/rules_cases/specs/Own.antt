@@ -5,16 +5,16 @@ use mathlib.Core.Logic.{_≢_}
 use mathlib.Core.Bool.{true, false, true≢false}
 use Prim.Native.Nat.{ℕ, _≤_, _<_}
 use native.Mathlib.Omega.{arith}
-use borrow.Author.Tests.{eq-eqb, lt-ltb}
+use borrow.Author.Tests.{eq-eqb}
 use Rattle.terms.specs.Terms.{sameSizes}
-use Rattle.terms.specs.Runs.{Item, step, Outcome, sizesOf, workerOf}
+use Rattle.terms.specs.Runs.{Item, step, sizesOf, workerOf}
 use Rattle.terms.specs.declared.Sizes.{Sizes}
 use Rattle.terms.specs.declared.Answer.{Answer}
-use Rattle.rules.specs.Rules.{Call, idle, Graph, admitted, perform}
+use Rattle.rules.specs.Rules.{Call, idle, Graph, perform}
 use Rattle.rules_cases.specs.Deed as by
 use Rattle.rules_cases.specs.Deed.{isStep, Stepped, Made, Deed}
 use Rattle.rules_cases.specs.Deeds.{deed}
-use Rattle.rules_follow_model.specs.Base.{update-other}
+use Rattle.rules_cases.specs.Base.{update-other}
 
 pub own-sizes : (s : Sizes) → sameSizes s s ≡ true
 unfolding sameSizes
@@ -24,10 +24,6 @@ own-sizes s = rw (
   eq-eqb (s .bits) (s .bits) refl,
   eq-eqb (s .workers) (s .workers) refl,
 )
-
-pub performed : (s : Sizes) (g : Graph) (w : ℕ) → w < s .workers → (o : Outcome Graph) → admitted s s g w o ≡ o
-unfolding admitted
-performed s g w h o = rw (own-sizes s, lt-ltb w (s .workers) h)
 
 -- a step is one of the call that the worker is in
 pub own-step : (s : Sizes) (g : Graph) {w : ℕ} → w < s .workers → {c : Call} → g .workers w .call ≡ c
