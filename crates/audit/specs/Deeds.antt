@@ -19,6 +19,7 @@ use Rattle.rules.specs.Rules.{Job, noJob, idle, notifying, Worker, Graph, job, 
 use Rattle.rules.specs.Rules.{marked, handedOut, entered, perform}
 use Rattle.rules.specs.Sound.{Named, Looking, Sound}
 use Rattle.rules_cases.specs.Deed as by
+use Rattle.rules_cases.specs.Deed.{Deed}
 use Rattle.rules_cases.specs.Deeds.{deed}
 use Rattle.sequential_model.specs.Book.{Entry, Ended, Call, add, get, finish, End, accepted, noneReady, handed, refused}
 use Rattle.linearization.specs.Calls.{Reading, decided, note, acceptedFinishes}
@@ -58,19 +59,19 @@ HandsNone x = (l : List ℕ) → orHanded x l ≡ l
 
 -- by worker w: no label and no hold changes, a mark, or a job handed out; with the answer, and with the names of the
 -- accepted finishes before and after
-pub data Deed (s : Sizes) (g : Graph) (w : ℕ) (before : List ℕ) : Answer → Graph → List ℕ → Type 0 where
+pub data Effect (s : Sizes) (g : Graph) (w : ℕ) (before : List ℕ) : Answer → Graph → List ℕ → Type 0 where
   plain : {x : Answer} {h : Graph} → HandsNone x → ((j : ℕ) → job h j .label ≡ job g j .label)
-      → ((v : ℕ) → h .workers v .held ≡ g .workers v .held) → Deed s g w before x h before
+      → ((v : ℕ) → h .workers v .held ≡ g .workers v .held) → Effect s g w before x h before
   marks : {x : Answer} {h : Graph} (p : ℕ) → HandsNone x → g .workers w .held ≡ some p → Labels g h p finished
-      → OthersHold g h w → Deed s g w before x h (before ++ (job g p .name ∷ []))
+      → OthersHold g h w → Effect s g w before x h (before ++ (job g p .name ∷ []))
   hands : {h : Graph} (j : ℕ) → w < s .workers → 0 < occurrences j (g .queue) → g .workers w .held ≡ none
       → Labels g h j executing → h .workers w .held ≡ some j → OthersHold g h w
-      → Deed s g w before (Handed j (job g j .name)) h before
+      → Effect s g w before (Handed j (job g j .name)) h before
 
 -- worker w's item was answered x, and left the graph and the reading so
 pub record Did (s : Sizes) (g : Graph) (r : Reading) (w : ℕ) (x : Answer) (h : Graph) (q : Reading) : Type 0 where
   pub grown : Grown g h
-  pub deed : Deed s g w (acceptedFinishes (r .calls)) x h (acceptedFinishes (q .calls))
+  pub effect : Effect s g w (acceptedFinishes (r .calls)) x h (acceptedFinishes (q .calls))
 
 -- ---- the accepted finishes, with a call more
 finishes-after : (c : Call) (e : End) (l m : List Ended) (k : List ℕ) → acceptedFinishes m ≡ acceptedFinishes l ++ k
@@ -148,7 +149,7 @@ module _ (s : Sizes) (g : Graph) (r : Reading) (S : Sound s g) where
   plainly : {w : ℕ} {x : Answer} {h : Graph} {q : Reading} → HandsNone x → Grown g h
       → ((j : ℕ) → job h j .label ≡ job g j .label) → ((v : ℕ) → h .workers v .held ≡ g .workers v .held)
       → acceptedFinishes (q .calls) ≡ acceptedFinishes (r .calls) → Did s g r w x h q
-  plainly z G l v e = record { grown = G; deed = rw e (plain z l v) }
+  plainly z G l v e = record { grown = G; effect = rw e (plain z l v) }
 
   -- the jobs stay as they are
   alone : {w : ℕ} {x : Answer} {h : Graph} {q : Reading} → HandsNone x → h .jobs ≡ g .jobs
@@ -170,7 +171,7 @@ module _ (s : Sizes) (g : Graph) (r : Reading) (S : Sound s g) where
   unfolding acceptedFinishes
   marking {w} p c z h e = record {
     grown = grown-set (marked g w p c) p (withLabel (job g p) finished) refl refl refl;
-    deed = rw (e, finishes-then (r .calls) (record { call = finish w (job g p .name); end = accepted }))
+    effect = rw (e, finishes-then (r .calls) (record { call = finish w (job g p .name); end = accepted }))
         (marks p z h (labels-set (marked g w p c) p finished refl (S .held-there w p h))
         (λ v u. ap (λ (y : Worker). y .held) (update-other (g .workers) w _ v u)));
   }
@@ -182,14 +183,14 @@ module _ (s : Sizes) (g : Graph) (r : Reading) (S : Sound s g) where
       let queued : 0 < occurrences j (g .queue) = rw e (head-occurs j l) in
       record {
         grown = grown-set (handedOut g w j l) j (withLabel (job g j) executing) refl refl refl;
-        deed = rw (no-finish (r .calls) (record { call = get w; end = handed j (job g j .name) }) refl)
+        effect = rw (no-finish (r .calls) (record { call = get w; end = handed j (job g j .name) }) refl)
             (hands j b queued h (labels-set (handedOut g w j l) j executing refl (S .queue-there j queued))
             (ap (λ (y : Worker). y .held) (update-same (g .workers) w _))
             (λ v u. ap (λ (y : Worker). y .held) (update-other (g .workers) w _ v u)));
       }
 
   -- ---- each way in which an item can end
-  did : {i : Item} {x : Answer} {h : Graph} (d : by.Deed s g i x h) → Did s g r (workerOf i) x h (reads r d)
+  did : {i : Item} {x : Answer} {h : Graph} (d : Deed s g i x h) → Did s g r (workerOf i) x h (reads r d)
   unfolding acceptedFinishes
   did (by.otherSizes e) = alone (λ l. refl) refl (λ v. refl) refl
   did (by.workerUnknown e k) = alone (λ l. refl) refl (λ v. refl) refl
@@ -225,4 +226,5 @@ module _ (s : Sizes) (g : Graph) (r : Reading) (S : Sound s g) where
 pub deeds : {s : Sizes} {g : Graph} {r : Reading} {e : ℕ → ℕ} → History s g r e → (i : Item)
     → Did s g r (workerOf i) (perform s g i .answer) (perform s g i .state) (note r i (perform s g i .answer))
 deeds {s} {g} {r} history i =
-    rw (read r (sound history) (paced (λ g r e t. sound t) history) (deed s g i)) (did s g r (sound history) (deed s g i))
+    rw (read r (sound history) (paced (λ g r e t. sound t) history) (deed s g i))
+    (did s g r (sound history) (deed s g i))

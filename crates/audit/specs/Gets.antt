@@ -30,7 +30,10 @@ use Rattle.rules_invariant.specs.Sound.{sound}
 pub none-ready : (s q : Sizes) (g : Graph) (w : ℕ) → (perform s g (get q w) .answer ≡ NoneReady)
     ↔ ((sameSizes q s ≡ true) × (w < s .workers) × (g .workers w .call ≡ idle) × (g .workers w .held ≡ none)
     × (g .queue ≡ []))
-none-ready s q g w = (to (deed s g (get q w)), λ o. from (own-made s g (get q w) (o .0) (o .1) refl (o .2)) (o .3) (o .4))
+none-ready s q g w = (
+  to (deed s g (get q w)),
+  λ o. from (own-made s g (get q w) (o .0) (o .1) refl (o .2)) (o .3) (o .4),
+)
   where
     to : {x : Answer} {h : Graph} → Deed s g (get q w) x h → x ≡ NoneReady
         → (sameSizes q s ≡ true) × (w < s .workers) × (g .workers w .call ≡ idle) × (g .workers w .held ≡ none)

@@ -8,9 +8,9 @@ use mathlib.Core.Option.{Option, none, some}
 use Prim.Native.Nat.{ℕ, suc, _+_, _≤_, _<_}
 use lib.Dec.{ltb, leb, eqb}
 use lib.ListN.{length, getD}
-use Rattle.terms.specs.Terms.{finished, Arguments, listed, argumentsWrong, sameSizes, wrongSizes, noSuchWorker, halfDone}
-use Rattle.terms.specs.Terms.{nothingToStep, wrongArguments, unknownName, namePresent, noRoom, damaged, alreadyHolding}
-use Rattle.terms.specs.Terms.{notHeld}
+use Rattle.terms.specs.Terms.{finished, Arguments, listed, argumentsWrong, sameSizes, wrongSizes, noSuchWorker}
+use Rattle.terms.specs.Terms.{halfDone, nothingToStep, wrongArguments, unknownName, namePresent, noRoom, damaged}
+use Rattle.terms.specs.Terms.{alreadyHolding, notHeld}
 use Rattle.terms.specs.Runs.{Item, postAdd, postFinish, step, get, sizesOf, workerOf}
 use Rattle.terms.specs.declared.Sizes.{Sizes}
 use Rattle.terms.specs.declared.Answer.{Answer}
@@ -40,7 +40,7 @@ HoldsNot g name (some p) = eqb (job g p .name) name ≡ false
 abbrev pub noPlace : Sizes → Graph → Arguments → Bool
 noPlace s g a = leb (s .jobs) (length (g .jobs)) || ltb (s .arcs) (g .reserved + a .count)
 
--- number 9 by the rules, which a sound graph excludes: a listed name that is gone, a mark by a worker that holds nothing
+-- number 9 by the rules, which a sound graph excludes: a listed name that is gone, a mark with nothing held
 abbrev pub Broken : Graph → Option ℕ → Call → Type 0
 Broken g h (linking a j i t) = (i < a .count) × (find g (getD (listed a) i 0) ≡ missing)
 Broken g h marking = h ≡ none

@@ -90,7 +90,8 @@ module _ (s : Sizes) (g : Graph) where
     unfolding finishPosted
     posts-finish name none e = to.finishWrong {w = w} {name = name} (rw e tt)
     posts-finish name (some p) e = pick-by (By-made (postFinish t w name)) (eqb (job g p .name) name)
-        (λ z. to.finishPosted p e (eqb-true (job g p .name) name z)) (λ z. to.finishWrong {w = w} {name = name} (rw e z))
+        (λ z. to.finishPosted p e (eqb-true (job g p .name) name z))
+        (λ z. to.finishWrong {w = w} {name = name} (rw e z))
 
     takes : g .workers w .held ≡ none → (q : List ℕ) → g .queue ≡ q → By-made (get t w) (takeNext g w q)
     unfolding takeNext

@@ -86,7 +86,8 @@ module _ (s : Sizes) (g : Graph) (r : Reading) (S : Sound s g) (P : Paced g r) w
   paced-on (by.made A c (by.finishPosted p e n)) = moved _ _ _ (λ j h. refl) refl refl (rw (e, n) refl)
   paced-on (by.made A c (by.getHolding j e)) = same refl
   paced-on (by.made A c (by.getNone e f)) = same refl
-  paced-on (by.made A c (by.getHanded {w} e j f)) = replaced _ _ (λ i h. same-names j _ refl i) refl (λ v z. refl) (rw c at (P w))
+  paced-on (by.made A c (by.getHanded {w} e j f)) =
+      replaced _ _ (λ i h. same-names j _ refl i) refl (λ v z. refl) (rw c at (P w))
   paced-on (by.stepped A c by.noCall) = same refl
   paced-on (by.stepped A c (by.broken b)) = same refl
   paced-on (by.stepped A c (by.lookedUp j l e)) = moved _ _ _ (λ j h. refl) refl refl refl

@@ -47,8 +47,10 @@ module _ (s : Sizes) (g : Graph) (w : ℕ) (S : Sound s g) where
       let all : i ≡ a .count = omega (arith, C .within) in rw (P, all) no-room
   step-by q C P (by.jobEntered {a} {i} l e f) =
       let all : i ≡ a .count = omega (arith, C .within) in rw (P, all) entered
-  step-by q C P (by.tallied {a} {j} {i} p l e f) = rw (P .0) (linked {k = a .count + 1 + i} (omega arith) (omega arith))
-  step-by q C P (by.arcAppended {a} {j} {i} p l e f) = rw (P .0) (linked {k = a .count + 1 + i} (omega arith) (omega arith))
+  step-by q C P (by.tallied {a} {j} {i} p l e f) =
+      rw (P .0) (linked {k = a .count + 1 + i} (omega arith) (omega arith))
+  step-by q C P (by.arcAppended {a} {j} {i} p l e f) =
+      rw (P .0) (linked {k = a .count + 1 + i} (omega arith) (omega arith))
   step-by q C P (by.jobSettled {a} {j} {i} l) =
       let last : a .count + 1 + i ≡ 2 * a .count + 1 = omega (arith, C .within) in rw (P .0, last) settled
   step-by q C P (by.markedLast p e f) =

@@ -1,5 +1,5 @@
--- What is read of each way in which an item can end by the rules ("Deciding steps"): where the steps answered so far are
--- those of the worker's call, what is noted of the item and its answer is what the case says. Assumes nothing.
+-- What is read of each way in which an item can end by the rules ("Deciding steps"): where the steps answered so far
+-- are those of the worker's call, what is noted of the item and its answer is what the case says. Assumes nothing.
 use mathlib.Core.Path.{_≡_, refl}
 use mathlib.Core.Bool.{false}
 use Prim.Native.Nat.{ℕ, suc, _+_, _≤_}
@@ -16,13 +16,13 @@ use Rattle.rules_cases.specs.Deed as by
 use Rattle.rules_cases.specs.Deed.{Stepped, Deed}
 use Rattle.sequential_model.specs.Book as book
 use Rattle.sequential_model.specs.Book.{add, finish, accepted, noneReady, handed, refused}
-use Rattle.linearization.specs.Calls.{Pending, idle, adding, finishing, Reading, becomes, decided, addEnded, finishEnded}
-use Rattle.linearization.specs.Calls.{endsCall, noteStep, noteAdd, noteFinish, noteGet, note}
+use Rattle.linearization.specs.Calls.{Pending, idle, adding, finishing, Reading, becomes, decided, addEnded}
+use Rattle.linearization.specs.Calls.{finishEnded, endsCall, noteStep, noteAdd, noteFinish, noteGet, note}
 use Rattle.rules_history.specs.History.{PacedCall}
 
 -- ---- what is read
-abbrev pub readsStep : {s : Sizes} {g : Graph} {w : ℕ} {c : Call} {x : Answer} {h : Graph} → Reading → Stepped s g w c x h
-    → Reading
+abbrev pub readsStep : {s : Sizes} {g : Graph} {w : ℕ} {c : Call} {x : Answer} {h : Graph} → Reading
+    → Stepped s g w c x h → Reading
 readsStep r by.noCall = r
 readsStep r (by.broken b) = r
 readsStep {w} r (by.lookedUp {a} {i} j l e) = becomes r w (adding a (suc i))

@@ -121,8 +121,8 @@ module _ (s : Sizes) (g : Graph) (r : Reading) (x : State) (K : Kept s g r x) (I
         queue = K .queue;
         jobs = snoc-all (λ k y. jobRel later (enter x w ps) k y) (g .jobs) (newJob a) noJob
             (rw (K .size) new-rel) old-rel;
-        workers = workers-after s g r x K I w (entered g w a) (enter x w ps) (Pending.adding a (a .count + 1 + 0)) _ further
-            (omega (arith, longer)) new-worker
+        workers = workers-after s g r x K I w (entered g w a) (enter x w ps) (Pending.adding a (a .count + 1 + 0)) _
+            further (omega (arith, longer)) new-worker
             (λ v z. record {
               held = refl;
               stage = sym (update-other (x .stage) w (adding n) v z);

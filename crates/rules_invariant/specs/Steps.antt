@@ -12,14 +12,15 @@ use Rattle.terms.specs.Terms.{Arguments, listed}
 use Rattle.terms.specs.Runs.{Item, workerOf}
 use Rattle.terms.specs.declared.Sizes.{Sizes}
 use Rattle.terms.specs.declared.Answer.{Answer}
-use Rattle.rules.specs.Rules.{Call, idle, looking, linking, marking, Graph, at, missing, find, withCall, entered, perform}
+use Rattle.rules.specs.Rules.{Call, idle, looking, linking, marking, Graph, at, missing, find, withCall, entered}
+use Rattle.rules.specs.Rules.{perform}
 use Rattle.rules.specs.Sound.{Looking}
 use Rattle.rules_cases.specs.Deed as by
 use Rattle.rules_cases.specs.Deed.{noPlace, Stepped, Deed}
 use Rattle.rules_cases.specs.Deeds.{deed}
 use Rattle.linearization.specs.Calls.{Pending, Reading, becomes, note}
 use Rattle.rules_history.specs.Noted.{readsStep, reads, noted}
-use Rattle.rules_invariant.specs.State.{State}
+use Rattle.rules_invariant.specs.State.{State, apart}
 use Rattle.rules_invariant.specs.Invariant.{Invariant}
 use Rattle.rules_invariant.specs.Names.{extends-same, looking-keeps, numbers-of, length-prefix}
 use Rattle.rules_invariant.specs.Relation.{Kept}
@@ -36,13 +37,16 @@ neither false c e = (refl, e)
 module _ (s : Sizes) (g : Graph) (r : Reading) (x : State) (K : Kept s g r x) (I : Invariant x) where
   -- ---- looking up and entering
   module _ (w : ℕ) (a : Arguments) (i : ℕ) (c : g .workers w .call ≡ looking a i) where
+    not-yet : x .stage w ≡ apart
+    not-yet = own-stage s g r x K I w (looking a i) c
+
     looks : Looking g a i
     looks = own-call s g r x K I w (looking a i) c
 
     looked-up : (j : ℕ) → i < a .count → find g (getD (listed a) i 0) ≡ at j
         → Next s g x (withCall g w (looking a (suc i))) (becomes r w (Pending.adding a (suc i)))
     looked-up j h e =
-        turned s g r x K I w (looking a (suc i)) (Pending.adding a (suc i)) (own-stage s g r x K I w (looking a i) c) refl
+        turned s g r x K I w (looking a (suc i)) (Pending.adding a (suc i)) not-yet refl
         (looking-keeps g (withCall g w (looking a (suc i))) (extends-same (g .jobs)) a (suc i) (record {
           right = looks .right;
           within = h;
@@ -54,7 +58,7 @@ module _ (s : Sizes) (g : Graph) (r : Reading) (x : State) (K : Kept s g r x) (I
         refl
 
     refused : Next s g x (withCall g w idle) (becomes r w Pending.idle)
-    refused = turned s g r x K I w idle Pending.idle (own-stage s g r x K I w (looking a i) c) refl tt refl
+    refused = turned s g r x K I w idle Pending.idle not-yet refl tt refl
 
     enters : a .count ≤ i → find g (a .name) ≡ missing → noPlace s g a ≡ false
         → Next s g x (entered g w a) (becomes r w (Pending.adding a (a .count + 1 + 0)))

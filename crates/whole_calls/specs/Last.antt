@@ -78,7 +78,8 @@ module _ {s : Sizes} {g : Graph} {w : ℕ} where
       set-one g w Ended _ _ j _ refl refl refl
       (grown-by (rules.settles (job g j .count - t) t (a .count)) (g .queue) j)
 
-  notifies-on : {p k : ℕ} {x : Answer} {h : Graph} → suc k < length (job g p .dependents) → by.Stepped s g w (notifying p k) x h
+  notifies-on : {p k : ℕ} {x : Answer} {h : Graph} → suc k < length (job g p .dependents)
+      → by.Stepped s g w (notifying p k) x h
       → Stepped w g Going (notifying p (suc k)) (outcome x h)
       × (length (job h p .dependents) ≡ length (job g p .dependents))
   notifies-on l (by.broken b) = absurd b
@@ -89,7 +90,8 @@ module _ {s : Sizes} {g : Graph} {w : ℕ} where
       )
   notifies-on l (by.lastNotified m) = absurd (omega arith)
 
-  notifies-last : {p k : ℕ} {x : Answer} {h : Graph} → length (job g p .dependents) ≤ suc k → by.Stepped s g w (notifying p k) x h
+  notifies-last : {p k : ℕ} {x : Answer} {h : Graph} → length (job g p .dependents) ≤ suc k
+      → by.Stepped s g w (notifying p k) x h
       → Stepped w g Ended idle (outcome x h)
   notifies-last l (by.broken b) = absurd b
   notifies-last l (by.arcNotified m) = absurd (omega arith)
