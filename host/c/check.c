@@ -410,8 +410,23 @@ static void check_day_list(void)
     same_bytes("tg_day_list, cut: line", out, "broken 20 12\n", 13);
 }
 
+static void same_text(const char *what, const char *answered, const char *wanted)
+{
+    same(what, strcmp(answered, wanted) == 0, 1);
+}
+
+static void check_texts(void)
+{
+    same_text("tg_version", tg_version(), TG_VERSION);
+    same_text("tg_message, 0", tg_message(TG_ACCEPTED), "accepted");
+    same_text("tg_message, 15", tg_message(TG_NO_ROOM), "the output lacks room");
+    same_text("tg_message, 16", tg_message(TG_NO_ROOM + 1), "unknown number");
+    same_text("tg_message, the greatest", tg_message(UINT32_MAX), "unknown number");
+}
+
 int main(void)
 {
+    check_texts();
     check_read_entry();
     check_read_refusals();
     check_write_entry();

@@ -9,14 +9,16 @@ use native.Mathlib.Omega.{arith}
 use lib.ListN.{length, getD, set, length-set, length-append, List·getD-append, List·getD-eq-default}
 use lib.Seq.{getD-set-same, getD-set-other, getD-append-seam}
 use Rattle.terms.specs.Base.{occurrences}
-use Rattle.terms.specs.Terms.{Label, executing, finished, Arguments, listed}
+use Rattle.terms.specs.Terms.{Label, executing, finished, Arguments, listed, finishOf}
+use Rattle.terms.specs.Order.{without}
+use Rattle.terms.specs.OrderLaws.{first-occurs}
 use Rattle.terms.specs.Runs.{Item, workerOf}
 use Rattle.terms.specs.declared.Sizes.{Sizes}
 use Rattle.terms.specs.declared.Answer.{Answer}
 use Rattle.terms.specs.declared.Answer.the-variants.{Handed}
 use Rattle.rules.specs.Rules as rules
 use Rattle.rules.specs.Rules.{Job, noJob, idle, notifying, Worker, Graph, job, withLabel, newJob}
-use Rattle.rules.specs.Rules.{marked, handedOut, entered, perform}
+use Rattle.rules.specs.Rules.{marked, handedOut, entered, perform, nextOut, handOut, order}
 use Rattle.rules.specs.Sound.{Named, Looking, Sound}
 use Rattle.rules_cases.specs.Deed as by
 use Rattle.rules_cases.specs.Deed.{Deed}
@@ -28,7 +30,7 @@ use Rattle.rules_history.specs.Noted.{reads}
 use Rattle.linearizability.specs.Demand.{orHanded}
 use Rattle.rules_invariant.specs.Relation.{snoc-all}
 use Rattle.rules_invariant.specs.Sound.{sound}
-use Rattle.rules_cases.specs.Base.{update-same, update-other, kept-field, head-occurs}
+use Rattle.rules_cases.specs.Base.{update-same, update-other, kept-field}
 use Rattle.rules_follow_model.specs.Paced.{paced, read}
 use Rattle.rules_follow_model.specs.Booked.{held-kept}
 use Rattle.rules_follow_model.specs.Entries.{listed-length}
@@ -66,7 +68,7 @@ pub data Effect (s : Sizes) (g : Graph) (w : ℕ) (before : List ℕ) : Answer �
       → OthersHold g h w → Effect s g w before x h (before ++ (job g p .name ∷ []))
   hands : {h : Graph} (j : ℕ) → w < s .workers → 0 < occurrences j (g .queue) → g .workers w .held ≡ none
       → Labels g h j executing → h .workers w .held ≡ some j → OthersHold g h w
-      → Effect s g w before (Handed j (job g j .name)) h before
+      → Effect s g w before (Handed (handOut g j)) h before
 
 -- worker w's item was answered x, and left the graph and the reading so
 pub record Did (s : Sizes) (g : Graph) (r : Reading) (w : ℕ) (x : Answer) (h : Graph) (q : Reading) : Type 0 where
@@ -79,10 +81,10 @@ finishes-after : (c : Call) (e : End) (l m : List Ended) (k : List ℕ) → acce
 unfolding acceptedFinishes
 finishes-after (add w a) e l m k z = z
 finishes-after (get w) e l m k z = z
-finishes-after (finish w name) accepted l m k z = ap (λ n. name ∷ n) z
-finishes-after (finish w name) noneReady l m k z = z
-finishes-after (finish w name) (handed j other) l m k z = z
-finishes-after (finish w name) (refused n i) l m k z = z
+finishes-after (finish w f) accepted l m k z = ap (λ n. f .name ∷ n) z
+finishes-after (finish w f) noneReady l m k z = z
+finishes-after (finish w f) (handed h) l m k z = z
+finishes-after (finish w f) (refused n i) l m k z = z
 
 finishes-then : (l : List Ended) (x : Ended)
     → acceptedFinishes (l ++ (x ∷ [])) ≡ acceptedFinishes l ++ acceptedFinishes (x ∷ [])
@@ -166,25 +168,27 @@ module _ (s : Sizes) (g : Graph) (r : Reading) (S : Sound s g) where
       (labels-kept h p y e (ap (λ (m : Entry). m .label) k)) v f
 
   marking : {w : ℕ} {x : Answer} {q : Reading} (p : ℕ) (c : rules.Call) → HandsNone x → g .workers w .held ≡ some p
-      → q .calls ≡ r .calls ++ (record { call = finish w (job g p .name); end = accepted } ∷ [])
+      → q .calls ≡ r .calls ++ (record { call = finish w (finishOf (job g p .name)); end = accepted } ∷ [])
       → Did s g r w x (marked g w p c) q
   unfolding acceptedFinishes
   marking {w} p c z h e = record {
     grown = grown-set (marked g w p c) p (withLabel (job g p) finished) refl refl refl;
-    effect = rw (e, finishes-then (r .calls) (record { call = finish w (job g p .name); end = accepted }))
+    effect = rw (e, finishes-then (r .calls) (record { call = finish w (finishOf (job g p .name)); end = accepted }))
         (marks p z h (labels-set (marked g w p c) p finished refl (S .held-there w p h))
         (λ v u. ap (λ (y : Worker). y .held) (update-other (g .workers) w _ v u)));
   }
 
-  handing : {w : ℕ} (j : ℕ) (l : List ℕ) → w < s .workers → g .workers w .held ≡ none → g .queue ≡ j ∷ l
-      → Did s g r w (Handed j (job g j .name)) (handedOut g w j l) (decided r (get w) (handed j (job g j .name)))
+  handing : {w : ℕ} (j : ℕ) → w < s .workers → g .workers w .held ≡ none → nextOut g ≡ some j
+      → Did s g r w (Handed (handOut g j)) (handedOut g w j (without j (g .queue)))
+      (decided r (get w) (handed (handOut g j)))
   unfolding acceptedFinishes
-  handing {w} j l b h e =
-      let queued : 0 < occurrences j (g .queue) = rw e (head-occurs j l) in
+  handing {w} j b h e =
+      let queued : 0 < occurrences j (g .queue) = first-occurs (order g) (g .queue) j e in
+      let after : Graph = handedOut g w j (without j (g .queue)) in
       record {
-        grown = grown-set (handedOut g w j l) j (withLabel (job g j) executing) refl refl refl;
-        effect = rw (no-finish (r .calls) (record { call = get w; end = handed j (job g j .name) }) refl)
-            (hands j b queued h (labels-set (handedOut g w j l) j executing refl (S .queue-there j queued))
+        grown = grown-set after j (withLabel (job g j) executing) refl refl refl;
+        effect = rw (no-finish (r .calls) (record { call = get w; end = handed (handOut g j) }) refl)
+            (hands j b queued h (labels-set after j executing refl (S .queue-there j queued))
             (ap (λ (y : Worker). y .held) (update-same (g .workers) w _))
             (λ v u. ap (λ (y : Worker). y .held) (update-other (g .workers) w _ v u)));
       }
@@ -201,7 +205,7 @@ module _ (s : Sizes) (g : Graph) (r : Reading) (S : Sound s g) where
   did (by.made A c (by.finishPosted p e n)) = alone (λ l. refl) refl (held-still _ _) refl
   did (by.made A c (by.getHolding j e)) = alone (λ l. refl) refl (λ v. refl) (no-finish (r .calls) _ refl)
   did (by.made A c (by.getNone e f)) = alone (λ l. refl) refl (λ v. refl) (no-finish (r .calls) _ refl)
-  did (by.made A c (by.getHanded e j {q} f)) = handing j q (A .worker) e f
+  did (by.made A c (by.getHanded e j f)) = handing j (A .worker) e f
   did (by.stepped A c by.noCall) = alone (λ l. refl) refl (λ v. refl) refl
   did (by.stepped A c (by.broken b)) = alone (λ l. refl) refl (λ v. refl) refl
   did (by.stepped A c (by.lookedUp j k e)) = alone (λ l. refl) refl (held-still _ _) refl

@@ -50,7 +50,8 @@ module _ {s : Sizes} {g : Graph} {before : List ℕ} (S : Sound s g) (F : Finish
     once = F .once;
   }
 
-  finishes-on : {w : ℕ} (x : Answer) (h : Graph) (later : List ℕ) → Sound s h → Grown g h → Effect s g w before x h later
+  finishes-on : {w : ℕ} (x : Answer) (h : Graph) (later : List ℕ) → Sound s h → Grown g h
+      → Effect s g w before x h later
       → Finishes h later
   finishes-on x h later T G (plain none labels holds) = none-more h T G (λ j. ap finishedBy (labels j))
   finishes-on x h later T G (hands k b queued held L now o) = none-more h T G (λ j. elim (ℕ-discrete j k) [

@@ -1,23 +1,26 @@
 -- What a get answers ("Steps", "Turned-away calls"): "none ready" exactly, and of a job that is handed out that every
 -- prerequisite is marked finished. Assumes nothing.
-use mathlib.Core.Path.{_≡_, refl}
+use mathlib.Core.Path.{_≡_, refl, ap}
 use mathlib.Core.Logic.{_↔_}
 use mathlib.Core.Bool.{true}
 use mathlib.Core.List.{[]}
 use mathlib.Core.Option.{none}
 use Prim.Native.Nat.{ℕ, _<_}
+use native.Mathlib.Omega.{arith}
 use lib.ListN.{length, getD}
 use Rattle.terms.specs.Base.{occurrences}
 use Rattle.terms.specs.Terms.{unexecuted, sameSizes}
 use Rattle.terms.specs.Runs.{get}
+use Rattle.terms.specs.OrderLaws.{first-occurs}
 use Rattle.terms.specs.declared.Sizes.{Sizes}
+use Rattle.terms.specs.declared.HandOut.{HandOut}
 use Rattle.terms.specs.declared.Answer.{Answer}
 use Rattle.terms.specs.declared.Answer.the-variants.{NoneReady, Handed}
-use Rattle.rules.specs.Rules.{idle, Graph, job, perform}
+use Rattle.rules.specs.Rules.{idle, Graph, job, perform, handOut, order}
 use Rattle.rules.specs.Sound.{Sound, Finished}
 use Rattle.rules_cases.specs.Deed as by
 use Rattle.rules_cases.specs.Deed.{Made, Deed}
-use Rattle.rules_cases.specs.Base.{never, head-occurs}
+use Rattle.rules_cases.specs.Base.{never}
 use Rattle.rules_cases.specs.Deeds.{deed}
 use Rattle.linearization.specs.Calls.{Reading}
 use Rattle.rules_history.specs.History.{History}
@@ -30,6 +33,7 @@ use Rattle.rules_invariant.specs.Sound.{sound}
 pub none-ready : (s q : Sizes) (g : Graph) (w : ℕ) → (perform s g (get q w) .answer ≡ NoneReady)
     ↔ ((sameSizes q s ≡ true) × (w < s .workers) × (g .workers w .call ≡ idle) × (g .workers w .held ≡ none)
     × (g .queue ≡ []))
+unfolding occurrences
 none-ready s q g w = (
   to (deed s g (get q w)),
   λ o. from (own-made s g (get q w) (o .0) (o .1) refl (o .2)) (o .3) (o .4),
@@ -49,35 +53,35 @@ none-ready s q g w = (
         → x ≡ NoneReady
     from (by.getHolding j e) y z = never (cc)
     from (by.getNone e f) y z = refl
-    from (by.getHanded e j f) y z = never (cc)
+    from (by.getHanded e j f) y z = absurd (omega (arith, first-occurs (order g) (g .queue) j f, ap (occurrences j) z))
 
 -- ---- a job is handed out only when every prerequisite is marked finished
-pub record HandedReady (g : Graph) (j name : ℕ) : Type 0 where
-  pub there : j < length (g .jobs)
-  pub named : name ≡ job g j .name
-  pub unexecuted : job g j .label ≡ unexecuted
-  pub prerequisites : (i : ℕ) → i < length (job g j .list) → Finished g (getD (job g j .list) i 0)
+pub record HandedReady (g : Graph) (h : HandOut) : Type 0 where
+  pub there : h .job < length (g .jobs)
+  pub said : h ≡ handOut g (h .job)
+  pub unexecuted : job g (h .job) .label ≡ unexecuted
+  pub prerequisites : (i : ℕ) → i < length (job g (h .job) .list) → Finished g (getD (job g (h .job) .list) i 0)
 
 -- it was made, has this name and was not handed out before, and the job of each name in its list is finished
-pub handed-ready : {s : Sizes} {g : Graph} {r : Reading} {e : ℕ → ℕ} → History s g r e → (q : Sizes) (w j name : ℕ)
-    → perform s g (get q w) .answer ≡ Handed j name → HandedReady g j name
-handed-ready {s} {g} history q w j name = of (deed s g (get q w))
+pub handed-ready : {s : Sizes} {g : Graph} {r : Reading} {e : ℕ → ℕ} → History s g r e → (q : Sizes) (w : ℕ)
+    (h : HandOut) → perform s g (get q w) .answer ≡ Handed h → HandedReady g h
+handed-ready {s} {g} history q w h = of (deed s g (get q w))
   where
     S : Sound s g
     S = sound history
 
-    of : {x : Answer} {h : Graph} → Deed s g (get q w) x h → x ≡ Handed j name → HandedReady g j name
+    of : {x : Answer} {after : Graph} → Deed s g (get q w) x after → x ≡ Handed h → HandedReady g h
     of (by.otherSizes e) z = never (cc)
     of (by.workerUnknown e l) z = never (cc)
     of (by.callHalfDone A n c) z = never (cc)
     of (by.made A c (by.getHolding k e)) z = never (cc)
     of (by.made A c (by.getNone e f)) z = never (cc)
-    of (by.made A c (by.getHanded e k {q = l} f)) z =
-        let same : j ≡ k = cc in
-        let queued : 0 < occurrences j (g .queue) = rw (same, f) (head-occurs k l) in
-        record {
+    of (by.made A c (by.getHanded e j f)) z =
+        let same : h ≡ handOut g j = cc in
+        let queued : 0 < occurrences j (g .queue) = first-occurs (order g) (g .queue) j f in
+        rw same (record {
           there = S .queue-there j queued;
-          named = cc;
+          said = refl;
           unexecuted = S .queue-unexecuted j queued;
           prerequisites = S .queue-ready j queued;
-        }
+        })

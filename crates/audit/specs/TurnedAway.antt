@@ -33,7 +33,7 @@ half-done g h (notifying j k) p P n = rw P
 
 busy : (i : Item) → isStep i ≡ false → halfDone ≡ byCall i false
 busy (postAdd t w a) e = refl
-busy (postFinish t w name) e = refl
+busy (postFinish t w f) e = refl
 busy (step t w) e = absurd (true≢false e)
 busy (get t w) e = refl
 

@@ -2,7 +2,7 @@
 -- once. Follows document 01, "Steps" and "The board and the day list". Assumes nothing.
 use mathlib.Core.Path.{_≡_, refl, sym, ap, _∙_}
 use mathlib.Core.Bool.{true≢false}
-use mathlib.Core.List.{List, [], _∷_}
+use mathlib.Core.List.{[]}
 use mathlib.Core.Option.{Option, none, some, Option·some-injective}
 use Prim.Native.Nat.{ℕ, zero, suc, _+_, _*_, _-_, _≤_, _<_}
 use native.Mathlib.Omega.{arith}
@@ -11,8 +11,12 @@ use lib.ListN.{length, getD}
 use borrow.Author.Tests.{eq-eqb}
 use Rattle.terms.specs.Base.{update, occurrences}
 use Rattle.terms.specs.Terms.{executing, finished, Arguments, wrongArguments, unknownName, namePresent, noRoom}
+use Rattle.terms.specs.Terms.{finishOf}
+use Rattle.terms.specs.Order.{without}
+use Rattle.terms.specs.OrderLaws.{first-occurs}
 use Rattle.terms.specs.Runs.{postAdd, postFinish, step, get, Outcome, outcome}
 use Rattle.terms.specs.declared.Sizes.{Sizes}
+use Rattle.terms.specs.declared.HandOut.{HandOut}
 use Rattle.terms.specs.declared.Answer.{Answer}
 use Rattle.terms.specs.declared.Answer.the-variants.{Ended, NoneReady, Handed, Refused}
 use Rattle.words.specs.Layout.{Tables}
@@ -24,7 +28,7 @@ use Rattle.rules.specs.Rules as rules
 use Rattle.rules.specs.Sound.{startedBy, Linking, Notifying}
 use Rattle.rules_cases.specs.Deed as by
 use Rattle.rules_cases.specs.Deed.{Stepped, Made}
-use Rattle.rules_cases.specs.Base.{never, kept-field, head-occurs}
+use Rattle.rules_cases.specs.Base.{never, kept-field}
 use Rattle.rules_cases.specs.Deeds.{unbroken}
 use Rattle.day_format.specs.Whole.{andThen, stepsOf, wholeAdd, wholeFinish}
 use Rattle.whole_calls.specs.Arcs.{arcs-within}
@@ -51,8 +55,8 @@ pub data FinishEnds (P : Tables → Type 0) : Outcome Tables → Type 0 where
   ended : {t : Tables} → P t → FinishEnds P (outcome Ended t)
 
 -- how a get is answered
-pub data GetEnds (P : ℕ → ℕ → Tables → Type 0) (Q : Tables → Type 0) : Outcome Tables → Type 0 where
-  handed-out : {t : Tables} {j name : ℕ} → P j name t → GetEnds P Q (outcome (Handed j name) t)
+pub data GetEnds (P : HandOut → Tables → Type 0) (Q : Tables → Type 0) : Outcome Tables → Type 0 where
+  handed-out : {t : Tables} {h : HandOut} → P h t → GetEnds P Q (outcome (Handed h) t)
   none-ready : {t : Tables} → Q t → GetEnds P Q (outcome NoneReady t)
 
 module _ (s : Sizes) (w : ℕ) (hw : w < s .workers) where
@@ -259,7 +263,7 @@ module _ (s : Sizes) (w : ℕ) (hw : w < s .workers) where
     pub whole-finish : (t : Tables) → During s n h hold name w idle t → Freed (wholeFinish s t w (name p))
     unfolding wholeFinish words.perform
     whole-finish t D =
-        let i = postFinish s w (name p) in
+        let i = postFinish s w (finishOf (name p)) in
         let o = onward (D .at) i in
         rw (o .0) (rw (add-one (s .arcs))
         (posted (own-made s (D .graph) i (own-sizes s) hw refl (D .team .own)) _ (o .1)))
@@ -267,7 +271,7 @@ module _ (s : Sizes) (w : ℕ) (hw : w < s .workers) where
         has : D .graph .workers w .held ≡ some p
         has = D .team .held w ∙ holds
 
-        posted : {x : Answer} {after : Graph} → Made s (D .graph) (postFinish s w (name p)) x after
+        posted : {x : Answer} {after : Graph} → Made s (D .graph) (postFinish s w (finishOf (name p))) x after
             → Next Freed (suc (s .arcs)) x after
         posted (by.finishWrong e) v A = absurd (true≢false
             (sym (eq-eqb (job (D .graph) p .name) (name p) (D .jobs .named p)) ∙ rw has at e))
@@ -282,9 +286,9 @@ module _ (s : Sizes) (w : ℕ) (hw : w < s .workers) where
 
   -- ---- a get
   module _ (n h : ℕ) (hold : ℕ → Option ℕ) (name : ℕ → ℕ) (free : hold w ≡ none) where
-    pub record Handing (j called : ℕ) (t : Tables) : Type 0 where
-      pub same-name : called ≡ name j
-      pub now : During s n (suc h) (update hold w (some j)) name w idle t
+    pub record Handing (o : HandOut) (t : Tables) : Type 0 where
+      pub same-name : o .name ≡ name (o .job)
+      pub now : During s n (suc h) (update hold w (some (o .job))) name w idle t
 
     pub record Drained (t : Tables) : Type 0 where
       pub now : During s n h hold name w idle t
@@ -303,13 +307,14 @@ module _ (s : Sizes) (w : ℕ) (hw : w < s .workers) where
         got (by.getHolding j e) v A = never (cc (D .team .held w, free))
         got (by.getNone e f) v A =
             none-ready (record { now = record { graph = D .graph; at = A; jobs = D .jobs; team = D .team }; empty = f })
-        got (by.getHanded e j {q} f) v A =
+        got (by.getHanded e j f) v A =
             let S = sound-at (D .at) in
-            let first : 0 < occurrences j (D .graph .queue) = rw f (head-occurs j q) in
+            let first : 0 < occurrences j (D .graph .queue) =
+            first-occurs (rules.order (D .graph)) (D .graph .queue) j f in
             handed-out (record {
               same-name = D .jobs .named j;
               now = record {
-                graph = rules.handedOut (D .graph) w j q;
+                graph = rules.handedOut (D .graph) w j (without j (D .graph .queue));
                 at = A;
                 jobs = handed (D .graph .jobs) n h name (D .jobs) j (withLabel (job (D .graph) j) executing) refl
                     (S .queue-there j first) (ap startedBy (S .queue-unexecuted j first)) refl;

@@ -67,7 +67,9 @@ module _ (s : Sizes) (few : s .jobs < 10000) (n : ℕ) (names : ℕ → ℕ) (c 
       → GetEnds (Handing s w hw n (r .handed) (G .hold) names free)
       (Drained s w hw n (r .handed) (G .hold) names free) o
       → Getting h (suc w) (handOut w r (o .answer) (o .state))
-  one-get h w r G hw free o (handed-out {t = t} {j = j} {name = called} H) =
+  one-get h w r G hw free o (handed-out {h = out} H) =
+      let j : ℕ = out .job in
+      let called : ℕ = out .name in
       let added : List ℕ = line (decimal (r .handed) ␣ (decimal called ␣ decimal w)) in
       record {
         hold = update (G .hold) w (some j);

@@ -24,10 +24,11 @@ use lib.Seq.{sets}
 use Rattle.bucket.specs.Bucket.{bucketOf}
 use Rattle.terms.specs.Base.{pick, occurrences}
 use Rattle.terms.specs.Terms.{Arguments, withinLimits, sameSizes, wrongSizes, damaged, mostNames}
-use Rattle.terms.specs.Terms.{mostWorkers}
+use Rattle.terms.specs.Terms.{mostWorkers, Finish}
 use Rattle.terms.specs.Runs.{Item, step, get, sizesOf, workerOf, outcome, after, events}
-use Rattle.terms.specs.Seen.{Same, idle}
+use Rattle.terms.specs.Seen.{Same, idle, handOut}
 use Rattle.terms.specs.declared.Sizes.{Sizes}
+use Rattle.terms.specs.declared.HandOut.{HandOut}
 use Rattle.terms.specs.declared.Answer.the-variants.{Laid, Ended, NoneReady, Handed, Refused}
 use Rattle.words.specs.Layout.{Tables, view, workerShape, NAME, LABEL, HELD, LIST-COUNT, NAMES, IDLE, bareWorker}
 use Rattle.words.specs.Layout.{roomFor}
@@ -91,8 +92,8 @@ module _ (s : Sizes) (t : Tables) (laid : layOut s t .answer ≡ Laid) (items : 
 
   -- When it is handed out, which only a get does, every prerequisite is marked finished, and a finish of it was
   -- accepted.
-  pub none-is-handed-out-early : (q : Sizes) (w j name : ℕ) → perform at-end (get q w) .answer ≡ Handed j name
-      → HandedRightly (seen at-end) (read .calls) j name
+  pub none-is-handed-out-early : (q : Sizes) (w : ℕ) (h : HandOut) → perform at-end (get q w) .answer ≡ Handed h
+      → HandedRightly (seen at-end) (read .calls) h
   none-is-handed-out-early = lifted.rightly-handed s t laid items
 
   -- At most one finish of each name is accepted.
@@ -103,7 +104,7 @@ module _ (s : Sizes) (t : Tables) (laid : layOut s t .answer ≡ Laid) (items : 
   pub a-waiting-job-is-handed-out : (w j : ℕ) (rest : List ℕ) → w < s .workers → seen at-end .call w ≡ idle
       → seen at-end .held w ≡ none
       → seen at-end .waiting ≡ j ∷ rest
-      → perform at-end (get s w) .answer ≡ Handed j (seen at-end .job j .name)
+      → perform at-end (get s w) .answer ≡ Handed (handOut (seen at-end) j)
   a-waiting-job-is-handed-out = lifted.hands-out s t laid items
 
   -- and with no call half done, no hold and nothing waiting, every job that entered is finished.
@@ -139,8 +140,8 @@ module _ (s : Sizes) (t : Tables) (laid : layOut s t .answer ≡ Laid) (items : 
   an-add-takes-2d+2-steps = lifted.add-ends s t laid items
 
   -- and a finish 1 step more than its job has arcs, counted along the words' own list.
-  pub a-finish-takes-1-step-more-than-arcs : (w name k : ℕ) → read .pending w ≡ finishing name k
-      → FinishOf (seen at-end) name k (perform at-end (step s w) .answer)
+  pub a-finish-takes-1-step-more-than-arcs : (w : ℕ) (f : Finish) (k : ℕ) → read .pending w ≡ finishing f k
+      → FinishOf (seen at-end) (f .name) k (perform at-end (step s w) .answer)
   a-finish-takes-1-step-more-than-arcs = lifted.finish-ends s t laid items
 
   -- No job has more arcs than were reserved, and no more than A are: its list ends, and so does its finish.
@@ -203,7 +204,7 @@ module _ (t : Tables) (i : Item) where
   every-answer-is-on-the-list = list.fits t i
 
   -- Only a get answers that it hands a job out.
-  pub only-a-get-hands-out : (j name : ℕ) → perform t i .answer ≡ Handed j name → (q : Sizes) × (w : ℕ) × (i ≡ get q w)
+  pub only-a-get-hands-out : (h : HandOut) → perform t i .answer ≡ Handed h → (q : Sizes) × (w : ℕ) × (i ≡ get q w)
   only-a-get-hands-out = list.handed-by-get t i
 
   -- A refusal changes nothing, but for 6, 7 and 8: "worker idle, nothing else changed".

@@ -3,20 +3,21 @@
 use mathlib.Core.Path.{_≡_}
 use mathlib.Core.Logic.{_≢_}
 use mathlib.Core.Bool.{Bool, true, false, _||_}
-use mathlib.Core.List.{List, [], _∷_}
+use mathlib.Core.List.{[]}
 use mathlib.Core.Option.{Option, none, some}
 use Prim.Native.Nat.{ℕ, suc, _+_, _≤_, _<_}
 use lib.Dec.{ltb, leb, eqb}
 use lib.ListN.{length, getD}
 use Rattle.terms.specs.Terms.{finished, Arguments, listed, argumentsWrong, sameSizes, wrongSizes, noSuchWorker}
 use Rattle.terms.specs.Terms.{halfDone, nothingToStep, wrongArguments, unknownName, namePresent, noRoom, damaged}
-use Rattle.terms.specs.Terms.{alreadyHolding, notHeld}
+use Rattle.terms.specs.Terms.{alreadyHolding, notHeld, Finish}
+use Rattle.terms.specs.Order.{without}
 use Rattle.terms.specs.Runs.{Item, postAdd, postFinish, step, get, sizesOf, workerOf}
 use Rattle.terms.specs.declared.Sizes.{Sizes}
 use Rattle.terms.specs.declared.Answer.{Answer}
 use Rattle.terms.specs.declared.Answer.the-variants.{Posted, Going, Ended, NoneReady, Handed, Refused}
 use Rattle.rules.specs.Rules.{Call, idle, looking, linking, marking, notifying, Graph, job, find, at, missing, withCall}
-use Rattle.rules.specs.Rules.{entered, linked, settled, marked, notified, handedOut}
+use Rattle.rules.specs.Rules.{entered, linked, settled, marked, notified, handedOut, handOut, nextOut}
 
 -- ---- the facts
 -- the item came with the sizes laid out, from a worker that there is
@@ -28,7 +29,7 @@ pub record Admitted (s : Sizes) (i : Item) : Type 0 where
 abbrev pub isStep : Item → Bool
 isStep (step s w) = true
 isStep (postAdd s w a) = false
-isStep (postFinish s w name) = false
+isStep (postFinish s w f) = false
 isStep (get s w) = false
 
 -- the worker holds no job of the name
@@ -90,15 +91,15 @@ pub data Made (s : Sizes) (g : Graph) : Item → Answer → Graph → Type 0 whe
       → Made s g (postAdd t w a) (Refused wrongArguments 0) g
   addPosted : {t : Sizes} {w : ℕ} {a : Arguments} → argumentsWrong a ≡ false
       → Made s g (postAdd t w a) Posted (withCall g w (looking a 0))
-  finishWrong : {t : Sizes} {w name : ℕ} → HoldsNot g name (g .workers w .held)
-      → Made s g (postFinish t w name) (Refused notHeld 0) g
-  finishPosted : {t : Sizes} {w name : ℕ} (p : ℕ) → g .workers w .held ≡ some p → job g p .name ≡ name
-      → Made s g (postFinish t w name) Posted (withCall g w marking)
+  finishWrong : {t : Sizes} {w : ℕ} {f : Finish} → HoldsNot g (f .name) (g .workers w .held)
+      → Made s g (postFinish t w f) (Refused notHeld 0) g
+  finishPosted : {t : Sizes} {w : ℕ} {f : Finish} (p : ℕ) → g .workers w .held ≡ some p → job g p .name ≡ f .name
+      → Made s g (postFinish t w f) Posted (withCall g w marking)
   getHolding : {t : Sizes} {w : ℕ} (j : ℕ) → g .workers w .held ≡ some j
       → Made s g (get t w) (Refused alreadyHolding 0) g
   getNone : {t : Sizes} {w : ℕ} → g .workers w .held ≡ none → g .queue ≡ [] → Made s g (get t w) NoneReady g
-  getHanded : {t : Sizes} {w : ℕ} → g .workers w .held ≡ none → (j : ℕ) {q : List ℕ} → g .queue ≡ j ∷ q
-      → Made s g (get t w) (Handed j (job g j .name)) (handedOut g w j q)
+  getHanded : {t : Sizes} {w : ℕ} → g .workers w .held ≡ none → (j : ℕ) → nextOut g ≡ some j
+      → Made s g (get t w) (Handed (handOut g j)) (handedOut g w j (without j (g .queue)))
 
 -- ---- an item: turned away, or by the call that its worker is in
 pub data Deed (s : Sizes) (g : Graph) : Item → Answer → Graph → Type 0 where

@@ -9,11 +9,13 @@ use lib.Dec.{ltb, eqb}
 use lib.ListN.{length, getD}
 use borrow.Author.Tests.{ltb-true, ltb-false, eqb-true}
 use Rattle.terms.specs.Terms.{Label, unexecuted, executing, finished, Arguments, listed, argumentsWrong, sameSizes}
+use Rattle.terms.specs.Terms.{Finish}
+use Rattle.terms.specs.OrderLaws.{none-first}
 use Rattle.terms.specs.Runs.{Item, postAdd, postFinish, step, get, Outcome, sizesOf, workerOf}
 use Rattle.terms.specs.declared.Sizes.{Sizes}
 use Rattle.rules.specs.Rules.{Found, at, missing, Call, idle, looking, linking, marking, notifying, Graph, job, find}
 use Rattle.rules.specs.Rules.{lookUp, enter, link, linkTo, markDependents, mark, notify, stepCall, whenIdle}
-use Rattle.rules.specs.Rules.{addPosted, finishPosted, takeNext, getJob, admitted, perform}
+use Rattle.rules.specs.Rules.{addPosted, finishPosted, takeNext, getJob, admitted, perform, nextOut, order}
 use Rattle.rules.specs.Sound.{CallSound}
 use Rattle.rules_cases.specs.Base.{never, pick-by}
 use Rattle.rules_cases.specs.Deed as to
@@ -85,22 +87,21 @@ module _ (s : Sizes) (g : Graph) where
     unfolding addPosted
     posts-add a = pick-by (By-made (postAdd t w a)) (argumentsWrong a) (λ z. to.addWrong z) (λ z. to.addPosted z)
 
-    posts-finish : (name : ℕ) (h : Option ℕ) → g .workers w .held ≡ h
-        → By-made (postFinish t w name) (finishPosted g w name h)
+    posts-finish : (f : Finish) (h : Option ℕ) → g .workers w .held ≡ h
+        → By-made (postFinish t w f) (finishPosted g w f h)
     unfolding finishPosted
-    posts-finish name none e = to.finishWrong {w = w} {name = name} (rw e tt)
-    posts-finish name (some p) e = pick-by (By-made (postFinish t w name)) (eqb (job g p .name) name)
-        (λ z. to.finishPosted p e (eqb-true (job g p .name) name z))
-        (λ z. to.finishWrong {w = w} {name = name} (rw e z))
+    posts-finish f none e = to.finishWrong {w = w} {f = f} (rw e tt)
+    posts-finish f (some p) e = pick-by (By-made (postFinish t w f)) (eqb (job g p .name) (f .name))
+        (λ z. to.finishPosted p e (eqb-true (job g p .name) (f .name) z)) (λ z. to.finishWrong {w = w} {f = f} (rw e z))
 
-    takes : g .workers w .held ≡ none → (q : List ℕ) → g .queue ≡ q → By-made (get t w) (takeNext g w q)
+    takes : g .workers w .held ≡ none → (o : Option ℕ) → nextOut g ≡ o → By-made (get t w) (takeNext g w o)
     unfolding takeNext
-    takes e [] z = to.getNone e z
-    takes e (j ∷ q) z = to.getHanded e j z
+    takes e none z = to.getNone e (none-first (order g) (g .queue) z)
+    takes e (some j) z = to.getHanded e j z
 
     gets : (h : Option ℕ) → g .workers w .held ≡ h → By-made (get t w) (getJob g w h)
     unfolding getJob
-    gets none e = takes e (g .queue) refl
+    gets none e = takes e (nextOut g) refl
     gets (some j) e = to.getHolding j e
 
   -- ---- an item
@@ -129,9 +130,9 @@ module _ (s : Sizes) (g : Graph) where
   unfolding perform
   deed (postAdd t w a) = admits (postAdd t w a)
       (λ A. when-idle (postAdd t w a) refl A (g .workers w .call) refl (posts-add t w a))
-  deed (postFinish t w name) = admits (postFinish t w name)
-      (λ A. when-idle (postFinish t w name) refl A (g .workers w .call) refl
-      (posts-finish t w name (g .workers w .held) refl))
+  deed (postFinish t w f) = admits (postFinish t w f)
+      (λ A. when-idle (postFinish t w f) refl A (g .workers w .call) refl
+      (posts-finish t w f (g .workers w .held) refl))
   deed (step t w) = admits (step t w) (λ A. to.stepped A refl (steps s g w (g .workers w .call)))
   deed (get t w) = admits (get t w)
       (λ A. when-idle (get t w) refl A (g .workers w .call) refl (gets t w (g .workers w .held) refl))

@@ -3,7 +3,7 @@
 -- sound.
 use mathlib.Core.Path.{_≡_, refl, sym, ap, _∙_, fun-ext}
 use mathlib.Core.Bool.{Bool, true, false}
-use mathlib.Core.List.{List, [], _∷_, _++_, map}
+use mathlib.Core.List.{[], _∷_, _++_, map}
 use mathlib.Core.Option.{Option, none, some}
 use Prim.Native.Nat.{ℕ, _≤_}
 use native.Mathlib.Omega.{arith}
@@ -12,12 +12,14 @@ use native.Mathlib.Decide.{ℕ-discrete}
 use lib.ListN.{length, getD, set, length-map, List·getD-map}
 use Rattle.terms.specs.Base.{pick, update, prefix}
 use Rattle.terms.specs.Terms.{Label, Arguments, wrongArguments, unknownName, namePresent, noRoom, alreadyHolding}
-use Rattle.terms.specs.Terms.{notHeld, finished, executing}
+use Rattle.terms.specs.Terms.{notHeld, finished, executing, finishOf}
+use Rattle.terms.specs.Order.{without}
+use Rattle.terms.specs.OrderLaws.{first-occurs}
 use Rattle.terms.specs.Runs.{Item}
 use Rattle.terms.specs.declared.Sizes.{Sizes}
 use Rattle.terms.specs.declared.Answer.{Answer}
 use Rattle.rules.specs.Rules.{Call, idle, looking, linking, notifying, Worker, Graph, empty, job, withLabel}
-use Rattle.rules.specs.Rules.{newJob, turn, withCall, entered, marked, handedOut}
+use Rattle.rules.specs.Rules.{newJob, turn, withCall, entered, marked, handedOut, nextOut, handOut, order}
 use Rattle.rules.specs.Sound.{Looking, Sound}
 use Rattle.rules_cases.specs.Deed as by
 use Rattle.rules_cases.specs.Deed.{Deed}
@@ -30,7 +32,7 @@ use Rattle.linearization.specs.Calls.{Reading, unread, becomes, decided, accept
 use Rattle.linearization.specs.Calls as reading
 use Rattle.rules_history.specs.History.{History, start, then, entryOf, entriesOf, noArguments, Booked}
 use Rattle.rules_history.specs.Noted.{reads}
-use Rattle.rules_cases.specs.Base.{update-at, update-other, head-occurs}
+use Rattle.rules_cases.specs.Base.{update-at, update-other}
 use Rattle.rules_follow_model.specs.Paced.{paced, read}
 use Rattle.rules_follow_model.specs.Entries.{entry-at, entries-length, entries-append, entries-set, entries-kept}
 use Rattle.rules_follow_model.specs.Entries.{listed-append, listed-kept, listed-length}
@@ -66,7 +68,7 @@ next-refused : (b : Book) (x : book.Call) (n i : ℕ) → next b x (refused n i)
 unfolding next
 next-refused b (add w a) n i = refl
 next-refused b (get w) n i = refl
-next-refused b (finish w name) n i = refl
+next-refused b (finish w f) n i = refl
 
 labelled-same : (g : Graph) (j : ℕ) (l : Label)
     → entriesOf (set (g .jobs) j (withLabel (job g j) l)) ≡ labelled (bookOf g) j l
@@ -132,19 +134,20 @@ module _ (s : Sizes) (g : Graph) (r : Reading) (S : Sound s g) (K : Kept s g r) 
       (rw (entries-append, listed-append) (omega (arith, K .reserved, listed-length a)))
 
   marks : (w p : ℕ) (c : Call) (later : Reading)
-      → later .calls ≡ r .calls ++ (record { call = finish w (job g p .name); end = accepted } ∷ [])
+      → later .calls ≡ r .calls ++ (record { call = finish w (finishOf (job g p .name)); end = accepted } ∷ [])
       → g .workers w .held ≡ some p → Kept s (marked g w p c) later
   unfolding next finishedBy
-  marks w p c later l h = fed (marked g w p c) later (finish w (job g p .name)) accepted l (rw h (finish-held g p))
+  marks w p c later l h = fed (marked g w p c) later (finish w (finishOf (job g p .name))) accepted l
+      (rw h (finish-held g p))
       (rw (h, labelled-same g p finished, held-after (g .workers) w none c))
       (labelled-listed g p finished (K .reserved))
 
-  hands : (w j : ℕ) (q : List ℕ) → g .workers w .held ≡ none → g .queue ≡ j ∷ q
-      → Kept s (handedOut g w j q) (decided r (get w) (handed j (job g j .name)))
+  hands : (w j : ℕ) → g .workers w .held ≡ none → nextOut g ≡ some j
+      → Kept s (handedOut g w j (without j (g .queue))) (decided r (get w) (handed (handOut g j)))
   unfolding next
-  hands w j q h z = fed (handedOut g w j q) (decided r (get w) (handed j (job g j .name))) (get w)
-      (handed j (job g j .name)) refl
-      (rw h (rw (name-at g j) at (taken j (queued-ready S j (rw z (head-occurs j q))))))
+  hands w j h z = fed (handedOut g w j (without j (g .queue))) (decided r (get w) (handed (handOut g j))) (get w)
+      (handed (handOut g j)) refl
+      (rw h (rw (name-at g j) at (taken j (queued-ready S j (first-occurs (order g) (g .queue) j z)))))
       (rw (labelled-same g j executing, held-after (g .workers) w (some j) idle))
       (labelled-listed g j executing (K .reserved))
 
@@ -159,12 +162,12 @@ module _ (s : Sizes) (g : Graph) (r : Reading) (S : Sound s g) (K : Kept s g r) 
   kept-on (by.callHalfDone A n c) = K
   kept-on (by.made A c (by.addWrong {w} {a} e)) = refused-now (add w a) wrongArguments 0 (add-wrong s g a e)
   kept-on (by.made A c (by.addPosted e)) = unseen _ _ refl (turned _ _) refl refl
-  kept-on (by.made A c (by.finishWrong {w} {name} e)) =
-      refused-now (finish w name) notHeld 0 (finish-not g name (g .workers w .held) e)
+  kept-on (by.made A c (by.finishWrong {w} {f} e)) =
+      refused-now (finish w f) notHeld 0 (finish-not g f (g .workers w .held) e)
   kept-on (by.made A c (by.finishPosted p e n)) = unseen _ _ refl (turned _ _) refl refl
   kept-on (by.made A c (by.getHolding {w} j e)) = refused-now (get w) alreadyHolding 0 (rw e holding)
   kept-on (by.made A c (by.getNone {w} e f)) = finds-none w e
-  kept-on (by.made A c (by.getHanded {w} e j {q} f)) = hands w j q e f
+  kept-on (by.made A c (by.getHanded {w} e j f)) = hands w j e f
   kept-on (by.stepped A c by.noCall) = K
   kept-on (by.stepped A c (by.broken b)) = K
   kept-on (by.stepped A c (by.lookedUp j l e)) = unseen _ _ refl (turned _ _) refl refl

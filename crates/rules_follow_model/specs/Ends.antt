@@ -9,7 +9,7 @@ use lib.ListN.{getD}
 use borrow.Author.Tests.{eq-eqb}
 use Rattle.terms.specs.Base.{pick, occurrences}
 use Rattle.terms.specs.Terms.{unexecuted, Arguments, listed, argumentsWrong, wrongArguments, unknownName, namePresent}
-use Rattle.terms.specs.Terms.{noRoom, notHeld}
+use Rattle.terms.specs.Terms.{noRoom, notHeld, finishOf, Finish}
 use Rattle.terms.specs.declared.Sizes.{Sizes}
 use Rattle.rules.specs.Rules.{Graph, job, find, at, missing}
 use Rattle.rules.specs.Sound.{Looking, Sound}
@@ -29,13 +29,13 @@ pub name-at : (g : Graph) (j : ℕ) → getD (entriesOf (g .jobs)) j noEntry .na
 name-at g j = ap (λ (x : Entry). x .name) (entry-at (g .jobs) j)
 
 -- ---- a finish
-pub finish-not : (g : Graph) (name : ℕ) (h : Option ℕ) → HoldsNot g name h
-    → refused notHeld 0 ≡ finishEnd (bookOf g) name h
+pub finish-not : (g : Graph) (f : Finish) (h : Option ℕ) → HoldsNot g (f .name) h
+    → refused notHeld 0 ≡ finishEnd (bookOf g) f h
 unfolding finishEnd
-finish-not g name none e = refl
-finish-not g name (some p) e = rw (name-at g p, e)
+finish-not g f none e = refl
+finish-not g f (some p) e = rw (name-at g p, e)
 
-pub finish-held : (g : Graph) (p : ℕ) → accepted ≡ finishEnd (bookOf g) (job g p .name) (some p)
+pub finish-held : (g : Graph) (p : ℕ) → accepted ≡ finishEnd (bookOf g) (finishOf (job g p .name)) (some p)
 unfolding finishEnd
 finish-held g p = rw (name-at g p, eq-eqb (job g p .name) (job g p .name) refl)
 

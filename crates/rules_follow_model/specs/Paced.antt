@@ -9,7 +9,7 @@ use native.Mathlib.Decide.{ℕ-discrete}
 use lib.ListN.{length, getD, set, List·getD-append}
 use lib.Seq.{getD-append-seam}
 use Rattle.terms.specs.Base.{update}
-use Rattle.terms.specs.Terms.{Arguments}
+use Rattle.terms.specs.Terms.{Arguments, finishOf}
 use Rattle.terms.specs.Runs.{Item, workerOf}
 use Rattle.terms.specs.declared.Sizes.{Sizes}
 use Rattle.terms.specs.declared.Answer.{Answer}
@@ -103,9 +103,9 @@ module _ (s : Sizes) (g : Graph) (r : Reading) (S : Sound s g) (P : Paced g r) w
   paced-on (by.stepped A c (by.jobSettled {j} l)) = moved _ _ _ (λ i h. same-names j _ refl i) refl refl refl
   paced-on (by.stepped A c (by.markedLast p e f)) = moved _ _ _ (λ j h. same-names p _ refl j) refl refl refl
   paced-on (by.stepped A c (by.markedGoing p e f)) = moved _ _ _ (λ j h. same-names p _ refl j) refl refl
-      (ap (λ n. finishing n 1) (sym (same-names p _ refl p)))
+      (ap (λ n. finishing (finishOf n) 1) (sym (same-names p _ refl p)))
   paced-on (by.stepped A c (by.arcNotified {p} {k} l)) = moved _ _ _ (λ j h. same-names _ _ refl j) refl refl
-      (ap (λ n. finishing n (suc (suc k))) (sym (same-names _ _ refl p)))
+      (ap (λ n. finishing (finishOf n) (suc (suc k))) (sym (same-names _ _ refl p)))
   paced-on (by.stepped A c (by.lastNotified l)) = moved _ _ _ (λ j h. same-names _ _ refl j) refl refl refl
 
 -- what is read of an item of a sound and paced graph

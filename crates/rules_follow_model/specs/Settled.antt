@@ -1,21 +1,21 @@
 -- With no call half done: the graph's counts are the book's remaining counts, and the jobs in its queue are those ready
 -- in the book ("The plain book", demand 3). Assumes that the graph is booked and balanced.
-use mathlib.Core.Path.{_≡_, refl, sym, _∙_}
-use mathlib.Core.List.{List, _∷_}
-use mathlib.Core.Option.{none}
+use mathlib.Core.Path.{_≡_, refl, sym, ap, _∙_}
+use mathlib.Core.Option.{none, some}
 use mathlib.Core.Logic.{_↔_}
 use Prim.Native.Nat.{ℕ, _<_}
 use native.Mathlib.Omega.{arith}
 use lib.ListN.{length}
 use Rattle.terms.specs.Base.{occurrences}
 use Rattle.terms.specs.Runs.{get}
+use Rattle.terms.specs.OrderLaws.{first-occurs}
 use Rattle.terms.specs.declared.Sizes.{Sizes}
 use Rattle.terms.specs.declared.Answer.{Answer}
 use Rattle.terms.specs.declared.Answer.the-variants.{NoneReady, Handed}
-use Rattle.rules.specs.Rules.{idle, Graph, job, perform}
+use Rattle.rules.specs.Rules.{idle, Graph, job, perform, nextOut, handOut, order}
 use Rattle.rules_cases.specs.Deed as by
 use Rattle.rules_cases.specs.Deed.{Made}
-use Rattle.rules_cases.specs.Base.{never, head-occurs}
+use Rattle.rules_cases.specs.Base.{never}
 use Rattle.sequential_model.specs.Book.{entry, awaitedNames, remaining, Ready}
 use Rattle.linearization.specs.Calls.{Reading}
 use Rattle.rules_history.specs.History.{entryOf, entriesOf, Booked, Balanced, Free, AllIdle}
@@ -28,12 +28,13 @@ module _ (s : Sizes) (g : Graph) (w : ℕ) (l : w < s .workers) (c : g .workers 
   pub own-get : Made s g (get s w) (perform s g (get s w) .answer) (perform s g (get s w) .state)
   own-get = own-made s g (get s w) (own-sizes s) l refl c
 
-  pub hands-head : (j : ℕ) (q : List ℕ) → g .queue ≡ j ∷ q → perform s g (get s w) .answer ≡ Handed j (job g j .name)
-  hands-head j q z = of own-get
+  pub hands-next : (j : ℕ) → nextOut g ≡ some j → perform s g (get s w) .answer ≡ Handed (handOut g j)
+  unfolding occurrences
+  hands-next j z = of own-get
     where
-      of : {x : Answer} {h : Graph} → Made s g (get s w) x h → x ≡ Handed j (job g j .name)
+      of : {x : Answer} {h : Graph} → Made s g (get s w) x h → x ≡ Handed (handOut g j)
       of (by.getHolding k e) = never (cc)
-      of (by.getNone e y) = never (cc)
+      of (by.getNone e y) = absurd (omega (arith, first-occurs (order g) (g .queue) j z, ap (occurrences j) y))
       of (by.getHanded e k y) = let same : k ≡ j = cc in rw same
 
   none-in-queue : (perform s g (get s w) .answer ≡ NoneReady) ↔ ((j : ℕ) → 0 < occurrences j (g .queue) → ⊥)
@@ -44,7 +45,7 @@ module _ (s : Sizes) (g : Graph) (w : ℕ) (l : w < s .workers) (c : g .workers 
           → (x ≡ NoneReady) ↔ ((j : ℕ) → 0 < occurrences j (g .queue) → ⊥)
       of (by.getHolding k e) = never (cc)
       of (by.getNone e y) = rw y (λ e j h. omega arith, λ empty. refl)
-      of (by.getHanded e j {q} y) = rw y (λ e. never (cc), λ empty. absurd (empty j (head-occurs j q)))
+      of (by.getHanded e j y) = (λ e. never (cc), λ empty. absurd (empty j (first-occurs (order g) (g .queue) j y)))
 
 module _ {s : Sizes} {g : Graph} {r : Reading} (K : Booked s g r) (B : Balanced g) where
   -- the book's job is the graph's

@@ -6,7 +6,7 @@ use Prim.Native.Nat.{ℕ, suc, _+_, _*_, _≤_, _<_}
 use native.Mathlib.Omega.{arith}
 use native.Mathlib.Decide.{decLt, ℕ-discrete}
 use lib.ListN.{length}
-use Rattle.terms.specs.Terms.{Arguments}
+use Rattle.terms.specs.Terms.{Arguments, finishOf, Finish}
 use Rattle.terms.specs.Runs.{step, workerOf}
 use Rattle.terms.specs.declared.Sizes.{Sizes}
 use Rattle.terms.specs.declared.Answer.{Answer}
@@ -28,11 +28,12 @@ use Rattle.rules_follow_model.specs.Paced.{paced}
 abbrev StepOf : Graph → Pending → Answer → Type 0
 StepOf g reading.idle x = Unit {0}
 StepOf g (adding a k) x = AddStep a k x
-StepOf g (finishing name k) x = FinishOf (seen g) name k x
+StepOf g (finishing f k) x = FinishOf (seen g) (f .name) k x
 
 -- ---- a step of the call that the worker is in
 module _ (s : Sizes) (g : Graph) (w : ℕ) (S : Sound s g) where
-  finish-of : {q : Pending} {x : Answer} (p : ℕ) {k : ℕ} → p < length (g .jobs) → q ≡ finishing (job g p .name) k
+  finish-of : {q : Pending} {x : Answer} (p : ℕ) {k : ℕ} → p < length (g .jobs)
+      → q ≡ finishing (finishOf (job g p .name)) k
       → FinishStep (length (job g p .dependents)) k x → StepOf g q x
   finish-of p l e f = rw e (record { job = p; there = l; named = refl; step = f })
 
@@ -75,8 +76,9 @@ module _ {s : Sizes} (sound : (g : Graph) (r : Reading) (e : ℕ → ℕ) → Hi
 
   -- a finish "takes 1 step more than it has arcs"
   pub finish-step : {g : Graph} {r : Reading} {e : ℕ → ℕ} → History s g r e → (w : ℕ) → w < s .workers
-      → (name k : ℕ) → r .pending w ≡ finishing name k → FinishOf (seen g) name k (perform s g (step s w) .answer)
-  finish-step history w h name k e = rw e at (step-of history w h)
+      → (f : Finish) (k : ℕ) → r .pending w ≡ finishing f k
+      → FinishOf (seen g) (f .name) k (perform s g (step s w) .answer)
+  finish-step history w h f k e = rw e at (step-of history w h)
 
   -- ---- only a worker below P is in a call: 2, "worker number not below P", comes first
   idle-past : {g : Graph} {r : Reading} {e : ℕ → ℕ} → History s g r e → (w : ℕ) → s .workers ≤ w

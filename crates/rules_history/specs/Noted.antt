@@ -6,12 +6,12 @@ use Prim.Native.Nat.{ℕ, suc, _+_, _≤_}
 use native.Mathlib.Omega.{arith}
 use borrow.Author.Tests.{eq-eqb, ne-eqb, le-ltb, lt-leb}
 use Rattle.terms.specs.Terms.{Arguments, wrongSizes, noSuchWorker, halfDone, wrongArguments, unknownName}
-use Rattle.terms.specs.Terms.{namePresent, noRoom, damaged, alreadyHolding, notHeld}
+use Rattle.terms.specs.Terms.{namePresent, noRoom, damaged, alreadyHolding, notHeld, finishOf}
 use Rattle.terms.specs.Runs.{Item, postAdd, postFinish, step, get, workerOf}
 use Rattle.terms.specs.declared.Sizes.{Sizes}
 use Rattle.terms.specs.declared.Answer.{Answer}
 use Rattle.terms.specs.declared.Answer.the-variants.{Refused}
-use Rattle.rules.specs.Rules.{Call, looking, Graph, job}
+use Rattle.rules.specs.Rules.{Call, looking, Graph, job, handOut}
 use Rattle.rules_cases.specs.Deed as by
 use Rattle.rules_cases.specs.Deed.{Stepped, Deed}
 use Rattle.sequential_model.specs.Book as book
@@ -34,10 +34,10 @@ readsStep {w} r (by.tallied {a} {j} {i} p l e f) = becomes r w (adding a (a .cou
 readsStep {w} r (by.arcAppended {a} {j} {i} p l e f) = becomes r w (adding a (a .count + 1 + suc i))
 readsStep {w} r (by.jobSettled {a} l) = becomes (addEnded r (a .name)) w idle
 readsStep {g} {w} r (by.markedLast p e f) =
-    becomes (finishEnded (decided r (finish w (job g p .name)) accepted) (job g p .name)) w idle
+    becomes (finishEnded (decided r (finish w (finishOf (job g p .name))) accepted) (job g p .name)) w idle
 readsStep {g} {w} r (by.markedGoing p e f) =
-    becomes (decided r (finish w (job g p .name)) accepted) w (finishing (job g p .name) 1)
-readsStep {g} {w} r (by.arcNotified {p} {k} l) = becomes r w (finishing (job g p .name) (suc (suc k)))
+    becomes (decided r (finish w (finishOf (job g p .name))) accepted) w (finishing (finishOf (job g p .name)) 1)
+readsStep {g} {w} r (by.arcNotified {p} {k} l) = becomes r w (finishing (finishOf (job g p .name)) (suc (suc k)))
 readsStep {g} {w} r (by.lastNotified {p} l) = becomes (finishEnded r (job g p .name)) w idle
 
 abbrev pub reads : {s : Sizes} {g : Graph} {i : Item} {x : Answer} {h : Graph} → Reading → Deed s g i x h → Reading
@@ -46,11 +46,11 @@ reads r (by.workerUnknown e l) = r
 reads r (by.callHalfDone A n c) = r
 reads r (by.made A c (by.addWrong {w} {a} e)) = decided r (add w a) (refused wrongArguments 0)
 reads r (by.made A c (by.addPosted {w} {a} e)) = becomes r w (adding a 0)
-reads r (by.made A c (by.finishWrong {w} {name} e)) = decided r (finish w name) (refused notHeld 0)
-reads r (by.made A c (by.finishPosted {w} {name} p e n)) = becomes r w (finishing name 0)
+reads r (by.made A c (by.finishWrong {w} {f} e)) = decided r (finish w f) (refused notHeld 0)
+reads r (by.made A c (by.finishPosted {w} {f} p e n)) = becomes r w (finishing f 0)
 reads r (by.made A c (by.getHolding {w} j e)) = decided r (book.get w) (refused alreadyHolding 0)
 reads r (by.made A c (by.getNone {w} e f)) = decided r (book.get w) noneReady
-reads {g} r (by.made A c (by.getHanded {w} e j f)) = decided r (book.get w) (handed j (job g j .name))
+reads {g} r (by.made A c (by.getHanded {w} e j f)) = decided r (book.get w) (handed (handOut g j))
 reads r (by.stepped A c S) = readsStep r S
 
 -- ---- a refusal by 1 to 4, or 9, is not noted
@@ -58,12 +58,12 @@ unnoted-step : (r : Reading) (w : ℕ) (p : Pending) (n i : ℕ) → endsCall n 
 unfolding noteStep
 unnoted-step r w idle n i e = refl
 unnoted-step r w (adding a k) n i e = rw e
-unnoted-step r w (finishing name k) n i e = rw e
+unnoted-step r w (finishing f k) n i e = rw e
 
 unnoted : (r : Reading) (x : Item) (n i : ℕ) → endsCall n ≡ false → note r x (Refused n i) ≡ r
 unfolding note noteAdd noteFinish noteGet
 unnoted r (postAdd s w a) n i e = rw e
-unnoted r (postFinish s w name) n i e = rw e
+unnoted r (postFinish s w f) n i e = rw e
 unnoted r (step s w) n i e = unnoted-step r w (r .pending w) n i e
 unnoted r (get s w) n i e = rw e
 

@@ -11,7 +11,7 @@ use borrow.Author.Tests.{eqb-true, eqb-false}
 use lib.Dec.{eqb}
 use lib.ListN.{length, getD, set, length-set}
 use Rattle.terms.specs.Base.{update, occurrences, contains}
-use Rattle.terms.specs.Terms.{finished}
+use Rattle.terms.specs.Terms.{finished, finishOf}
 use Rattle.terms.specs.declared.Sizes.{Sizes}
 use Rattle.rules.specs.Rules.{Job, idle, notifying, Graph, noJob, job, withCount, notified, enqueue}
 use Rattle.linearization.specs.Calls.{Pending, Reading, becomes, finishEnded}
@@ -106,7 +106,7 @@ module _ (s : Sizes) (g : Graph) (r : Reading) (x : State) (K : Kept s g r x) (I
 
     pub notifying-on : suc k < length (job g p .dependents)
         → Next s g x (notified g w j (notifying p (suc k)))
-        (becomes r w (Pending.finishing (job g p .name) (suc (suc k))))
+        (becomes r w (Pending.finishing (finishOf (job g p .name)) (suc (suc k))))
     notifying-on h = record {
       state = served-state;
       invariant = served-invariant;
@@ -118,7 +118,7 @@ module _ (s : Sizes) (g : Graph) (r : Reading) (x : State) (K : Kept s g r x) (I
         queue = ap (λ (l : List ℕ). enqueue test l j) (K .queue);
         jobs = later-jobs;
         workers = workers-after s g r x K I w (notified g w j (notifying p (suc k))) served-state
-            (Pending.finishing (job g p .name) (suc (suc k))) _ later-extends (omega (arith, later-length))
+            (Pending.finishing (finishOf (job g p .name)) (suc (suc k))) _ later-extends (omega (arith, later-length))
             (record {
               held = K .workers w .held;
               stage = own-finishing;
@@ -127,7 +127,7 @@ module _ (s : Sizes) (g : Graph) (r : Reading) (x : State) (K : Kept s g r x) (I
                 place = ap suc (own-notify .place) ∙ sym (update-same (x .served) p (suc (x .served p)));
                 left = omega (arith, ap length (K .jobs p .dependents));
               };
-              paced = ap (λ (z : ℕ). Pending.finishing z (suc (suc k)))
+              paced = ap (λ (z : ℕ). Pending.finishing (finishOf z) (suc (suc k)))
                   (sym (later-extends .name p (own-notify .there)));
             })
             (λ v z. record {

@@ -103,11 +103,11 @@ module _ (s : Sizes) (g : Graph) (r : Reading) (x : State) (K : Kept s g r x) (I
       turned s g r x K I w (looking a 0) (Pending.adding a 0) (own-stage s g r x K I w idle c) refl
       (record { right = e; within = omega arith; found = λ q h. absurd (omega arith) }) refl
   keeps (by.made A c (by.finishWrong e)) = decided-too _ (stays s g r x K I)
-  keeps (by.made A c (by.finishPosted {w} {name} p e n)) =
-      turned s g r x K I w marking (Pending.finishing name 0) (own-stage s g r x K I w idle c) refl tt (rw (e, n) refl)
+  keeps (by.made A c (by.finishPosted {w} {f} p e n)) =
+      turned s g r x K I w marking (Pending.finishing f 0) (own-stage s g r x K I w idle c) refl tt (rw (e, n) refl)
   keeps (by.made A c (by.getHolding j e)) = decided-too _ (stays s g r x K I)
   keeps (by.made A c (by.getNone e f)) = decided-too _ (stays s g r x K I)
-  keeps (by.made A c (by.getHanded {w} e j {q} f)) = decided-too _ (handing s g r x K I w j q c f)
+  keeps (by.made A c (by.getHanded {w} e j f)) = decided-too _ (handing s g r x K I w j c f)
   keeps (by.stepped A c S) = stepping c S
 
   pub performs : (i : Item) → Next s g x (perform s g i .state) (note r i (perform s g i .answer))

@@ -9,7 +9,7 @@ use native.Mathlib.Omega.{arith}
 use lib.ListN.{length, length-set}
 use lib.Seq.{getD-set-same, getD-set-other}
 use borrow.Author.Tests.{eq-eqb}
-use Rattle.terms.specs.Terms.{finished, notHeld}
+use Rattle.terms.specs.Terms.{finished, notHeld, Finish, finishOf}
 use Rattle.terms.specs.Runs.{postFinish, step, Outcome, outcome, after, events}
 use Rattle.terms.specs.declared.Sizes.{Sizes}
 use Rattle.terms.specs.declared.Answer.{Answer}
@@ -29,13 +29,13 @@ use Rattle.whole_calls.specs.Last.{Ran, arcs-end}
 
 -- 11: "finish of a name that this worker does not hold", "nothing changed"
 pub finish-refused : (s : Sizes) (g : Graph) (w : ℕ) → w < s .workers → g .workers w .call ≡ idle
-    → (name : ℕ) → HoldsNot g name (g .workers w .held)
-    → perform s g (postFinish s w name) ≡ outcome (Refused notHeld 0) g
-finish-refused s g w h c name n = of (own-made s g (postFinish s w name) (own-sizes s) h refl c)
+    → (f : Finish) → HoldsNot g (f .name) (g .workers w .held)
+    → perform s g (postFinish s w f) ≡ outcome (Refused notHeld 0) g
+finish-refused s g w h c f n = of (own-made s g (postFinish s w f) (own-sizes s) h refl c)
   where
-    of : {x : Answer} {k : Graph} → Made s g (postFinish s w name) x k → outcome x k ≡ outcome (Refused notHeld 0) g
+    of : {x : Answer} {k : Graph} → Made s g (postFinish s w f) x k → outcome x k ≡ outcome (Refused notHeld 0) g
     of (by.finishWrong z) = refl
-    of (by.finishPosted p e z) = absurd (true≢false (sym (eq-eqb (job g p .name) name z) ∙ rw e at n))
+    of (by.finishPosted p e z) = absurd (true≢false (sym (eq-eqb (job g p .name) (f .name) z) ∙ rw e at n))
 
 -- ---- the mark
 module _ (g : Graph) (w p : ℕ) where
@@ -110,7 +110,7 @@ pub whole-finish : {s : Sizes} {g : Graph} {r : Reading} {e : ℕ → ℕ} → H
     → g .workers w .call ≡ idle → (p : ℕ) → g .workers w .held ≡ some p → WholeFinish s g w p
 unfolding after events
 whole-finish {s} {g} history w h c p e =
-    let i = postFinish s w (job g p .name) in
+    let i = postFinish s w (finishOf (job g p .name)) in
     let E : perform s g i ≡ outcome Posted (withCall g w marking) = posted (own-made s g i (own-sizes s) h refl c) in
     let m = perform s g i .state in
     let called : m .workers w .call ≡ marking = rw E (call-turned g w marking) in
@@ -123,7 +123,7 @@ whole-finish {s} {g} history w h c p e =
       left = post-left g w p m _ (ap (λ (o : Outcome Graph). o .state) E) (M .left);
     }
   where
-    posted : {x : Answer} {k : Graph} → Made s g (postFinish s w (job g p .name)) x k
+    posted : {x : Answer} {k : Graph} → Made s g (postFinish s w (finishOf (job g p .name))) x k
         → outcome x k ≡ outcome Posted (withCall g w marking)
     posted (by.finishWrong z) =
         absurd (true≢false (sym (eq-eqb (job g p .name) (job g p .name) refl) ∙ rw e at z))

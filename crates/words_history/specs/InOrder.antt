@@ -7,6 +7,7 @@ use Prim.Native.Nat.{ℕ, _-_, _<_}
 use lib.Dec.{eqb}
 use lib.ListN.{length, getD, List·getD-append}
 use Rattle.terms.specs.Runs.{Item, after, events}
+use Rattle.terms.specs.OrderLaws.{first-head}
 use Rattle.terms.specs.declared.Sizes.{Sizes}
 use Rattle.terms.specs.declared.Answer.{Answer}
 use Rattle.terms.specs.declared.Answer.the-variants.{Laid, Posted, Going, Ended, NoneReady, Handed, Refused}
@@ -43,7 +44,7 @@ handed-first Posted l = refl
 handed-first Going l = refl
 handed-first Ended l = refl
 handed-first NoneReady l = refl
-handed-first (Handed j name) l = refl
+handed-first (Handed h) l = refl
 handed-first (Refused n i) l = refl
 
 -- the dependent of the k-th arc of p
@@ -80,7 +81,8 @@ moves {g} (by.made A c (by.finishWrong e)) = kept (g .queue)
 moves {g} (by.made A c (by.finishPosted p e n)) = kept (g .queue)
 moves {g} (by.made A c (by.getHolding j e)) = kept (g .queue)
 moves {g} (by.made A c (by.getNone e f)) = kept (g .queue)
-moves {g} (by.made A c (by.getHanded e j f)) = record { entered = []; same = sym (append-nil (g .queue) ∙ f) }
+moves {g} (by.made A c (by.getHanded e j f)) =
+    record { entered = []; same = sym (append-nil (g .queue) ∙ first-head (g .queue) j f) }
 moves (by.stepped A c S) = moves-step S
 
 pub in-order : (s : Sizes) (g : Graph) (is : List Item)

@@ -1,6 +1,6 @@
 //! The declarations of `include/taskgraph.h`; what each answers is said there.
 
-use std::mem::size_of;
+use std::{mem::size_of, os::raw::c_char};
 
 pub const MAX_NAMES: usize = 32;
 pub const ENTRY_WORDS: usize = 36;
@@ -112,6 +112,8 @@ const _: () = assert!(size_of::<Need>() == 48);
 const _: () = assert!(size_of::<Day>() == 16);
 
 extern "C" {
+    pub fn tg_message(number: u32) -> *const c_char;
+    pub fn tg_version() -> *const c_char;
     pub fn tg_read_entry(sheet: *const u8, sheet_len: usize, at: usize) -> Reading;
     pub fn tg_write_entry(out: *mut u8, out_len: usize, at: usize, entry: Entry) -> Written;
     pub fn tg_scan_sheet(sheet: *const u8, sheet_len: usize) -> Sheet;

@@ -1,10 +1,27 @@
 //! The proved library through its C interface, `include/taskgraph.h`: a safe function for each of its
 //! functions. Every function of the library answers for all arguments, so nothing is tested here.
 
+use std::{ffi::CStr, os::raw::c_char};
+
 mod ffi;
 pub mod graph;
 
 pub use ffi::{Entry, JobRecord, Reading, Sheet, SheetWritten, Totals, Written, ENTRY_WORDS, MAX_NAMES};
+
+/// The text of a refusal's number.
+pub fn message(number: u32) -> &'static str {
+    text(unsafe { ffi::tg_message(number) })
+}
+
+/// The library's version.
+pub fn version() -> &'static str {
+    text(unsafe { ffi::tg_version() })
+}
+
+fn text(constant: *const c_char) -> &'static str {
+    // SAFETY: the library answers a constant text, which ends with a zero byte.
+    unsafe { CStr::from_ptr(constant) }.to_str().expect("the library's texts are ASCII")
+}
 
 /// The entry at offset `at` of a sheet.
 pub fn read_entry(sheet: &[u8], at: usize) -> Reading {

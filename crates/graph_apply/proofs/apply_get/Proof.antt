@@ -40,7 +40,7 @@ unfolding FittingGet
 returns-3 c =
     λ h arcs buckets.
     let e = c .before .before .before .before .before .before .before .before .before .before .before .plan .given .1 in
-    rw e (c .before .before .before .before .before .before .take .ensures (rw e at h) _ arcs buckets)
+    rw e (c .before .before .before .before .before .before .take .ensures (rw e at h) arcs buckets)
 
 pub apply-get-spec : {M : Type 1} → statement M
 apply-get-spec =

@@ -26,7 +26,7 @@ same-length-3 c = search needs
 returns : tie.Need-returns
 unfolding appliedGet
 returns c =
-    λ h name arcs buckets.
+    λ h arcs buckets.
     rw (
       c .before .before .put-worker .ensures,
       c .before .before .before .before .before .before .take-job .ensures h,
