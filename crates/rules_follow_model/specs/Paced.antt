@@ -4,7 +4,8 @@ use mathlib.Core.Path.{_≡_, refl, sym, ap, _∙_}
 use mathlib.Core.Logic.{_≢_}
 use mathlib.Core.List.{[]}
 use mathlib.Core.Option.{Option, none, some}
-use Prim.Native.Nat.{ℕ, suc, _<_}
+use Prim.Native.Nat.{ℕ, suc, _≤_, _<_}
+use native.Mathlib.Omega.{arith}
 use native.Mathlib.Decide.{ℕ-discrete}
 use lib.ListN.{length, getD, set, List·getD-append}
 use lib.Seq.{getD-append-seam}
@@ -39,28 +40,32 @@ call-kept g after n none marking p there S P = P
 call-kept g after n (some j) marking p there S P = rw (n j (there j refl)) P
 call-kept g after n h (notifying j k) p there S P = rw (n j (S .there)) P
 
-record PacedOn (after : Graph) (later : Reading) : Type 0 where
-  on : Paced after later
+-- ---- only a worker below P is in a call: 2, "worker number not below P", comes first
+record PacedOn (s : Sizes) (g : Graph) (r : Reading) : Type 0 where
+  calls : Paced g r
+  past : (w : ℕ) → s .workers ≤ w → g .workers w .call ≡ idle
 
-module _ (s : Sizes) (g : Graph) (r : Reading) (S : Sound s g) (P : Paced g r) where
+module _ (s : Sizes) (g : Graph) (r : Reading) (S : Sound s g) (P : PacedOn s g r) where
   -- one worker changes, to what is paced again
-  replaced : {after : Graph} {later : Reading} (w : ℕ) (x : Worker) → SameNames g after
+  replaced : {after : Graph} {later : Reading} (w : ℕ) → w < s .workers → (x : Worker) → SameNames g after
       → after .workers ≡ update (g .workers) w x
       → ((v : ℕ) → v ≢ w → later .pending v ≡ r .pending v) → PacedCall after (x .held) (x .call) (later .pending w)
-      → PacedOn after later
-  replaced {after} w x n e f c = record {
-    on = λ v. elim (ℕ-discrete v w) [
+      → PacedOn s after later
+  replaced {after} w l x n e f c = record {
+    past = λ v m. ap (λ (f : ℕ → Worker). f v .call) e
+        ∙ ap (λ (y : Worker). y .call) (update-other (g .workers) w x v (λ z. omega arith)) ∙ P .past v m;
+    calls = λ v. elim (ℕ-discrete v w) [
       | yes z ↦ rw (z, ap (λ (f : ℕ → Worker). f w) e ∙ update-same (g .workers) w x) c
       | no z ↦ rw (ap (λ (f : ℕ → Worker). f v) e ∙ update-other (g .workers) w x v z, f v z)
           (call-kept g after n (g .workers v .held) (g .workers v .call) (r .pending v) (S .held-there v) (S .calls v)
-          (P v))
+          (P .calls v))
     ];
   }
 
-  moved : {after : Graph} {later : Reading} (w : ℕ) (x : Worker) (p : Pending) → SameNames g after
+  moved : {after : Graph} {later : Reading} (w : ℕ) → w < s .workers → (x : Worker) (p : Pending) → SameNames g after
       → after .workers ≡ update (g .workers) w x
-      → later .pending ≡ update (r .pending) w p → PacedCall after (x .held) (x .call) p → PacedOn after later
-  moved w x p n e f c = replaced w x n e (λ v z. rw f (update-other (r .pending) w p v z))
+      → later .pending ≡ update (r .pending) w p → PacedCall after (x .held) (x .call) p → PacedOn s after later
+  moved w l x p n e f c = replaced w l x n e (λ v z. rw f (update-other (r .pending) w p v z))
       (rw (f, update-same (r .pending) w p) c)
 
   -- a job that is changed, its name kept
@@ -70,43 +75,43 @@ module _ (s : Sizes) (g : Graph) (r : Reading) (S : Sound s g) (P : Paced g r) w
 
   linked-name : {w : ℕ} {a : Arguments} {j i t : ℕ} → g .workers w .call ≡ linking a j i t → a .name ≡ job g j .name
   linked-name {w} {a} {j} {i} {t} e = let call : PacedCall g (g .workers w .held) (linking a j i t) (r .pending w) =
-      rw e at (P w) in call .1
+      rw e at (P .calls w) in call .1
 
-  same : {later : Reading} → later .pending ≡ r .pending → PacedOn g later
-  same e = record { on = rw e P }
+  same : {later : Reading} → later .pending ≡ r .pending → PacedOn s g later
+  same e = record { calls = rw e (P .calls); past = P .past }
 
   -- ---- each way in which an item can end
-  paced-on : {i : Item} {x : Answer} {after : Graph} (d : Deed s g i x after) → PacedOn after (reads r d)
+  paced-on : {i : Item} {x : Answer} {after : Graph} (d : Deed s g i x after) → PacedOn s after (reads r d)
   paced-on (by.otherSizes e) = same refl
   paced-on (by.workerUnknown e l) = same refl
   paced-on (by.callHalfDone A n c) = same refl
   paced-on (by.made A c (by.addWrong e)) = same refl
-  paced-on (by.made A c (by.addPosted e)) = moved _ _ _ (λ j h. refl) refl refl refl
+  paced-on (by.made A c (by.addPosted e)) = moved _ (A .worker) _ _ (λ j h. refl) refl refl refl
   paced-on (by.made A c (by.finishWrong e)) = same refl
-  paced-on (by.made A c (by.finishPosted p e n)) = moved _ _ _ (λ j h. refl) refl refl (rw (e, n) refl)
+  paced-on (by.made A c (by.finishPosted p e n)) = moved _ (A .worker) _ _ (λ j h. refl) refl refl (rw (e, n) refl)
   paced-on (by.made A c (by.getHolding j e)) = same refl
   paced-on (by.made A c (by.getNone e f)) = same refl
   paced-on (by.made A c (by.getHanded {w} e j f)) =
-      replaced _ _ (λ i h. same-names j _ refl i) refl (λ v z. refl) (rw c at (P w))
+      replaced _ (A .worker) _ (λ i h. same-names j _ refl i) refl (λ v z. refl) (rw c at (P .calls w))
   paced-on (by.stepped A c by.noCall) = same refl
   paced-on (by.stepped A c (by.broken b)) = same refl
-  paced-on (by.stepped A c (by.lookedUp j l e)) = moved _ _ _ (λ j h. refl) refl refl refl
-  paced-on (by.stepped A c (by.nameUnknown l e)) = moved _ _ _ (λ j h. refl) refl refl refl
-  paced-on (by.stepped A c (by.nameThere j l e)) = moved _ _ _ (λ j h. refl) refl refl refl
-  paced-on (by.stepped A c (by.roomLacking l e f)) = moved _ _ _ (λ j h. refl) refl refl refl
-  paced-on (by.stepped A c (by.jobEntered l e f)) = moved _ _ _
+  paced-on (by.stepped A c (by.lookedUp j l e)) = moved _ (A .worker) _ _ (λ j h. refl) refl refl refl
+  paced-on (by.stepped A c (by.nameUnknown l e)) = moved _ (A .worker) _ _ (λ j h. refl) refl refl refl
+  paced-on (by.stepped A c (by.nameThere j l e)) = moved _ (A .worker) _ _ (λ j h. refl) refl refl refl
+  paced-on (by.stepped A c (by.roomLacking l e f)) = moved _ (A .worker) _ _ (λ j h. refl) refl refl refl
+  paced-on (by.stepped A c (by.jobEntered l e f)) = moved _ (A .worker) _ _
       (λ j h. ap (λ (y : Job). y .name) (List·getD-append (g .jobs) _ noJob j h)) refl refl
       (refl, sym (ap (λ (y : Job). y .name) (getD-append-seam (g .jobs) _ [] noJob)))
-  paced-on (by.stepped A c (by.tallied p l e f)) = moved _ _ _ (λ j h. refl) refl refl (refl, linked-name c)
-  paced-on (by.stepped A c (by.arcAppended {j} p l e f)) = moved _ _ _ (λ j h. same-names p _ refl j) refl refl
+  paced-on (by.stepped A c (by.tallied p l e f)) = moved _ (A .worker) _ _ (λ j h. refl) refl refl (refl, linked-name c)
+  paced-on (by.stepped A c (by.arcAppended {j} p l e f)) = moved _ (A .worker) _ _ (λ j h. same-names p _ refl j) refl refl
       (refl, linked-name c ∙ sym (same-names p _ refl j))
-  paced-on (by.stepped A c (by.jobSettled {j} l)) = moved _ _ _ (λ i h. same-names j _ refl i) refl refl refl
-  paced-on (by.stepped A c (by.markedLast p e f)) = moved _ _ _ (λ j h. same-names p _ refl j) refl refl refl
-  paced-on (by.stepped A c (by.markedGoing p e f)) = moved _ _ _ (λ j h. same-names p _ refl j) refl refl
+  paced-on (by.stepped A c (by.jobSettled {j} l)) = moved _ (A .worker) _ _ (λ i h. same-names j _ refl i) refl refl refl
+  paced-on (by.stepped A c (by.markedLast p e f)) = moved _ (A .worker) _ _ (λ j h. same-names p _ refl j) refl refl refl
+  paced-on (by.stepped A c (by.markedGoing p e f)) = moved _ (A .worker) _ _ (λ j h. same-names p _ refl j) refl refl
       (ap (λ n. finishing (finishOf n) 1) (sym (same-names p _ refl p)))
-  paced-on (by.stepped A c (by.arcNotified {p} {k} l)) = moved _ _ _ (λ j h. same-names _ _ refl j) refl refl
+  paced-on (by.stepped A c (by.arcNotified {p} {k} l)) = moved _ (A .worker) _ _ (λ j h. same-names _ _ refl j) refl refl
       (ap (λ n. finishing (finishOf n) (suc (suc k))) (sym (same-names _ _ refl p)))
-  paced-on (by.stepped A c (by.lastNotified l)) = moved _ _ _ (λ j h. same-names _ _ refl j) refl refl refl
+  paced-on (by.stepped A c (by.lastNotified l)) = moved _ (A .worker) _ _ (λ j h. same-names _ _ refl j) refl refl refl
 
 -- what is read of an item of a sound and paced graph
 pub read : {s : Sizes} {g : Graph} (r : Reading) → Sound s g → Paced g r → {i : Item} {x : Answer} {h : Graph}
@@ -115,12 +120,20 @@ read r S P {i} d = noted r (P (workerOf i))
     (λ a k e. let L : Looking _ a k = rw e at (S .calls (workerOf i)) in L .within) d
 
 module _ {s : Sizes} (sound : (g : Graph) (r : Reading) (e : ℕ → ℕ) → History s g r e → Sound s g) where
-  pub paced : {g : Graph} {r : Reading} {e : ℕ → ℕ} → History s g r e → Paced g r
+  paced-past : {g : Graph} {r : Reading} {e : ℕ → ℕ} → History s g r e → PacedOn s g r
   unfolding empty unread
-  paced start = λ w. refl
-  paced (then {g} {r} {e} history i) =
+  paced-past start = record { calls = λ w. refl; past = λ w l. refl }
+  paced-past (then {g} {r} {e} history i) =
       let S = sound g r e history in
-      rw (read r S (paced history) (deed s g i)) (paced-on s g r S (paced history) (deed s g i) .on)
+      let P = paced-past history in
+      rw (read r S (P .calls) (deed s g i)) (paced-on s g r S P (deed s g i))
+
+  pub paced : {g : Graph} {r : Reading} {e : ℕ → ℕ} → History s g r e → Paced g r
+  paced history = paced-past history .calls
+
+  pub idle-past : {g : Graph} {r : Reading} {e : ℕ → ℕ} → History s g r e → (w : ℕ) → s .workers ≤ w
+      → g .workers w .call ≡ idle
+  idle-past history = paced-past history .past
 
 -- ---- with no call half done every worker is idle
 call-idle : (g : Graph) (h : Option ℕ) (c : Call) (p : Pending) → PacedCall g h c p → p ≡ reading.idle → c ≡ idle

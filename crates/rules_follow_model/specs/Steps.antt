@@ -2,15 +2,15 @@
 -- finish answers ("Steps"). Assumes that every history's graph is sound.
 use mathlib.Core.Path.{_≡_, refl}
 use mathlib.Core.Logic.{_≢_}
-use Prim.Native.Nat.{ℕ, suc, _+_, _*_, _≤_, _<_}
+use Prim.Native.Nat.{ℕ, suc, _+_, _*_, _<_}
 use native.Mathlib.Omega.{arith}
-use native.Mathlib.Decide.{decLt, ℕ-discrete}
+use native.Mathlib.Decide.{decLt}
 use lib.ListN.{length}
 use Rattle.terms.specs.Terms.{Arguments, finishOf, Finish}
-use Rattle.terms.specs.Runs.{step, workerOf}
+use Rattle.terms.specs.Runs.{step}
 use Rattle.terms.specs.declared.Sizes.{Sizes}
 use Rattle.terms.specs.declared.Answer.{Answer}
-use Rattle.rules.specs.Rules.{Call, idle, Graph, empty, job, perform}
+use Rattle.rules.specs.Rules.{Call, idle, Graph, job, perform}
 use Rattle.rules.specs.Observed.{seen}
 use Rattle.rules.specs.Sound.{CallSound, Sound}
 use Rattle.rules_cases.specs.Deed as by
@@ -18,11 +18,11 @@ use Rattle.rules_cases.specs.Deed.{Stepped}
 use Rattle.rules_cases.specs.Deeds.{unbroken}
 use Rattle.linearization.specs.Calls.{Pending, adding, finishing, Reading}
 use Rattle.linearization.specs.Calls as reading
-use Rattle.rules_history.specs.History.{History, start, then, PacedCall}
+use Rattle.rules_history.specs.History.{History, PacedCall}
 use Rattle.linearizability.specs.Ends.{AddStep, looked-up, unknown, entered, present, no-room, linked, settled}
 use Rattle.linearizability.specs.Ends.{FinishStep, goes-on, ends, FinishOf}
-use Rattle.rules_cases.specs.Own.{own-step, turned-away, others}
-use Rattle.rules_follow_model.specs.Paced.{paced}
+use Rattle.rules_cases.specs.Own.{own-step}
+use Rattle.rules_follow_model.specs.Paced.{paced, idle-past}
 
 -- what a step of the call half done may answer
 abbrev StepOf : Graph → Pending → Answer → Type 0
@@ -80,19 +80,10 @@ module _ {s : Sizes} (sound : (g : Graph) (r : Reading) (e : ℕ → ℕ) → Hi
       → FinishOf (seen g) (f .name) k (perform s g (step s w) .answer)
   finish-step history w h f k e = rw e at (step-of history w h)
 
-  -- ---- only a worker below P is in a call: 2, "worker number not below P", comes first
-  idle-past : {g : Graph} {r : Reading} {e : ℕ → ℕ} → History s g r e → (w : ℕ) → s .workers ≤ w
-      → g .workers w .call ≡ idle
-  unfolding empty
-  idle-past start w h = refl
-  idle-past (then {g} history i) w h = elim (ℕ-discrete w (workerOf i)) [
-    | yes z ↦ rw (turned-away s g i (omega arith)) (idle-past history w h)
-    | no z ↦ rw (others s g i w z) (idle-past history w h)
-  ]
-
+  -- ---- only a worker below P is in a call
   pub pending-there : {g : Graph} {r : Reading} {e : ℕ → ℕ} → History s g r e → (w : ℕ) → r .pending w ≢ reading.idle
       → w < s .workers
   pending-there {r} history w n = elim (decLt w (s .workers)) [
     | yes h ↦ h
-    | no h ↦ absurd (n (rw (idle-past history w (omega arith)) at (paced sound history w)))
+    | no h ↦ absurd (n (rw (idle-past sound history w (omega arith)) at (paced sound history w)))
   ]

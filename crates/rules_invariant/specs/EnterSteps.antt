@@ -19,7 +19,7 @@ use Rattle.rules_invariant.specs.Invariant.{Invariant, Below, startedBy-
 use Rattle.rules_invariant.specs.Entering.{enter-keeps}
 use Rattle.rules_invariant.specs.Names.{Extends, extends-append, Numbers, sought-there, seek-new, length-prefix}
 use Rattle.rules_invariant.specs.Names.{few}
-use Rattle.rules_invariant.specs.Relation.{Kept, Known, jobRel, WorkerRel, snoc-all}
+use Rattle.rules_invariant.specs.Relation.{Kept, Known, jobRel, WorkerRel, snoc-all, finished-keeps}
 use Rattle.rules_invariant.specs.Turns.{Next, own-stage, own-call, workers-after}
 
 module _ (s : Sizes) (g : Graph) (r : Reading) (x : State) (K : Kept s g r x) (I : Invariant x) (w : ℕ) where
@@ -139,8 +139,6 @@ module _ (s : Sizes) (g : Graph) (r : Reading) (x : State) (K : Kept s g r x) (I
               ended = update-other (x .adder) n (some w) (o .job)
                   (omega (arith, K .size, sought-there name (g .jobs) (o .job) (o .found))) ∙ o .ended;
             };
-        finished = λ name e.
-            let o = K .finished name e in
-            record { job = o .job; found = further .found _ _ (o .found); finished = o .finished; ended = o .ended };
+        finished = λ name e. finished-keeps further (K .finished name e);
       };
     }

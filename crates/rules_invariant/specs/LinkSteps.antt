@@ -21,6 +21,7 @@ use Rattle.rules_invariant.specs.Invariant.{Invariant, occurrences-enque
 use Rattle.rules_invariant.specs.Linking.{link-finished-keeps, link-dependent-keeps, settle-keeps, settles-right}
 use Rattle.rules_invariant.specs.Names.{Extends, extends-same, extends-set, length-prefix, contains-snoc}
 use Rattle.rules_invariant.specs.Relation.{Kept, known-keeps, jobRel, LinkRel, AddEnded, set-all}
+use Rattle.rules_invariant.specs.Relation.{added-keeps, finished-keeps}
 use Rattle.rules_invariant.specs.Turns.{Next, own-stage, own-call, other-add, workers-after}
 
 module _ (s : Sizes) (g : Graph) (r : Reading) (x : State) (K : Kept s g r x) (I : Invariant x) (w : ℕ) where
@@ -166,16 +167,8 @@ module _ (s : Sizes) (g : Graph) (r : Reading) (x : State) (K : Kept s g r x) (I
                       | no b ↦ omega (arith, ap length (update-other (x .dependents) p d q b))
                     ];
                   });
-              added = λ name b. let o = K .added name b in
-                  record { job = o .job; found = further .found _ _ (o .found); ended = o .ended };
-              finished = λ name b.
-                  let o = K .finished name b in
-                  record {
-                    job = o .job;
-                    found = further .found _ _ (o .found);
-                    finished = o .finished;
-                    ended = o .ended;
-                  };
+              added = λ name b. added-keeps further (K .added name b);
+              finished = λ name b. finished-keeps further (K .finished name b);
             };
           }
 
@@ -234,14 +227,7 @@ module _ (s : Sizes) (g : Graph) (r : Reading) (x : State) (K : Kept s g r x) (I
                   dependents = λ p. omega arith;
                 });
             added = λ name e. was-added further name (contains name (r .added)) refl e;
-            finished = λ name e.
-                let o = K .finished name e in
-                record {
-                  job = o .job;
-                  found = further .found _ _ (o .found);
-                  finished = o .finished;
-                  ended = o .ended;
-                };
+            finished = λ name e. finished-keeps further (K .finished name e);
           };
         }
       where

@@ -24,7 +24,7 @@ use Rattle.rules_invariant.specs.Invariant.{entered-there}
 use Rattle.rules_invariant.specs.Invariant.{held-there}
 use Rattle.rules_invariant.specs.Finishing.{out-waits, hand-keeps, mark-keeps, close-keeps}
 use Rattle.rules_invariant.specs.Names.{Extends, extends-set, contains-snoc}
-use Rattle.rules_invariant.specs.Relation.{Kept, known-keeps, JobRel, FinishEnded, set-all}
+use Rattle.rules_invariant.specs.Relation.{Kept, known-keeps, JobRel, FinishEnded, set-all, added-keeps}
 use Rattle.rules_invariant.specs.Turns.{Next, own-stage, workers-after}
 
 module _ (s : Sizes) (g : Graph) (r : Reading) (x : State) (K : Kept s g r x) (I : Invariant x) (w : ℕ) where
@@ -106,8 +106,7 @@ module _ (s : Sizes) (g : Graph) (r : Reading) (x : State) (K : Kept s g r x) (I
                 served = λ p b. refl;
                 dependents = λ p. omega arith;
               }) v);
-          added = λ name b. let o = K .added name b in
-              record { job = o .job; found = further .found _ _ (o .found); ended = o .ended };
+          added = λ name b. added-keeps further (K .added name b);
           finished = λ name b.
               let o = K .finished name b in
               record {
@@ -183,8 +182,7 @@ module _ (s : Sizes) (g : Graph) (r : Reading) (x : State) (K : Kept s g r x) (I
               served = λ q b. refl;
               dependents = λ q. omega arith;
             });
-        added = λ name b. let o = K .added name b in
-            record { job = o .job; found = further .found _ _ (o .found); ended = o .ended };
+        added = λ name b. added-keeps further (K .added name b);
         finished = λ name b.
             let o = K .finished name b in
             record {
@@ -251,8 +249,7 @@ module _ (s : Sizes) (g : Graph) (r : Reading) (x : State) (K : Kept s g r x) (I
               served = λ q b. refl;
               dependents = λ q. omega arith;
             });
-        added = λ name b. let o = K .added name b in
-            record { job = o .job; found = further .found _ _ (o .found); ended = o .ended };
+        added = λ name b. added-keeps further (K .added name b);
         finished = λ name b. was-finished name (contains name (r .finished)) refl b;
       };
     }

@@ -22,6 +22,7 @@ use Rattle.rules_invariant.specs.Invariant.{Invariant, occurrences-enque
 use Rattle.rules_invariant.specs.Finishing.{served-counted, serve-keeps, close-keeps}
 use Rattle.rules_invariant.specs.Names.{Extends, extends-set, contains-snoc}
 use Rattle.rules_invariant.specs.Relation.{Kept, known-keeps, jobRel, NotifyRel, FinishEnded, set-all}
+use Rattle.rules_invariant.specs.Relation.{added-keeps, finished-keeps}
 use Rattle.rules_invariant.specs.Turns.{Next, own-stage, own-call, other-finish, workers-after}
 
 -- whether a notified job is queued is right
@@ -138,16 +139,8 @@ module _ (s : Sizes) (g : Graph) (r : Reading) (x : State) (K : Kept s g r x) (I
               served = λ q b. served-else v q z b;
               dependents = λ q. omega arith;
             });
-        added = λ name b. let o = K .added name b in
-            record { job = o .job; found = later-extends .found _ _ (o .found); ended = o .ended };
-        finished = λ name b.
-            let o = K .finished name b in
-            record {
-              job = o .job;
-              found = later-extends .found _ _ (o .found);
-              finished = o .finished;
-              ended = o .ended;
-            };
+        added = λ name b. added-keeps later-extends (K .added name b);
+        finished = λ name b. finished-keeps later-extends (K .finished name b);
       };
     }
 
@@ -204,8 +197,7 @@ module _ (s : Sizes) (g : Graph) (r : Reading) (x : State) (K : Kept s g r x) (I
               served = λ q b. served-else v q z b;
               dependents = λ q. omega arith;
             });
-        added = λ name b. let o = K .added name b in
-            record { job = o .job; found = later-extends .found _ _ (o .found); ended = o .ended };
+        added = λ name b. added-keeps later-extends (K .added name b);
         finished = λ name b. last-finished name (contains name (r .finished)) refl b;
       };
     }
