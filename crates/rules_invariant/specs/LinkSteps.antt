@@ -14,7 +14,8 @@ use Rattle.terms.specs.declared.Sizes.{Sizes}
 use Rattle.rules.specs.Rules.{Job, idle, linking, Graph, noJob, job, find, at, withCall, withDependent, withCount}
 use Rattle.rules.specs.Rules.{linked, settles, settled, enqueue}
 use Rattle.linearization.specs.Calls.{Pending, Reading, becomes, addEnded}
-use Rattle.rules_invariant.specs.Base.{update-same, update-other, update-at, hit, hit-same, hit-other}
+use Rattle.rules_cases.specs.Base.{update-same, update-other, update-at}
+use Rattle.rules_invariant.specs.Base.{hit, hit-same, hit-other}
 use Rattle.rules_invariant.specs.State.{apart, adding, State, bit, linkFinished, linkDependent, settle}
 use Rattle.rules_invariant.specs.Invariant.{Invariant, occurrences-enqueue}
 use Rattle.rules_invariant.specs.Linking.{link-finished-keeps, link-dependent-keeps, settle-keeps, settles-right}
@@ -61,12 +62,9 @@ module _ (s : Sizes) (g : Graph) (r : Reading) (x : State) (K : Kept s g r x) (I
       tally-else : (v k : ℕ) → v ≢ w → x .stage v ≡ adding k → x .tally k ≡ x .tally k + hit k j
       tally-else v k e z = omega (arith, hit-other k j (other-add s g r x K I w j v k e at-stage z))
 
-      next-pending : Pending.adding a (suc (a .count + 1 + i)) ≡ Pending.adding a (a .count + 1 + suc i)
-      next-pending = ap (Pending.adding a) (omega arith)
-
       pub linking-finished : job g place .label ≡ finished
           → Next s g x (withCall g w (linking a j (suc i) (suc t)))
-          (becomes r w (Pending.adding a (suc (a .count + 1 + i))))
+          (becomes r w (Pending.adding a (a .count + 1 + suc i)))
       linking-finished e = record {
         state = linkFinished x j;
         grown = λ k. omega arith;
@@ -80,7 +78,7 @@ module _ (s : Sizes) (g : Graph) (r : Reading) (x : State) (K : Kept s g r x) (I
           added = K .added;
           finished = K .finished;
           workers = workers-after s g r x K I w (withCall g w (linking a j (suc i) (suc t))) (linkFinished x j)
-              (Pending.adding a (suc (a .count + 1 + i))) _
+              (Pending.adding a (a .count + 1 + suc i)) _
               (extends-same (g .jobs)) (omega arith)
               (record {
                 held = K .workers w .held;
@@ -92,7 +90,7 @@ module _ (s : Sizes) (g : Graph) (r : Reading) (x : State) (K : Kept s g r x) (I
                   place = omega (arith, own-link .place, hit-same j);
                   tallied = omega (arith, own-link .tallied, hit-same j);
                 };
-                paced = (next-pending, own-paced .1);
+                paced = (refl, own-paced .1);
               })
               (λ v z. record {
                 held = refl;
@@ -106,7 +104,7 @@ module _ (s : Sizes) (g : Graph) (r : Reading) (x : State) (K : Kept s g r x) (I
       }
 
       pub linking-dependent : job g place .label ≢ finished
-          → Next s g x (linked g w a j i t place) (becomes r w (Pending.adding a (suc (a .count + 1 + i))))
+          → Next s g x (linked g w a j i t place) (becomes r w (Pending.adding a (a .count + 1 + suc i)))
       linking-dependent e =
           let p : ℕ = place in
           let y : State = linkDependent x j p in
@@ -140,7 +138,7 @@ module _ (s : Sizes) (g : Graph) (r : Reading) (x : State) (K : Kept s g r x) (I
                     known = known-keeps further (o .known);
                   });
               workers = workers-after s g r x K I w (linked g w a j i t p) y
-                  (Pending.adding a (suc (a .count + 1 + i))) _ further (omega (arith, longer))
+                  (Pending.adding a (a .count + 1 + suc i)) _ further (omega (arith, longer))
                   (record {
                     held = K .workers w .held;
                     stage = at-stage;
@@ -151,7 +149,7 @@ module _ (s : Sizes) (g : Graph) (r : Reading) (x : State) (K : Kept s g r x) (I
                       place = omega (arith, own-link .place, hit-same j);
                       tallied = own-link .tallied;
                     };
-                    paced = (next-pending, own-paced .1 ∙ sym (further .name j (own-link .there)));
+                    paced = (refl, own-paced .1 ∙ sym (further .name j (own-link .there)));
                   })
                   (λ v u. record {
                     held = refl;

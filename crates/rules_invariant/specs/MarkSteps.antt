@@ -4,7 +4,7 @@ use mathlib.Core.Logic.{_≢_}
 use mathlib.Core.Bool.{Bool, true, false}
 use mathlib.Core.Option.{none, some}
 use mathlib.Core.List.{List, [], _∷_, _++_}
-use Prim.Native.Nat.{ℕ, _+_, _-_, _<_}
+use Prim.Native.Nat.{ℕ, _+_, _<_}
 use native.Mathlib.Omega.{arith}
 use native.Mathlib.Decide.{ℕ-discrete}
 use lib.ListN.{length, getD, set, length-set}
@@ -16,7 +16,8 @@ use Rattle.terms.specs.declared.Sizes.{Sizes}
 use Rattle.rules.specs.Rules.{Job, idle, marking, notifying, Graph, noJob, job, withLabel, marked, handedOut, nextOut}
 use Rattle.rules.specs.Rules.{order}
 use Rattle.linearization.specs.Calls.{Pending, Reading, becomes, finishEnded}
-use Rattle.rules_invariant.specs.Base.{update-same, update-other, hit, hit-same, occurrences-cons}
+use Rattle.rules_cases.specs.Base.{update-same, update-other}
+use Rattle.rules_invariant.specs.Base.{hit, hit-same}
 use Rattle.rules_invariant.specs.State.{apart, finishing, State, hand, mark, close}
 use Rattle.rules_invariant.specs.Invariant.{Invariant, finished-not-unexecuted, executing-not-finished}
 use Rattle.rules_invariant.specs.Invariant.{entered-there}
@@ -138,9 +139,6 @@ module _ (s : Sizes) (g : Graph) (r : Reading) (x : State) (K : Kept s g r x) (I
 
     marked-unserved : x .served p ≡ 0
     marked-unserved = I .served-none p (λ z. executing-not-finished (cc (I .held-executing w p marked-held)))
-
-    pub marked-paced : r .pending w ≡ Pending.finishing (finishOf (job g p .name)) 0
-    marked-paced = rw e at (rw f at (K .workers w .paced))
 
     further : Extends (g .jobs) (relabelled p marked-there finished)
     further = relabelled-extends p marked-there finished

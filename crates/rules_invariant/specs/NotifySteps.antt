@@ -15,7 +15,8 @@ use Rattle.terms.specs.Terms.{finished, finishOf}
 use Rattle.terms.specs.declared.Sizes.{Sizes}
 use Rattle.rules.specs.Rules.{Job, idle, notifying, Graph, noJob, job, withCount, notified, enqueue}
 use Rattle.linearization.specs.Calls.{Pending, Reading, becomes, finishEnded}
-use Rattle.rules_invariant.specs.Base.{update-same, update-other, update-at, hit-same, hit-other}
+use Rattle.rules_cases.specs.Base.{update-same, update-other, update-at}
+use Rattle.rules_invariant.specs.Base.{hit-same, hit-other}
 use Rattle.rules_invariant.specs.State.{apart, finishing, State, bit, hitIf, serve, close}
 use Rattle.rules_invariant.specs.Invariant.{Invariant, occurrences-enqueue, counted-there}
 use Rattle.rules_invariant.specs.Finishing.{served-counted, serve-keeps, close-keeps}
@@ -40,9 +41,6 @@ module _ (s : Sizes) (g : Graph) (r : Reading) (x : State) (K : Kept s g r x) (I
 
     pub own-finishing : x .stage w ≡ finishing p
     own-finishing = own-stage s g r x K I w (notifying p k) f
-
-    pub notify-paced : r .pending w ≡ Pending.finishing (finishOf (job g p .name)) (suc k)
-    notify-paced = rw f at (K .workers w .paced)
 
     abbrev j : ℕ
     j = getD (job g p .dependents) k 0
