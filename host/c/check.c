@@ -69,7 +69,8 @@ static const uint8_t four_jobs[29] = {1, 1, 0, 0, 0, 1, 2, 0, 0, 0, 1, 3, 0, 0, 
                                       3, 4, 0, 0, 0, 2, 1, 0, 0, 0, 2, 0, 0, 0};
 
 /* An entry with every field, and its bytes. */
-static const tg_entry full_entry = {.name = 0x04030201, .count = 1, .class_ = 9, .grower = 0x0b0a, .names = {0x08070605}};
+static const tg_entry full_entry = {
+    .name = 0x04030201, .count = 1, .class_ = 9, .grower = 0x0b0a, .names = {0x08070605}};
 static const uint8_t full_bytes[13] = {0x0f, 1, 2, 3, 4, 1, 5, 6, 7, 8, 9, 0x0a, 0x0b};
 
 static const tg_entry no_entry;
