@@ -233,6 +233,41 @@ tg_answer tg_step(tg_sizes sizes, TG_TABLES, uint32_t worker);
 /* Takes the job longest in the queue: handed out, none ready, or refused with 1, 2, 9, 3 or 10. */
 tg_answer tg_get(tg_sizes sizes, TG_TABLES, uint32_t worker);
 
+/* The same tables, only read. */
+#define TG_TABLES_READ                                                                                  \
+    const uint32_t *jobs, size_t jobs_len, const uint32_t *arcs, size_t arcs_len,                       \
+        const uint32_t *buckets, size_t buckets_len, const uint32_t *queue, size_t queue_len,           \
+        const uint32_t *workers, size_t workers_len
+
+/* The call that a worker has half done. */
+enum {
+    TG_CALL_NONE = 0,
+    TG_CALL_ADD = 1,
+    TG_CALL_FINISH = 2
+};
+
+/* number 0, holds 1: the worker holds `job`, whose name is `name`.
+ * number 0, holds 0: it holds none; job and name are 0.
+ * With number 0 `call` says which call is half done; tg_step goes on with it.
+ * number 1, 2 or 9: all else is 0. */
+typedef struct {
+    uint32_t number, holds, job, name, call;
+} tg_holding;
+
+/* What a worker holds, and whether its call is half done: for a worker that restarts. */
+tg_holding tg_held(tg_sizes sizes, TG_TABLES_READ, uint32_t worker);
+
+/* number 0: drained is 1 where the queue is empty and every worker is idle and holds nothing, else 0.
+ * number 1: a size off its limits or not the one laid out, or a table too short; drained is 0.
+ * number 9: damaged words, of any worker or the counters; drained is 0. */
+typedef struct {
+    uint32_t number, drained;
+} tg_drained_answer;
+
+/* Whether nothing is left to do, for a host that wants to stop. In tables that were laid out, and since
+ * written by these functions alone, drained 1 means too that every job that entered is finished. */
+tg_drained_answer tg_drained(tg_sizes sizes, TG_TABLES_READ);
+
 /* The totals of the jobs made.
  * number 1: a size off its limits or not the one laid out, or the table too short.
  * number 9: a wrong label or class among the jobs made, or more jobs made than R. */

@@ -44,6 +44,9 @@ CALLED = [
     ("TG_ENDED", "^taskgraph", "ENDED"),
     ("TG_NONE_READY", "^taskgraph", "NONE_READY"),
     ("TG_HANDED_OUT", "^taskgraph", "HANDED_OUT"),
+    ("TG_CALL_NONE", "", "NO_CALL"),
+    ("TG_CALL_ADD", "", "AN_ADD"),
+    ("TG_CALL_FINISH", "", "A_FINISH"),
 ]
 # What definitions and code have and the header has not, by the sentences of the docs that give it.
 SAID = {
