@@ -35,19 +35,14 @@ pub none-ready : (s q : Sizes) (g : Graph) (w : ℕ) → (perform s g (get q w) 
     × (g .queue ≡ []))
 unfolding occurrences
 none-ready s q g w = (
-  to (deed s g (get q w)),
+  λ z. to (rw z at (deed s g (get q w))),
   λ o. from (own-made s g (get q w) (o .0) (o .1) refl (o .2)) (o .3) (o .4),
 )
   where
-    to : {x : Answer} {h : Graph} → Deed s g (get q w) x h → x ≡ NoneReady
+    to : {h : Graph} → Deed s g (get q w) NoneReady h
         → (sameSizes q s ≡ true) × (w < s .workers) × (g .workers w .call ≡ idle) × (g .workers w .held ≡ none)
         × (g .queue ≡ [])
-    to (by.otherSizes e) z = never (cc)
-    to (by.workerUnknown e l) z = never (cc)
-    to (by.callHalfDone A n c) z = never (cc)
-    to (by.made A c (by.getHolding j e)) z = never (cc)
-    to (by.made A c (by.getNone e f)) z = (A .sizes, A .worker, c, e, f)
-    to (by.made A c (by.getHanded e j f)) z = never (cc)
+    to (by.made A c (by.getNone e f)) = (A .sizes, A .worker, c, e, f)
 
     from : {x : Answer} {h : Graph} → Made s g (get q w) x h → g .workers w .held ≡ none → g .queue ≡ []
         → x ≡ NoneReady
@@ -65,23 +60,17 @@ pub record HandedReady (g : Graph) (h : HandOut) : Type 0 where
 -- it was made, has this name and was not handed out before, and the job of each name in its list is finished
 pub handed-ready : {s : Sizes} {g : Graph} {r : Reading} {e : ℕ → ℕ} → History s g r e → (q : Sizes) (w : ℕ)
     (h : HandOut) → perform s g (get q w) .answer ≡ Handed h → HandedReady g h
-handed-ready {s} {g} history q w h = of (deed s g (get q w))
+handed-ready {s} {g} history q w h z = of (rw z at (deed s g (get q w)))
   where
     S : Sound s g
     S = sound history
 
-    of : {x : Answer} {after : Graph} → Deed s g (get q w) x after → x ≡ Handed h → HandedReady g h
-    of (by.otherSizes e) z = never (cc)
-    of (by.workerUnknown e l) z = never (cc)
-    of (by.callHalfDone A n c) z = never (cc)
-    of (by.made A c (by.getHolding k e)) z = never (cc)
-    of (by.made A c (by.getNone e f)) z = never (cc)
-    of (by.made A c (by.getHanded e j f)) z =
-        let same : h ≡ handOut g j = cc in
+    of : {h : HandOut} {after : Graph} → Deed s g (get q w) (Handed h) after → HandedReady g h
+    of (by.made A c (by.getHanded e j f)) =
         let queued : 0 < occurrences j (g .queue) = first-occurs (order g) (g .queue) j f in
-        rw same (record {
+        record {
           there = S .queue-there j queued;
           said = refl;
           unexecuted = S .queue-unexecuted j queued;
           prerequisites = S .queue-ready j queued;
-        })
+        }

@@ -17,7 +17,7 @@ use Rattle.terms.specs.declared.Answer.{Answer}
 use Rattle.rules.specs.Rules.{Job, noJob, Call, idle, looking, linking, marking, notifying, Worker, Graph, empty, job}
 use Rattle.rules.specs.Sound.{CallSound, Looking, Sound}
 use Rattle.rules_cases.specs.Deed as by
-use Rattle.rules_cases.specs.Deed.{Deed}
+use Rattle.rules_cases.specs.Deed.{Admitted, Deed}
 use Rattle.rules_cases.specs.Deeds.{deed}
 use Rattle.linearization.specs.Calls.{Pending, finishing, Reading, unread, Quiet, note}
 use Rattle.linearization.specs.Calls as reading
@@ -47,26 +47,26 @@ record PacedOn (s : Sizes) (g : Graph) (r : Reading) : Type 0 where
 
 module _ (s : Sizes) (g : Graph) (r : Reading) (S : Sound s g) (P : PacedOn s g r) where
   -- one worker changes, to what is paced again
-  replaced : {after : Graph} {later : Reading} (w : ℕ) → w < s .workers → (x : Worker) → SameNames g after
-      → after .workers ≡ update (g .workers) w x
+  replaced : {i : Item} {after : Graph} {later : Reading} → Admitted s i → (x : Worker) → SameNames g after
+      → let w = workerOf i in after .workers ≡ update (g .workers) w x
       → ((v : ℕ) → v ≢ w → later .pending v ≡ r .pending v) → PacedCall after (x .held) (x .call) (later .pending w)
       → PacedOn s after later
-  replaced {after} w l x n e f c = record {
+  replaced {i} {after} A x n e f c = record {
     past = λ v m. ap (λ (f : ℕ → Worker). f v .call) e
-        ∙ ap (λ (y : Worker). y .call) (update-other (g .workers) w x v (λ z. omega arith)) ∙ P .past v m;
-    calls = λ v. elim (ℕ-discrete v w) [
-      | yes z ↦ rw (z, ap (λ (f : ℕ → Worker). f w) e ∙ update-same (g .workers) w x) c
-      | no z ↦ rw (ap (λ (f : ℕ → Worker). f v) e ∙ update-other (g .workers) w x v z, f v z)
+        ∙ ap (λ (y : Worker). y .call) (update-other (g .workers) _ x v (λ z. omega (arith, A .worker))) ∙ P .past v m;
+    calls = λ v. elim (ℕ-discrete v (workerOf i)) [
+      | yes z ↦ rw (z, ap (λ (f : ℕ → Worker). f (workerOf i)) e ∙ update-same (g .workers) (workerOf i) x) c
+      | no z ↦ rw (ap (λ (f : ℕ → Worker). f v) e ∙ update-other (g .workers) (workerOf i) x v z, f v z)
           (call-kept g after n (g .workers v .held) (g .workers v .call) (r .pending v) (S .held-there v) (S .calls v)
           (P .calls v))
     ];
   }
 
-  moved : {after : Graph} {later : Reading} (w : ℕ) → w < s .workers → (x : Worker) (p : Pending) → SameNames g after
-      → after .workers ≡ update (g .workers) w x
+  moved : {i : Item} {after : Graph} {later : Reading} → Admitted s i → (x : Worker) (p : Pending)
+      → SameNames g after → let w = workerOf i in after .workers ≡ update (g .workers) w x
       → later .pending ≡ update (r .pending) w p → PacedCall after (x .held) (x .call) p → PacedOn s after later
-  moved w l x p n e f c = replaced w l x n e (λ v z. rw f (update-other (r .pending) w p v z))
-      (rw (f, update-same (r .pending) w p) c)
+  moved {i} A x p n e f c = replaced A x n e (λ v z. rw f (update-other (r .pending) (workerOf i) p v z))
+      (rw (f, update-same (r .pending) (workerOf i) p) c)
 
   -- a job that is changed, its name kept
   same-names : (p : ℕ) (y : Job) → y .name ≡ job g p .name → (j : ℕ)
@@ -86,32 +86,32 @@ module _ (s : Sizes) (g : Graph) (r : Reading) (S : Sound s g) (P : PacedOn s g 
   paced-on (by.workerUnknown e l) = same refl
   paced-on (by.callHalfDone A n c) = same refl
   paced-on (by.made A c (by.addWrong e)) = same refl
-  paced-on (by.made A c (by.addPosted e)) = moved _ (A .worker) _ _ (λ j h. refl) refl refl refl
+  paced-on (by.made A c (by.addPosted e)) = moved A _ _ (λ j h. refl) refl refl refl
   paced-on (by.made A c (by.finishWrong e)) = same refl
-  paced-on (by.made A c (by.finishPosted p e n)) = moved _ (A .worker) _ _ (λ j h. refl) refl refl (rw (e, n) refl)
+  paced-on (by.made A c (by.finishPosted p e n)) = moved A _ _ (λ j h. refl) refl refl (rw (e, n) refl)
   paced-on (by.made A c (by.getHolding j e)) = same refl
   paced-on (by.made A c (by.getNone e f)) = same refl
   paced-on (by.made A c (by.getHanded {w} e j f)) =
-      replaced _ (A .worker) _ (λ i h. same-names j _ refl i) refl (λ v z. refl) (rw c at (P .calls w))
+      replaced A _ (λ i h. same-names j _ refl i) refl (λ v z. refl) (rw c at (P .calls w))
   paced-on (by.stepped A c by.noCall) = same refl
   paced-on (by.stepped A c (by.broken b)) = same refl
-  paced-on (by.stepped A c (by.lookedUp j l e)) = moved _ (A .worker) _ _ (λ j h. refl) refl refl refl
-  paced-on (by.stepped A c (by.nameUnknown l e)) = moved _ (A .worker) _ _ (λ j h. refl) refl refl refl
-  paced-on (by.stepped A c (by.nameThere j l e)) = moved _ (A .worker) _ _ (λ j h. refl) refl refl refl
-  paced-on (by.stepped A c (by.roomLacking l e f)) = moved _ (A .worker) _ _ (λ j h. refl) refl refl refl
-  paced-on (by.stepped A c (by.jobEntered l e f)) = moved _ (A .worker) _ _
+  paced-on (by.stepped A c (by.lookedUp j l e)) = moved A _ _ (λ j h. refl) refl refl refl
+  paced-on (by.stepped A c (by.nameUnknown l e)) = moved A _ _ (λ j h. refl) refl refl refl
+  paced-on (by.stepped A c (by.nameThere j l e)) = moved A _ _ (λ j h. refl) refl refl refl
+  paced-on (by.stepped A c (by.roomLacking l e f)) = moved A _ _ (λ j h. refl) refl refl refl
+  paced-on (by.stepped A c (by.jobEntered l e f)) = moved A _ _
       (λ j h. ap (λ (y : Job). y .name) (List·getD-append (g .jobs) _ noJob j h)) refl refl
       (refl, sym (ap (λ (y : Job). y .name) (getD-append-seam (g .jobs) _ [] noJob)))
-  paced-on (by.stepped A c (by.tallied p l e f)) = moved _ (A .worker) _ _ (λ j h. refl) refl refl (refl, linked-name c)
-  paced-on (by.stepped A c (by.arcAppended {j} p l e f)) = moved _ (A .worker) _ _ (λ j h. same-names p _ refl j) refl refl
+  paced-on (by.stepped A c (by.tallied p l e f)) = moved A _ _ (λ j h. refl) refl refl (refl, linked-name c)
+  paced-on (by.stepped A c (by.arcAppended {j} p l e f)) = moved A _ _ (λ j h. same-names p _ refl j) refl refl
       (refl, linked-name c ∙ sym (same-names p _ refl j))
-  paced-on (by.stepped A c (by.jobSettled {j} l)) = moved _ (A .worker) _ _ (λ i h. same-names j _ refl i) refl refl refl
-  paced-on (by.stepped A c (by.markedLast p e f)) = moved _ (A .worker) _ _ (λ j h. same-names p _ refl j) refl refl refl
-  paced-on (by.stepped A c (by.markedGoing p e f)) = moved _ (A .worker) _ _ (λ j h. same-names p _ refl j) refl refl
+  paced-on (by.stepped A c (by.jobSettled {j} l)) = moved A _ _ (λ i h. same-names j _ refl i) refl refl refl
+  paced-on (by.stepped A c (by.markedLast p e f)) = moved A _ _ (λ j h. same-names p _ refl j) refl refl refl
+  paced-on (by.stepped A c (by.markedGoing p e f)) = moved A _ _ (λ j h. same-names p _ refl j) refl refl
       (ap (λ n. finishing (finishOf n) 1) (sym (same-names p _ refl p)))
-  paced-on (by.stepped A c (by.arcNotified {p} {k} l)) = moved _ (A .worker) _ _ (λ j h. same-names _ _ refl j) refl refl
+  paced-on (by.stepped A c (by.arcNotified {p} {k} l)) = moved A _ _ (λ j h. same-names _ _ refl j) refl refl
       (ap (λ n. finishing (finishOf n) (suc (suc k))) (sym (same-names _ _ refl p)))
-  paced-on (by.stepped A c (by.lastNotified l)) = moved _ (A .worker) _ _ (λ j h. same-names _ _ refl j) refl refl refl
+  paced-on (by.stepped A c (by.lastNotified l)) = moved A _ _ (λ j h. same-names _ _ refl j) refl refl refl
 
 -- what is read of an item of a sound and paced graph
 pub read : {s : Sizes} {g : Graph} (r : Reading) → Sound s g → Paced g r → {i : Item} {x : Answer} {h : Graph}
