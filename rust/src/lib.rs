@@ -35,6 +35,11 @@
 
 #![warn(missing_docs)]
 
+/// The programs of the README are tests too.
+#[cfg(doctest)]
+#[doc = include_str!("../README.md")]
+struct Readme;
+
 mod day;
 pub mod ffi;
 mod graph;

@@ -15,7 +15,7 @@ use Rattle.terms.specs.declared.Sizes.{Sizes}
 use Rattle.terms.specs.declared.Answer.the-variants.{Ended}
 use Rattle.words.specs.Layout.{Tables}
 use Rattle.rules.specs.Rules.{idle}
-use Rattle.rules_follow_model.specs.Base.{pick-by, update-other}
+use Rattle.rules_cases.specs.Base.{pick-by, update-other}
 use Rattle.day_format.specs.Text.{decimal, _␣_, line}
 use Rattle.day_format.specs.Whole.{wholeFinish}
 use Rattle.day_format.specs.Day.{Day, day, Holder, Round, handOut, getAll, getRound, finishAll, anyHolder, rounds}

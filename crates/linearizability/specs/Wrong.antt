@@ -133,7 +133,8 @@ module _ (m : System) (items : List Item) where
 
 -- ---- what a run computes with, and the reading of it and the book
 unfoldable pub running : ℕ
-unfolding update contains repeats occurrences prefix earliest firstBy without argumentsWrong sameSizes after events entries steps empty seek
+unfolding update contains repeats occurrences prefix earliest firstBy without argumentsWrong sameSizes after events
+    entries steps empty seek
     lookUp enter linkTo link markDependents mark notify stepCall whenIdle addPosted finishPosted takeNext getJob
     admitted perform
 running = 0

@@ -79,7 +79,8 @@ abbrev pub refusesFinishes : System
 refusesFinishes = system posts looks links (λ g w. outcome (Refused notHeld 0) (withCall g w idle)) notifies takes
 
 -- `follows`: worker 0 holds job 1 in the book, which accepts its finish
-pub refuses-finishes : Lacks refusesFinishes (oneAdded ++ (get S 0 ∷ postFinish S 0 (finishOf 1) ∷ step S 0 ∷ [])) follows
+pub refuses-finishes : Lacks refusesFinishes
+    (oneAdded ++ (get S 0 ∷ postFinish S 0 (finishOf 1) ∷ step S 0 ∷ [])) follows
 unfolding booking fed
 refuses-finishes b f = apart endCode refl (ends-at 2 (omega arith) f)
 

@@ -39,7 +39,8 @@ startsAtZero = system posts
 -- jobs 1 and 2, then 3 needing both; job 1 is finished
 abbrev pub oneFinished : List Item
 oneFinished =
-    add S 0 1 [] 2 ++ (add S 0 2 [] 2 ++ (add S 0 3 (1 ∷ 2 ∷ []) 6 ++ (get S 0 ∷ postFinish S 0 (finishOf 1) ∷ steps 2 S 0)))
+    add S 0 1 [] 2 ++ (add S 0 2 [] 2
+    ++ (add S 0 3 (1 ∷ 2 ∷ []) 6 ++ (get S 0 ∷ postFinish S 0 (finishOf 1) ∷ steps 2 S 0)))
 
 -- `after-prerequisites`: job 3 entered the queue, and job 2 is not finished
 pub starts-at-zero : Lacks startsAtZero oneFinished after-prerequisites

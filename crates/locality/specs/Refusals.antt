@@ -124,7 +124,8 @@ left-behind t (postAdd s w a) =
     (λ _ k o. post-left t w x (judgedAdd s (view t) w a) (add-alike s (view t) w k o a .1))
 left-behind t (postFinish s w f) =
     let x = bareWorker MARKING (view t .worker HELD w) in
-    admit (λ n. Left t w (posted n t w x)) s t w refusal (judgedFinish s (view t) w (f .name)) (λ n. post-left t w x (suc n))
+    admit (λ n. Left t w (posted n t w x)) s t w refusal (judgedFinish s (view t) w (f .name))
+    (λ n. post-left t w x (suc n))
     (λ _ k o. post-left t w x (judgedFinish s (view t) w (f .name)) (finish-alike s (view t) w k o (f .name) .1))
 left-behind t (step s w) =
     admit (λ p. Left t w (outcome (answerOf p) (applied p t w))) s t w Refuse (planPhase s (view t) w)

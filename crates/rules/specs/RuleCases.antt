@@ -14,13 +14,15 @@ abbrev pub tells : Row → Told
 tells r = telling (perform (r .sizes)) (λ g. g .queue) empty (r .items)
 
 pub starred-rows : map tells starred ≡ map (λ r. r .tells) starred
-unfolding update contains repeats occurrences prefix earliest firstBy without argumentsWrong sameSizes after events entries answersOf steps
+unfolding update contains repeats occurrences prefix earliest firstBy without argumentsWrong sameSizes after events
+    entries answersOf steps
     before orders rowsOf starred empty seek lookUp enter linkTo link markDependents mark notify stepCall whenIdle
     addPosted finishPosted takeNext getJob admitted perform
 starred-rows = refl
 
 pub one-of-two-rows : map tells oneOfTwo ≡ map (λ r. r .tells) oneOfTwo
-unfolding update contains repeats occurrences prefix earliest firstBy without argumentsWrong sameSizes after events entries answersOf steps
+unfolding update contains repeats occurrences prefix earliest firstBy without argumentsWrong sameSizes after events
+    entries answersOf steps
     oneOfTwo empty seek lookUp enter linkTo link markDependents mark notify stepCall whenIdle addPosted finishPosted
     takeNext getJob admitted perform
 one-of-two-rows = refl

@@ -13,11 +13,11 @@ use Rattle.terms.specs.Terms.{noRoom, notHeld, finishOf, Finish}
 use Rattle.terms.specs.declared.Sizes.{Sizes}
 use Rattle.rules.specs.Rules.{Graph, job, find, at, missing}
 use Rattle.rules.specs.Sound.{Looking, Sound}
+use Rattle.rules_cases.specs.Deed.{HoldsNot, noPlace}
 use Rattle.sequential_model.specs.Book.{Entry, noEntry, Book, known, Ready, accepted, refused, firstUnknown, nowhere}
 use Rattle.sequential_model.specs.Book.{listedNames, full, addKnown, addEnd, finishEnd}
 use Rattle.sequential_model.specs.Book as book
 use Rattle.rules_history.specs.History.{entriesOf}
-use Rattle.rules_follow_model.specs.Change.{HoldsNot, noPlace}
 use Rattle.rules_follow_model.specs.Entries.{entry-at, entries-length, listed-length, known-found, unknown-at}
 use Rattle.rules_follow_model.specs.Entries.{unknown-nowhere, none-awaited, finished-not-awaited}
 

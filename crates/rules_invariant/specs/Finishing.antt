@@ -11,7 +11,8 @@ use lib.ListN.{length, getD}
 use Rattle.terms.specs.Base.{update, occurrences}
 use Rattle.terms.specs.Terms.{unexecuted, executing, finished}
 use Rattle.rules.specs.Sound.{startedBy}
-use Rattle.rules_invariant.specs.Base.{update-same, update-other, update-at, hit, hit-same, hit-other}
+use Rattle.rules_cases.specs.Base.{update-same, update-other, update-at}
+use Rattle.rules_invariant.specs.Base.{hit, hit-same, hit-other}
 use Rattle.rules_invariant.specs.Base.{occurrences-cons}
 use Rattle.rules_invariant.specs.Base.{occurrences-drop, sum, sum-at}
 use Rattle.rules_invariant.specs.Own.{owns-frame, owns-take, owns-drop}

@@ -4,7 +4,7 @@ use mathlib.Core.Logic.{_≢_}
 use mathlib.Core.Bool.{Bool, true, false}
 use mathlib.Core.Option.{none, some}
 use mathlib.Core.List.{List, [], _∷_, _++_}
-use Prim.Native.Nat.{ℕ, _+_, _-_, _<_}
+use Prim.Native.Nat.{ℕ, _+_, _<_}
 use native.Mathlib.Omega.{arith}
 use native.Mathlib.Decide.{ℕ-discrete}
 use lib.ListN.{length, getD, set, length-set}
@@ -16,14 +16,15 @@ use Rattle.terms.specs.declared.Sizes.{Sizes}
 use Rattle.rules.specs.Rules.{Job, idle, marking, notifying, Graph, noJob, job, withLabel, marked, handedOut, nextOut}
 use Rattle.rules.specs.Rules.{order}
 use Rattle.linearization.specs.Calls.{Pending, Reading, becomes, finishEnded}
-use Rattle.rules_invariant.specs.Base.{update-same, update-other, hit, hit-same, occurrences-cons}
+use Rattle.rules_cases.specs.Base.{update-same, update-other}
+use Rattle.rules_invariant.specs.Base.{hit, hit-same}
 use Rattle.rules_invariant.specs.State.{apart, finishing, State, hand, mark, close}
 use Rattle.rules_invariant.specs.Invariant.{Invariant, finished-not-unexecuted, executing-not-finished}
 use Rattle.rules_invariant.specs.Invariant.{entered-there}
 use Rattle.rules_invariant.specs.Invariant.{held-there}
 use Rattle.rules_invariant.specs.Finishing.{out-waits, hand-keeps, mark-keeps, close-keeps}
 use Rattle.rules_invariant.specs.Names.{Extends, extends-set, contains-snoc}
-use Rattle.rules_invariant.specs.Relation.{Kept, known-keeps, JobRel, FinishEnded, set-all}
+use Rattle.rules_invariant.specs.Relation.{Kept, known-keeps, JobRel, FinishEnded, set-all, added-keeps}
 use Rattle.rules_invariant.specs.Turns.{Next, own-stage, workers-after}
 
 module _ (s : Sizes) (g : Graph) (r : Reading) (x : State) (K : Kept s g r x) (I : Invariant x) (w : ℕ) where
@@ -105,8 +106,7 @@ module _ (s : Sizes) (g : Graph) (r : Reading) (x : State) (K : Kept s g r x) (I
                 served = λ p b. refl;
                 dependents = λ p. omega arith;
               }) v);
-          added = λ name b. let o = K .added name b in
-              record { job = o .job; found = further .found _ _ (o .found); ended = o .ended };
+          added = λ name b. added-keeps further (K .added name b);
           finished = λ name b.
               let o = K .finished name b in
               record {
@@ -138,9 +138,6 @@ module _ (s : Sizes) (g : Graph) (r : Reading) (x : State) (K : Kept s g r x) (I
 
     marked-unserved : x .served p ≡ 0
     marked-unserved = I .served-none p (λ z. executing-not-finished (cc (I .held-executing w p marked-held)))
-
-    pub marked-paced : r .pending w ≡ Pending.finishing (finishOf (job g p .name)) 0
-    marked-paced = rw e at (rw f at (K .workers w .paced))
 
     further : Extends (g .jobs) (relabelled p marked-there finished)
     further = relabelled-extends p marked-there finished
@@ -185,8 +182,7 @@ module _ (s : Sizes) (g : Graph) (r : Reading) (x : State) (K : Kept s g r x) (I
               served = λ q b. refl;
               dependents = λ q. omega arith;
             });
-        added = λ name b. let o = K .added name b in
-            record { job = o .job; found = further .found _ _ (o .found); ended = o .ended };
+        added = λ name b. added-keeps further (K .added name b);
         finished = λ name b.
             let o = K .finished name b in
             record {
@@ -253,8 +249,7 @@ module _ (s : Sizes) (g : Graph) (r : Reading) (x : State) (K : Kept s g r x) (I
               served = λ q b. refl;
               dependents = λ q. omega arith;
             });
-        added = λ name b. let o = K .added name b in
-            record { job = o .job; found = further .found _ _ (o .found); ended = o .ended };
+        added = λ name b. added-keeps further (K .added name b);
         finished = λ name b. was-finished name (contains name (r .finished)) refl b;
       };
     }

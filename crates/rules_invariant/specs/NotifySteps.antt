@@ -15,12 +15,14 @@ use Rattle.terms.specs.Terms.{finished, finishOf}
 use Rattle.terms.specs.declared.Sizes.{Sizes}
 use Rattle.rules.specs.Rules.{Job, idle, notifying, Graph, noJob, job, withCount, notified, enqueue}
 use Rattle.linearization.specs.Calls.{Pending, Reading, becomes, finishEnded}
-use Rattle.rules_invariant.specs.Base.{update-same, update-other, update-at, hit-same, hit-other}
+use Rattle.rules_cases.specs.Base.{update-same, update-other, update-at}
+use Rattle.rules_invariant.specs.Base.{hit-same, hit-other}
 use Rattle.rules_invariant.specs.State.{apart, finishing, State, bit, hitIf, serve, close}
 use Rattle.rules_invariant.specs.Invariant.{Invariant, occurrences-enqueue, counted-there}
 use Rattle.rules_invariant.specs.Finishing.{served-counted, serve-keeps, close-keeps}
 use Rattle.rules_invariant.specs.Names.{Extends, extends-set, contains-snoc}
 use Rattle.rules_invariant.specs.Relation.{Kept, known-keeps, jobRel, NotifyRel, FinishEnded, set-all}
+use Rattle.rules_invariant.specs.Relation.{added-keeps, finished-keeps}
 use Rattle.rules_invariant.specs.Turns.{Next, own-stage, own-call, other-finish, workers-after}
 
 -- whether a notified job is queued is right
@@ -40,9 +42,6 @@ module _ (s : Sizes) (g : Graph) (r : Reading) (x : State) (K : Kept s g r x) (I
 
     pub own-finishing : x .stage w ≡ finishing p
     own-finishing = own-stage s g r x K I w (notifying p k) f
-
-    pub notify-paced : r .pending w ≡ Pending.finishing (finishOf (job g p .name)) (suc k)
-    notify-paced = rw f at (K .workers w .paced)
 
     abbrev j : ℕ
     j = getD (job g p .dependents) k 0
@@ -140,16 +139,8 @@ module _ (s : Sizes) (g : Graph) (r : Reading) (x : State) (K : Kept s g r x) (I
               served = λ q b. served-else v q z b;
               dependents = λ q. omega arith;
             });
-        added = λ name b. let o = K .added name b in
-            record { job = o .job; found = later-extends .found _ _ (o .found); ended = o .ended };
-        finished = λ name b.
-            let o = K .finished name b in
-            record {
-              job = o .job;
-              found = later-extends .found _ _ (o .found);
-              finished = o .finished;
-              ended = o .ended;
-            };
+        added = λ name b. added-keeps later-extends (K .added name b);
+        finished = λ name b. finished-keeps later-extends (K .finished name b);
       };
     }
 
@@ -206,8 +197,7 @@ module _ (s : Sizes) (g : Graph) (r : Reading) (x : State) (K : Kept s g r x) (I
               served = λ q b. served-else v q z b;
               dependents = λ q. omega arith;
             });
-        added = λ name b. let o = K .added name b in
-            record { job = o .job; found = later-extends .found _ _ (o .found); ended = o .ended };
+        added = λ name b. added-keeps later-extends (K .added name b);
         finished = λ name b. last-finished name (contains name (r .finished)) refl b;
       };
     }

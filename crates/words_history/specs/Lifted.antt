@@ -22,7 +22,7 @@ use Rattle.words.specs.Layout.{Tables, view, workerShape, NAME, HELD, LIST-COUN
 use Rattle.words.specs.Layout as words
 use Rattle.words.specs.Words.{perform, layOut}
 use Rattle.words.specs.Observed.{bucketFrom, newestFirst, seen}
-use Rattle.rules.specs.Rules.{Call, idle, looking, linking, marking, notifying, Graph, empty, job, takeNext}
+use Rattle.rules.specs.Rules.{Call, idle, looking, linking, marking, notifying, Graph, empty, job}
 use Rattle.rules.specs.Rules as rules
 use Rattle.rules.specs.Observed as rules-seen
 use Rattle.rules.specs.Sound.{Sound, Finished}
@@ -40,7 +40,7 @@ use Rattle.representation_kept.specs.Chains.{chains}
 use Rattle.words_refine_rules.specs.Items.{item}
 use Rattle.words_refine_rules.specs.Reset.{idle-fresh, past-count}
 use Rattle.rules_follow_model.specs.Entries.{listed-length}
-use Rattle.rules_follow_model.specs.Settled.{get-answer}
+use Rattle.rules_follow_model.specs.Settled.{hands-next}
 use Rattle.rules_follow_model.specs.Paced.{paced, worker-idle, all-idle}
 use Rattle.rules_follow_model.specs.Steps.{add-step, finish-step, pending-there}
 use Rattle.rules_invariant.specs.Sound.{sound}
@@ -173,14 +173,14 @@ module _ (s : Sizes) (t : Tables) (laid : layOut s t .answer ≡ Laid) (items : 
   -- ---- a worker that is idle and jobless is handed the job longest in the queue
   pub hands-out : (w j : ℕ) (rest : List ℕ) → w < s .workers → seen T .call w ≡ seen-as.idle → seen T .held w ≡ none
       → seen T .waiting ≡ j ∷ rest → perform T (get s w) .answer ≡ Handed (seen-as.handOut (seen T) j)
-  unfolding takeNext
   hands-out w j rest h c f q =
       let queue : g .queue ≡ j ∷ rest = sym (does .waiting) ∙ q in
       let there : j < length (g .jobs) = R .sound .queue-there j (rw queue (head-occurs j rest)) in
       let named : seen T .job j .name ≡ job g j .name = ap (λ (x : JobSeen). x .name) (does .jobs j there) in
       next (get s w)
-      ∙ ap (λ o. o .answer) (get-answer s g w h (seen-idle _ (sym (does .calls w h) ∙ c)) (sym (does .held w h) ∙ f))
-      ∙ rw (queue, head-first j rest, named)
+      ∙ hands-next s g w h (seen-idle _ (sym (does .calls w h) ∙ c)) (sym (does .held w h) ∙ f) j
+      (rw queue (head-first j rest))
+      ∙ rw named
 
   -- ---- "With an empty queue it says none ready, and then only"
   pub none-ready : (q : Sizes) (w : ℕ) → (perform T (get q w) .answer ≡ NoneReady)

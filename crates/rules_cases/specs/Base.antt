@@ -1,15 +1,15 @@
--- Small laws of maps changed at one place, of choices by a test, of occurrences, and of what a change at one place
--- leaves in a list. Assumes nothing.
+-- Small laws of maps changed at one place, of choices by a test, and of what a change at one place leaves in a list.
+-- Assumes nothing.
 use mathlib.Core.Path.{_≡_, refl, sym, ap, _∙_}
 use mathlib.Core.Logic.{_≢_}
 use mathlib.Core.Bool.{Bool, true, false}
-use mathlib.Core.List.{List, _∷_, map}
-use Prim.Native.Nat.{ℕ, _<_}
+use mathlib.Core.List.{List}
+use Prim.Native.Nat.{ℕ}
 use native.Mathlib.Omega.{arith}
 use lib.ListN.{getD, set, List·getD-map}
 use lib.Seq.{map-set-same}
 use borrow.Author.Tests.{eq-eqb, ne-eqb}
-use Rattle.terms.specs.Base.{pick, update, occurrences}
+use Rattle.terms.specs.Base.{pick, update}
 
 -- ---- 0 is not 1
 pub never : {A : Type 0} → _≡_ {A = ℕ} 0 1 → A
