@@ -14,7 +14,7 @@ use Rattle.terms.specs.Starred.{S, sizes, job, steps, add, added, answersOf, ha
 use Rattle.terms.specs.declared.Answer.{Answer}
 use Rattle.terms.specs.declared.Answer.the-variants.{Posted, Going, Ended, NoneReady, Handed, Refused}
 use Rattle.rules.specs.Rules.{Graph, Job, empty, Call, idle, looking, linking, marking, notifying, Found, at, missing}
-use Rattle.rules.specs.Rules.{find, withCall, turn, handedOut, perform, handOut}
+use Rattle.rules.specs.Rules.{find, withCall, turn, handedOut, perform, handOut, withWorkers, withJobs}
 use Rattle.rules.specs.Rules as rules
 use Rattle.rules.specs.Observed.{seen}
 use Rattle.sequential_model.specs.Book.{entry}
@@ -140,12 +140,8 @@ heldOn (notifying p k) h = h
 abbrev pub holdingOn : Graph → ℕ → Outcome Graph → Outcome Graph
 holdingOn g w o =
     let c = o .state .workers w .call in
-    outcome (o .answer) (record {
-      jobs = o .state .jobs;
-      reserved = o .state .reserved;
-      queue = o .state .queue;
-      workers = update (o .state .workers) w (record { held = heldOn c (g .workers w .held); call = c });
-    })
+    outcome (o .answer) (withWorkers (o .state)
+    (update (o .state .workers) w (record { held = heldOn c (g .workers w .held); call = c })))
 
 abbrev pub freesLate : System
 freesLate =
@@ -187,12 +183,8 @@ withFirst x j = record {
 }
 
 abbrev pub linkedFirst : Graph → ℕ → Arguments → ℕ → ℕ → ℕ → ℕ → Graph
-linkedFirst g w a j i t p = record {
-  jobs = set (g .jobs) p (withFirst (rules.job g p) j);
-  reserved = g .reserved;
-  queue = g .queue;
-  workers = turn g w (linking a j (suc i) t);
-}
+linkedFirst g w a j i t p =
+    withJobs (withCall g w (linking a j (suc i) t)) (set (g .jobs) p (withFirst (rules.job g p) j))
 
 abbrev pub linkFirst : Graph → ℕ → Arguments → ℕ → ℕ → ℕ → Found → Outcome Graph
 linkFirst g w a j i t (at p) =

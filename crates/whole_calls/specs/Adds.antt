@@ -10,7 +10,7 @@ use Rattle.terms.specs.Runs.{postAdd, step, Outcome, outcome, after, events}
 use Rattle.terms.specs.declared.Sizes.{Sizes}
 use Rattle.terms.specs.declared.Answer.{Answer}
 use Rattle.terms.specs.declared.Answer.the-variants.{Going, Ended, Refused}
-use Rattle.rules.specs.Rules.{idle, looking, linking, Worker, Graph, newJob, withCall, entered, perform}
+use Rattle.rules.specs.Rules.{idle, looking, linking, Worker, Graph, newJob, withCall, entered, perform, withWorkers}
 use Rattle.rules_cases.specs.Deed as by
 use Rattle.rules_cases.specs.Deed.{Stepped, Made}
 use Rattle.linearization.specs.Calls.{Reading}
@@ -23,7 +23,7 @@ use Rattle.whole_calls.specs.Last.{links-end}
 
 -- ---- where nothing changes at first
 unchanged : (g : Graph) (f : ℕ → Worker)
-    → Unchanged g (record { jobs = g .jobs; reserved = g .reserved; queue = g .queue; workers = f })
+    → Unchanged g (withWorkers g f)
 unchanged g f = record { jobs = refl; reserved = refl; queue = refl }
 
 unchanged-on : {g h k : Graph} → Unchanged g h → Unchanged h k → Unchanged g k
