@@ -14,7 +14,7 @@ use Rattle.words.specs.Layout.{none, jobShape, LABEL, queueShape, view, Tables,
 use Rattle.words.specs.Words.{applied, appliedGet}
 use Rattle.words.specs.declared.Plan.the-variants.{Mark}
 use Rattle.words.specs.declared.GetPlan.the-variants.{Take}
-use Rattle.rules.specs.Rules.{Call, Worker, Graph, job, withLabel, marked, handedOut}
+use Rattle.rules.specs.Rules.{Call, Worker, Graph, job, withLabel, marked, handedOut, withJobs, withQueue, withWorkers}
 use Rattle.rules.specs.Sound.{Sound, started, startedBy}
 use Rattle.representation.specs.Rep.{Ghost, Row, TablesRep, Stands}
 use Rattle.representation_kept.specs.Stand.{TablesStand, viewOf}
@@ -23,12 +23,7 @@ use Rattle.representation_kept.specs.Queue.{cells-take, next-job}
 
 -- the graph with job j's label l, and the queue q
 abbrev labelled : Graph → ℕ → Label → List ℕ → (ℕ → Worker) → Graph
-labelled g j l q h = record {
-  jobs = set (g .jobs) j (withLabel (job g j) l);
-  reserved = g .reserved;
-  queue = q;
-  workers = h;
-}
+labelled g j l q h = withJobs (withQueue (withWorkers g h) q) (set (g .jobs) j (withLabel (job g j) l))
 
 -- ---- over the maps
 module _ (s : Sizes) (v : View) (g : Graph) (G : Ghost) (R : TablesRep s v g G) (j : ℕ) (hj : j < length (g .jobs))
