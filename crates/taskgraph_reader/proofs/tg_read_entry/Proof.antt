@@ -1,4 +1,4 @@
--- `taskgraph_sheets::tg_read_entry` meets its contract: each arm is given the answer of `read`, whose contract says
+-- `taskgraph_reader::tg_read_entry` meets its contract: each arm is given the answer of `read`, whose contract says
 -- what that is.
 -- Assumes nothing.
 use mathlib.Core.Path.{_≡_, refl, sym, ap, _∙_}
@@ -8,10 +8,10 @@ use Rattle.sheet_format.specs.Decode.{Decoded, job, end, refused, decode, readi
 use Rattle.sheet_format.specs.declared.Entry.{Entry}
 use Rattle.sheet_format.specs.declared.Read.{Read}
 use Rattle.sheet_format.specs.declared.Reading.{Reading}
-use Rattle.taskgraph_sheets.specs.Answers.{accepted, entryRead}
-use Rattle.taskgraph_sheets.specs.declared.EntryRead.{EntryRead}
-use Rattle.taskgraph_sheets.proofs.tg_read_entry.Statement.{statement}
-use Rattle.taskgraph_sheets.proofs.tg_read_entry.Tie as tie
+use Rattle.taskgraph_reader.specs.Answers.{accepted, entryRead}
+use Rattle.taskgraph_reader.specs.declared.EntryRead.{EntryRead}
+use Rattle.taskgraph_reader.proofs.tg_read_entry.Statement.{statement}
+use Rattle.taskgraph_reader.proofs.tg_read_entry.Tie as tie
 
 -- what the arms of the match make of the answer and the entry of a reading
 abbrev arm : ℕ → Entry → Read → EntryRead

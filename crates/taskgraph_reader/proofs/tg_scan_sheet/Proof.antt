@@ -1,10 +1,10 @@
--- `taskgraph_sheets::tg_scan_sheet` meets its contract: what `scan_sheet` answers, as C has it.
+-- `taskgraph_reader::tg_scan_sheet` meets its contract: what `scan_sheet` answers, as C has it.
 -- Assumes nothing.
 use mathlib.Core.Path.{ap, _∙_}
 use borrow.Author.Needs.{needs}
-use Rattle.taskgraph_sheets.specs.Answers.{sheetRead}
-use Rattle.taskgraph_sheets.proofs.tg_scan_sheet.Statement.{statement}
-use Rattle.taskgraph_sheets.proofs.tg_scan_sheet.Tie as tie
+use Rattle.taskgraph_reader.specs.Answers.{sheetRead}
+use Rattle.taskgraph_reader.proofs.tg_scan_sheet.Statement.{statement}
+use Rattle.taskgraph_reader.proofs.tg_scan_sheet.Tie as tie
 
 scan-sheet-requires : tie.Need-scan-sheet-requires
 scan-sheet-requires c κs = search needs

@@ -1,10 +1,10 @@
--- `taskgraph_sheets::scanned` meets its contract: each arm is given which answer it has.
+-- `taskgraph_reader::scanned` meets its contract: each arm is given which answer it has.
 -- Assumes nothing.
 use mathlib.Core.Path.{sym, ap}
 use borrow.Author.Needs.{needs}
-use Rattle.taskgraph_sheets.specs.Answers.{sheetRead}
-use Rattle.taskgraph_sheets.proofs.scanned.Statement.{statement}
-use Rattle.taskgraph_sheets.proofs.scanned.Tie as tie
+use Rattle.taskgraph_reader.specs.Answers.{sheetRead}
+use Rattle.taskgraph_reader.proofs.scanned.Statement.{statement}
+use Rattle.taskgraph_reader.proofs.scanned.Tie as tie
 
 enum-known-answer : tie.Need-enum-known-answer
 enum-known-answer c = search needs

@@ -1,4 +1,4 @@
--- `taskgraph_sheets::tg_totals_of_records` meets its contract: a walk of its MIR, by hand. The slice is passed on to
+-- `taskgraph_totals::tg_totals_of_records` meets its contract: a walk of its MIR, by hand. The slice is passed on to
 -- `of_records`, of which the walk knows only its contract.
 -- A `&` is Copy: what the slice owns is had twice, one copy is kept whole for the exit, and the other goes to the
 -- callee, beside the lifetime's token, which comes back.
@@ -48,10 +48,10 @@ use Rattle.totals.proofs.of_records as of-records
 use Rattle.totals.proofs.of_records.Symbol as of-records-def
 use Rattle.totals.proofs.of_records.Symbol.{name as #of-records}
 use Rattle.totals.proofs.of_records.Met as of-records-thm
-use Rattle.taskgraph_sheets.proofs.tg_totals_of_records.Key.{name as #board}
-use Rattle.taskgraph_sheets.proofs.tg_totals_of_records as board
-use Rattle.taskgraph_sheets.proofs.tg_totals_of_records.Statement as stated
-use Rattle.taskgraph_sheets.proofs.tg_totals_of_records.Code as code
+use Rattle.taskgraph_totals.proofs.tg_totals_of_records.Key.{name as #board}
+use Rattle.taskgraph_totals.proofs.tg_totals_of_records as board
+use Rattle.taskgraph_totals.proofs.tg_totals_of_records.Statement as stated
+use Rattle.taskgraph_totals.proofs.tg_totals_of_records.Code as code
 
 abbrev stayed : Stays (board.ended .signature .params) (board.ended .kept)
 stayed = (stay-none-slice (0 ∷ []) tt (plain (λ _. R.the-row)) yes, tt)
