@@ -13,7 +13,7 @@ use totals::Totals;
 pub extern "C" fn tg_totals_of_words(words: &[u32]) -> Totals
     ensures { λ r. ⌜ r ≡ totalsOfWords fixedMinutes (now (words .entry)) ⌝ }
 {
-    totals::of_words(words)
+    totals_of_words::of_words(words)
 }
 
 // The board on a lent row of records.
@@ -21,5 +21,5 @@ pub extern "C" fn tg_totals_of_words(words: &[u32]) -> Totals
 pub extern "C" fn tg_totals_of_records(records: &[JobRecord]) -> Totals
     ensures { λ r. ⌜ r ≡ totalsOf fixedMinutes (now (records .entry)) ⌝ }
 {
-    totals::of_records(records)
+    totals_of_records::of_records(records)
 }

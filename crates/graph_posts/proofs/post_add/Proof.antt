@@ -33,11 +33,12 @@ same-length-5 c = search needs
 returns : tie.Need-returns
 unfolding addWords posted
 returns c =
+    let c4 = c .before .before .before .before in
     rw (
-      ← c .before .before .before .before .before .before .before .judge-add .ensures,
-      c .before .before .before .before .before .before .if1 .taken,
+      ← c4 .before .before .before .judge-add .ensures,
+      c4 .before .before .if1 .taken,
       c .before .before .put-adding-worker .ensures,
-      c .before .before .before .before .worker-word .ensures,
+      c4 .worker-word .ensures,
     )
 
 same-length-6 : tie.Need-same-length-6

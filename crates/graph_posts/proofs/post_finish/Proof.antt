@@ -34,11 +34,12 @@ same-length-5 c = search needs
 returns : tie.Need-returns
 unfolding finishWords posted
 returns c =
+    let c4 = c .before .before .before .before in
     rw (
-      ← c .before .before .before .before .before .before .before .judge-finish .ensures,
-      c .before .before .before .before .before .before .if1 .taken,
+      ← c4 .before .before .before .judge-finish .ensures,
+      c4 .before .before .if1 .taken,
       c .before .before .put-bare-worker .ensures,
-      c .before .before .before .before .worker-word .ensures,
+      c4 .worker-word .ensures,
     )
 
 same-length-6 : tie.Need-same-length-6

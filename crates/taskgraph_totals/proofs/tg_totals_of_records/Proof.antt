@@ -44,10 +44,10 @@ use Rattle.totals.specs.declared.Totals.{Totals}
 use Rattle.totals.proofs.JobRecord as R
 use Rattle.totals.proofs.Totals as S
 use Rattle.totals.proofs.Totals.Laws as S′
-use Rattle.totals.proofs.of_records as of-records
-use Rattle.totals.proofs.of_records.Symbol as of-records-def
-use Rattle.totals.proofs.of_records.Symbol.{name as #of-records}
-use Rattle.totals.proofs.of_records.Met as of-records-thm
+use Rattle.totals_of_records.proofs.of_records as of-records
+use Rattle.totals_of_records.proofs.of_records.Symbol as of-records-def
+use Rattle.totals_of_records.proofs.of_records.Symbol.{name as #of-records}
+use Rattle.totals_of_records.proofs.of_records.Met as of-records-thm
 use Rattle.taskgraph_totals.proofs.tg_totals_of_records.Key.{name as #board}
 use Rattle.taskgraph_totals.proofs.tg_totals_of_records as board
 use Rattle.taskgraph_totals.proofs.tg_totals_of_records.Statement as stated
@@ -148,4 +148,4 @@ tg-totals-of-records-spec 𝓤 H 𝓜 𝓖 𝓡 =
     (tables 𝓤 H 𝓜 𝓡 code.env .C) (tables 𝓤 H 𝓜 𝓡 code.env .Λ) #board code.function (code.unfolded 𝓤 H 𝓜 𝓡)
     (board-meets 𝓤 H (𝓖 .A) (givenOf 𝓤 H 𝓜 𝓖) (𝓜 .mem) (𝓡 .run) (tablesOf 𝓤 H 𝓜 (tables 𝓤 H 𝓜 𝓡 code.env))
     (cited 𝓤 H (OfRecords 𝓤 H (𝓖 .A) (𝓜 .mem) (𝓡 .run)) 𝓜 𝓡 code.env #of-records of-records-def.routine
-    code.calls-totals·of-records (of-records-thm.met 𝓤 H 𝓜 𝓖 𝓡)))
+    code.calls-totals-of-records·of-records (of-records-thm.met 𝓤 H 𝓜 𝓖 𝓡)))
