@@ -10,10 +10,7 @@ ghost use Rattle.terms.specs.Terms.{argumentsWrong, halfDone, wrongArguments, d
 ghost use Rattle.words.specs.Columns.{columns};
 ghost use Rattle.words.specs.Layout.{workerShape, PHASE, IDLE, tables, atEntry, view};
 ghost use Rattle.words.specs.Words.{admitted, refusal, judgedAdd, holdsName, judgedFinish};
-
-pub mod arguments;
-
-use arguments::arguments_wrong;
+use graph_arguments::arguments_wrong;
 use graph_own::counters_ok;
 use graph_own::own_ok;
 use graph_sizes::sizes_fit;

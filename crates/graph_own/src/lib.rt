@@ -10,7 +10,6 @@ ghost use lib.ListN.{length};
 ghost use Rattle.words.specs.Columns.{place};
 ghost use Rattle.words.specs.Layout.{workerShape, NAMES, tables, view};
 ghost use Rattle.words.specs.Words.{placeOk, countersOk, ownOk};
-ghost use Rattle.graph_own.specs.Call.{callOk};
 use graph_words::header;
 use graph_words::layout::*;
 use graph_words::numbers::*;
@@ -37,18 +36,6 @@ pub fn counters_ok(sizes: Sizes, jobs: &[u32], arcs: &[u32]) -> bool
     (header(jobs, MADE) <= sizes.jobs) & (header(arcs, RESERVED) <= sizes.arcs)
 }
 
-// The words of the worker's call that are no places.
-fn call_sound(workers: &[u32], worker: u32) -> bool
-    ensures { λ r. ⌜ r ≡ callOk (now (workers .entry)) worker ⌝ }
-{
-    let count = worker_word(workers, worker, LIST_COUNT);
-    (count <= MOST_NAMES)
-        & (worker_word(workers, worker, OWN_CLASS) <= MOST_CLASS)
-        & (worker_word(workers, worker, OWN_GROWER) <= MOST_GROWER)
-        & (worker_word(workers, worker, TALLY) <= count)
-        & (worker_word(workers, worker, PLACE) <= count)
-}
-
 // The worker's own words are sound. The tests of its places are branches: what follows a call knows their outcome.
 fn own_sound(sizes: Sizes, jobs: &[u32], arcs: &[u32], workers: &[u32], worker: u32) -> bool
     ensures { λ r. ⌜ ((buckets queue : List ℕ)
@@ -56,11 +43,16 @@ fn own_sound(sizes: Sizes, jobs: &[u32], arcs: &[u32], workers: &[u32], worker: 
         worker) ⌝ }
 {
     let made = header(jobs, MADE);
+    let count = worker_word(workers, worker, LIST_COUNT);
     let phase = worker_word(workers, worker, PHASE) <= NOTIFYING;
     if phase {
         let held = place_ok(worker_word(workers, worker, HELD), made, sizes.jobs);
         if held {
-            let call = call_sound(workers, worker);
+            let call = (count <= MOST_NAMES)
+                & (worker_word(workers, worker, OWN_CLASS) <= MOST_CLASS)
+                & (worker_word(workers, worker, OWN_GROWER) <= MOST_GROWER)
+                & (worker_word(workers, worker, TALLY) <= count)
+                & (worker_word(workers, worker, PLACE) <= count);
             if call {
                 let job = place_ok(worker_word(workers, worker, OWN_JOB), made, sizes.jobs);
                 if job {

@@ -1,7 +1,7 @@
--- `graph_own::own_sound` meets its contract: each test is one of the definition's, in its order.
+-- `graph_own::own_sound` meets its contract: each way through the code is a case of the definition.
 -- Assumes nothing.
-use Rattle.words.specs.Words.{ownOk}
 use borrow.Author.Needs.{needs}
+use Rattle.words.specs.Words.{ownOk}
 use Rattle.graph_own.proofs.own_sound.Statement.{statement}
 use Rattle.graph_own.proofs.own_sound.Tie as tie
 
@@ -14,20 +14,32 @@ worker-word-requires c κs = search needs
 worker-word-requires-2 : tie.Need-worker-word-requires-2
 worker-word-requires-2 c κs = search needs
 
+worker-word-requires-3 : tie.Need-worker-word-requires-3
+worker-word-requires-3 c κs = search needs
+
 place-ok-requires : tie.Need-place-ok-requires
 place-ok-requires c κs = search needs
 
-call-sound-requires : tie.Need-call-sound-requires
-call-sound-requires c κs = search needs
+worker-word-requires-4 : tie.Need-worker-word-requires-4
+worker-word-requires-4 c κs = search needs
 
-worker-word-requires-3 : tie.Need-worker-word-requires-3
-worker-word-requires-3 c κs = search needs
+worker-word-requires-5 : tie.Need-worker-word-requires-5
+worker-word-requires-5 c κs = search needs
+
+worker-word-requires-6 : tie.Need-worker-word-requires-6
+worker-word-requires-6 c κs = search needs
+
+worker-word-requires-7 : tie.Need-worker-word-requires-7
+worker-word-requires-7 c κs = search needs
+
+worker-word-requires-8 : tie.Need-worker-word-requires-8
+worker-word-requires-8 c κs = search needs
 
 place-ok-requires-2 : tie.Need-place-ok-requires-2
 place-ok-requires-2 c κs = search needs
 
-worker-word-requires-4 : tie.Need-worker-word-requires-4
-worker-word-requires-4 c κs = search needs
+worker-word-requires-9 : tie.Need-worker-word-requires-9
+worker-word-requires-9 c κs = search needs
 
 header-requires-2 : tie.Need-header-requires-2
 header-requires-2 c κs = search needs
@@ -42,19 +54,24 @@ returns c =
     let c4 = c .before .before .before .before in
     let c8 = c4 .before .before .before .before in
     let c12 = c8 .before .before .before .before in
+    let c16 = c12 .before .before .before .before in
     rw (
-      ← c12 .before .header .ensures,
-      ← c12 .worker-word .ensures,
-      c8 .before .before .before .if1 .taken,
-      ← c8 .before .before .worker-word2 .ensures,
-      ← c8 .before .place-ok .ensures,
-      c8 .if2 .taken,
-      ← c4 .before .before .before .call-sound .ensures,
+      ← c16 .before .header .ensures,
+      ← c16 .worker-word .ensures,
+      ← c12 .before .before .before .worker-word2 .ensures,
+      c12 .before .before .if1 .taken,
+      ← c12 .before .worker-word3 .ensures,
+      ← c12 .place-ok .ensures,
+      c8 .before .before .before .if2 .taken,
+      ← c8 .before .before .worker-word4 .ensures,
+      ← c8 .before .worker-word5 .ensures,
+      ← c8 .worker-word6 .ensures,
+      ← c4 .before .before .before .worker-word7 .ensures,
       c4 .before .before .if3 .taken,
-      ← c4 .before .worker-word3 .ensures,
+      ← c4 .before .worker-word8 .ensures,
       ← c4 .place-ok2 .ensures,
       c .before .before .before .if4 .taken,
-      ← c .before .before .worker-word4 .ensures,
+      ← c .before .before .worker-word9 .ensures,
       ← c .before .header2 .ensures,
       ← c .place-ok3 .ensures,
     )
@@ -65,16 +82,21 @@ returns-2 c =
     λ buckets queue.
     let c4 = c .before .before .before .before in
     let c8 = c4 .before .before .before .before in
+    let c12 = c8 .before .before .before .before in
     rw (
-      ← c8 .before .before .header .ensures,
-      ← c8 .before .worker-word .ensures,
-      c8 .if1 .taken,
-      ← c4 .before .before .before .worker-word2 .ensures,
-      ← c4 .before .before .place-ok .ensures,
-      c4 .before .if2 .taken,
-      ← c4 .call-sound .ensures,
+      ← c12 .before .before .header .ensures,
+      ← c12 .before .worker-word .ensures,
+      ← c12 .worker-word2 .ensures,
+      c8 .before .before .before .if1 .taken,
+      ← c8 .before .before .worker-word3 .ensures,
+      ← c8 .before .place-ok .ensures,
+      c8 .if2 .taken,
+      ← c4 .before .before .before .worker-word4 .ensures,
+      ← c4 .before .before .worker-word5 .ensures,
+      ← c4 .before .worker-word6 .ensures,
+      ← c4 .worker-word7 .ensures,
       c .before .before .before .if3 .taken,
-      ← c .before .before .worker-word3 .ensures,
+      ← c .before .before .worker-word8 .ensures,
       ← c .before .place-ok2 .ensures,
       c .if4 .left,
     )
@@ -84,14 +106,19 @@ unfolding ownOk
 returns-3 c =
     λ buckets queue.
     let c4 = c .before .before .before .before in
+    let c8 = c4 .before .before .before .before in
     rw (
-      ← c4 .before .before .before .header .ensures,
-      ← c4 .before .before .worker-word .ensures,
-      c4 .before .if1 .taken,
-      ← c4 .worker-word2 .ensures,
-      ← c .before .before .before .place-ok .ensures,
-      c .before .before .if2 .taken,
-      ← c .before .call-sound .ensures,
+      ← c8 .before .before .before .header .ensures,
+      ← c8 .before .before .worker-word .ensures,
+      ← c8 .before .worker-word2 .ensures,
+      c8 .if1 .taken,
+      ← c4 .before .before .before .worker-word3 .ensures,
+      ← c4 .before .before .place-ok .ensures,
+      c4 .before .if2 .taken,
+      ← c4 .worker-word4 .ensures,
+      ← c .before .before .before .worker-word5 .ensures,
+      ← c .before .before .worker-word6 .ensures,
+      ← c .before .worker-word7 .ensures,
       c .if3 .left,
     )
 
@@ -101,10 +128,11 @@ returns-4 c =
     λ buckets queue.
     let c4 = c .before .before .before .before in
     rw (
-      ← c4 .before .header .ensures,
-      ← c4 .worker-word .ensures,
+      ← c4 .before .before .header .ensures,
+      ← c4 .before .worker-word .ensures,
+      ← c4 .worker-word2 .ensures,
       c .before .before .before .if1 .taken,
-      ← c .before .before .worker-word2 .ensures,
+      ← c .before .before .worker-word3 .ensures,
       ← c .before .place-ok .ensures,
       c .if2 .left,
     )
@@ -114,8 +142,9 @@ unfolding ownOk
 returns-5 c =
     λ buckets queue.
     rw (
-      ← c .before .before .header .ensures,
-      ← c .before .worker-word .ensures,
+      ← c .before .before .before .header .ensures,
+      ← c .before .before .worker-word .ensures,
+      ← c .before .worker-word2 .ensures,
       c .if1 .left,
     )
 
@@ -126,11 +155,15 @@ own-sound-spec =
     header-requires
     worker-word-requires
     worker-word-requires-2
-    place-ok-requires
-    call-sound-requires
     worker-word-requires-3
-    place-ok-requires-2
+    place-ok-requires
     worker-word-requires-4
+    worker-word-requires-5
+    worker-word-requires-6
+    worker-word-requires-7
+    worker-word-requires-8
+    place-ok-requires-2
+    worker-word-requires-9
     header-requires-2
     place-ok-requires-3
     returns

@@ -1,5 +1,5 @@
--- `graph_posted_add::put_names` meets its contract: what is left to store, from the present name on, makes the same record
--- as all of it; past the last listed name that is 0.
+-- `graph_posted_add::put_names` meets its contract: what is left to store, from the present name on, makes the same
+-- record as all of it; past the last listed name that is 0.
 -- Assumes nothing.
 use Prim.Native.Nat.{_+_, _-_, _≤_}
 use mathlib.Core.Path.{_≡_, refl, _∙_}

@@ -42,16 +42,22 @@ enum-known-answer-2 : tie.Need-enum-known-answer-2
 enum-known-answer-2 c = search needs
 
 returns : tie.Need-returns
-returns c = told (c .before .before .before .before .before .before .args .at) (decode _ _)
-    (c .before .before .before .before .read .ensures) (c .before .answer .given .1)
+returns c =
+    let c4 = c .before .before .before .before in
+    told (c4 .before .before .args .at) (decode _ _)
+    (c4 .read .ensures) (c .before .answer .given .1)
 
 returns-2 : tie.Need-returns-2
-returns-2 c = told (c .before .before .before .before .before .args .at) (decode _ _)
+returns-2 c =
+    let c4 = c .before .before .before .before in
+    told (c4 .before .args .at) (decode _ _)
     (c .before .before .before .read .ensures) (c .enum-told .given .1)
 
 returns-3 : tie.Need-returns-3
-returns-3 c = told (c .before .before .before .before .before .before .args .at) (decode _ _)
-    (c .before .before .before .before .read .ensures) (c .before .answer2 .given .1)
+returns-3 c =
+    let c4 = c .before .before .before .before in
+    told (c4 .before .before .args .at) (decode _ _)
+    (c4 .read .ensures) (c .before .answer2 .given .1)
 
 pub tg-read-entry-spec : {M : Type 1} → statement M
 tg-read-entry-spec =

@@ -22,7 +22,8 @@ same-length c = search needs
 
 returns : tie.Need-returns
 returns c =
-    let told : _ = c .before .before .before .before .before .write .ensures in (
+    let c4 = c .before .before .before .before in
+    let told : _ = c4 .before .write .ensures in (
       ap entryWritten (sym (c .before .next .given .1) ∙ ap (λ (w : Written). w .answer) told),
       ap (λ (w : Written). w .out) told,
     )
@@ -32,7 +33,8 @@ same-length-2 c = search needs
 
 returns-2 : tie.Need-returns-2
 returns-2 c =
-    let told : _ = c .before .before .before .before .before .write .ensures in (
+    let c4 = c .before .before .before .before in
+    let told : _ = c4 .before .write .ensures in (
       ap entryWritten (sym (c .before .number .given .1) ∙ ap (λ (w : Written). w .answer) told),
       ap (λ (w : Written). w .out) told,
     )

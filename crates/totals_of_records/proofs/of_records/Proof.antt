@@ -1,5 +1,5 @@
--- `totals_of_records::of_records` meets its contract: a walk of its MIR, by hand, with a loop over a slice of structs. The slice
--- is looked into once, before the loop, and shut once, after it.
+-- `totals_of_records::of_records` meets its contract: a walk of its MIR, by hand, with a loop over a slice of structs.
+-- The slice is looked into once, before the loop, and shut once, after it.
 -- A turn takes record i out, copies it, puts it back, and hands its label and class to `with_record`. Of `with_record`
 -- and `blank` the walk knows only their contracts.
 -- Assumes nothing.

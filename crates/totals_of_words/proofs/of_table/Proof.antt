@@ -5,7 +5,8 @@ use native.Mathlib.Omega.{arith}
 use borrow.Author.Needs.{needs}
 use Rattle.minutes.specs.Minutes.{fixedMinutes}
 use Rattle.minutes.specs.Rising.{fixed-rising}
-use Rattle.totals_of_words.proofs.Tables.{stands-as, inside, none-stands, Passed, start-table, next-table, last-table}
+use Rattle.totals_of_words.proofs.Tables.{stands-as, inside, none-stands, Passed}
+use Rattle.totals_of_words.proofs.Tables.{start-table, next-table, last-table}
 use Rattle.totals_of_words.proofs.of_table.Statement.{statement}
 use Rattle.totals_of_words.proofs.of_table.Tie as tie
 
