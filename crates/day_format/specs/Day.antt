@@ -68,7 +68,7 @@ refusal i Posted = []
 refusal i Going = []
 refusal i Ended = []
 refusal i NoneReady = []
-refusal i (Handed j name) = []
+refusal i (Handed h) = []
 
 unfoldable pub addAll : Sizes → ℕ → List Job → Day → Day
 addAll s i [] d = d
@@ -92,12 +92,12 @@ pub record Round : Type 0 where
 
 -- "Each middle line gives the hand-out number, name and worker"
 abbrev pub handOut : ℕ → Round → Answer → Tables → Round
-handOut w r (Handed j name) t =
+handOut w r (Handed h) t =
     record {
       state = t;
-      text = r .text ++ line (decimal (r .handed) ␣ (decimal name ␣ decimal w));
+      text = r .text ++ line (decimal (r .handed) ␣ (decimal (h .name) ␣ decimal w));
       handed = r .handed + 1;
-      holders = r .holders ++ (record { worker = w; name = name } ∷ []);
+      holders = r .holders ++ (record { worker = w; name = h .name } ∷ []);
     }
 handOut w r Laid t = record { state = t; text = r .text; handed = r .handed; holders = r .holders }
 handOut w r Posted t = record { state = t; text = r .text; handed = r .handed; holders = r .holders }

@@ -15,7 +15,7 @@ use Rattle.terms.specs.declared.Sizes.{Sizes}
 use Rattle.terms.specs.declared.Answer.the-variants.{Ended}
 use Rattle.words.specs.Layout.{Tables}
 use Rattle.rules.specs.Rules.{idle}
-use Rattle.rules_follow_model.specs.Base.{pick-by, update-other}
+use Rattle.rules_cases.specs.Base.{pick-by, update-other}
 use Rattle.day_format.specs.Text.{decimal, _␣_, line}
 use Rattle.day_format.specs.Whole.{wholeFinish}
 use Rattle.day_format.specs.Day.{Day, day, Holder, Round, handOut, getAll, getRound, finishAll, anyHolder, rounds}
@@ -67,7 +67,9 @@ module _ (s : Sizes) (few : s .jobs < 10000) (n : ℕ) (names : ℕ → ℕ) (c 
       → GetEnds (Handing s w hw n (r .handed) (G .hold) names free)
       (Drained s w hw n (r .handed) (G .hold) names free) o
       → Getting h (suc w) (handOut w r (o .answer) (o .state))
-  one-get h w r G hw free o (handed-out {t = t} {j = j} {name = called} H) =
+  one-get h w r G hw free o (handed-out {h = out} H) =
+      let j : ℕ = out .job in
+      let called : ℕ = out .name in
       let added : List ℕ = line (decimal (r .handed) ␣ (decimal called ␣ decimal w)) in
       record {
         hold = update (G .hold) w (some j);

@@ -34,8 +34,8 @@ onto a r = record { state = r .state; text = a ++ r .text; handed = r .handed; h
 
 handOut-onto : (w : ℕ) (a : List ℕ) (r : Round) (x : Answer) (t : Tables)
     → handOut w (onto a r) x t ≡ onto a (handOut w r x t)
-handOut-onto w a r (Handed j name) t =
-    rw (append-assoc a (r .text) (line (decimal (r .handed) ␣ (decimal name ␣ decimal w))))
+handOut-onto w a r (Handed h) t =
+    rw (append-assoc a (r .text) (line (decimal (r .handed) ␣ (decimal (h .name) ␣ decimal w))))
 handOut-onto w a r Laid t = refl
 handOut-onto w a r Posted t = refl
 handOut-onto w a r Going t = refl

@@ -25,7 +25,7 @@ refusal-some i Posted e = never (sym e)
 refusal-some i Going e = never (sym e)
 refusal-some i Ended e = never (sym e)
 refusal-some i NoneReady e = never (sym e)
-refusal-some i (Handed j name) e = never (sym e)
+refusal-some i (Handed h) e = never (sym e)
 
 pub refusal-none : (i : ℕ) (a : Answer) → refusedOf a .some ≡ false → refusal i a ≡ []
 refusal-none i (Refused n p) e = never e
@@ -34,7 +34,7 @@ refusal-none i Posted e = refl
 refusal-none i Going e = refl
 refusal-none i Ended e = refl
 refusal-none i NoneReady e = refl
-refusal-none i (Handed j name) e = refl
+refusal-none i (Handed h) e = refl
 
 -- the round after a job was handed out, and after none was
 abbrev pub handedTo : ℕ → ℕ → Round → Tables → Round
@@ -51,7 +51,7 @@ noneTo r t = record { state = t; text = r .text; handed = r .handed; holders = r
 
 pub handed-some : (w : ℕ) (r : Round) (a : Answer) (t : Tables) → handedOf a .some ≡ true
     → handOut w r a t ≡ handedTo w (handedOf a .value) r t
-handed-some w r (Handed j name) t e = refl
+handed-some w r (Handed h) t e = refl
 handed-some w r Laid t e = never (sym e)
 handed-some w r Posted t e = never (sym e)
 handed-some w r Going t e = never (sym e)
@@ -61,7 +61,7 @@ handed-some w r (Refused n p) t e = never (sym e)
 
 pub handed-none : (w : ℕ) (r : Round) (a : Answer) (t : Tables) → handedOf a .some ≡ false
     → handOut w r a t ≡ noneTo r t
-handed-none w r (Handed j name) t e = never e
+handed-none w r (Handed h) t e = never e
 handed-none w r Laid t e = refl
 handed-none w r Posted t e = refl
 handed-none w r Going t e = refl
@@ -82,7 +82,7 @@ refusal-length i Posted = omega arith
 refusal-length i Going = omega arith
 refusal-length i Ended = omega arith
 refusal-length i NoneReady = omega arith
-refusal-length i (Handed j name) = omega arith
+refusal-length i (Handed h) = omega arith
 
 pub handed-length : (h name w : ℕ) → length (line (decimal h ␣ (decimal name ␣ decimal w))) ≤ lineBytes
 handed-length h name w =

@@ -52,10 +52,10 @@ refusedOf Posted = told false 0
 refusedOf Going = told false 0
 refusedOf Ended = told false 0
 refusedOf NoneReady = told false 0
-refusedOf (Handed j name) = told false 0
+refusedOf (Handed h) = told false 0
 
 abbrev pub handedOf : Answer → Told
-handedOf (Handed j name) = told true name
+handedOf (Handed h) = told true (h .name)
 handedOf Laid = told false 0
 handedOf Posted = told false 0
 handedOf Going = told false 0

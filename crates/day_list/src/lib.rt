@@ -115,7 +115,7 @@ fn refusal_of(answer: Answer) -> Told
             some: false,
             value: 0,
         },
-        Answer::Handed { job: _, name: _ } => Told {
+        Answer::Handed { .. } => Told {
             some: false,
             value: 0,
         },
@@ -151,9 +151,9 @@ fn name_of(answer: Answer) -> Told
             some: false,
             value: 0,
         },
-        Answer::Handed { job: _, name } => Told {
+        Answer::Handed { out } => Told {
             some: true,
-            value: name,
+            value: out.name,
         },
         Answer::Refused {
             number: _,

@@ -101,6 +101,6 @@ pub fn apply_get(
     match plan {
         GetPlan::RefuseGet { .. } => {}
         GetPlan::Wait => {}
-        GetPlan::Take { job, name: _, cell } => take(jobs, queue, workers, worker, job, cell),
+        GetPlan::Take { out, cell } => take(jobs, queue, workers, worker, out, cell),
     }
 }

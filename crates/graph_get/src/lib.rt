@@ -17,7 +17,7 @@ fn answer_get(plan: GetPlan) -> Answer
     match plan {
         GetPlan::RefuseGet { number } => Answer::Refused { number, place: 0 },
         GetPlan::Wait => Answer::NoneReady,
-        GetPlan::Take { job, name, .. } => Answer::Handed { job, name },
+        GetPlan::Take { out, .. } => Answer::Handed { out },
     }
 }
 

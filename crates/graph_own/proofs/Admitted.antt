@@ -43,12 +43,12 @@ and-known : (r a b : Bool) → r ≡ (a && b) → a ≡ true → b ≡ r
 and-known r true b e h = sym e
 and-known r false b e h = cc
 
-own-is : (s : Sizes) (t : Tables) (w : ℕ) {fit own : Bool} → fit ≡ sizesFit s t
-    → own ≡ (leb (place workerShape w NAMES) (length (t .workers)) && ownOk s (view t) w)
-    → fit ≡ true → ltb w (s .workers) ≡ true → ownOk s (view t) w ≡ own
-own-is s t w {fit} {own} f o taken known =
+-- so of a known worker the code finds what the definition asks for
+pub own-is : (s : Sizes) (t : Tables) (w : ℕ) {own : Bool} → sizesFit s t ≡ true → ltb w (s .workers) ≡ true
+    → own ≡ (leb (place workerShape w NAMES) (length (t .workers)) && ownOk s (view t) w) → ownOk s (view t) w ≡ own
+own-is s t w {own} fits known o =
     and-known own (leb (place workerShape w NAMES) (length (t .workers))) (ownOk s (view t) w) o
-    (own-within s t w (sym f ∙ taken) known)
+    (own-within s t w fits known)
 
 -- each way through the tests that come first: `fit` and `own` are what the code finds of the sizes and of the worker's
 -- own words
@@ -66,9 +66,9 @@ module _ (s : Sizes) (t : Tables) (w : ℕ) {A : Type 0} (refuse : ℕ → A) (p
   pub unsound : {own : Bool} → own ≡ (leb (place workerShape w NAMES) (length (t .workers)) && ownOk s (view t) w)
       → fit ≡ true → ltb w (s .workers) ≡ true → own ≡ false → r ≡ refuse damaged → r ≡ admitted s t w refuse plan
   unfolding admitted
-  unsound o taken known left e = rw (sym f ∙ taken, known, own-is s t w f o taken known, left) e
+  unsound o taken known left e = rw (sym f ∙ taken, known, own-is s t w (sym f ∙ taken) known o, left) e
 
   pub admits : {own : Bool} → own ≡ (leb (place workerShape w NAMES) (length (t .workers)) && ownOk s (view t) w)
       → fit ≡ true → ltb w (s .workers) ≡ true → own ≡ true → r ≡ plan → r ≡ admitted s t w refuse plan
   unfolding admitted
-  admits o taken known sound e = rw (sym f ∙ taken, known, own-is s t w f o taken known, sound) e
+  admits o taken known sound e = rw (sym f ∙ taken, known, own-is s t w (sym f ∙ taken) known o, sound) e

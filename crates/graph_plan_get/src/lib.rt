@@ -14,6 +14,7 @@ use graph_words::job_word;
 use graph_words::layout::*;
 use graph_words::numbers::*;
 use graph_words::worker_word;
+use terms::HandOut;
 use terms::Sizes;
 use words::GetPlan;
 
@@ -41,8 +42,10 @@ fn plan_queue(sizes: Sizes, jobs: &[u32], arcs: &[u32], queue: &[u32]) -> GetPla
     let unexecuted = job_word(jobs, job, LABEL) == UNEXECUTED;
     if unexecuted {
         GetPlan::Take {
-            job,
-            name: job_word(jobs, job, NAME),
+            out: HandOut {
+                job,
+                name: job_word(jobs, job, NAME),
+            },
             cell: taken,
         }
     } else {

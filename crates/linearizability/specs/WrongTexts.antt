@@ -8,7 +8,7 @@ use native.Mathlib.Omega.{arith}
 use lib.Dec.{ltb, eqb}
 use lib.ListN.{length, getD, set}
 use Rattle.terms.specs.Base.{pick}
-use Rattle.terms.specs.Terms.{Arguments, listed, unknownName}
+use Rattle.terms.specs.Terms.{Arguments, listed, unknownName, finishOf}
 use Rattle.terms.specs.Runs.{Item, postAdd, postFinish, step, get, Outcome, outcome, after}
 use Rattle.terms.specs.Starred.{S, job, steps, add, prepared}
 use Rattle.terms.specs.declared.Answer.the-variants.{Going, Ended, Refused}
@@ -39,7 +39,8 @@ startsAtZero = system posts
 -- jobs 1 and 2, then 3 needing both; job 1 is finished
 abbrev pub oneFinished : List Item
 oneFinished =
-    add S 0 1 [] 2 ++ (add S 0 2 [] 2 ++ (add S 0 3 (1 ∷ 2 ∷ []) 6 ++ (get S 0 ∷ postFinish S 0 1 ∷ steps 2 S 0)))
+    add S 0 1 [] 2 ++ (add S 0 2 [] 2
+    ++ (add S 0 3 (1 ∷ 2 ∷ []) 6 ++ (get S 0 ∷ postFinish S 0 (finishOf 1) ∷ steps 2 S 0)))
 
 -- `after-prerequisites`: job 3 entered the queue, and job 2 is not finished
 pub starts-at-zero : Lacks startsAtZero oneFinished after-prerequisites

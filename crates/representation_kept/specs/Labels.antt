@@ -8,6 +8,7 @@ use native.Mathlib.Omega.{arith}
 use lib.ListN.{length, set}
 use Rattle.terms.specs.Terms.{Label, executing, finished, labelNumber}
 use Rattle.terms.specs.declared.Sizes.{Sizes}
+use Rattle.terms.specs.declared.HandOut.{HandOut}
 use Rattle.words.specs.Columns.{update-same, update-other, columns-put, put, store, header-putHeader, rows-put, stores}
 use Rattle.words.specs.Layout.{none, jobShape, LABEL, queueShape, view, Tables, View}
 use Rattle.words.specs.Words.{applied, appliedGet}
@@ -105,10 +106,11 @@ module _ (s : Sizes) (t : Tables) (g : Graph) (G : Ghost) (S : Stands s t g G) (
             (label-rep s (view t) g G R p hp finished _ _ (ap startedBy e));
       }
 
-  pub get-stands : (w j name : ℕ) (q : List ℕ) → g .queue ≡ j ∷ q
-      → TablesStand s (appliedGet (Take j name (started (g .jobs))) t w) (handedOut g w j q) G
+  pub get-stands : (w : ℕ) (h : HandOut) (q : List ℕ) → g .queue ≡ h .job ∷ q
+      → TablesStand s (appliedGet (Take h (started (g .jobs))) t w) (handedOut g w (h .job) q) G
   unfolding appliedGet
-  get-stands w j name q e =
+  get-stands w h q e =
+      let j : ℕ = h .job in
       let n = next-job s t g G S O j q e in
       let b : j < s .jobs = omega (arith, O .jobs, n .0) in
       let d : started (g .jobs) < s .jobs = omega (arith, O .jobs, O .queue-room, ap length e) in

@@ -9,9 +9,11 @@ use lib.ListN.{length, getD, set}
 use Rattle.terms.specs.Base.{pick, update}
 use Rattle.terms.specs.Terms.{Label, unexecuted, executing, finished, Arguments, listed, argumentsWrong, sameSizes}
 use Rattle.terms.specs.Terms.{wrongSizes, noSuchWorker, halfDone, nothingToStep, wrongArguments, unknownName}
-use Rattle.terms.specs.Terms.{namePresent, noRoom, damaged, alreadyHolding, notHeld}
+use Rattle.terms.specs.Terms.{namePresent, noRoom, damaged, alreadyHolding, notHeld, Finish}
+use Rattle.terms.specs.Order.{Order, inQueue, firstBy, without}
 use Rattle.terms.specs.Runs.{Item, postAdd, postFinish, step, get, Outcome, outcome}
 use Rattle.terms.specs.declared.Sizes.{Sizes}
+use Rattle.terms.specs.declared.HandOut.{HandOut}
 use Rattle.terms.specs.declared.Answer.{Answer}
 use Rattle.terms.specs.declared.Answer.the-variants.{Posted, Going, Ended, NoneReady, Handed, Refused}
 
@@ -244,10 +246,10 @@ unfoldable pub addPosted : Graph → ℕ → Arguments → Outcome Graph
 addPosted g w a =
     pick (argumentsWrong a) (outcome (Refused wrongArguments 0) g) (outcome Posted (withCall g w (looking a 0)))
 
-unfoldable pub finishPosted : Graph → ℕ → ℕ → Option ℕ → Outcome Graph
-finishPosted g w name none = outcome (Refused notHeld 0) g
-finishPosted g w name (some p) =
-    pick (eqb (job g p .name) name) (outcome Posted (withCall g w marking)) (outcome (Refused notHeld 0) g)
+unfoldable pub finishPosted : Graph → ℕ → Finish → Option ℕ → Outcome Graph
+finishPosted g w f none = outcome (Refused notHeld 0) g
+finishPosted g w f (some p) =
+    pick (eqb (job g p .name) (f .name)) (outcome Posted (withCall g w marking)) (outcome (Refused notHeld 0) g)
 
 -- a get "takes the job longest in the queue, labels it executing and records it as held"
 abbrev pub handedOut : Graph → ℕ → ℕ → List ℕ → Graph
@@ -259,12 +261,23 @@ handedOut g w j q =
       workers = update (g .workers) w (record { held = some j; call = idle });
     }
 
-unfoldable pub takeNext : Graph → ℕ → List ℕ → Outcome Graph
-takeNext g w [] = outcome NoneReady g
-takeNext g w (j ∷ q) = outcome (Handed j (job g j .name)) (handedOut g w j q)
+-- what it answers of that job
+abbrev pub handOut : Graph → ℕ → HandOut
+handOut g j = record { job = j; name = job g j .name }
+
+-- the order of hand-outs, and the job that is next by it
+abbrev pub order : Graph → Order
+order g = inQueue
+
+abbrev pub nextOut : Graph → Option ℕ
+nextOut g = firstBy (order g) (g .queue)
+
+unfoldable pub takeNext : Graph → ℕ → Option ℕ → Outcome Graph
+takeNext g w none = outcome NoneReady g
+takeNext g w (some j) = outcome (Handed (handOut g j)) (handedOut g w j (without j (g .queue)))
 
 unfoldable pub getJob : Graph → ℕ → Option ℕ → Outcome Graph
-getJob g w none = takeNext g w (g .queue)
+getJob g w none = takeNext g w (nextOut g)
 getJob g w (some j) = outcome (Refused alreadyHolding 0) g
 
 -- ---- an item: number 1 for other sizes than those laid out, then 2, then the call's own rules
@@ -276,7 +289,7 @@ admitted laid s g w r =
 
 unfoldable pub perform : Sizes → Graph → Item → Outcome Graph
 perform laid g (postAdd s w a) = admitted laid s g w (whenIdle g (g .workers w .call) (addPosted g w a))
-perform laid g (postFinish s w name) =
-    admitted laid s g w (whenIdle g (g .workers w .call) (finishPosted g w name (g .workers w .held)))
+perform laid g (postFinish s w f) =
+    admitted laid s g w (whenIdle g (g .workers w .call) (finishPosted g w f (g .workers w .held)))
 perform laid g (step s w) = admitted laid s g w (stepCall laid g w (g .workers w .call))
 perform laid g (get s w) = admitted laid s g w (whenIdle g (g .workers w .call) (getJob g w (g .workers w .held)))

@@ -42,7 +42,7 @@ returns-3 c =
     let c4 = c .before .before .before .before in
     let c8 = c4 .before .before .before .before in
     let e = c8 .before .before .before .plan .given .1 in
-    rw e (c4 .before .before .take .ensures (rw e at h) _ arcs buckets)
+    rw e (c4 .before .before .take .ensures (rw e at h) arcs buckets)
 
 pub apply-get-spec : {M : Type 1} → statement M
 apply-get-spec =

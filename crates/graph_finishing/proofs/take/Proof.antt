@@ -26,7 +26,7 @@ same-length-3 c = search needs
 returns : tie.Need-returns
 unfolding appliedGet
 returns c =
-    λ h name arcs buckets.
+    λ h arcs buckets.
     let c4 = c .before .before .before .before in
     let c8 = c4 .before .before .before .before in
     rw (
