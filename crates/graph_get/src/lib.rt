@@ -5,7 +5,7 @@ ghost use Rattle.terms.specs.Runs.{outcome};
 ghost use Rattle.words.specs.Layout.{atEntry, atExit};
 ghost use Rattle.words.specs.Words.{answerGet, getWords};
 use graph_apply::apply_get;
-use graph_plan::plan_get;
+use graph_plan_get::plan_get;
 use terms::Answer;
 use terms::Sizes;
 use words::GetPlan;

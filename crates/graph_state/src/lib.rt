@@ -9,13 +9,13 @@ ghost use Rattle.words.specs.Layout.{workerShape, tables, lent, atEntry, view, 
 ghost use Rattle.words.specs.Words.{ownOk};
 ghost use Rattle.worker_state.specs.Held.{callOf, refused, holdingOf, heldWords};
 ghost use Rattle.worker_state.specs.Drained.{every, free, judged, drainedWords};
-use graph_words::counters_ok;
+use graph_own::counters_ok;
+use graph_own::own_ok;
+use graph_sizes::sizes_fit;
 use graph_words::header;
 use graph_words::job_word;
 use graph_words::layout::*;
 use graph_words::numbers::*;
-use graph_words::own_ok;
-use graph_words::sizes_fit;
 use graph_words::worker_word;
 use terms::Sizes;
 use worker_state::Drained;

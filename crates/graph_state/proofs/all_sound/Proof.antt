@@ -9,7 +9,8 @@ use borrow.Author.Tests.{lt-ltb}
 use Rattle.words.specs.Layout.{tables, view}
 use Rattle.words.specs.Words.{ownOk}
 use Rattle.worker_state.specs.Drained.{every}
-use Rattle.graph_state.proofs.Own.{own-known, every-suc}
+use Rattle.graph_own.proofs.Admitted.{own-is}
+use Rattle.graph_state.proofs.Own.{every-suc}
 use Rattle.graph_state.proofs.all_sound.Statement.{statement}
 use Rattle.graph_state.proofs.all_sound.Tie as tie
 
@@ -35,22 +36,21 @@ loop-less c = omega arith
 
 loop-again : tie.Need-loop-again Inv-loop μ-loop
 loop-again c =
-    let a = c .before .before .before .before .before .before .before .before .before .args in
+    let l = c .before .before .before in
+    let s = l .before .before .before .before .before .before in
+    let a = s .args in
     let t = tables (now (a .jobs)) (now (a .arcs)) (now (a .buckets)) (now (a .queue)) (now (a .workers)) in
-    let worker = c .before .before .before .loop .worker in
-    let own = own-known (a .sizes) t worker (c .own-ok .result)
-    (c .before .before .before .before .before .before .before .before .before .pre)
-    (lt-ltb worker (a .sizes .workers) (omega arith))
-    (c .own-ok .ensures (now (a .buckets)) (now (a .queue))) in (
-      omega arith,
-      rw (every-suc (ownOk (a .sizes) (view t)) worker, own, ← c .before .before .before .loop .inv .1),
-    )
+    let worker = l .loop .worker in
+    let own = own-is (a .sizes) t worker (s .pre) (lt-ltb worker (a .sizes .workers) (omega arith))
+    (c .own-ok .ensures (now (a .buckets)) (now (a .queue))) in
+    (omega arith, rw (every-suc (ownOk (a .sizes) (view t)) worker, own, ← l .loop .inv .1))
 
 returns : tie.Need-returns Inv-loop μ-loop
 returns c =
-    let a = c .before .before .before .before .before .before .before .before .args in
-    let all-passed : c .before .before .loop .worker ≡ a .sizes .workers = omega arith in
-    c .before .before .loop .inv .1 ∙ ap (every _) all-passed
+    let l = c .before .before in
+    let a = l .before .before .before .before .before .before .args in
+    let all-passed : l .loop .worker ≡ a .sizes .workers = omega arith in
+    l .loop .inv .1 ∙ ap (every _) all-passed
 
 pub all-sound-spec : {M : Type 1} → statement M
 all-sound-spec =

@@ -1,10 +1,7 @@
 -- `graph_state::held` meets its contract: each way through the code is a case of the definition.
 -- Assumes nothing.
-use denote.Ref.{now}
 use borrow.Author.Needs.{needs}
-use Rattle.words.specs.Layout.{tables}
-use Rattle.words.specs.Words.{admitted}
-use Rattle.graph_plan.proofs.Admitted.{admits-known}
+use Rattle.graph_own.proofs.Admitted.{wrong-sizes, no-such-worker, unsound, admits}
 use Rattle.worker_state.specs.Held.{heldWords}
 use Rattle.graph_state.proofs.held.Statement.{statement}
 use Rattle.graph_state.proofs.held.Tie as tie
@@ -30,48 +27,29 @@ refused-requires-3 c κs = search needs
 returns : tie.Need-returns
 unfolding heldWords
 returns c =
-    let a = c .before .before .before .before .before .before .before .before .before .before .before .before .args in
-    let t = tables (now (a .jobs)) (now (a .arcs)) (now (a .buckets)) (now (a .queue)) (now (a .workers)) in
-    let fit = c .before .before .before .before .before .before .sizes-fit in
-    let own = c .before .before .own-ok in
-    rw (
-      admits-known (a .sizes) t (a .worker) (fit .result) (own .result) (fit .ensures)
-          (own .ensures (now (a .buckets)) (now (a .queue)))
-          (c .before .before .before .before .before .if1 .taken)
-          (c .before .before .before .if2 .taken),
-      c .before .if3 .taken,
-      ← c .holding-of .ensures,
-    )
+    let c4 = c .before .before .before .before in
+    admits _ _ _ _ _ (c4 .before .before .sizes-fit .ensures) (c .before .before .own-ok .ensures _ _)
+    (c4 .before .if1 .taken) (c .before .before .before .if2 .taken) (c .before .if3 .taken)
+    (rw (← c .holding-of .ensures))
 
 returns-2 : tie.Need-returns-2
 unfolding heldWords
 returns-2 c =
-    let a = c .before .before .before .before .before .before .before .before .before .before .before .before .args in
-    let t = tables (now (a .jobs)) (now (a .arcs)) (now (a .buckets)) (now (a .queue)) (now (a .workers)) in
-    let fit = c .before .before .before .before .before .before .sizes-fit in
-    let own = c .before .before .own-ok in
-    rw (
-      admits-known (a .sizes) t (a .worker) (fit .result) (own .result) (fit .ensures)
-          (own .ensures (now (a .buckets)) (now (a .queue)))
-          (c .before .before .before .before .before .if1 .taken)
-          (c .before .before .before .if2 .taken),
-      c .before .if3 .left,
-    )
-    (c .refused .ensures)
+    let c4 = c .before .before .before .before in
+    unsound _ _ _ _ _ (c4 .before .before .sizes-fit .ensures) (c .before .before .own-ok .ensures _ _)
+    (c4 .before .if1 .taken) (c .before .before .before .if2 .taken) (c .before .if3 .left) (c .refused .ensures)
 
 returns-3 : tie.Need-returns-3
-unfolding heldWords admitted
+unfolding heldWords
 returns-3 c =
-    rw (
-      ← c .before .before .before .before .sizes-fit .ensures,
-      c .before .before .before .if1 .taken,
-      c .before .if2 .left,
-    )
+    let c4 = c .before .before .before .before in
+    no-such-worker _ _ _ _ _ (c4 .sizes-fit .ensures) (c .before .before .before .if1 .taken) (c .before .if2 .left)
     (c .refused2 .ensures)
 
 returns-4 : tie.Need-returns-4
-unfolding heldWords admitted
-returns-4 c = rw (← c .before .before .sizes-fit .ensures, c .before .if1 .left) (c .refused3 .ensures)
+unfolding heldWords
+returns-4 c =
+    wrong-sizes _ _ _ _ _ (c .before .before .sizes-fit .ensures) (c .before .if1 .left) (c .refused3 .ensures)
 
 pub held-spec : {M : Type 1} → statement M
 held-spec =
