@@ -23,7 +23,7 @@ pub extern "C" fn tg_held(
 ) -> Holding
     ensures { λ r. ⌜ r ≡ heldWords sizes (atEntry jobs arcs buckets queue workers) worker ⌝ }
 {
-    graph_state::held(sizes, jobs, arcs, buckets, queue, workers, worker)
+    graph_held::held(sizes, jobs, arcs, buckets, queue, workers, worker)
 }
 
 // Whether the queue is empty and every worker is idle and holds nothing.
@@ -38,5 +38,5 @@ pub extern "C" fn tg_drained(
 ) -> Drained
     ensures { λ r. ⌜ r ≡ drainedWords sizes (atEntry jobs arcs buckets queue workers) ⌝ }
 {
-    graph_state::drained(sizes, jobs, arcs, buckets, queue, workers)
+    graph_drained::drained(sizes, jobs, arcs, buckets, queue, workers)
 }

@@ -1,7 +1,7 @@
--- `graph_state::call_of` meets its contract: each way through the code is a case of the definition.
+-- `graph_held::call_of` meets its contract: each way through the code is a case of the definition.
 -- Assumes nothing.
-use Rattle.graph_state.proofs.call_of.Statement.{statement}
-use Rattle.graph_state.proofs.call_of.Tie as tie
+use Rattle.graph_held.proofs.call_of.Statement.{statement}
+use Rattle.graph_held.proofs.call_of.Tie as tie
 
 returns : tie.Need-returns
 returns c = rw (c .if1 .taken)

@@ -1,7 +1,7 @@
--- `graph_state::judged` meets its contract: each way through the code is a case of the definition.
+-- `graph_drained::judged` meets its contract: each way through the code is a case of the definition.
 -- Assumes nothing.
-use Rattle.graph_state.proofs.judged.Statement.{statement}
-use Rattle.graph_state.proofs.judged.Tie as tie
+use Rattle.graph_drained.proofs.judged.Statement.{statement}
+use Rattle.graph_drained.proofs.judged.Tie as tie
 
 returns : tie.Need-returns
 returns c = rw (c .if1 .taken)

@@ -1,4 +1,4 @@
--- `graph_state::all_sound` meets its contract. The loop's invariant: the test of the workers passed so far.
+-- `graph_drained::all_sound` meets its contract. The loop's invariant: the test of the workers passed so far.
 -- The measure is the number of workers left. Assumes nothing.
 use mathlib.Core.Path.{_≡_, refl, ap, _∙_}
 use Prim.Native.Nat.{_≤_, _-_}
@@ -10,9 +10,9 @@ use Rattle.words.specs.Layout.{tables, view}
 use Rattle.words.specs.Words.{ownOk}
 use Rattle.worker_state.specs.Drained.{every}
 use Rattle.graph_own.proofs.Admitted.{own-is}
-use Rattle.graph_state.proofs.Own.{every-suc}
-use Rattle.graph_state.proofs.all_sound.Statement.{statement}
-use Rattle.graph_state.proofs.all_sound.Tie as tie
+use Rattle.graph_drained.proofs.Every.{every-suc}
+use Rattle.graph_drained.proofs.all_sound.Statement.{statement}
+use Rattle.graph_drained.proofs.all_sound.Tie as tie
 
 abbrev Inv-loop : tie.InvT-loop
 Inv-loop sizes jobs arcs buckets queue workers sound₀ worker₀ sound worker =

@@ -1,10 +1,10 @@
--- `graph_state::held` meets its contract: each way through the code is a case of the definition.
+-- `graph_held::held` meets its contract: each way through the code is a case of the definition.
 -- Assumes nothing.
 use borrow.Author.Needs.{needs}
 use Rattle.graph_own.proofs.Admitted.{wrong-sizes, no-such-worker, unsound, admits}
 use Rattle.worker_state.specs.Held.{heldWords}
-use Rattle.graph_state.proofs.held.Statement.{statement}
-use Rattle.graph_state.proofs.held.Tie as tie
+use Rattle.graph_held.proofs.held.Statement.{statement}
+use Rattle.graph_held.proofs.held.Tie as tie
 
 sizes-fit-requires : tie.Need-sizes-fit-requires
 sizes-fit-requires c κs = search needs

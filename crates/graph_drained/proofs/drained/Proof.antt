@@ -1,10 +1,10 @@
--- `graph_state::drained` meets its contract: each way through the code is a case of the definition.
+-- `graph_drained::drained` meets its contract: each way through the code is a case of the definition.
 -- Assumes nothing.
 use mathlib.Core.Path.{sym, _∙_}
 use borrow.Author.Needs.{needs}
 use Rattle.worker_state.specs.Drained.{drainedWords}
-use Rattle.graph_state.proofs.drained.Statement.{statement}
-use Rattle.graph_state.proofs.drained.Tie as tie
+use Rattle.graph_drained.proofs.drained.Statement.{statement}
+use Rattle.graph_drained.proofs.drained.Tie as tie
 
 sizes-fit-requires : tie.Need-sizes-fit-requires
 sizes-fit-requires c κs = search needs

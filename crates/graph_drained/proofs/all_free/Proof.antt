@@ -1,4 +1,4 @@
--- `graph_state::all_free` meets its contract. The loop's invariant: the test of the workers passed so far.
+-- `graph_drained::all_free` meets its contract. The loop's invariant: the test of the workers passed so far.
 -- The measure is the number of workers left. Assumes nothing.
 use mathlib.Core.Path.{_≡_, refl, ap, _∙_}
 use Prim.Native.Nat.{_≤_, _-_}
@@ -8,9 +8,9 @@ use borrow.Author.Needs.{needs}
 use Rattle.words.specs.Columns.{columns}
 use Rattle.words.specs.Layout.{workerShape}
 use Rattle.worker_state.specs.Drained.{every, free}
-use Rattle.graph_state.proofs.Own.{every-suc}
-use Rattle.graph_state.proofs.all_free.Statement.{statement}
-use Rattle.graph_state.proofs.all_free.Tie as tie
+use Rattle.graph_drained.proofs.Every.{every-suc}
+use Rattle.graph_drained.proofs.all_free.Statement.{statement}
+use Rattle.graph_drained.proofs.all_free.Tie as tie
 
 abbrev Inv-loop : tie.InvT-loop
 Inv-loop workers count all₀ worker₀ all worker =

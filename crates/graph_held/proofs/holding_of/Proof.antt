@@ -1,9 +1,9 @@
--- `graph_state::holding_of` meets its contract: each way through the code is a case of the definition.
+-- `graph_held::holding_of` meets its contract: each way through the code is a case of the definition.
 -- Assumes nothing.
 use borrow.Author.Needs.{needs}
 use Rattle.worker_state.specs.Held.{holdingOf}
-use Rattle.graph_state.proofs.holding_of.Statement.{statement}
-use Rattle.graph_state.proofs.holding_of.Tie as tie
+use Rattle.graph_held.proofs.holding_of.Statement.{statement}
+use Rattle.graph_held.proofs.holding_of.Tie as tie
 
 worker-word-requires : tie.Need-worker-word-requires
 worker-word-requires c κs = search needs
