@@ -1,9 +1,9 @@
--- `graph_add_steps::plan_enter` meets its contract: each way through the code is a case of the definition.
+-- `graph_enter_steps::plan_enter` meets its contract: each way through the code is a case of the definition.
 -- Assumes nothing.
 use borrow.Author.Needs.{needs}
 use Rattle.words.specs.Words.{planEnter}
-use Rattle.graph_add_steps.proofs.plan_enter.Statement.{statement}
-use Rattle.graph_add_steps.proofs.plan_enter.Tie as tie
+use Rattle.graph_enter_steps.proofs.plan_enter.Statement.{statement}
+use Rattle.graph_enter_steps.proofs.plan_enter.Tie as tie
 
 enum-told : tie.Need-enum-told
 enum-told c = search needs

@@ -1,9 +1,9 @@
--- `graph_add_steps::plan_link` meets its contract: each way through the code is a case of the definition.
+-- `graph_link_steps::plan_link` meets its contract: each way through the code is a case of the definition.
 -- Assumes nothing.
 use borrow.Author.Needs.{needs}
 use Rattle.words.specs.Words.{planLink}
-use Rattle.graph_add_steps.proofs.plan_link.Statement.{statement}
-use Rattle.graph_add_steps.proofs.plan_link.Tie as tie
+use Rattle.graph_link_steps.proofs.plan_link.Statement.{statement}
+use Rattle.graph_link_steps.proofs.plan_link.Tie as tie
 
 enum-known-found : tie.Need-enum-known-found
 enum-known-found c = search needs

@@ -1,9 +1,9 @@
--- `graph_add_steps::settle_queue` meets its contract: each way through the code is a case of the definition.
+-- `graph_link_steps::settle_queue` meets its contract: each way through the code is a case of the definition.
 -- Assumes nothing.
 use borrow.Author.Needs.{needs}
 use Rattle.words.specs.Words.{withCell}
-use Rattle.graph_add_steps.proofs.settle_queue.Statement.{statement}
-use Rattle.graph_add_steps.proofs.settle_queue.Tie as tie
+use Rattle.graph_link_steps.proofs.settle_queue.Statement.{statement}
+use Rattle.graph_link_steps.proofs.settle_queue.Tie as tie
 
 header-requires : tie.Need-header-requires
 header-requires c κs = search needs

@@ -1,9 +1,9 @@
--- `graph_add_steps::plan_add` meets its contract: each way through the code is a case of the definition.
+-- `graph_enter_steps::plan_add` meets its contract: each way through the code is a case of the definition.
 -- Assumes nothing.
 use borrow.Author.Needs.{needs}
 use Rattle.words.specs.Words.{planAdd}
-use Rattle.graph_add_steps.proofs.plan_add.Statement.{statement}
-use Rattle.graph_add_steps.proofs.plan_add.Tie as tie
+use Rattle.graph_enter_steps.proofs.plan_add.Statement.{statement}
+use Rattle.graph_enter_steps.proofs.plan_add.Tie as tie
 
 worker-word-requires : tie.Need-worker-word-requires
 worker-word-requires c κs = search needs

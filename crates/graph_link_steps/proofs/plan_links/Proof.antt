@@ -1,9 +1,9 @@
--- `graph_add_steps::plan_links` meets its contract: each way through the code is a case of the definition.
+-- `graph_link_steps::plan_links` meets its contract: each way through the code is a case of the definition.
 -- Assumes nothing.
 use borrow.Author.Needs.{needs}
 use Rattle.words.specs.Words.{planLinks}
-use Rattle.graph_add_steps.proofs.plan_links.Statement.{statement}
-use Rattle.graph_add_steps.proofs.plan_links.Tie as tie
+use Rattle.graph_link_steps.proofs.plan_links.Statement.{statement}
+use Rattle.graph_link_steps.proofs.plan_links.Tie as tie
 
 worker-word-requires : tie.Need-worker-word-requires
 worker-word-requires c κs = search needs

@@ -1,9 +1,9 @@
--- `graph_add_steps::plan_settle` meets its contract: each way through the code is a case of the definition.
+-- `graph_link_steps::plan_settle` meets its contract: each way through the code is a case of the definition.
 -- Assumes nothing.
 use borrow.Author.Needs.{needs}
 use Rattle.words.specs.Words.{planSettle}
-use Rattle.graph_add_steps.proofs.plan_settle.Statement.{statement}
-use Rattle.graph_add_steps.proofs.plan_settle.Tie as tie
+use Rattle.graph_link_steps.proofs.plan_settle.Statement.{statement}
+use Rattle.graph_link_steps.proofs.plan_settle.Tie as tie
 
 returns : tie.Need-returns
 unfolding planSettle
