@@ -1,4 +1,5 @@
--- `graph_post_add::post_add` meets its contract: the number that refuses is the definition's, and so is the stored record.
+-- `graph_post_add::post_add` meets its contract: the number that refuses is the definition's, and so is the stored
+-- record.
 -- Assumes nothing.
 use Rattle.words.specs.Words.{addWords, posted}
 use Rattle.graph_judge.proofs.Posted.{posted-not}

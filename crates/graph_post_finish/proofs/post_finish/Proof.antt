@@ -1,4 +1,5 @@
--- `graph_post_finish::post_finish` meets its contract: the number that refuses is the definition's, and so is the stored
+-- `graph_post_finish::post_finish` meets its contract: the number that refuses is the definition's, and so is the
+-- stored
 -- record.
 -- Assumes nothing.
 use Rattle.words.specs.Words.{finishWords, posted}

@@ -1,6 +1,6 @@
--- `judge` finds the first field off its limits, or the bytes of the entry (document 01, number 14). Assumes nothing.
+-- `judge` finds the first field off its limits, or the bytes of the entry (docs/NUMBERS.md, 14). Assumes nothing.
 use Rattle.sheet_format.specs.Job.{mostNames, mostClass, mostGrower}
--- `judge` finds the first field off its limits, or the bytes of the entry (document 01, number 14). Assumes nothing.
+-- `judge` finds the first field off its limits, or the bytes of the entry (docs/NUMBERS.md, 14). Assumes nothing.
 use native.Mathlib.Omega.{arith}
 use borrow.Author.Tests.{le-leb, lt-leb}
 use borrow.Author.Needs.{needs}

@@ -1,4 +1,5 @@
--- `taskgraph_post_finish::tg_post_finish` meets its contract: what `post_finish` answers, as C has it, and the tables that it
+-- `taskgraph_post_finish::tg_post_finish` meets its contract: what `post_finish` answers, as C has it, and the tables
+-- that it
 -- leaves.
 -- Assumes nothing.
 use borrow.Author.Needs.{needs}
