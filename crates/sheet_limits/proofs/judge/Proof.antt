@@ -81,16 +81,5 @@ returns-4 c =
 pub judge-spec : {M : Type 1} → statement M
 judge-spec =
     tie.close
-    (tie.spec
-    returns
-    list-bytes-requires
-    add-class-place
-    returns-2
-    bit-requires
-    mul-grower-place
-    add-grower-place
-    returns-3
-    bit-requires-2
-    mul-bytes
-    add-bytes
-    returns-4)
+    (tie.spec returns list-bytes-requires add-class-place returns-2 bit-requires mul-grower-place add-grower-place
+    returns-3 bit-requires-2 mul-bytes add-bytes returns-4)

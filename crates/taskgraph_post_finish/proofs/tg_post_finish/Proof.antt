@@ -37,12 +37,5 @@ returns c =
 pub tg-post-finish-spec : {M : Type 1} → statement M
 tg-post-finish-spec =
     tie.close
-    (tie.spec
-    post-finish-requires
-    answered-requires
-    same-length
-    same-length-2
-    same-length-3
-    same-length-4
-    same-length-5
-    returns)
+    (tie.spec post-finish-requires answered-requires same-length same-length-2 same-length-3 same-length-4
+    same-length-5 returns)
