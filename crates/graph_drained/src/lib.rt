@@ -1,5 +1,5 @@
 // Whether the graph is drained: it reads the tables, and stores nothing.
-// Follows document 01, "Tables and their measures" and "Turned-away calls". Assumes nothing.
+// Follows docs/RULES.md, "Tables and their measures" and "Turned-away calls". Assumes nothing.
 ghost use mathlib.Core.Path.{_≡_};
 ghost use mathlib.Core.Bool.{true};
 ghost use Rattle.words.specs.Columns.{columns};

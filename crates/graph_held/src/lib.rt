@@ -1,5 +1,5 @@
 // What a worker holds, and the call that it has half done: it reads the tables, and stores nothing.
-// Follows document 01, "Tables and their measures" and "Turned-away calls". Assumes nothing.
+// Follows docs/RULES.md, "Tables and their measures" and "Turned-away calls". Assumes nothing.
 ghost use mathlib.Core.Path.{_≡_};
 ghost use mathlib.Core.List.{List};
 ghost use Prim.Native.Nat.{ℕ};
