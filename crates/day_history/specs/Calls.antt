@@ -24,7 +24,7 @@ use Rattle.rules.specs.Rules.{job, find, lookUp, enter, link, linkTo, mark, mar
 use Rattle.rules.specs.Rules.{addPosted, finishPosted, getJob, takeNext, withDependent, withCount, withLabel}
 use Rattle.rules.specs.Rules as rules
 use Rattle.rules.specs.Sound.{startedBy, Linking, Notifying}
-use Rattle.day_format.specs.Whole.{andThen, stepsOf, wholeAdd, wholeFinish}
+use Rattle.whole_words.specs.Whole.{andThen, stepsOf, wholeAdd, wholeFinish}
 use Rattle.whole_calls.specs.Last.{own-step}
 use Rattle.whole_calls.specs.Arcs.{arcs-within}
 use Rattle.rules_follow_model.specs.Base.{pick-by, kept-field, head-occurs}
