@@ -38,7 +38,10 @@ int main(void) {
     buckets = table(need.buckets);
     queue = table(need.queue);
     workers = table(need.workers);
-    tg_lay_out(sizes, TABLES);
+    if (tg_lay_out(sizes, TABLES).kind != TG_LAID_OUT) {
+        fputs("the tables cannot be laid out\n", stderr);
+        return 1;
+    }
 
     unsigned added = 0;
     for (size_t at = 0;;) {

@@ -1,80 +1,56 @@
-"""A host in Python: the same as day.c, through ctypes. It prints what the day list prints.
+"""A host in Python: the same as day.c, over the package of the folder python/. It prints what the day list prints.
 
-usage: day.py LIBRARY      (a shared object of libtaskgraph.a; scripts/test makes one)
+usage: day.py [LIBRARY]      (without LIBRARY, the package looks for one as python/README.md says)
 """
-import ctypes as c
+import pathlib
 import sys
 
+# where the package is not installed, the repository's is used
+sys.path.append(str(pathlib.Path(__file__).resolve().parent.parent / "python"))
+from taskgraph import Graph, LibraryError, Refusal, Sizes, load, read_sheet
 
-class Sizes(c.Structure):
-    _fields_ = [(name, c.c_uint32) for name in ("jobs", "arcs", "bits", "workers")]
-
-
-class Entry(c.Structure):
-    _fields_ = [(name, c.c_uint32) for name in ("name", "count", "class_", "grower")] + [("names", c.c_uint32 * 32)]
+SHEET = bytes.fromhex("0101000000" "0102000000" "0103000000" "0304000000020100000002000000")
 
 
-class Reading(c.Structure):
-    _fields_ = [("number", c.c_uint32), ("found", c.c_uint32), ("at", c.c_size_t), ("entry", Entry)]
+def add_all(graph, sheet):
+    """Worker 0 adds every entry. Answers how many entered, and prints those that were refused."""
+    added = 0
+    for place, entry in enumerate(read_sheet(sheet)):
+        try:
+            graph.add(0, entry)
+            added += 1
+        except Refusal as refusal:
+            print("refused", place, refusal.number)
+    return added
 
 
-class Answer(c.Structure):
-    _fields_ = [(name, c.c_uint32) for name in ("kind", "number", "place", "job", "name")]
+def work(graph):
+    """Rounds: each worker gets a job, then each holder finishes. Answers how many were finished."""
+    handed = 0
+    while True:
+        got = [(worker, graph.get(worker)) for worker in range(graph.sizes.workers)]
+        held = [(worker, job) for worker, job in got if job is not None]
+        if not held:
+            return handed
+        for worker, job in held:
+            print(handed, job.name, worker)
+            handed += 1
+        for worker, job in held:
+            graph.finish(worker, job.name)
 
 
-class Need(c.Structure):
-    _fields_ = [("number", c.c_uint32)] + [(name, c.c_size_t) for name in ("jobs", "arcs", "buckets", "queue", "workers")]
+def main(arguments):
+    if len(arguments) > 1:
+        sys.exit(__doc__)
+    try:
+        load(*arguments)
+        graph = Graph(Sizes(jobs=256, arcs=1024, bits=4, workers=2))
+        added = add_all(graph, SHEET)
+        print("jobs", added, "workers", graph.sizes.workers)
+        print("left", added - work(graph))
+    except (LibraryError, Refusal) as error:
+        sys.exit(str(error))
 
 
-POSTED, GOING, ENDED, HANDED = 2, 3, 4, 6
-
-if len(sys.argv) != 2:
-    sys.exit(__doc__)
-library = c.CDLL(sys.argv[1])
-library.tg_words_needed.argtypes, library.tg_words_needed.restype = [Sizes], Need
-library.tg_read_entry.argtypes, library.tg_read_entry.restype = [c.c_char_p, c.c_size_t, c.c_size_t], Reading
-sizes = Sizes(256, 1024, 4, 2)
-need = library.tg_words_needed(sizes)
-lengths = [getattr(need, name) for name, _ in Need._fields_[1:]]
-tables = [item for words in lengths for item in ((c.c_uint32 * words)(), c.c_size_t(words))]
-
-
-def call(name, *more):
-    """One call over the five tables. A host with several processes takes its lock round it."""
-    function = getattr(library, name)
-    function.restype = Answer
-    return function(sizes, *tables, *more)
-
-
-def run(worker, posted):
-    """A posted call, stepped to its end."""
-    answer = posted
-    while answer.kind in (POSTED, GOING):
-        answer = call("tg_step", c.c_uint32(worker))
-    return answer
-
-
-sheet = bytes.fromhex("0101000000" "0102000000" "0103000000" "0304000000020100000002000000")
-call("tg_lay_out")
-added = at = 0
-while True:
-    reading = library.tg_read_entry(sheet, len(sheet), at)
-    if reading.number:
-        sys.exit(f"broken {reading.at} {reading.number}")
-    if not reading.found:
-        break
-    added += run(0, call("tg_post_add", c.c_uint32(0), reading.entry)).kind == ENDED
-    at = reading.at
-print("jobs", added, "workers", sizes.workers)
-handed = finished = 0
-while True:
-    held = [(worker, call("tg_get", c.c_uint32(worker))) for worker in range(2)]
-    held = [(worker, answer.name) for worker, answer in held if answer.kind == HANDED]
-    if not held:
-        break
-    for worker, name in held:
-        print(handed, name, worker)
-        handed += 1
-    for worker, name in held:
-        finished += run(worker, call("tg_post_finish", c.c_uint32(worker), c.c_uint32(name))).kind == ENDED
-print("left", added - finished)
+if __name__ == "__main__":
+    main(sys.argv[1:])

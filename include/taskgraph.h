@@ -4,7 +4,8 @@
  * Every function answers for all arguments; nothing is left to the caller but that a pointer with a
  * length points to that many elements, and that no elements which are written are lent twice in one
  * call. A slice of length 0 still wants a pointer that is not null.
- * No function keeps a pointer, allocates, or reads or writes anything but its arguments.
+ * No function keeps a pointer, allocates, or reads or writes anything but its arguments and constants.
+ * All are proved but tg_message and tg_version, which are C (lib/message.c).
  */
 #ifndef TASKGRAPH_H
 #define TASKGRAPH_H
@@ -16,9 +17,15 @@
 extern "C" {
 #endif
 
-/* The numbers of the refusals (document 01, "Turned-away calls"), as they stand in a `number`. */
+#define TG_VERSION_MAJOR 1
+#define TG_VERSION_MINOR 0
+#define TG_VERSION_PATCH 0
+#define TG_VERSION "1.0.0"
+
+/* The numbers of the refusals (docs/RULES.md, "Turned-away calls"), as they stand in a `number`. docs/NUMBERS.md
+ * says what a host does about each. */
 enum {
-    TG_ACCEPTED = 0,
+    TG_ACCEPTED = 0,      /* not refused */
     TG_SIZE = 1,          /* a size off its limits or not the one laid out, or a table too short */
     TG_WORKER = 2,        /* no such worker */
     TG_HALF_DONE = 3,     /* a post or get while the worker's call is half done */
@@ -36,13 +43,35 @@ enum {
     TG_NO_ROOM = 15       /* the output lacks room */
 };
 
+/* The limits. */
 enum {
-    TG_MAX_NAMES = 32,      /* the longest list of prerequisites */
-    TG_ENTRY_WORDS = 36,    /* the 32-bit words of a tg_entry, which is a row of tg_read_sheet */
-    TG_MAX_RECORDS = 4096   /* the longest row that the totals take */
+    TG_MAX_JOBS = 4096,        /* R is 1 to this */
+    TG_MAX_ARCS = 32768,       /* A is 0 to this */
+    TG_MAX_BITS = 8,           /* b is 1 to this */
+    TG_MAX_WORKERS = 16,       /* P is 1 to this */
+    TG_MAX_NAMES = 32,         /* the longest list of prerequisites */
+    TG_MAX_CLASS = 15,         /* a class is 0 to this */
+    TG_MAX_GROWER = 65535,     /* a grower is 0 to this */
+    TG_MAX_RECORDS = 4096,     /* the longest row that the totals take */
+    TG_ENTRY_WORDS = 36,       /* the 32-bit words of a tg_entry, which is a row of tg_read_sheet */
+    TG_MAX_ENTRY_BYTES = 137,  /* the longest entry of a sheet */
+    TG_MAX_DAY_SHEET = 32768,  /* the longest sheet that the day list reads, in bytes */
+    TG_MAX_DAY_LIST = 97979,   /* the longest day list of two workers, in bytes */
+    TG_DAY_JOBS = 256,         /* R of the day list */
+    TG_DAY_ARCS = 1024,        /* A of the day list */
+    TG_DAY_BITS = 4            /* b of the day list */
 };
 
-/* ---- Job sheets (document 01, "Job sheets") ---- */
+/* No place. */
+#define TG_NONE UINT32_C(4294967295)
+
+/* A constant text for each of the numbers above, and "unknown number" for any other. */
+const char *tg_message(uint32_t number);
+
+/* TG_VERSION, as the library was built. */
+const char *tg_version(void);
+
+/* ---- Job sheets (docs/SHEETS.md) ---- */
 
 /* A job: its name, the first `count` of `names` as its prerequisites, its class and its grower.
  * On reading, names past the count are 0. On writing, they are ignored. */
@@ -111,7 +140,7 @@ typedef struct {
  * are never touched. */
 tg_sheet_written tg_write_sheet(const uint32_t *rows, size_t rows_len, uint8_t *out, size_t out_len);
 
-/* ---- Buckets and minutes (document 01, "Tables and their measures") ---- */
+/* ---- Buckets and minutes (docs/RULES.md, "Tables and their measures") ---- */
 
 /* The bucket of a name: the top `bits` bits of its product with 2654435769, kept to 32 bits. With no
  * bits it is 0, with 32 and more the whole product. */
@@ -120,7 +149,7 @@ uint32_t tg_bucket(uint32_t name, uint32_t bits);
 /* The minutes of a class from 0 to 15; 0 for any other. */
 uint32_t tg_minutes(uint32_t class_);
 
-/* ---- The board of totals (document 01, "The board and the day list") ---- */
+/* ---- The board of totals (docs/RULES.md, "The board and the day list") ---- */
 
 /* A job as the board reads it: label 0 unexecuted, 1 executing, 2 finished; class 0 to 15. */
 typedef struct {
@@ -143,7 +172,7 @@ tg_totals tg_totals_of_words(const uint32_t *words, size_t words_len);
 /* The totals of a row of records. */
 tg_totals tg_totals_of_records(const tg_job_record *records, size_t records_len);
 
-/* ---- The task graph (document 01, "Tables and their measures" and "Steps") ---- */
+/* ---- The task graph (docs/RULES.md, "Tables and their measures" and "Steps") ---- */
 
 /* Sizes R, A, b and P: jobs 1 to 4,096; arcs 0 to 32,768; bucket bits 1 to 8; workers 1 to 16. They come
  * with each call. Laying out keeps them, and a later call must bring the same. */
@@ -204,12 +233,47 @@ tg_answer tg_step(tg_sizes sizes, TG_TABLES, uint32_t worker);
 /* Takes the job longest in the queue: handed out, none ready, or refused with 1, 2, 9, 3 or 10. */
 tg_answer tg_get(tg_sizes sizes, TG_TABLES, uint32_t worker);
 
+/* The same tables, only read. */
+#define TG_TABLES_READ                                                                                  \
+    const uint32_t *jobs, size_t jobs_len, const uint32_t *arcs, size_t arcs_len,                       \
+        const uint32_t *buckets, size_t buckets_len, const uint32_t *queue, size_t queue_len,           \
+        const uint32_t *workers, size_t workers_len
+
+/* The call that a worker has half done. */
+enum {
+    TG_CALL_NONE = 0,
+    TG_CALL_ADD = 1,
+    TG_CALL_FINISH = 2
+};
+
+/* number 0, holds 1: the worker holds `job`, whose name is `name`.
+ * number 0, holds 0: it holds none; job and name are 0.
+ * With number 0 `call` says which call is half done; tg_step goes on with it.
+ * number 1, 2 or 9: all else is 0. */
+typedef struct {
+    uint32_t number, holds, job, name, call;
+} tg_holding;
+
+/* What a worker holds, and whether its call is half done: for a worker that restarts. */
+tg_holding tg_held(tg_sizes sizes, TG_TABLES_READ, uint32_t worker);
+
+/* number 0: drained is 1 where the queue is empty and every worker is idle and holds nothing, else 0.
+ * number 1: a size off its limits or not the one laid out, or a table too short; drained is 0.
+ * number 9: damaged words, of any worker or the counters; drained is 0. */
+typedef struct {
+    uint32_t number, drained;
+} tg_drained_answer;
+
+/* Whether nothing is left to do, for a host that wants to stop. In tables that were laid out, and since
+ * written by these functions alone, drained 1 means too that every job that entered is finished. */
+tg_drained_answer tg_drained(tg_sizes sizes, TG_TABLES_READ);
+
 /* The totals of the jobs made.
  * number 1: a size off its limits or not the one laid out, or the table too short.
  * number 9: a wrong label or class among the jobs made, or more jobs made than R. */
 tg_totals tg_totals_of_graph(tg_sizes sizes, const uint32_t *jobs, size_t jobs_len);
 
-/* ---- The day list (document 01, "The board and the day list") ---- */
+/* ---- The day list (docs/RULES.md, "The board and the day list") ---- */
 
 /* number 0: the lines take `bytes` bytes of the output.
  * number 1: the number of workers is not 1 to 16.

@@ -36,6 +36,13 @@ _Static_assert(offsetof(tg_answer, place) == 8, "tg_answer.place");
 _Static_assert(offsetof(tg_answer, job) == 12, "tg_answer.job");
 _Static_assert(offsetof(tg_answer, name) == 16, "tg_answer.name");
 _Static_assert(sizeof(tg_need) == 48, "tg_need");
+_Static_assert(sizeof(tg_holding) == 20, "tg_holding");
+_Static_assert(offsetof(tg_holding, holds) == 4, "tg_holding.holds");
+_Static_assert(offsetof(tg_holding, job) == 8, "tg_holding.job");
+_Static_assert(offsetof(tg_holding, name) == 12, "tg_holding.name");
+_Static_assert(offsetof(tg_holding, call) == 16, "tg_holding.call");
+_Static_assert(sizeof(tg_drained_answer) == 8, "tg_drained_answer");
+_Static_assert(offsetof(tg_drained_answer, drained) == 4, "tg_drained_answer.drained");
 _Static_assert(sizeof(tg_day) == 16, "tg_day");
 _Static_assert(offsetof(tg_day, bytes) == 8, "tg_day.bytes");
 
@@ -62,7 +69,8 @@ static const uint8_t four_jobs[29] = {1, 1, 0, 0, 0, 1, 2, 0, 0, 0, 1, 3, 0, 0, 
                                       3, 4, 0, 0, 0, 2, 1, 0, 0, 0, 2, 0, 0, 0};
 
 /* An entry with every field, and its bytes. */
-static const tg_entry full_entry = {.name = 0x04030201, .count = 1, .class_ = 9, .grower = 0x0b0a, .names = {0x08070605}};
+static const tg_entry full_entry = {
+    .name = 0x04030201, .count = 1, .class_ = 9, .grower = 0x0b0a, .names = {0x08070605}};
 static const uint8_t full_bytes[13] = {0x0f, 1, 2, 3, 4, 1, 5, 6, 7, 8, 9, 0x0a, 0x0b};
 
 static const tg_entry no_entry;
@@ -387,6 +395,55 @@ static void check_graph_refusals(void)
     answers("tg_get, label 3", tg_get(sizes, LENT, 0), refused(TG_DAMAGED, 0));
 }
 
+static void holds(const char *what, uint32_t worker, tg_holding wanted)
+{
+    const tg_holding holding = tg_held(sizes, LENT, worker);
+    same_bytes(what, &holding, &wanted, sizeof holding);
+}
+
+static void drained(const char *what, uint32_t number, uint32_t wanted)
+{
+    const tg_drained_answer answer = tg_drained(sizes, LENT);
+    same(what, answer.number, number);
+    same(what, answer.drained, wanted);
+}
+
+/* Job 7 from its add to its finish, by worker 1: what it holds, its call, and whether anything is left. */
+static void check_state(void)
+{
+    answers("tg_lay_out", tg_lay_out(sizes, LENT), laid_out);
+    drained("tg_drained, a fresh graph", 0, 1);
+    holds("tg_held, a fresh graph", 1, (tg_holding){0});
+    answers("tg_post_add", tg_post_add(sizes, LENT, 1, (tg_entry){.name = 7}), posted);
+    holds("tg_held, an add to enter", 1, (tg_holding){.call = TG_CALL_ADD});
+    holds("tg_held, the other worker", 0, (tg_holding){.call = TG_CALL_NONE});
+    drained("tg_drained, an add half done", 0, 0);
+    answers("tg_step", tg_step(sizes, LENT, 1), going_on);
+    holds("tg_held, an add to settle", 1, (tg_holding){.call = TG_CALL_ADD});
+    answers("tg_step", tg_step(sizes, LENT, 1), ended);
+    drained("tg_drained, a job waits", 0, 0);
+    answers("tg_get", tg_get(sizes, LENT, 1), handed_out(0, 7));
+    holds("tg_held, a job", 1, (tg_holding){.holds = 1, .job = 0, .name = 7});
+    drained("tg_drained, a job is held", 0, 0);
+    answers("tg_post_finish", tg_post_finish(sizes, LENT, 1, 7), posted);
+    holds("tg_held, a finish half done", 1, (tg_holding){.holds = 1, .job = 0, .name = 7, .call = TG_CALL_FINISH});
+    answers("tg_step", tg_step(sizes, LENT, 1), ended);
+    holds("tg_held, after the finish", 1, (tg_holding){0});
+    drained("tg_drained, all finished", 0, 1);
+
+    const tg_sizes other = {.jobs = 8, .arcs = 8, .bits = 2, .workers = 1};
+    same("tg_held, other sizes", tg_held(other, LENT, 0).number, TG_SIZE);
+    same("tg_drained, other sizes", tg_drained(other, LENT).number, TG_SIZE);
+    holds("tg_held, worker 2", 2, (tg_holding){.number = TG_WORKER});
+    workers[42] = 5;
+    holds("tg_held, phase 5", 1, (tg_holding){.number = TG_DAMAGED});
+    holds("tg_held, phase 5 of the other worker", 0, (tg_holding){0});
+    drained("tg_drained, phase 5", TG_DAMAGED, 0);
+    workers[42] = 0;
+    queue[0] = 2;
+    drained("tg_drained, more taken than put", TG_DAMAGED, 0);
+}
+
 static void check_day_list(void)
 {
     static const char lines[] = "jobs 4 workers 2\n0 1 0\n1 2 1\n2 3 0\n3 4 1\nleft 0\n";
@@ -410,8 +467,23 @@ static void check_day_list(void)
     same_bytes("tg_day_list, cut: line", out, "broken 20 12\n", 13);
 }
 
+static void same_text(const char *what, const char *answered, const char *wanted)
+{
+    same(what, strcmp(answered, wanted) == 0, 1);
+}
+
+static void check_texts(void)
+{
+    same_text("tg_version", tg_version(), TG_VERSION);
+    same_text("tg_message, 0", tg_message(TG_ACCEPTED), "accepted");
+    same_text("tg_message, 15", tg_message(TG_NO_ROOM), "the output lacks room");
+    same_text("tg_message, 16", tg_message(TG_NO_ROOM + 1), "unknown number");
+    same_text("tg_message, the greatest", tg_message(UINT32_MAX), "unknown number");
+}
+
 int main(void)
 {
+    check_texts();
     check_read_entry();
     check_read_refusals();
     check_write_entry();
@@ -423,6 +495,7 @@ int main(void)
     check_lay_out();
     check_graph();
     check_graph_refusals();
+    check_state();
     check_day_list();
     printf("%u passed, %u failed\n", passed, failed);
     return failed != 0;

@@ -16,7 +16,7 @@ use Rattle.rules_invariant.specs.Start.{reached}
 use Rattle.rules_invariant.specs.Sound.{sound}
 use Rattle.rules_invariant.specs.Balanced.{balanced}
 use Rattle.rules_follow_model.specs.Entries.{none-awaited, finished-not-awaited}
-use Rattle.rules_follow_model.specs.Base.{never}
+use Rattle.rules_cases.specs.Base.{never}
 use Rattle.audit.specs.Held.{holders}
 use Rattle.audit.specs.Earlier.{earlier}
 

@@ -21,7 +21,7 @@ use Rattle.rules_history.specs.History.{History, start, then}
 use Rattle.rules_history.specs.Onward.{onward}
 use Rattle.rules_invariant.specs.Base.{hit-same, hit-other, occurrences-nil, occurrences-snoc}
 use Rattle.rules_invariant.specs.Sound.{sound}
-use Rattle.audit.specs.Deeds.{Grown, Deed, plain, marks, hands, deeds}
+use Rattle.audit.specs.Deeds.{Grown, Effect, plain, marks, hands, deeds}
 
 -- 1 for a finished job
 abbrev pub finishedBy : Label → ℕ
@@ -50,7 +50,8 @@ module _ {s : Sizes} {g : Graph} {before : List ℕ} (S : Sound s g) (F : Finish
     once = F .once;
   }
 
-  finishes-on : {w : ℕ} (x : Answer) (h : Graph) (later : List ℕ) → Sound s h → Grown g h → Deed s g w before x h later
+  finishes-on : {w : ℕ} (x : Answer) (h : Graph) (later : List ℕ) → Sound s h → Grown g h
+      → Effect s g w before x h later
       → Finishes h later
   finishes-on x h later T G (plain none labels holds) = none-more h T G (λ j. ap finishedBy (labels j))
   finishes-on x h later T G (hands k b queued held L now o) = none-more h T G (λ j. elim (ℕ-discrete j k) [
@@ -98,7 +99,7 @@ finishes start = record {
 }
 finishes (then history i) =
     let d = deeds history i in
-    finishes-on (sound history) (finishes history) _ _ _ (sound (then history i)) (d .grown) (d .deed)
+    finishes-on (sound history) (finishes history) _ _ _ (sound (then history i)) (d .grown) (d .effect)
 
 -- at most one finish of each name is accepted
 pub finished-once : (s : Sizes) (items : List Item) (name : ℕ)

@@ -16,7 +16,7 @@ use Rattle.rules_history.specs.History.{History, start, then}
 use Rattle.linearizability.specs.Demand.{orHanded, handedOut}
 use Rattle.rules_invariant.specs.Base.{hit-same, hit-other, occurrences-nil, occurrences-cons}
 use Rattle.rules_invariant.specs.Sound.{sound}
-use Rattle.audit.specs.Deeds.{Deed, plain, marks, hands, deeds}
+use Rattle.audit.specs.Deeds.{Effect, plain, marks, hands, deeds}
 
 started-once : (l : Label) → startedBy l ≤ 1
 started-once unexecuted = omega arith
@@ -25,7 +25,7 @@ started-once finished = omega arith
 
 -- a job that is handed out was not handed out before, and is from then on
 starts : {s : Sizes} {g : Graph} {w : ℕ} {before : List ℕ} (x : Answer) (h : Graph) (later : List ℕ) → Sound s g
-    → Deed s g w before x h later → (j : ℕ) (l : List ℕ)
+    → Effect s g w before x h later → (j : ℕ) (l : List ℕ)
     → startedBy (job g j .label) + occurrences j (orHanded x l) ≤ startedBy (job h j .label) + occurrences j l
 starts x h later S (plain none labels holds) j l = rw (none l) (omega (arith, ap startedBy (labels j)))
 starts {g = g} x h later S (marks p none held L o) j l = elim (ℕ-discrete j p) [
@@ -45,7 +45,7 @@ not-again {s} {g} history [] j = omega (arith, occurrences-nil j, started-once (
 not-again {s} {g} history (i ∷ items) j =
     omega (
       arith,
-      starts _ _ _ (sound history) (deeds history i .deed) j
+      starts _ _ _ (sound history) (deeds history i .effect) j
           (handedOut (events (perform s) (perform s g i .state) items)),
       not-again (then history i) items j,
     )

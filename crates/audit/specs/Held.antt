@@ -10,8 +10,8 @@ use Rattle.terms.specs.declared.Answer.{Answer}
 use Rattle.rules.specs.Rules.{Graph, empty, job}
 use Rattle.linearization.specs.Calls.{Reading}
 use Rattle.rules_history.specs.History.{History, start, then}
-use Rattle.rules_follow_model.specs.Base.{never}
-use Rattle.audit.specs.Deeds.{Deed, plain, marks, hands, deeds}
+use Rattle.rules_cases.specs.Base.{never}
+use Rattle.audit.specs.Deeds.{Effect, plain, marks, hands, deeds}
 
 pub record Holder (s : Sizes) (g : Graph) (j : ℕ) : Type 0 where
   pub worker : ℕ
@@ -22,7 +22,7 @@ abbrev Holders : Sizes → Graph → Type 0
 Holders s g = (j : ℕ) → job g j .label ≡ executing → Holder s g j
 
 holders-on : {s : Sizes} {g : Graph} {w : ℕ} {before : List ℕ} (x : Answer) (h : Graph) (later : List ℕ) → Holders s g
-    → Deed s g w before x h later → Holders s h
+    → Effect s g w before x h later → Holders s h
 holders-on x h later H (plain none labels holds) j e =
     let o = H j (sym (labels j) ∙ e) in
     record { worker = o .worker; below = o .below; held = holds (o .worker) ∙ o .held }
@@ -46,4 +46,4 @@ pub holders : {s : Sizes} {g : Graph} {r : Reading} {e : ℕ → ℕ} → Histor
     → Holder s g j
 unfolding empty
 holders start = λ j e. never (cc)
-holders (then history i) = holders-on _ _ _ (holders history) (deeds history i .deed)
+holders (then history i) = holders-on _ _ _ (holders history) (deeds history i .effect)

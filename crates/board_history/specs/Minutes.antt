@@ -66,10 +66,10 @@ adds-right {s} (feed {b} {c} {e} {l} z f) = by (e .call) (e .end) z (adds-right 
         → Right (acceptedAdds (record { call = x; end = y } ∷ l))
     by (add w a) accepted z r = right-more a (acceptedAdds l) (add-right s b a z) r
     by (add w a) noneReady z r = r
-    by (add w a) (handed j name) z r = r
+    by (add w a) (handed h) z r = r
     by (add w a) (refused n i) z r = r
     by (get w) y z r = r
-    by (finish w name) y z r = r
+    by (finish w f) y z r = r
 
 class-right : (a : Arguments) → argumentsWrong a ≡ false → a .class ≤ 15
 unfolding argumentsWrong

@@ -6,7 +6,7 @@ use mathlib.Core.Option.{Option, none, some, Option·none-ne-some}
 use Prim.Native.Nat.{ℕ, _<_}
 use native.Mathlib.Decide.{ℕ-discrete}
 use Rattle.terms.specs.Base.{update}
-use Rattle.rules_follow_model.specs.Base.{update-same, update-at, update-other}
+use Rattle.rules_cases.specs.Base.{update-same, update-at, update-other}
 use Rattle.day_rounds.specs.Rounds.{Holder}
 
 -- changes at two places, in either order

@@ -7,7 +7,7 @@ use lib.ListN.{length, getD, set, length-set, length-append}
 use Rattle.terms.specs.Terms.{Arguments}
 use Rattle.rules.specs.Rules.{Job, noJob, newJob}
 use Rattle.rules.specs.Sound.{startedBy, started}
-use Rattle.rules_follow_model.specs.Base.{kept-field}
+use Rattle.rules_cases.specs.Base.{kept-field}
 
 -- n jobs with these names, of which h were handed out
 pub record Jobs (l : List Job) (n h : ℕ) (name : ℕ → ℕ) : Type 0 where

@@ -15,7 +15,7 @@ use Rattle.terms.specs.declared.Answer.the-variants.{Ended}
 use Rattle.words.specs.Layout.{Tables}
 use Rattle.words.specs.Words.{getWords}
 use Rattle.rules.specs.Rules.{idle}
-use Rattle.rules_follow_model.specs.Base.{pick-by, update-other}
+use Rattle.rules_cases.specs.Base.{pick-by, update-other}
 use Rattle.sheet_format.specs.SheetTrip.{Each}
 use Rattle.whole_words.specs.Whole.{wholeFinish}
 use Rattle.day_rounds.specs.Rounds.{Holder, handOut, getAll, getRound, finishAll, finished, anyHolder, handOuts}
@@ -76,12 +76,12 @@ module _ (s : Sizes) (n : ℕ) (names : ℕ → ℕ) (P : ℕ → Type 0) (all :
       → GetEnds (Handing s w hw n (G .handed) (G .hold) names free)
       (Drained s w hw n (G .handed) (G .hold) names free) o
       → Getting h (suc w) (hs ++ handOut w (o .answer)) (o .state)
-  one-get h w hs t G hw free o (handed-out {j = j} {name = called} H) = record {
-    hold = update (G .hold) w (some j);
+  one-get h w hs t G hw free o (handed-out {h = out} H) = record {
+    hold = update (G .hold) w (some (out .job));
     handed = suc (G .handed);
     now = moved (H .now) 0;
-    holds = holds-more (s .workers) names w hw j called (H .same-name) (G .holds) free;
-    free = λ v l. update-other (G .hold) w (some j) v (λ e. omega arith) ∙ G .free v (omega arith);
+    holds = holds-more (s .workers) names w hw (out .job) (out .name) (H .same-name) (G .holds) free;
+    free = λ v l. update-other (G .hold) w (some (out .job)) v (λ e. omega arith) ∙ G .free v (omega arith);
     count = rw length-append (omega (arith, G .count));
     empty = λ e l. absurd (never hs _ e);
   }

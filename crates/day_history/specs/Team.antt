@@ -8,7 +8,7 @@ use native.Mathlib.Decide.{ℕ-discrete}
 use lib.Dec.{eqb}
 use Rattle.terms.specs.Base.{pick, update}
 use Rattle.rules.specs.Rules.{Call, idle, Worker}
-use Rattle.rules_follow_model.specs.Base.{update-same, update-other}
+use Rattle.rules_cases.specs.Base.{update-same, update-other}
 use Rattle.rules_follow_model.specs.Booked.{held-kept}
 
 -- worker w is in the call c, and every other in none

@@ -19,7 +19,7 @@ use Rattle.terms.specs.declared.Answer.the-variants.{Ended, Refused}
 use Rattle.words.specs.Layout.{Tables, LABEL, view}
 use Rattle.rules.specs.Rules.{idle}
 use Rattle.representation_kept.specs.Stand.{limits-of}
-use Rattle.rules_follow_model.specs.Base.{pick-by}
+use Rattle.rules_cases.specs.Base.{pick-by}
 use Rattle.sheet_format.specs.Job.{Job, Valid}
 use Rattle.sheet_format.specs.NumberLaws.{Bytes}
 use Rattle.sheet_format.specs.SheetTrip.{Each, none, more, sheet-back}

@@ -34,7 +34,7 @@ use Rattle.day_list.specs.Printout.{begun, ended}
 -- ---- few lines
 few-refused : (i : ℕ) (a : Answer) → length (refusal i a) ≤ 1
 few-refused i (Refused n p) = omega arith
-few-refused i (Handed j name) = omega arith
+few-refused i (Handed h) = omega arith
 few-refused i Laid = omega arith
 few-refused i Posted = omega arith
 few-refused i Going = omega arith

@@ -53,7 +53,7 @@ refusal i Posted = []
 refusal i Going = []
 refusal i Ended = []
 refusal i NoneReady = []
-refusal i (Handed j name) = []
+refusal i (Handed h) = []
 
 pub record Added : Type 0 where
   pub state : Tables
@@ -80,7 +80,7 @@ abbrev pub holder : ℕ → ℕ → Holder
 holder w n = record { worker = w; name = n }
 
 abbrev pub handOut : ℕ → Answer → List Holder
-handOut w (Handed j name) = holder w name ∷ []
+handOut w (Handed h) = holder w (h .name) ∷ []
 handOut w Laid = []
 handOut w Posted = []
 handOut w Going = []

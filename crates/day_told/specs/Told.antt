@@ -13,7 +13,7 @@ abbrev pub told : Bool → Bool → ℕ → Told
 told h r n = record { handed = h; refused = r; value = n }
 
 abbrev pub toldOf : Answer → Told
-toldOf (Handed j name) = told true false name
+toldOf (Handed h) = told true false (h .name)
 toldOf (Refused n p) = told false true n
 toldOf Laid = told false false 0
 toldOf Posted = told false false 0
@@ -24,7 +24,7 @@ toldOf NoneReady = told false false 0
 -- the hand-out
 pub hand-out-told : (w : ℕ) (a : Answer)
     → handOut w a ≡ pick (toldOf a .handed) (holder w (toldOf a .value) ∷ []) []
-hand-out-told w (Handed j name) = refl
+hand-out-told w (Handed h) = refl
 hand-out-told w (Refused n p) = refl
 hand-out-told w Laid = refl
 hand-out-told w Posted = refl
@@ -35,7 +35,7 @@ hand-out-told w NoneReady = refl
 -- the refusal
 pub refusal-told : (i : ℕ) (a : Answer)
     → refusal i a ≡ pick (toldOf a .refused) (record { entry = i; number = toldOf a .value } ∷ []) []
-refusal-told i (Handed j name) = refl
+refusal-told i (Handed h) = refl
 refusal-told i (Refused n p) = refl
 refusal-told i Laid = refl
 refusal-told i Posted = refl

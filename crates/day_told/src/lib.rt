@@ -15,10 +15,10 @@ pub fn tell(answer: Answer) -> Told
     ensures { λ r. ⌜ r ≡ toldOf answer ⌝ }
 {
     match answer {
-        Answer::Handed { job: _, name } => Told {
+        Answer::Handed { out } => Told {
             handed: true,
             refused: false,
-            value: name,
+            value: out.name,
         },
         Answer::Refused { number, place: _ } => Told {
             handed: false,

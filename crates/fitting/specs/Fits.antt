@@ -10,6 +10,7 @@ use borrow.Author.Tests.{ltb-true, ltb-false, leb-true, leb-false}
 use Rattle.terms.specs.Base.{pick}
 use Rattle.terms.specs.Terms.{mostJobs, mostArcs, mostBits, mostWorkers, mostNames, mostClass, mostGrower, withinLimits}
 use Rattle.terms.specs.declared.Sizes.{Sizes}
+use Rattle.terms.specs.declared.HandOut.{HandOut}
 use Rattle.words.specs.Layout.{none, LABEL, COUNT, FIRST, LAST, DEPENDENT, AFTER, PHASE, HELD, LIST-COUNT, OWN-CLASS}
 use Rattle.words.specs.Layout.{OWN-GROWER, TALLY, PLACE, OWN-JOB, OWN-ARC, IDLE, LOOKING, LINKING, MARKING, NOTIFYING}
 use Rattle.words.specs.Layout.{Tables, View, view, longEnough, sizesKept, roomFor, sizesFit}
@@ -264,14 +265,14 @@ waits : FittingGet Wait
 unfolding FittingGet
 waits = tt
 
-takes : (j name q : ℕ) → q < none → FittingGet (Take j name q)
+takes : (h : HandOut) (q : ℕ) → q < none → FittingGet (Take h q)
 unfolding FittingGet
-takes j name q h = h
+takes h q b = b
 
-take-fits : (s : Sizes) (v : View) (j : ℕ) → v .taken < none → FittingGet (planTake s v j)
+take-fits : (v : View) (j : ℕ) → v .taken < none → FittingGet (planTake v j)
 unfolding planTake
-take-fits s v j h =
-    choice FittingGet (ltb j (v .made) && eqb (v .job LABEL j) 0) _ _ (λ _. takes _ _ _ h) (λ _. refuse-get _)
+take-fits v j h =
+    choice FittingGet (ltb j (v .made) && eqb (v .job LABEL j) 0) _ _ (λ _. takes _ _ h) (λ _. refuse-get _)
 
 queue-fits : (s : Sizes) (v : View) → s .jobs ≤ mostJobs → FittingGet (planQueue s v)
 unfolding planQueue
@@ -282,7 +283,7 @@ queue-fits s v jobs =
     let a = leb-true (v .taken) (v .put) ordered in
     let b = leb-true (v .put) (s .jobs) (and-right start (leb (v .put) (s .jobs)) h) in
     choice FittingGet (eqb (v .taken) (v .put)) _ _ (λ _. waits)
-    (λ _. take-fits s v (v .cell 0 (v .taken)) (omega arith)))
+    (λ _. take-fits v (v .cell 0 (v .taken)) (omega arith)))
     (λ _. refuse-get _)
 
 get-fits : (s : Sizes) (v : View) (w : ℕ) → s .jobs ≤ mostJobs → FittingGet (planGet s v w)

@@ -28,4 +28,4 @@ Fitting (NotifyQueue j c x q) v w = q < none
 unfoldable pub FittingGet : GetPlan → Type 0
 FittingGet (RefuseGet n) = Unit {0}
 FittingGet Wait = Unit {0}
-FittingGet (Take j name q) = q < none
+FittingGet (Take h q) = q < none

@@ -11,7 +11,7 @@ ghost use Rattle.fitting.specs.Fitting.{Fitting, FittingGet};
 ghost use Rattle.fitting.specs.Kinds.{Own, Stored};
 use graph_adding::apply_link;
 use graph_adding::apply_settle;
-use graph_adding::enter;
+use graph_entering::enter;
 use graph_finishing::apply_finish;
 use graph_finishing::take;
 use graph_worker_words::count_place;
@@ -101,6 +101,6 @@ pub fn apply_get(
     match plan {
         GetPlan::RefuseGet { .. } => {}
         GetPlan::Wait => {}
-        GetPlan::Take { job, name: _, cell } => take(jobs, queue, workers, worker, job, cell),
+        GetPlan::Take { out, cell } => take(jobs, queue, workers, worker, out, cell),
     }
 }

@@ -16,6 +16,7 @@ use graph_words::put_job;
 use graph_words::put_worker;
 use graph_worker_words::arcs_from;
 use graph_worker_words::mark_worker;
+use terms::HandOut;
 use words::Plan;
 
 // The finish marks its job.
@@ -95,16 +96,16 @@ pub fn take(
     queue: &mut [u32],
     workers: &mut [u32],
     worker: u32,
-    job: u32,
+    out: HandOut,
     cell: u32,
 )
     ensures { λ _. ⌜ (cell < none →
-        (name : ℕ) (arcs buckets : List ℕ) →
+        (arcs buckets : List ℕ) →
         tables (now (jobs .exit)) arcs buckets (now (queue .exit)) (now (workers .exit))
-        ≡ appliedGet (Take job name cell)
+        ≡ appliedGet (Take out cell)
         (tables (now (jobs .entry)) arcs buckets (now (queue .entry)) (now (workers .entry))) worker) ⌝ }
 {
-    put_job(jobs, job, LABEL, EXECUTING);
+    put_job(jobs, out.job, LABEL, EXECUTING);
     take_job(queue, cell);
-    put_worker(workers, worker, HELD, job);
+    put_worker(workers, worker, HELD, out.job);
 }

@@ -3,6 +3,7 @@
 ghost use mathlib.Core.Path.{_≡_};
 ghost use Prim.Native.Nat.{_+_, _*_, _^_, _≤_};
 ghost use lib.Seq.{sets};
+ghost use Rattle.terms.specs.Terms.{mostBits};
 ghost use Rattle.words.specs.Columns.{place};
 ghost use Rattle.words.specs.Layout.{none, jobShape, workerShape, IDLE, bareWorker, repeated, freshJob, freshJobs};
 ghost use Rattle.words.specs.Layout.{freshArcs, freshBuckets, freshQueue, freshTables, atEntry, atExit};
@@ -62,13 +63,13 @@ fn fresh_arcs(sizes: Sizes, arcs: &mut [u32])
 
 // The number of buckets, where the bits are within their limit.
 pub fn buckets_of(bits: u32) -> usize
-    ensures { λ r. ⌜ (bits ≤ 8 → r ≡ 2 ^ bits) ⌝ }
+    ensures { λ r. ⌜ (bits ≤ mostBits → r ≡ 2 ^ bits) ⌝ }
 {
     if bits <= MOST_BITS { 1 << bits } else { 0 }
 }
 
 fn fresh_buckets(sizes: Sizes, buckets: &mut [u32])
-    ensures { λ _. ⌜ (sizes .bits ≤ 8 → now (buckets .exit) ≡ sets (now (buckets .entry)) 0 (freshBuckets sizes)) ⌝ }
+    ensures { λ _. ⌜ (sizes .bits ≤ mostBits → now (buckets .exit) ≡ sets (now (buckets .entry)) 0 (freshBuckets sizes)) ⌝ }
 {
     let count = buckets_of(sizes.bits);
     fill(buckets, BUCKET_HEAD as usize, count, NONE);
@@ -91,7 +92,7 @@ pub fn fresh_tables(
     queue: &mut [u32],
     workers: &mut [u32],
 )
-    ensures { λ _. ⌜ (sizes .bits ≤ 8
+    ensures { λ _. ⌜ (sizes .bits ≤ mostBits
         → atExit jobs arcs buckets queue workers ≡ freshTables sizes (atEntry jobs arcs buckets queue workers)) ⌝ }
 {
     fresh_jobs(sizes, jobs);

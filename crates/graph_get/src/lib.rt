@@ -5,7 +5,7 @@ ghost use Rattle.terms.specs.Runs.{outcome};
 ghost use Rattle.words.specs.Layout.{atEntry, atExit};
 ghost use Rattle.words.specs.Words.{answerGet, getWords};
 use graph_apply::apply_get;
-use graph_plan::plan_get;
+use graph_plan_get::plan_get;
 use terms::Answer;
 use terms::Sizes;
 use words::GetPlan;
@@ -17,7 +17,7 @@ fn answer_get(plan: GetPlan) -> Answer
     match plan {
         GetPlan::RefuseGet { number } => Answer::Refused { number, place: 0 },
         GetPlan::Wait => Answer::NoneReady,
-        GetPlan::Take { job, name, .. } => Answer::Handed { job, name },
+        GetPlan::Take { out, .. } => Answer::Handed { out },
     }
 }
 

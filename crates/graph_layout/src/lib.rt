@@ -8,11 +8,11 @@ ghost use Rattle.words.specs.Words.{layOut};
 ghost use Rattle.graph_layout.specs.Needed.{wordsNeeded};
 use graph_fresh::buckets_of;
 use graph_fresh::fresh_tables;
+use graph_sizes::need;
+use graph_sizes::room_for;
+use graph_sizes::within_limits;
 use graph_words::layout::*;
-use graph_words::need;
 use graph_words::numbers::*;
-use graph_words::room_for;
-use graph_words::within_limits;
 use terms::Answer;
 use terms::Sizes;
 

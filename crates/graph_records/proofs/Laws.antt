@@ -5,9 +5,8 @@ use Prim.Native.Nat.{ℕ, zero, suc, _+_, _-_, _≤_, _<_}
 use native.Mathlib.Omega.{arith}
 use native.Mathlib.Numerals.{add-one}
 use lib.Dec.{lit<}
-use lib.ListN.{length, getD, set, drop, replicate, length-set}
-use lib.Seq.{sets, set-out, set-set, set-comm, drop-cons}
-use Rattle.terms.specs.Base.{prefix}
+use lib.ListN.{length, set, replicate, length-set}
+use lib.Seq.{sets, set-out, set-set, set-comm}
 use Rattle.words.specs.Columns.{Shape, place, put}
 use Rattle.words.specs.Layout.{none, workerShape, PHASE, HELD, OWN-JOB, OWN-ARC, bareWorker}
 
@@ -51,56 +50,6 @@ fill-one l i e v h = let z : e - i ≡ suc (e - (i + 1)) = omega arith in rw (z,
 pub fill-none : (l : List ℕ) (i e v : ℕ) → e ≤ i → l ≡ sets l i (replicate (e - i) v)
 fill-none l i e v h = let z : e - i ≡ 0 = omega arith in rw z
 
--- ---- the names of a list, and 0 past them
-prefix-none : (n : ℕ) → prefix n [] ≡ replicate n 0
-unfolding prefix
-prefix-none zero = refl
-prefix-none (suc n) = ap (λ (l : List ℕ). 0 ∷ l) (prefix-none n)
-
-prefix-length : (n : ℕ) (l : List ℕ) → length (prefix n l) ≡ n
-unfolding prefix
-prefix-length zero l = refl
-prefix-length (suc n) [] = ap suc (prefix-length n [])
-prefix-length (suc n) (x ∷ l) = ap suc (prefix-length n l)
-
-prefix-at : (n : ℕ) (l : List ℕ) (i : ℕ) → i < n → getD (prefix n l) i 0 ≡ getD l i 0
-unfolding prefix
-prefix-at zero l i h = absurd (omega arith)
-prefix-at (suc n) [] zero h = refl
-prefix-at (suc n) [] (suc i) h = prefix-at n [] i (omega arith)
-prefix-at (suc n) (x ∷ l) zero h = refl
-prefix-at (suc n) (x ∷ l) (suc i) h = prefix-at n l i (omega arith)
-
-pub names-one : (n d : ℕ) (names l : List ℕ) (at i : ℕ) → i < n → i < d
-    → sets (set l (at + i) (getD names i 0)) (at + (i + 1)) (drop (i + 1) (prefix n (prefix d names)))
-    ≡ sets l (at + i) (drop i (prefix n (prefix d names)))
-names-one n d names l at i a b =
-    let z : at + (i + 1) ≡ suc (at + i) = omega arith in
-    let q : i < length (prefix n (prefix d names)) = rw (prefix-length n (prefix d names)) a in
-    rw (
-      drop-cons (prefix n (prefix d names)) i 0 q,
-      prefix-at n (prefix d names) i a,
-      prefix-at d names i b,
-      z,
-      add-one i,
-    )
-
--- after the last listed name there are only 0
-pub names-rest : (n d r : ℕ) (names : List ℕ) → r ≤ n → r ≤ d → (r < n → r ≡ d)
-    → drop r (prefix n (prefix d names)) ≡ replicate (n - r) 0
-unfolding prefix
-names-rest zero d zero names a b e = refl
-names-rest (suc n) zero zero names a b e = let z : suc n - 0 ≡ suc n = omega arith in rw z (prefix-none (suc n))
-names-rest (suc n) (suc d) zero names a b e = absurd (omega (arith, e (omega arith)))
-names-rest zero d (suc r) names a b e = absurd (omega arith)
-names-rest (suc n) zero (suc r) names a b e = absurd (omega arith)
-names-rest (suc n) (suc d) (suc r) [] a b e =
-    let z : suc n - suc r ≡ n - r = omega arith in
-    rw z (names-rest n d r [] (omega arith) (omega arith) (λ h. omega (arith, e (omega arith))))
-names-rest (suc n) (suc d) (suc r) (x ∷ l) a b e =
-    let z : suc n - suc r ≡ n - r = omega arith in
-    rw z (names-rest n d r l (omega arith) (omega arith) (λ h. omega (arith, e (omega arith))))
-
 -- ---- a store into a run
 set-before : (l vs : List ℕ) (i k v : ℕ) → i < k → set (sets l k vs) i v ≡ sets (set l i v) k vs
 set-before l [] i k v h = refl
@@ -123,22 +72,17 @@ put-in l vs w k v h = let z : place workerShape w k ≡ place workerShape w 0 + 
     rw z (set-in l vs (place workerShape w 0) k v h)
 
 -- a worker's record of 0, and the words of it that are not
+abbrev blank : List ℕ
+blank = replicate (workerShape .width) 0
+
 pub bare-record : (l : List ℕ) (w p h : ℕ)
     → put workerShape (put workerShape
-    (put workerShape (put workerShape (sets l (place workerShape w 0) (replicate 42 0)) w PHASE p) w HELD h) w OWN-JOB
+    (put workerShape (put workerShape (sets l (place workerShape w 0) blank) w PHASE p) w HELD h) w OWN-JOB
     none) w OWN-ARC none ≡ sets l (place workerShape w 0) (bareWorker p h)
 bare-record l w p h =
     rw (
-      put-in l (replicate 42 0) w PHASE p (lit< tt),
-      put-in l (set (replicate 42 0) PHASE p) w HELD h (lit< tt),
-      put-in l (set (set (replicate 42 0) PHASE p) HELD h) w OWN-JOB none (lit< tt),
-      put-in l (set (set (set (replicate 42 0) PHASE p) HELD h) OWN-JOB none) w OWN-ARC none (lit< tt),
+      put-in l blank w PHASE p (lit< tt),
+      put-in l (set blank PHASE p) w HELD h (lit< tt),
+      put-in l (set (set blank PHASE p) HELD h) w OWN-JOB none (lit< tt),
+      put-in l (set (set (set blank PHASE p) HELD h) OWN-JOB none) w OWN-ARC none (lit< tt),
     )
-
--- ---- a worker's record in three runs
-pub worker-record : (l : List ℕ) (w : ℕ) (xs ys zs : List ℕ) → length xs ≡ 6 → length ys ≡ 4
-    → sets (sets (sets l (place workerShape w 0) xs) (place workerShape w 6) ys) (place workerShape w 10) zs
-    ≡ sets l (place workerShape w 0) (xs ++ (ys ++ zs))
-worker-record l w xs ys zs a b =
-    sets-append (sets l (place workerShape w 0) xs) ys zs (place workerShape w 6) (place workerShape w 10) (omega arith)
-    ∙ sets-append l xs (ys ++ zs) (place workerShape w 0) (place workerShape w 6) (omega arith)

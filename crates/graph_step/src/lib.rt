@@ -5,7 +5,7 @@ ghost use Rattle.terms.specs.Runs.{outcome};
 ghost use Rattle.words.specs.Layout.{atEntry, atExit};
 ghost use Rattle.words.specs.Words.{goingUnless, answerOf, stepWords};
 use graph_apply::apply;
-use graph_plan::plan_step;
+use graph_plan_step::plan_step;
 use graph_words::layout::NONE;
 use terms::Answer;
 use terms::Sizes;

@@ -3,15 +3,15 @@
 ghost use mathlib.Core.Path.{_≡_};
 ghost use Rattle.minutes.specs.Minutes.{fixedMinutes};
 ghost use Rattle.graph_board.specs.Board.{jobsFit, graphTotals};
+use graph_sizes::need;
+use graph_sizes::within_limits;
 use graph_words::header;
 use graph_words::layout::*;
-use graph_words::need;
 use graph_words::numbers::*;
-use graph_words::within_limits;
 use terms::Sizes;
 use totals::Totals;
 use totals::blank;
-use totals::of_table;
+use totals_of_words::of_table;
 
 // The sizes are within their limits and are the ones laid out, and the table of jobs is long enough for them.
 fn jobs_fit(sizes: Sizes, jobs: &[u32]) -> bool

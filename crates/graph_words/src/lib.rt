@@ -1,26 +1,16 @@
-// The words of the five tables, each read and stored by its table, record and field, and the tests that every call
-// makes first.
-// Follows document 01, "Tables and their measures" and "Turned-away calls". Nothing is required of a table: past its
-// end a read
-// answers 0 and a store does nothing.
+// The words of the five tables, each read and stored by its table, record and field.
+// Follows document 01, "Tables and their measures". Nothing is required of a table: past its end a read answers 0 and a
+// store does nothing.
 ghost use mathlib.Core.Path.{_≡_};
-ghost use mathlib.Core.Bool.{true, _&&_};
-ghost use mathlib.Core.List.{List};
-ghost use Prim.Native.Nat.{ℕ, _+_, _^_, _≤_};
-ghost use lib.Dec.{leb};
-ghost use lib.ListN.{length, getD, set};
-ghost use Rattle.terms.specs.Terms.{mostBits, withinLimits};
-ghost use Rattle.words.specs.Columns.{place, columns, put, header, putHeader};
-ghost use Rattle.words.specs.Layout.{jobShape, arcShape, bucketShape, queueShape, workerShape, NAMES, tables, atEntry};
-ghost use Rattle.words.specs.Layout.{view, need, longEnough, sizesKept, roomFor, sizesFit};
-ghost use Rattle.words.specs.Words.{placeOk, countersOk, ownOk};
+ghost use Prim.Native.Nat.{_+_, _-_};
+ghost use lib.ListN.{getD, set};
+ghost use Rattle.words.specs.Columns.{columns, put, header, putHeader};
+ghost use Rattle.words.specs.Layout.{jobShape, arcShape, bucketShape, queueShape, workerShape, NAMES};
 
 pub mod layout;
 pub mod numbers;
 
 use layout::*;
-use numbers::*;
-use terms::Sizes;
 
 pub fn word(s: &[u32], i: usize) -> u32
     ensures { λ r. ⌜ r ≡ getD (now (s .entry)) i 0 ⌝ }
@@ -145,166 +135,9 @@ pub fn name_word(workers: &[u32], worker: u32, i: u32) -> u32
     )
 }
 
-pub fn within_limits(sizes: Sizes) -> bool
-    ensures { λ r. ⌜ r ≡ withinLimits sizes ⌝ }
+// The difference, or 0 where it would fall below 0.
+pub fn less(x: u32, y: u32) -> u32
+    ensures { λ r. ⌜ r ≡ x - y ⌝ }
 {
-    (1 <= sizes.jobs)
-        & (sizes.jobs <= MOST_JOBS)
-        & (sizes.arcs <= MOST_ARCS)
-        & ((1 <= sizes.bits) & (sizes.bits <= MOST_BITS))
-        & ((1 <= sizes.workers) & (sizes.workers <= MOST_WORKERS))
-}
-
-// The words that a table of `n` records needs.
-pub fn need(head: u32, width: u32, n: u32) -> usize
-    ensures { λ r. ⌜ r ≡ need (record { head = head; width = width }) n ⌝ }
-{
-    (head as usize) + (width as usize) * (n as usize)
-}
-
-fn two_to(bits: u32) -> u32
-    requires { ⌜ bits ≤ mostBits ⌝ }
-    ensures { λ r. ⌜ r ≡ 2 ^ bits ⌝ }
-{
-    1 << bits
-}
-
-fn long_enough(
-    sizes: Sizes,
-    jobs: &[u32],
-    arcs: &[u32],
-    buckets: &[u32],
-    queue: &[u32],
-    workers: &[u32],
-) -> bool
-    requires { ⌜ withinLimits sizes ≡ true ⌝ }
-    ensures { λ r. ⌜ r ≡ longEnough sizes (atEntry jobs arcs buckets queue workers) ⌝ }
-{
-    (need(JOB_HEAD, JOB_WIDTH, sizes.jobs) <= jobs.len())
-        & (need(ARC_HEAD, ARC_WIDTH, sizes.arcs) <= arcs.len())
-        & (need(BUCKET_HEAD, BUCKET_WIDTH, two_to(sizes.bits)) <= buckets.len())
-        & (need(QUEUE_HEAD, QUEUE_WIDTH, sizes.jobs) <= queue.len())
-        & (need(WORKER_HEAD, WORKER_WIDTH, sizes.workers) <= workers.len())
-}
-
-// The sizes are within their limits, and the tables are long enough for them.
-pub fn room_for(
-    sizes: Sizes,
-    jobs: &[u32],
-    arcs: &[u32],
-    buckets: &[u32],
-    queue: &[u32],
-    workers: &[u32],
-) -> bool
-    ensures { λ r. ⌜ r ≡ roomFor sizes (atEntry jobs arcs buckets queue workers) ⌝ }
-{
-    let within = within_limits(sizes);
-    if within {
-        long_enough(sizes, jobs, arcs, buckets, queue, workers)
-    } else {
-        false
-    }
-}
-
-fn sizes_kept(sizes: Sizes, jobs: &[u32]) -> bool
-    ensures { λ r. ⌜ r ≡ sizesKept sizes (now (jobs .entry)) ⌝ }
-{
-    (header(jobs, JOBS) == sizes.jobs)
-        & (header(jobs, ARCS) == sizes.arcs)
-        & (header(jobs, BITS) == sizes.bits)
-        & (header(jobs, WORKERS) == sizes.workers)
-}
-
-// There is room for the sizes, and they are the ones laid out.
-pub fn sizes_fit(
-    sizes: Sizes,
-    jobs: &[u32],
-    arcs: &[u32],
-    buckets: &[u32],
-    queue: &[u32],
-    workers: &[u32],
-) -> bool
-    ensures { λ r. ⌜ r ≡ sizesFit sizes (atEntry jobs arcs buckets queue workers) ⌝ }
-{
-    let room = room_for(sizes, jobs, arcs, buckets, queue, workers);
-    if room { sizes_kept(sizes, jobs) } else { false }
-}
-
-// A place is none or in use: below its counter, and below the table's size.
-pub fn place_ok(place: u32, counter: u32, size: u32) -> bool
-    ensures { λ r. ⌜ r ≡ placeOk place counter size ⌝ }
-{
-    let none = place == NONE;
-    if none {
-        true
-    } else {
-        (place < counter) & (place < size)
-    }
-}
-
-// How many jobs were made and arcs reserved is within the sizes. A call tests it once, before what its step reads.
-pub fn counters_ok(sizes: Sizes, jobs: &[u32], arcs: &[u32]) -> bool
-    ensures { λ r. ⌜ ((buckets queue workers : List ℕ)
-        → r ≡ countersOk sizes (view (tables (now (jobs .entry)) (now (arcs .entry)) buckets queue workers))) ⌝ }
-{
-    (header(jobs, MADE) <= sizes.jobs) & (header(arcs, RESERVED) <= sizes.arcs)
-}
-
-// The worker's own words are sound. The tests of its places are branches: what follows a call knows their outcome.
-fn own_sound(sizes: Sizes, jobs: &[u32], arcs: &[u32], workers: &[u32], worker: u32) -> bool
-    ensures { λ r. ⌜ ((buckets queue : List ℕ)
-        → r ≡ ownOk sizes (view (tables (now (jobs .entry)) (now (arcs .entry)) buckets queue (now (workers .entry))))
-        worker) ⌝ }
-{
-    let made = header(jobs, MADE);
-    let count = worker_word(workers, worker, LIST_COUNT);
-    let phase = worker_word(workers, worker, PHASE) <= NOTIFYING;
-    if phase {
-        let held = place_ok(worker_word(workers, worker, HELD), made, sizes.jobs);
-        if held {
-            let call = (count <= MOST_NAMES)
-                & (worker_word(workers, worker, OWN_CLASS) <= MOST_CLASS)
-                & (worker_word(workers, worker, OWN_GROWER) <= MOST_GROWER)
-                & (worker_word(workers, worker, TALLY) <= count)
-                & (worker_word(workers, worker, PLACE) <= count);
-            if call {
-                let job = place_ok(worker_word(workers, worker, OWN_JOB), made, sizes.jobs);
-                if job {
-                    place_ok(
-                        worker_word(workers, worker, OWN_ARC),
-                        header(arcs, RESERVED),
-                        sizes.arcs,
-                    )
-                } else {
-                    false
-                }
-            } else {
-                false
-            }
-        } else {
-            false
-        }
-    } else {
-        false
-    }
-}
-
-// The worker's own words are sound, whatever its phase, and all are within the table. The buckets and the queue are not
-// read: it
-// holds with any.
-pub fn own_ok(sizes: Sizes, jobs: &[u32], arcs: &[u32], workers: &[u32], worker: u32) -> bool
-    ensures { λ r. ⌜ ((buckets queue : List ℕ)
-        → r ≡ (leb (place workerShape worker NAMES) (length (now (workers .entry)))
-        && ownOk sizes (view (tables (now (jobs .entry)) (now (arcs .entry)) buckets queue (now (workers .entry))))
-        worker)) ⌝ }
-{
-    let within = (WORKER_HEAD as usize)
-        + (WORKER_WIDTH as usize) * (worker as usize)
-        + (NAMES as usize)
-        <= workers.len();
-    if within {
-        own_sound(sizes, jobs, arcs, workers, worker)
-    } else {
-        false
-    }
+    if y <= x { x - y } else { 0 }
 }

@@ -16,6 +16,7 @@ use Rattle.terms.specs.Runs.{Item, postAdd, postFinish, step, get, Event, Outco
 use Rattle.terms.specs.Runs.{sizesOf, workerOf}
 use Rattle.terms.specs.Seen.{Seen, Same}
 use Rattle.terms.specs.declared.Sizes.{Sizes}
+use Rattle.terms.specs.declared.HandOut.{HandOut}
 use Rattle.terms.specs.declared.Answer.{Answer}
 use Rattle.terms.specs.declared.Answer.the-variants.{Laid, Posted, Going, Ended, NoneReady, Handed, Refused}
 use Rattle.rules.specs.Rules.{empty}
@@ -48,13 +49,13 @@ PrerequisitesFinished x adds j =
 -- a job that is handed out, by what was seen just before and by the calls decided so far: it is that of an accepted
 -- add, under its own name; it is labelled unexecuted; each of its prerequisites is marked finished, and an accepted
 -- finish of each was made
-pub record HandedRightly (x : Seen) (calls : List book.Ended) (j name : ℕ) : Type 0 where
-  pub there : j < length (acceptedAdds calls)
-  pub named : name ≡ addOf (acceptedAdds calls) j .name
-  pub unexecuted : x .job j .label ≡ labelNumber unexecuted
-  pub prerequisites : PrerequisitesFinished x (acceptedAdds calls) j
-  pub finishes : (i : ℕ) → i < addOf (acceptedAdds calls) j .count
-      → contains (getD (listed (addOf (acceptedAdds calls) j)) i 0) (acceptedFinishes calls) ≡ true
+pub record HandedRightly (x : Seen) (calls : List book.Ended) (h : HandOut) : Type 0 where
+  pub there : h .job < length (acceptedAdds calls)
+  pub named : h .name ≡ addOf (acceptedAdds calls) (h .job) .name
+  pub unexecuted : x .job (h .job) .label ≡ labelNumber unexecuted
+  pub prerequisites : PrerequisitesFinished x (acceptedAdds calls) (h .job)
+  pub finishes : (i : ℕ) → i < addOf (acceptedAdds calls) (h .job) .count
+      → contains (getD (listed (addOf (acceptedAdds calls) (h .job))) i 0) (acceptedFinishes calls) ≡ true
 
 -- a job that is finished: it is labelled so, and an accepted finish of it was made
 pub record JobFinished (x : Seen) (calls : List book.Ended) (j : ℕ) : Type 0 where
@@ -81,12 +82,12 @@ pub record Shows (s : Sizes) (x : Seen) (b : Book) : Type 0 where
 abbrev pub isIdle : Pending → Bool
 isIdle idle = true
 isIdle (adding a k) = false
-isIdle (finishing name k) = false
+isIdle (finishing f k) = false
 
 abbrev pub byCall : Item → Bool → ℕ
 byCall (step q w) b = pick b nothingToStep 0
 byCall (postAdd q w a) b = pick b 0 halfDone
-byCall (postFinish q w name) b = pick b 0 halfDone
+byCall (postFinish q w f) b = pick b 0 halfDone
 byCall (get q w) b = pick b 0 halfDone
 
 -- the number that turns an item away, or 0
@@ -104,7 +105,7 @@ turnedAwayBy Posted = 0
 turnedAwayBy Going = 0
 turnedAwayBy Ended = 0
 turnedAwayBy NoneReady = 0
-turnedAwayBy (Handed j name) = 0
+turnedAwayBy (Handed h) = 0
 
 -- ---- the claim, of a machine, the sizes laid out, the state that laying out left, and a list of items. Lists are of
 -- any length, so that what is said of the state after the items is said of every moment.
@@ -185,7 +186,7 @@ isNumber n Posted = false
 isNumber n Going = false
 isNumber n Ended = false
 isNumber n NoneReady = false
-isNumber n (Handed j name) = false
+isNumber n (Handed h) = false
 
 unfoldable pub gives : ℕ → List Event → Bool
 gives n [] = false
@@ -193,7 +194,7 @@ gives n (e ∷ es) = isNumber n (e .answer) || gives n es
 
 -- the jobs handed out, in order
 abbrev pub orHanded : Answer → List ℕ → List ℕ
-orHanded (Handed j name) l = j ∷ l
+orHanded (Handed h) l = h .job ∷ l
 orHanded Laid l = l
 orHanded Posted l = l
 orHanded Going l = l

@@ -14,13 +14,15 @@ use Rattle.terms.specs.Base.{update, contains, repeats, occurrences, prefix}
 use Rattle.terms.specs.Terms.{Arguments, listed, argumentsWrong, sameSizes, alreadyHolding}
 use Rattle.terms.specs.Runs.{Item, postAdd, postFinish, step, get, Outcome, outcome, Event, after, events, entries}
 use Rattle.terms.specs.Seen.{Same}
+use Rattle.terms.specs.Order.{earliest, firstBy, without}
 use Rattle.terms.specs.Starred.{S, steps}
 use Rattle.terms.specs.declared.Sizes.{Sizes}
+use Rattle.terms.specs.declared.HandOut.{HandOut}
 use Rattle.terms.specs.declared.Answer.{Answer}
 use Rattle.terms.specs.declared.Answer.the-variants.{Laid, Posted, Going, Ended, NoneReady, Handed, Refused}
 use Rattle.rules.specs.Rules.{Graph, Call, idle, looking, linking, marking, notifying, empty, seek, lookUp, enter}
 use Rattle.rules.specs.Rules.{linkTo, link, markDependents, mark, notify, stepCall, whenIdle, addPosted, finishPosted}
-use Rattle.rules.specs.Rules.{takeNext, getJob, admitted, perform}
+use Rattle.rules.specs.Rules.{takeNext, getJob, admitted, perform, nextOut}
 use Rattle.rules.specs.Observed.{seen}
 use Rattle.sequential_model.specs.Book.{Book, blank, entry, Ready, Ends, GetEnd, taken, Follows, done, feed, End}
 use Rattle.sequential_model.specs.Book.{handed}
@@ -56,7 +58,7 @@ abbrev pub notifies : Graph → ℕ → ℕ → ℕ → Outcome Graph
 notifies g w p k = stepCall S g w (notifying p k)
 
 abbrev pub takes : Graph → ℕ → Outcome Graph
-takes g w = takeNext g w (g .queue)
+takes g w = takeNext g w (nextOut g)
 
 -- the system of such parts
 module _ (onPost : Graph → ℕ → Arguments → Outcome Graph) (onLook : Graph → ℕ → Arguments → ℕ → Outcome Graph)
@@ -75,7 +77,7 @@ module _ (onPost : Graph → ℕ → Arguments → Outcome Graph) (onLook : Grap
 
   abbrev pub system : System
   system g (postAdd s w a) = admitted S s g w (whenIdle g (g .workers w .call) (onPost g w a))
-  system g (postFinish s w name) = perform S g (postFinish s w name)
+  system g (postFinish s w f) = perform S g (postFinish s w f)
   system g (step s w) = admitted S s g w (stepped g w (g .workers w .call))
   system g (get s w) = admitted S s g w (whenIdle g (g .workers w .call) (got g w (g .workers w .held)))
 
@@ -95,7 +97,7 @@ own-get g w (some j) = refl
 pub own-parts : (g : Graph) (i : Item) → system posts looks links marks notifies takes g i ≡ perform S g i
 unfolding perform
 own-parts g (postAdd s w a) = refl
-own-parts g (postFinish s w name) = refl
+own-parts g (postFinish s w f) = refl
 own-parts g (step s w) = ap (admitted S s g w) (own-step g w (g .workers w .call))
 own-parts g (get s w) =
     ap (λ r. admitted S s g w (whenIdle g (g .workers w .call) r)) (own-get g w (g .workers w .held))
@@ -131,7 +133,8 @@ module _ (m : System) (items : List Item) where
 
 -- ---- what a run computes with, and the reading of it and the book
 unfoldable pub running : ℕ
-unfolding update contains repeats occurrences prefix argumentsWrong sameSizes after events entries steps empty seek
+unfolding update contains repeats occurrences prefix earliest firstBy without argumentsWrong sameSizes after events
+    entries steps empty seek
     lookUp enter linkTo link markDependents mark notify stepCall whenIdle addPosted finishPosted takeNext getJob
     admitted perform
 running = 0
@@ -153,7 +156,7 @@ code Going = 2
 code Ended = 3
 code NoneReady = 4
 code (Refused n i) = 100 * n + i
-code (Handed j name) = 10000 * suc j + name
+code (Handed h) = 10000 * suc (h .job) + h .name
 
 abbrev pub answerAt : ℕ → List Event → ℕ
 answerAt k [] = 0
@@ -164,7 +167,7 @@ abbrev pub endCode : End → ℕ
 endCode End.accepted = 3
 endCode End.noneReady = 4
 endCode (End.refused n i) = 100 * n + i
-endCode (handed j name) = 10000 * suc j + name
+endCode (handed h) = 10000 * suc (h .job) + h .name
 
 -- ---- the book that is fed a list of calls, and how it has each of them end
 unfoldable pub fed : Book → List book.Ended → Book
@@ -187,8 +190,8 @@ ends-at zero h (feed e f) = e
 ends-at (suc k) h (feed e f) = ends-at k (omega arith) f
 
 -- a job that the book has handed out was ready, and has that name
-pub handed-right : {b : Book} {h : Option ℕ} {j name : ℕ} → GetEnd b h (handed j name)
-    → Ready b j × (entry b j .name ≡ name)
+pub handed-right : {b : Book} {held : Option ℕ} {h : HandOut} → GetEnd b held (handed h)
+    → Ready b (h .job) × (entry b (h .job) .name ≡ h .name)
 handed-right (taken j r) = (r, refl)
 
 -- what holds of the book that follows holds of the book that is fed

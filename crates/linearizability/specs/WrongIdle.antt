@@ -9,13 +9,13 @@ use native.Mathlib.Omega.{arith}
 use lib.Dec.{ltb, eqb, eqb·suc-zero}
 use lib.ListN.{length}
 use Rattle.terms.specs.Base.{pick}
-use Rattle.terms.specs.Terms.{halfDone, namePresent, noRoom, notHeld}
+use Rattle.terms.specs.Terms.{halfDone, namePresent, noRoom, notHeld, finishOf}
 use Rattle.terms.specs.Runs.{Item, postAdd, postFinish, step, get, Outcome, outcome, after}
 use Rattle.terms.specs.Starred.{S, job, steps, add}
 use Rattle.terms.specs.declared.Answer.{Answer}
 use Rattle.terms.specs.declared.Answer.the-variants.{Going, Ended, NoneReady, Handed, Refused}
 use Rattle.rules.specs.Rules.{Graph, Call, empty, idle, looking, linking, marking, notifying, withCall}
-use Rattle.rules.specs.Rules.{handedOut, perform}
+use Rattle.rules.specs.Rules.{handedOut, perform, handOut}
 use Rattle.rules.specs.Observed.{seen}
 use Rattle.rules.specs.Rules as rules
 use Rattle.sequential_model.specs.Book.{Book, Ready}
@@ -79,14 +79,15 @@ abbrev pub refusesFinishes : System
 refusesFinishes = system posts looks links (λ g w. outcome (Refused notHeld 0) (withCall g w idle)) notifies takes
 
 -- `follows`: worker 0 holds job 1 in the book, which accepts its finish
-pub refuses-finishes : Lacks refusesFinishes (oneAdded ++ (get S 0 ∷ postFinish S 0 1 ∷ step S 0 ∷ [])) follows
+pub refuses-finishes : Lacks refusesFinishes
+    (oneAdded ++ (get S 0 ∷ postFinish S 0 (finishOf 1) ∷ step S 0 ∷ [])) follows
 unfolding booking fed
 refuses-finishes b f = apart endCode refl (ends-at 2 (omega arith) f)
 
 -- ---- a get that hands out the right job under a wrong name
 abbrev pub misnamed : Graph → ℕ → List ℕ → Outcome Graph
 misnamed g w [] = outcome NoneReady g
-misnamed g w (j ∷ q) = outcome (Handed j (suc (rules.job g j .name))) (handedOut g w j q)
+misnamed g w (j ∷ q) = outcome (Handed (record { job = j; name = suc (rules.job g j .name) })) (handedOut g w j q)
 
 abbrev pub misnames : System
 misnames = system posts looks links marks notifies (λ g w. misnamed g w (g .queue))
@@ -99,7 +100,7 @@ misnames-jobs b f = apart (λ n. n) refl (handed-right (ends-at 1 (omega arith) 
 -- ---- a get that hands out one fixed job
 abbrev pub handsOutFirst : System
 handsOutFirst = system posts looks links marks notifies
-    (λ g w. outcome (Handed 0 (rules.job g 0 .name)) (handedOut g w 0 (g .queue)))
+    (λ g w. outcome (Handed (handOut g 0)) (handedOut g w 0 (g .queue)))
 
 -- `follows`: a get of a fresh graph hands out a job that the book does not have
 pub hands-out-first : Lacks handsOutFirst (get S 0 ∷ []) follows

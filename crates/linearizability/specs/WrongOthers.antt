@@ -8,13 +8,13 @@ use native.Mathlib.Omega.{arith}
 use lib.Dec.{ltb, eqb, eqb·suc-zero}
 use lib.ListN.{length, getD, set, take}
 use Rattle.terms.specs.Base.{pick, update, contains}
-use Rattle.terms.specs.Terms.{labelNumber, Arguments, listed, unknownName, noRoom}
+use Rattle.terms.specs.Terms.{labelNumber, Arguments, listed, unknownName, noRoom, finishOf}
 use Rattle.terms.specs.Runs.{Item, postAdd, postFinish, step, get, Outcome, outcome, events}
-use Rattle.terms.specs.Starred.{S, sizes, job, steps, add, added, answersOf}
+use Rattle.terms.specs.Starred.{S, sizes, job, steps, add, added, answersOf, hands}
 use Rattle.terms.specs.declared.Answer.{Answer}
 use Rattle.terms.specs.declared.Answer.the-variants.{Posted, Going, Ended, NoneReady, Handed, Refused}
 use Rattle.rules.specs.Rules.{Graph, Job, empty, Call, idle, looking, linking, marking, notifying, Found, at, missing}
-use Rattle.rules.specs.Rules.{find, withCall, turn, handedOut, perform}
+use Rattle.rules.specs.Rules.{find, withCall, turn, handedOut, perform, handOut, withWorkers, withJobs}
 use Rattle.rules.specs.Rules as rules
 use Rattle.rules.specs.Observed.{seen}
 use Rattle.sequential_model.specs.Book.{entry}
@@ -27,14 +27,14 @@ use Rattle.linearizability.specs.Wrong.{apart, answerAt, endCode, fed, e
 
 -- job 1, and 4 needing it; worker 0 holds job 1, has posted its finish and marks it
 abbrev pub finishing : List Item
-finishing = add S 0 1 [] 2 ++ (add S 0 4 (1 ∷ []) 4 ++ (get S 0 ∷ postFinish S 0 1 ∷ step S 0 ∷ []))
+finishing = add S 0 1 [] 2 ++ (add S 0 4 (1 ∷ []) 4 ++ (get S 0 ∷ postFinish S 0 (finishOf 1) ∷ step S 0 ∷ []))
 
 -- ---- a get that takes the newest job
 abbrev pub newest : Graph → ℕ → List ℕ → Outcome Graph
 newest g w [] = outcome NoneReady g
 newest g w (x ∷ q) =
     let j = getD (x ∷ q) (length q) 0 in
-    outcome (Handed j (rules.job g j .name)) (handedOut g w j (take (length q) (x ∷ q)))
+    outcome (Handed (handOut g j)) (handedOut g w j (take (length q) (x ∷ q)))
 
 abbrev pub takesNewest : System
 takesNewest = system posts looks links marks notifies (λ g w. newest g w (g .queue))
@@ -47,7 +47,7 @@ takes-newest = apart (answerAt 6) refl
 -- ---- a get that leaves the job in the queue
 abbrev pub handedTwice : Graph → ℕ → List ℕ → Outcome Graph
 handedTwice g w [] = outcome NoneReady g
-handedTwice g w (j ∷ q) = outcome (Handed j (rules.job g j .name)) (handedOut g w j (j ∷ q))
+handedTwice g w (j ∷ q) = outcome (Handed (handOut g j)) (handedOut g w j (j ∷ q))
 
 abbrev pub leavesQueued : System
 leavesQueued = system posts looks links marks notifies (λ g w. handedTwice g w (g .queue))
@@ -140,12 +140,8 @@ heldOn (notifying p k) h = h
 abbrev pub holdingOn : Graph → ℕ → Outcome Graph → Outcome Graph
 holdingOn g w o =
     let c = o .state .workers w .call in
-    outcome (o .answer) (record {
-      jobs = o .state .jobs;
-      reserved = o .state .reserved;
-      queue = o .state .queue;
-      workers = update (o .state .workers) w (record { held = heldOn c (g .workers w .held); call = c });
-    })
+    outcome (o .answer) (withWorkers (o .state)
+    (update (o .state .workers) w (record { held = heldOn c (g .workers w .held); call = c })))
 
 abbrev pub freesLate : System
 freesLate =
@@ -166,7 +162,7 @@ unfolding running answersOf
 frees-late-answers = wrong ∙ sym right
   where
     told : List Answer
-    told = added ++ (Posted ∷ Going ∷ Going ∷ Going ∷ Ended ∷ Handed 0 1 ∷ Posted ∷ Going ∷ [])
+    told = added ++ (Posted ∷ Going ∷ Going ∷ Going ∷ Ended ∷ hands 0 1 ∷ Posted ∷ Going ∷ [])
 
     wrong : answersOf (events freesLate empty finishing) ≡ told
     wrong = refl
@@ -187,12 +183,8 @@ withFirst x j = record {
 }
 
 abbrev pub linkedFirst : Graph → ℕ → Arguments → ℕ → ℕ → ℕ → ℕ → Graph
-linkedFirst g w a j i t p = record {
-  jobs = set (g .jobs) p (withFirst (rules.job g p) j);
-  reserved = g .reserved;
-  queue = g .queue;
-  workers = turn g w (linking a j (suc i) t);
-}
+linkedFirst g w a j i t p =
+    withJobs (withCall g w (linking a j (suc i) t)) (set (g .jobs) p (withFirst (rules.job g p) j))
 
 abbrev pub linkFirst : Graph → ℕ → Arguments → ℕ → ℕ → ℕ → Found → Outcome Graph
 linkFirst g w a j i t (at p) =
@@ -212,7 +204,7 @@ links-backwards d = apart (λ x. getD (x .arcs) 0 0) refl (d .jobs 0 (omega arit
 -- ---- a step that also moves the other worker's call on
 abbrev pub stepsBoth : System
 stepsBoth g (postAdd s w a) = perform S g (postAdd s w a)
-stepsBoth g (postFinish s w name) = perform S g (postFinish s w name)
+stepsBoth g (postFinish s w f) = perform S g (postFinish s w f)
 stepsBoth g (step s w) =
     let o = perform S g (step s w) in outcome (o .answer) (perform S (o .state) (step s (1 - w)) .state)
 stepsBoth g (get s w) = perform S g (get s w)
@@ -225,7 +217,7 @@ steps-both d = apart (λ n. n) refl (d .made)
 -- ---- the sizes that an item brings are not looked at
 abbrev pub ignoresSizes : System
 ignoresSizes g (postAdd s w a) = perform S g (postAdd S w a)
-ignoresSizes g (postFinish s w name) = perform S g (postFinish S w name)
+ignoresSizes g (postFinish s w f) = perform S g (postFinish S w f)
 ignoresSizes g (step s w) = perform S g (step S w)
 ignoresSizes g (get s w) = perform S g (get S w)
 

@@ -8,12 +8,12 @@ use native.Mathlib.Omega.{arith}
 use lib.Dec.{ltb, eqb}
 use lib.ListN.{length, getD, set}
 use Rattle.terms.specs.Base.{pick}
-use Rattle.terms.specs.Terms.{Arguments, listed, unknownName}
+use Rattle.terms.specs.Terms.{Arguments, listed, unknownName, finishOf}
 use Rattle.terms.specs.Runs.{Item, postAdd, postFinish, step, get, Outcome, outcome, after}
 use Rattle.terms.specs.Starred.{S, job, steps, add, prepared}
 use Rattle.terms.specs.declared.Answer.the-variants.{Going, Ended, Refused}
 use Rattle.rules.specs.Rules.{Graph, empty, idle, looking, linking, Found, at, missing, find, withCall, withCount, turn}
-use Rattle.rules.specs.Rules.{enqueue, enter, link, settled}
+use Rattle.rules.specs.Rules.{enqueue, enter, link, settled, withJobs, withQueue}
 use Rattle.rules.specs.Rules as rules
 use Rattle.rules.specs.Observed.{seen}
 use Rattle.linearizability.specs.Demand.{addOf, adds, MarkedFinished}
@@ -23,12 +23,7 @@ use Rattle.linearizability.specs.Wrong.{apart, endCode, fed, ends-at}
 
 -- ---- the remaining count starts at 0
 abbrev pub uncounted : Graph → ℕ → Graph
-uncounted g j = record {
-  jobs = set (g .jobs) j (withCount (rules.job g j) 0);
-  reserved = g .reserved;
-  queue = g .queue;
-  workers = g .workers;
-}
+uncounted g j = withJobs g (set (g .jobs) j (withCount (rules.job g j) 0))
 
 abbrev pub startsAtZero : System
 startsAtZero = system posts
@@ -39,7 +34,8 @@ startsAtZero = system posts
 -- jobs 1 and 2, then 3 needing both; job 1 is finished
 abbrev pub oneFinished : List Item
 oneFinished =
-    add S 0 1 [] 2 ++ (add S 0 2 [] 2 ++ (add S 0 3 (1 ∷ 2 ∷ []) 6 ++ (get S 0 ∷ postFinish S 0 1 ∷ steps 2 S 0)))
+    add S 0 1 [] 2 ++ (add S 0 2 [] 2
+    ++ (add S 0 3 (1 ∷ 2 ∷ []) 6 ++ (get S 0 ∷ postFinish S 0 (finishOf 1) ∷ steps 2 S 0)))
 
 -- `after-prerequisites`: job 3 entered the queue, and job 2 is not finished
 pub starts-at-zero : Lacks startsAtZero oneFinished after-prerequisites
@@ -68,12 +64,8 @@ abbrev pub settlesBy : (ℕ → ℕ → Bool) → Graph → ℕ → Arguments �
 settlesBy test g w a j i t =
     let left = rules.job g j .count - t in
     pick (ltb i (a .count)) (links g w a j i t)
-    (outcome Ended (record {
-      jobs = set (g .jobs) j (withCount (rules.job g j) left);
-      reserved = g .reserved;
-      queue = enqueue (test left t) (g .queue) j;
-      workers = turn g w idle;
-    }))
+    (outcome Ended (withJobs (withQueue (withCall g w idle) (enqueue (test left t) (g .queue) j))
+    (set (g .jobs) j (withCount (rules.job g j) left))))
 
 -- it queues only with a tally above 0
 abbrev pub queuesByTally : System

@@ -6,18 +6,19 @@ use mathlib.Core.List.{List, [], _∷_, _++_}
 use Prim.Native.Nat.{ℕ, zero, suc, _+_}
 use lib.Dec.{ltb, leb, eqb}
 use Rattle.terms.specs.Base.{pick, update}
-use Rattle.terms.specs.Terms.{Arguments, damaged}
+use Rattle.terms.specs.Terms.{Arguments, Finish, damaged}
 use Rattle.terms.specs.Runs.{Item, postAdd, postFinish, step, get, Event}
 use Rattle.terms.specs.declared.Answer.{Answer}
 use Rattle.terms.specs.declared.Answer.the-variants.{Laid, Posted, Going, Ended, NoneReady, Handed, Refused}
 use Rattle.sequential_model.specs.Book.{Call, add, finish, End, accepted, noneReady, handed, refused}
 use Rattle.sequential_model.specs.Book as book
 
--- a worker's call half done, with the steps answered so far: an add with its arguments, a finish with its name
+-- a worker's call half done, with the steps answered so far: an add with its arguments, a finish with what it
+-- brings
 pub data Pending : Type 0 where
   idle : Pending
   adding : Arguments → ℕ → Pending
-  finishing : ℕ → ℕ → Pending
+  finishing : Finish → ℕ → Pending
 
 -- the calls half done; the calls decided so far, in the order of their deciding steps, with how they ended;
 -- the names of the jobs whose add has ended accepted, and of those of which an accepted finish call has ended
@@ -63,7 +64,7 @@ finishEnded r name =
 -- step had decided it so. What that step noted is withdrawn: the last add or finish of the worker.
 abbrev pub isCallOf : ℕ → Call → Bool
 isCallOf w (add v a) = eqb v w
-isCallOf w (finish v name) = eqb v w
+isCallOf w (finish v f) = eqb v w
 isCallOf w (Call.get v) = false
 
 unfoldable pub anyCallOf : ℕ → List book.Ended → Bool
@@ -92,21 +93,21 @@ noteStep r w (adding a k) Ended =
     becomes (addEnded (decidedIf (leb k (a .count)) r (add w a) accepted) (a .name)) w idle
 noteStep r w (adding a k) (Refused n i) =
     pick (endsCall n) (becomes (decided (withdrawnIf (ltb (a .count) k) r w) (add w a) (refused n i)) w idle) r
-noteStep r w (finishing name k) Going =
-    becomes (decidedIf (eqb k 0) r (finish w name) accepted) w (finishing name (suc k))
-noteStep r w (finishing name k) Ended =
-    becomes (finishEnded (decidedIf (eqb k 0) r (finish w name) accepted) name) w idle
-noteStep r w (finishing name k) (Refused n i) =
-    pick (endsCall n) (becomes (decided (withdrawnIf (ltb 0 k) r w) (finish w name) (refused n i)) w idle) r
+noteStep r w (finishing f k) Going =
+    becomes (decidedIf (eqb k 0) r (finish w f) accepted) w (finishing f (suc k))
+noteStep r w (finishing f k) Ended =
+    becomes (finishEnded (decidedIf (eqb k 0) r (finish w f) accepted) (f .name)) w idle
+noteStep r w (finishing f k) (Refused n i) =
+    pick (endsCall n) (becomes (decided (withdrawnIf (ltb 0 k) r w) (finish w f) (refused n i)) w idle) r
 noteStep r w idle x = r
 noteStep r w (adding a k) Laid = r
 noteStep r w (adding a k) Posted = r
 noteStep r w (adding a k) NoneReady = r
-noteStep r w (adding a k) (Handed j name) = r
-noteStep r w (finishing name k) Laid = r
-noteStep r w (finishing name k) Posted = r
-noteStep r w (finishing name k) NoneReady = r
-noteStep r w (finishing name k) (Handed j other) = r
+noteStep r w (adding a k) (Handed h) = r
+noteStep r w (finishing f k) Laid = r
+noteStep r w (finishing f k) Posted = r
+noteStep r w (finishing f k) NoneReady = r
+noteStep r w (finishing f k) (Handed h) = r
 
 -- ---- posts and gets: a post that is taken makes the call half done, one that refuses decides it; a get is decided as
 -- it is made
@@ -117,19 +118,19 @@ noteAdd r w a Laid = r
 noteAdd r w a Going = r
 noteAdd r w a Ended = r
 noteAdd r w a NoneReady = r
-noteAdd r w a (Handed j name) = r
+noteAdd r w a (Handed h) = r
 
-unfoldable pub noteFinish : Reading → ℕ → ℕ → Answer → Reading
-noteFinish r w name Posted = becomes r w (finishing name 0)
-noteFinish r w name (Refused n i) = decidedIf (endsCall n) r (finish w name) (refused n i)
-noteFinish r w name Laid = r
-noteFinish r w name Going = r
-noteFinish r w name Ended = r
-noteFinish r w name NoneReady = r
-noteFinish r w name (Handed j other) = r
+unfoldable pub noteFinish : Reading → ℕ → Finish → Answer → Reading
+noteFinish r w f Posted = becomes r w (finishing f 0)
+noteFinish r w f (Refused n i) = decidedIf (endsCall n) r (finish w f) (refused n i)
+noteFinish r w f Laid = r
+noteFinish r w f Going = r
+noteFinish r w f Ended = r
+noteFinish r w f NoneReady = r
+noteFinish r w f (Handed h) = r
 
 unfoldable pub noteGet : Reading → ℕ → Answer → Reading
-noteGet r w (Handed j name) = decided r (Call.get w) (handed j name)
+noteGet r w (Handed h) = decided r (Call.get w) (handed h)
 noteGet r w NoneReady = decided r (Call.get w) noneReady
 noteGet r w (Refused n i) = decidedIf (endsCall n) r (Call.get w) (refused n i)
 noteGet r w Laid = r
@@ -139,7 +140,7 @@ noteGet r w Ended = r
 
 unfoldable pub note : Reading → Item → Answer → Reading
 note r (postAdd s w a) x = noteAdd r w a x
-note r (postFinish s w name) x = noteFinish r w name x
+note r (postFinish s w f) x = noteFinish r w f x
 note r (step s w) x = noteStep r w (r .pending w) x
 note r (get s w) x = noteGet r w x
 
@@ -159,7 +160,7 @@ Quiet r = (w : ℕ) → r .pending w ≡ idle
 abbrev pub orMore : End → Arguments → List Arguments → List Arguments
 orMore accepted a l = a ∷ l
 orMore noneReady a l = l
-orMore (handed j name) a l = l
+orMore (handed h) a l = l
 orMore (refused n i) a l = l
 
 unfoldable pub acceptedAdds : List book.Ended → List Arguments
@@ -169,13 +170,13 @@ acceptedAdds (x ∷ l) = more (x .call) (x .end) (acceptedAdds l)
     more : Call → End → List Arguments → List Arguments
     more (add w a) e rest = orMore e a rest
     more (Call.get w) e rest = rest
-    more (finish w name) e rest = rest
+    more (finish w f) e rest = rest
 
 -- the names of the accepted finishes so far
 abbrev pub orFinished : End → ℕ → List ℕ → List ℕ
 orFinished accepted name l = name ∷ l
 orFinished noneReady name l = l
-orFinished (handed j other) name l = l
+orFinished (handed h) name l = l
 orFinished (refused n i) name l = l
 
 unfoldable pub acceptedFinishes : List book.Ended → List ℕ
@@ -183,6 +184,6 @@ acceptedFinishes [] = []
 acceptedFinishes (x ∷ l) = more (x .call) (x .end) (acceptedFinishes l)
   where
     more : Call → End → List ℕ → List ℕ
-    more (finish w name) e rest = orFinished e name rest
+    more (finish w f) e rest = orFinished e (f .name) rest
     more (add w a) e rest = rest
     more (Call.get w) e rest = rest

@@ -10,9 +10,10 @@ use lib.Dec.{ltb, leb}
 use borrow.Author.Tests.{ltb-true, leb-true}
 use Rattle.terms.specs.Base.{pick, contains}
 use Rattle.terms.specs.Terms.{mostNames, Arguments, wrongSizes, noSuchWorker, halfDone, nothingToStep, wrongArguments}
-use Rattle.terms.specs.Terms.{unknownName, namePresent, noRoom, damaged, alreadyHolding, notHeld}
+use Rattle.terms.specs.Terms.{unknownName, namePresent, noRoom, damaged, alreadyHolding, notHeld, Finish}
 use Rattle.terms.specs.Runs.{Item, postAdd, postFinish, step, get}
 use Rattle.terms.specs.declared.Sizes.{Sizes}
+use Rattle.terms.specs.declared.HandOut.{HandOut}
 use Rattle.terms.specs.declared.Answer.{Answer}
 use Rattle.terms.specs.declared.Answer.the-variants.{Posted, Going, Ended, NoneReady, Handed, Refused}
 use Rattle.words.specs.Layout.{HELD, LIST-COUNT, PLACE, MARKING, Tables, View, view, bareWorker}
@@ -30,7 +31,7 @@ use Rattle.locality.specs.Parts.{parts}
 -- posted with", 7 and 8 "entering finds", 10 "get while holding a job", 11 "finish of a name"
 abbrev pub kindNumbers : Item → List ℕ
 kindNumbers (postAdd s w a) = halfDone ∷ wrongArguments ∷ []
-kindNumbers (postFinish s w name) = halfDone ∷ notHeld ∷ []
+kindNumbers (postFinish s w f) = halfDone ∷ notHeld ∷ []
 kindNumbers (step s w) = nothingToStep ∷ namePresent ∷ noRoom ∷ []
 kindNumbers (get s w) = halfDone ∷ alreadyHolding ∷ []
 
@@ -42,11 +43,11 @@ numbers i = wrongSizes ∷ noSuchWorker ∷ damaged ∷ kindNumbers i
 -- in the list from 0", and a list has at most 32 names; every other number's place is 0
 pub data Fits : Item → Answer → Type 0 where
   posted-add : {s : Sizes} {w : ℕ} {a : Arguments} → Fits (postAdd s w a) Posted
-  posted-finish : {s : Sizes} {w name : ℕ} → Fits (postFinish s w name) Posted
+  posted-finish : {s : Sizes} {w : ℕ} {f : Finish} → Fits (postFinish s w f) Posted
   going : {s : Sizes} {w : ℕ} → Fits (step s w) Going
   ended : {s : Sizes} {w : ℕ} → Fits (step s w) Ended
   none-ready : {s : Sizes} {w : ℕ} → Fits (get s w) NoneReady
-  handed : {s : Sizes} {w j name : ℕ} → Fits (get s w) (Handed j name)
+  handed : {s : Sizes} {w : ℕ} {h : HandOut} → Fits (get s w) (Handed h)
   turned-away : {i : Item} {n : ℕ} → contains n (numbers i) ≡ true → Fits i (Refused n 0)
   unknown : {s : Sizes} {w p : ℕ} → p < mostNames → Fits (step s w) (Refused unknownName p)
 
@@ -130,17 +131,17 @@ fits t (postAdd s w a) =
     said (λ n. posted n t w (addingWorker (view t .worker HELD w) a) .answer)
     (admitted s t w refusal (judgedAdd s (view t) w a))
     (search answers depth 9)
-fits t (postFinish s w name) =
+fits t (postFinish s w f) =
     said (λ n. posted n t w (bareWorker MARKING (view t .worker HELD w)) .answer)
-    (admitted s t w refusal (judgedFinish s (view t) w name))
+    (admitted s t w refusal (judgedFinish s (view t) w (f .name)))
     (search answers depth 9)
 fits t (step s w) = said answerOf (planStep s t w) (search (answers, stepping) depth 7)
 fits t (get s w) = said answerGet (planGetOf s t w) (search (answers, getting) depth 7)
 
 -- "Get is one step. It takes the job": a get alone hands a job out
-by-get : {i : Item} {j name : ℕ} → Fits i (Handed j name) → (q : Sizes) × (w : ℕ) × (i ≡ get q w)
+by-get : {i : Item} {h : HandOut} → Fits i (Handed h) → (q : Sizes) × (w : ℕ) × (i ≡ get q w)
 by-get (handed {s} {w}) = (s, w, refl)
 
-pub handed-by-get : (t : Tables) (i : Item) (j name : ℕ) → perform t i .answer ≡ Handed j name
+pub handed-by-get : (t : Tables) (i : Item) (h : HandOut) → perform t i .answer ≡ Handed h
     → (q : Sizes) × (w : ℕ) × (i ≡ get q w)
-handed-by-get t i j name e = by-get (subst (Fits i) e (fits t i))
+handed-by-get t i h e = by-get (subst (Fits i) e (fits t i))

@@ -53,7 +53,7 @@ Inside s m (NotifyQueue j c x q) = (ltb j (s .jobs) ≡ true) × (ltb q (s .jobs
 abbrev pub InsideGet : Sizes → GetPlan → Type 0
 InsideGet s (RefuseGet n) = quitsBy n ≡ false
 InsideGet s Wait = Unit {0}
-InsideGet s (Take j name q) = (ltb j (s .jobs) ≡ true) × (ltb q (s .jobs) ≡ true)
+InsideGet s (Take h q) = (ltb (h .job) (s .jobs) ≡ true) × (ltb q (s .jobs) ≡ true)
 
 -- two plans are one, which keeps to P
 abbrev pub Alike : {A : Type 0} (P : A → Type 0) → A → A → Type 0
@@ -241,7 +241,7 @@ module _ (s : Sizes) (v : View) (w : ℕ) (known : ltb w (s .workers) ≡ true) 
 
   -- a get
   take-alike : leb (v .made) (s .jobs) ≡ true → ltb (v .taken) (s .jobs) ≡ true → (j : ℕ)
-      → Reads s v (InsideGet s) (λ u. planTake s u j)
+      → Reads s v (InsideGet s) (λ u. planTake u j)
   unfolding planTake
   take-alike a b j = test (ltb j (v .made))
       (λ e. let h = within j (v .made) (s .jobs) a e in

@@ -40,7 +40,7 @@ ends Posted = false
 ends Going = false
 ends Ended = true
 ends NoneReady = false
-ends (Handed j name) = false
+ends (Handed h) = false
 ends (Refused n p) = quitsBy n
 
 -- a worker's 42 words
@@ -61,7 +61,7 @@ Changed t w u Posted = Unit {0}
 Changed t w u Going = Unit {0}
 Changed t w u Ended = Unit {0}
 Changed t w u NoneReady = u ≡ t
-Changed t w u (Handed j name) = Unit {0}
+Changed t w u (Handed h) = Unit {0}
 Changed t w u (Refused n p) = u ≡ pick (quitsBy n) (idled t w) t
 
 abbrev Back : Tables → ℕ → Tables → Type 0
@@ -109,7 +109,7 @@ get-left : (s : Sizes) (t : Tables) (w : ℕ) (p : GetPlan) → InsideGet s p
 unfolding appliedGet
 get-left s t w (RefuseGet n) i = (rw i, rw i tt)
 get-left s t w Wait i = (refl, tt)
-get-left s t w (Take j name q) i = (tt, tt)
+get-left s t w (Take h q) i = (tt, tt)
 
 post-left : (t : Tables) (w : ℕ) (x : List ℕ) (n : ℕ) → quitsBy n ≡ false → Left t w (posted n t w x)
 unfolding posted
@@ -122,10 +122,11 @@ left-behind t (postAdd s w a) =
     let x = addingWorker (view t .worker HELD w) a in
     admit (λ n. Left t w (posted n t w x)) s t w refusal (judgedAdd s (view t) w a) (λ n. post-left t w x (suc n))
     (λ _ k o. post-left t w x (judgedAdd s (view t) w a) (add-alike s (view t) w k o a .1))
-left-behind t (postFinish s w name) =
+left-behind t (postFinish s w f) =
     let x = bareWorker MARKING (view t .worker HELD w) in
-    admit (λ n. Left t w (posted n t w x)) s t w refusal (judgedFinish s (view t) w name) (λ n. post-left t w x (suc n))
-    (λ _ k o. post-left t w x (judgedFinish s (view t) w name) (finish-alike s (view t) w k o name .1))
+    admit (λ n. Left t w (posted n t w x)) s t w refusal (judgedFinish s (view t) w (f .name))
+    (λ n. post-left t w x (suc n))
+    (λ _ k o. post-left t w x (judgedFinish s (view t) w (f .name)) (finish-alike s (view t) w k o (f .name) .1))
 left-behind t (step s w) =
     admit (λ p. Left t w (outcome (answerOf p) (applied p t w))) s t w Refuse (planPhase s (view t) w)
     (λ n e. (rw e, rw e tt))

@@ -220,6 +220,6 @@ module _ (s : Sizes) (t r : Tables) (h : Long s t) where
     unfolding appliedGet
     get-carried (RefuseGet n) i = unchanged
     get-carried Wait i = unchanged
-    get-carried (Take j name q) i =
-        carried (field start j LABEL 1 refl (i .0)) start start (cell q none TAKEN (q + 1) (i .1) refl)
-        (mine start HELD j refl)
+    get-carried (Take h q) i =
+        carried (field start (h .job) LABEL 1 refl (i .0)) start start (cell q none TAKEN (q + 1) (i .1) refl)
+        (mine start HELD (h .job) refl)

@@ -118,9 +118,9 @@ unfolding perform addWords finishWords
 frame t r (postAdd s w a) e =
     post-framed s t r e w (λ v. judgedAdd s v w a) (λ held. addingWorker held a) (λ held. length-adding held a)
     (λ v k o. add-alike s v w k o a .0)
-frame t r (postFinish s w name) e =
-    post-framed s t r e w (λ v. judgedFinish s v w name) (bareWorker MARKING) (λ held. refl)
-    (λ v k o. finish-alike s v w k o name .0)
+frame t r (postFinish s w f) e =
+    post-framed s t r e w (λ v. judgedFinish s v w (f .name)) (bareWorker MARKING) (λ held. refl)
+    (λ v k o. finish-alike s v w k o (f .name) .0)
 frame t r (step s w) e = step-framed s t r e w
 frame t r (get s w) e = get-framed s t r e w
 
@@ -129,7 +129,7 @@ pub turned-away : (t : Tables) (i : Item) → sizesFit (sizesOf i) t ≡ false
     → perform t i ≡ outcome (Refused wrongSizes 0) t
 unfolding perform addWords finishWords stepWords getWords admitted posted applied appliedGet
 turned-away t (postAdd s w a) e = rw e
-turned-away t (postFinish s w name) e = rw e
+turned-away t (postFinish s w f) e = rw e
 turned-away t (step s w) e = rw e
 turned-away t (get s w) e = rw e
 

@@ -9,6 +9,7 @@
 --   demand 3                  linearizability: specs/Demand.antt           (of any machine; wrong ones in Wrong*.antt)
 --   how calls end             linearizability: specs/Ends.antt
 --   the board                 graph_board: specs/Board.antt, specs/Accounted.antt
+--   held and drained          worker_state: specs/Held.antt, specs/Drained.antt; state_history: specs/Told.antt
 --   words needed, and rest    locality: specs/Parts.antt, specs/Refusals.antt, specs/Numbers.antt
 -- An item is a post, a step or a get, by any worker, with any sizes and arguments, right or wrong; `events` are the
 -- items with their answers, and `after` is the state that they leave. "Laid out" means: `layOut s t` answered so,
@@ -22,12 +23,13 @@ use Prim.Native.Nat.{ℕ, _+_, _^_, _≤_, _<_}
 use lib.ListN.{length, getD}
 use lib.Seq.{sets}
 use Rattle.bucket.specs.Bucket.{bucketOf}
-use Rattle.terms.specs.Base.{pick, occurrences}
-use Rattle.terms.specs.Terms.{Arguments, withinLimits, sameSizes, wrongSizes, damaged, mostNames}
-use Rattle.terms.specs.Terms.{mostWorkers}
+use Rattle.terms.specs.Base.{pick, contains, occurrences}
+use Rattle.terms.specs.Terms.{Arguments, withinLimits, sameSizes, wrongSizes, noSuchWorker, damaged}
+use Rattle.terms.specs.Terms.{mostNames, mostWorkers, Finish}
 use Rattle.terms.specs.Runs.{Item, step, get, sizesOf, workerOf, outcome, after, events}
-use Rattle.terms.specs.Seen.{Same, idle}
+use Rattle.terms.specs.Seen.{Same, idle, handOut}
 use Rattle.terms.specs.declared.Sizes.{Sizes}
+use Rattle.terms.specs.declared.HandOut.{HandOut}
 use Rattle.terms.specs.declared.Answer.the-variants.{Laid, Ended, NoneReady, Handed, Refused}
 use Rattle.words.specs.Layout.{Tables, view, workerShape, NAME, LABEL, HELD, LIST-COUNT, NAMES, IDLE, bareWorker}
 use Rattle.words.specs.Layout.{roomFor}
@@ -65,6 +67,11 @@ use Rattle.day_history.specs.Theorem as ends-of-day
 use Rattle.graph_board.specs.Board.{graphTotals}
 use Rattle.graph_board.specs.Accounted.{Accounted}
 use Rattle.board_history.specs.Minutes.{accounted}
+use Rattle.worker_state.specs.Held.{heldWords}
+use Rattle.worker_state.specs.Drained.{drainedWords}
+use Rattle.state_history.specs.Told.{callRead, holdingSeen}
+use Rattle.state_history.specs.Numbers as state-numbers
+use Rattle.state_history.specs.Theorem as state
 use Rattle.starred_cases.specs.StarredCases.{Starred, every-row}
 
 -- ---- of every list of items from tables that were laid out, whatever they held before
@@ -91,8 +98,8 @@ module _ (s : Sizes) (t : Tables) (laid : layOut s t .answer ≡ Laid) (items : 
 
   -- When it is handed out, which only a get does, every prerequisite is marked finished, and a finish of it was
   -- accepted.
-  pub none-is-handed-out-early : (q : Sizes) (w j name : ℕ) → perform at-end (get q w) .answer ≡ Handed j name
-      → HandedRightly (seen at-end) (read .calls) j name
+  pub none-is-handed-out-early : (q : Sizes) (w : ℕ) (h : HandOut) → perform at-end (get q w) .answer ≡ Handed h
+      → HandedRightly (seen at-end) (read .calls) h
   none-is-handed-out-early = lifted.rightly-handed s t laid items
 
   -- At most one finish of each name is accepted.
@@ -103,7 +110,7 @@ module _ (s : Sizes) (t : Tables) (laid : layOut s t .answer ≡ Laid) (items : 
   pub a-waiting-job-is-handed-out : (w j : ℕ) (rest : List ℕ) → w < s .workers → seen at-end .call w ≡ idle
       → seen at-end .held w ≡ none
       → seen at-end .waiting ≡ j ∷ rest
-      → perform at-end (get s w) .answer ≡ Handed j (seen at-end .job j .name)
+      → perform at-end (get s w) .answer ≡ Handed (handOut (seen at-end) j)
   a-waiting-job-is-handed-out = lifted.hands-out s t laid items
 
   -- and with no call half done, no hold and nothing waiting, every job that entered is finished.
@@ -139,8 +146,8 @@ module _ (s : Sizes) (t : Tables) (laid : layOut s t .answer ≡ Laid) (items : 
   an-add-takes-2d+2-steps = lifted.add-ends s t laid items
 
   -- and a finish 1 step more than its job has arcs, counted along the words' own list.
-  pub a-finish-takes-1-step-more-than-arcs : (w name k : ℕ) → read .pending w ≡ finishing name k
-      → FinishOf (seen at-end) name k (perform at-end (step s w) .answer)
+  pub a-finish-takes-1-step-more-than-arcs : (w : ℕ) (f : Finish) (k : ℕ) → read .pending w ≡ finishing f k
+      → FinishOf (seen at-end) (f .name) k (perform at-end (step s w) .answer)
   a-finish-takes-1-step-more-than-arcs = lifted.finish-ends s t laid items
 
   -- No job has more arcs than were reserved, and no more than A are: its list ends, and so does its finish.
@@ -195,6 +202,26 @@ module _ (s : Sizes) (t : Tables) (laid : layOut s t .answer ≡ Laid) (items : 
       → Accounted graphTotals table s (at-end .jobs) (acceptedAdds (read .calls))
   the-board-accounts-for-every-job table = accounted table s t laid items
 
+  -- ---- a worker that restarts is told what is seen of its hold, the job and its name or none, and of its call what is
+  -- read off items and answers: none where none is half done, an add where one is, a finish where one is.
+  pub a-worker-is-told-what-it-holds : (w : ℕ) → w < s .workers
+      → heldWords s at-end w ≡ holdingSeen (seen at-end) (seen at-end .held w) (callRead (read .pending w))
+  a-worker-is-told-what-it-holds = state.held s t laid items
+
+  -- ---- a host that wants to stop is never refused,
+  pub drained-is-never-refused : drainedWords s at-end .number ≡ 0
+  drained-is-never-refused = state.never-refused s t laid items
+
+  -- is told that the graph is drained exactly if no call is half done, no worker holds a job and nothing waits,
+  pub drained-exactly : (drainedWords s at-end .drained ≡ 1)
+      ↔ (Quiet read × ((w : ℕ) → w < s .workers → seen at-end .held w ≡ none) × (seen at-end .waiting ≡ []))
+  drained-exactly = state.drained-exactly s t laid items
+
+  -- and then every job that entered is finished.
+  pub what-is-told-drained-is-finished : drainedWords s at-end .drained ≡ 1 → (j : ℕ)
+      → j < length (acceptedAdds (read .calls)) → JobFinished (seen at-end) (read .calls) j
+  what-is-told-drained-is-finished = state.drained-finished s t laid items
+
 -- ---- of ALL tables, damaged ones too, and every item
 module _ (t : Tables) (i : Item) where
   -- DEMAND 1: "either served or turned away by a number from the paper's list", by kind of item. (Which, and when, is
@@ -203,7 +230,7 @@ module _ (t : Tables) (i : Item) where
   every-answer-is-on-the-list = list.fits t i
 
   -- Only a get answers that it hands a job out.
-  pub only-a-get-hands-out : (j name : ℕ) → perform t i .answer ≡ Handed j name → (q : Sizes) × (w : ℕ) × (i ≡ get q w)
+  pub only-a-get-hands-out : (h : HandOut) → perform t i .answer ≡ Handed h → (q : Sizes) × (w : ℕ) × (i ≡ get q w)
   only-a-get-hands-out = list.handed-by-get t i
 
   -- A refusal changes nothing, but for 6, 7 and 8: "worker idle, nothing else changed".
@@ -241,6 +268,15 @@ pub a-list-keeps-to-the-need : (t : Tables) (items : List Item)
     × (after perform t items ≡ joined (after perform (needed (laidOut t) t) items) (rest (laidOut t) t))
     × (rest (laidOut t) (after perform t items) ≡ rest (laidOut t) t)
 a-list-keeps-to-the-need = within.list-within
+
+-- What a worker holds is answered, or turned away by 1, 2 or 9; whether the graph is drained, by 1 or 9.
+module _ (s : Sizes) (t : Tables) where
+  pub held-is-refused-by-1-2-or-9 : (w : ℕ)
+      → contains (heldWords s t w .number) (0 ∷ wrongSizes ∷ noSuchWorker ∷ damaged ∷ []) ≡ true
+  held-is-refused-by-1-2-or-9 = state-numbers.held-number s t
+
+  pub drained-is-refused-by-1-or-9 : contains (drainedWords s t .number) (0 ∷ wrongSizes ∷ damaged ∷ []) ≡ true
+  drained-is-refused-by-1-or-9 = state-numbers.drained-number s t
 
 -- Laying out succeeds exactly if the sizes lie in their limits and each table is long enough; then the words needed are
 -- a fresh graph, whatever they were, and the rest is as it was. Else it is refused by 1, and nothing is changed.

@@ -10,7 +10,7 @@ use lib.ListN.{length, getD, set, length-set}
 use Rattle.terms.specs.declared.Sizes.{Sizes}
 use Rattle.words.specs.Columns.{put, stores}
 use Rattle.words.specs.Layout.{jobShape, NAME, NEXT, sizesKept, View}
-use Rattle.rules.specs.Rules.{Job, Worker, Graph, noJob, job}
+use Rattle.rules.specs.Rules.{Job, Worker, Graph, noJob, job, withJobs, withQueue, withWorkers}
 use Rattle.rules.specs.Sound.{started, startedBy}
 use Rattle.representation.specs.Rep.{Ghost, Row, TablesRep}
 use Rattle.representation_kept.specs.Lists.{set-all}
@@ -57,7 +57,7 @@ module _ (s : Sizes) (v : View) (g : Graph) (G : Ghost) (R : TablesRep s v g G) 
       → ((i : ℕ) → i < length q → c 0 (taken + i) ≡ getD q i 0)
       → TablesRep s
       (viewOf (v .made) (v .reserved) taken put f (v .arc) (v .bucket) c r)
-      (record { jobs = set (g .jobs) j y; reserved = g .reserved; queue = q; workers = h })
+      (withJobs (withQueue (withWorkers g h) q) (set (g .jobs) j y))
       G
   change-rep here there a b d = record {
     made = R .made ∙ sym count;

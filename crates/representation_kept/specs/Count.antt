@@ -14,7 +14,8 @@ use Rattle.words.specs.Columns.{stores}
 use Rattle.words.specs.Layout.{jobShape, COUNT, queueShape, workerShape, tables, view, Tables, View}
 use Rattle.words.specs.Words.{applied, putCount, putCell}
 use Rattle.words.specs.declared.Plan.the-variants.{Settle, SettleQueue, Notify, NotifyQueue}
-use Rattle.rules.specs.Rules.{Call, Worker, Graph, job, withCount, settles, settled, notified}
+use Rattle.rules.specs.Rules.{Call, Worker, Graph, job, withCount, settles, settled, notified, withJobs, withQueue}
+use Rattle.rules.specs.Rules.{withWorkers}
 use Rattle.rules.specs.Sound.{Sound, MayQueue, started}
 use Rattle.representation.specs.Rep.{Ghost, Row, TablesRep, Stands}
 use Rattle.representation_kept.specs.Stand.{TablesStand, viewOf}
@@ -23,12 +24,7 @@ use Rattle.representation_kept.specs.Queue.{cells-put}
 
 -- the graph with job j's count c, and the queue q
 abbrev counted : Graph → ℕ → ℕ → List ℕ → (ℕ → Worker) → Graph
-counted g j c q h = record {
-  jobs = set (g .jobs) j (withCount (job g j) c);
-  reserved = g .reserved;
-  queue = q;
-  workers = h;
-}
+counted g j c q h = withJobs (withQueue (withWorkers g h) q) (set (g .jobs) j (withCount (job g j) c))
 
 -- ---- over the maps
 module _ (s : Sizes) (v : View) (g : Graph) (G : Ghost) (R : TablesRep s v g G) (j : ℕ) (hj : j < length (g .jobs))

@@ -188,7 +188,7 @@ module _ (s : Sizes) (v : View) (g : Graph) (G : Ghost) (R : TablesRep s v g G) 
   }
 
 -- ---- over the words
-kept-record : (s : Sizes) (l : List ℕ) (i x : ℕ) (r : List ℕ) → length r ≤ 8
+kept-record : (s : Sizes) (l : List ℕ) (i x : ℕ) (r : List ℕ) → length r ≤ jobShape .width
     → sizesKept s (putHeader (sets l (place jobShape i 0) r) MADE x) ≡ sizesKept s l
 unfolding sizesKept
 kept-record s l i x r h =
@@ -213,7 +213,7 @@ module _ (s : Sizes) (t : Tables) (g : Graph) (G : Ghost) (S : Stands s t g G) (
   abbrev jobs : List ℕ
   jobs = sets (t .jobs) (place jobShape N 0) row
 
-  word : (q : ℕ) → q < 8 → columns jobShape jobs q N ≡ getD row q 0
+  word : (q : ℕ) → q < jobShape .width → columns jobShape jobs q N ≡ getD row q 0
   word q h = record-at jobShape (s .jobs) (t .jobs) N row (omega arith) (S .jobs) room q h
 
   new-row : NewRow (columns jobShape jobs) N head a

@@ -92,7 +92,7 @@ module _ (s : Sizes) (t : Tables) (L : Long s t) where
   size q h = laid-header jobShape (s .jobs) (t .jobs)
       (s .jobs ∷ s .arcs ∷ s .bits ∷ s .workers ∷ 0 ∷ []) freshJob refl refl (L .jobs) q h
 
-  job-word : (j q : ℕ) → j < s .jobs → q < 8 → columns jobShape J q j ≡ getD freshJob q 0
+  job-word : (j q : ℕ) → j < s .jobs → q < jobShape .width → columns jobShape J q j ≡ getD freshJob q 0
   job-word j q = laid-at jobShape (s .jobs) (t .jobs)
       (s .jobs ∷ s .arcs ∷ s .bits ∷ s .workers ∷ 0 ∷ []) freshJob refl refl (L .jobs) j q
 
@@ -108,7 +108,7 @@ module _ (s : Sizes) (t : Tables) (L : Long s t) where
   counter q h = rw (repeated-one (s .jobs) words.none)
       (laid-header queueShape (s .jobs) (t .queue) (0 ∷ 0 ∷ []) (words.none ∷ []) refl refl (L .queue) q h)
 
-  worker-word : (w q : ℕ) → w < s .workers → q < 42 → columns workerShape W q w ≡ getD (bareWorker IDLE words.none) q 0
+  worker-word : (w q : ℕ) → w < s .workers → q < workerShape .width → columns workerShape W q w ≡ getD (bareWorker IDLE words.none) q 0
   worker-word w q = laid-at workerShape (s .workers) (t .workers) [] (bareWorker IDLE words.none) refl refl
       (L .workers) w q
 

@@ -8,12 +8,13 @@ use native.Mathlib.Omega.{arith}
 use lib.ListN.{length, set}
 use Rattle.terms.specs.Terms.{Label, executing, finished, labelNumber}
 use Rattle.terms.specs.declared.Sizes.{Sizes}
+use Rattle.terms.specs.declared.HandOut.{HandOut}
 use Rattle.words.specs.Columns.{update-same, update-other, columns-put, put, store, header-putHeader, rows-put, stores}
 use Rattle.words.specs.Layout.{none, jobShape, LABEL, queueShape, view, Tables, View}
 use Rattle.words.specs.Words.{applied, appliedGet}
 use Rattle.words.specs.declared.Plan.the-variants.{Mark}
 use Rattle.words.specs.declared.GetPlan.the-variants.{Take}
-use Rattle.rules.specs.Rules.{Call, Worker, Graph, job, withLabel, marked, handedOut}
+use Rattle.rules.specs.Rules.{Call, Worker, Graph, job, withLabel, marked, handedOut, withJobs, withQueue, withWorkers}
 use Rattle.rules.specs.Sound.{Sound, started, startedBy}
 use Rattle.representation.specs.Rep.{Ghost, Row, TablesRep, Stands}
 use Rattle.representation_kept.specs.Stand.{TablesStand, viewOf}
@@ -22,12 +23,7 @@ use Rattle.representation_kept.specs.Queue.{cells-take, next-job}
 
 -- the graph with job j's label l, and the queue q
 abbrev labelled : Graph → ℕ → Label → List ℕ → (ℕ → Worker) → Graph
-labelled g j l q h = record {
-  jobs = set (g .jobs) j (withLabel (job g j) l);
-  reserved = g .reserved;
-  queue = q;
-  workers = h;
-}
+labelled g j l q h = withJobs (withQueue (withWorkers g h) q) (set (g .jobs) j (withLabel (job g j) l))
 
 -- ---- over the maps
 module _ (s : Sizes) (v : View) (g : Graph) (G : Ghost) (R : TablesRep s v g G) (j : ℕ) (hj : j < length (g .jobs))
@@ -105,10 +101,11 @@ module _ (s : Sizes) (t : Tables) (g : Graph) (G : Ghost) (S : Stands s t g G) (
             (label-rep s (view t) g G R p hp finished _ _ (ap startedBy e));
       }
 
-  pub get-stands : (w j name : ℕ) (q : List ℕ) → g .queue ≡ j ∷ q
-      → TablesStand s (appliedGet (Take j name (started (g .jobs))) t w) (handedOut g w j q) G
+  pub get-stands : (w : ℕ) (h : HandOut) (q : List ℕ) → g .queue ≡ h .job ∷ q
+      → TablesStand s (appliedGet (Take h (started (g .jobs))) t w) (handedOut g w (h .job) q) G
   unfolding appliedGet
-  get-stands w j name q e =
+  get-stands w h q e =
+      let j : ℕ = h .job in
       let n = next-job s t g G S O j q e in
       let b : j < s .jobs = omega (arith, O .jobs, n .0) in
       let d : started (g .jobs) < s .jobs = omega (arith, O .jobs, O .queue-room, ap length e) in

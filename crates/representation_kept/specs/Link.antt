@@ -12,7 +12,7 @@ use Rattle.terms.specs.Base.{update}
 use Rattle.terms.specs.declared.Sizes.{Sizes}
 use Rattle.words.specs.Columns.{update-same, update-at, update-other, store}
 use Rattle.words.specs.Layout.{none, NAME, LABEL, COUNT, CLASS, GROWER, FIRST, LAST, NEXT, DEPENDENT, AFTER, View}
-use Rattle.rules.specs.Rules.{Job, Worker, Graph, noJob, job, withDependent}
+use Rattle.rules.specs.Rules.{Job, Worker, Graph, noJob, job, withDependent, withJobs, withWorkers}
 use Rattle.representation.specs.Rep.{Ghost, linkGhost, Row, Linked, TablesRep}
 use Rattle.representation_kept.specs.Lists.{set-all}
 use Rattle.representation_kept.specs.Stand.{viewOf}
@@ -21,12 +21,7 @@ use Rattle.representation_kept.specs.Keep.{spent-more}
 
 -- the graph in which p has the dependent j
 abbrev pub linkedTo : Graph → ℕ → ℕ → (ℕ → Worker) → Graph
-linkedTo g p j h = record {
-  jobs = set (g .jobs) p (withDependent (job g p) j);
-  reserved = g .reserved;
-  queue = g .queue;
-  workers = h;
-}
+linkedTo g p j h = withJobs (withWorkers g h) (set (g .jobs) p (withDependent (job g p) j))
 
 -- x is the next of the arcs that the job j has reserved
 module _ (s : Sizes) (v : View) (g : Graph) (G : Ghost) (R : TablesRep s v g G) (j p x : ℕ) (hj : j < length (g .jobs))

@@ -8,7 +8,7 @@ use native.Mathlib.Omega.{arith}
 use native.Mathlib.Decide.{ℕ-discrete, decLt}
 use native.Mathlib.Nat.{add-zero, mul-suc}
 use lib.ListN.{length, getD, set, replicate, length-set, length-append, List·getD-append, List·getD-eq-default}
-use lib.ListN.{getD-replicate}
+use lib.ListN.{getD-replicate, take}
 use lib.Seq.{getD-set-same, getD-set-other, getD-append-seam, sets}
 use Rattle.terms.specs.Base.{prefix}
 use Rattle.terms.specs.Terms.{mostNames}
@@ -100,7 +100,7 @@ repeated-one (suc n) x = ap {B = List ℕ} (λ l. x ∷ l) (repeated-one n x)
 -- ---- the names of a call that has no arguments are 0
 pub bare-name : (phase held q : ℕ) → q < mostNames → getD (bareWorker phase held) (NAMES + q) 0 ≡ 0
 bare-name phase held q h =
-    getD-past (phase ∷ held ∷ 0 ∷ 0 ∷ 0 ∷ 0 ∷ 0 ∷ 0 ∷ none ∷ none ∷ []) (replicate mostNames 0) q
+    getD-past (take NAMES (bareWorker phase held)) (replicate mostNames 0) q
     ∙ getD-replicate mostNames q 0 0 h
 
 -- ---- the first n of a list are n

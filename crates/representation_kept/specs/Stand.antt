@@ -12,7 +12,7 @@ use Rattle.terms.specs.declared.Sizes.{Sizes}
 use Rattle.words.specs.Columns.{Rows}
 use Rattle.words.specs.Layout.{jobShape, arcShape, bucketShape, queueShape, workerShape, tables, view, sizesKept}
 use Rattle.words.specs.Layout.{Tables, View}
-use Rattle.rules.specs.Rules.{Worker, Graph}
+use Rattle.rules.specs.Rules.{Worker, Graph, withWorkers}
 use Rattle.representation.specs.Rep.{Ghost, TablesRep, WorkerRep, Stands}
 
 pub record TablesStand (s : Sizes) (t : Tables) (g : Graph) (G : Ghost) : Type 0 where
@@ -45,9 +45,6 @@ stands-whole s t g G e T r c =
     }
 
 -- ---- the frame
-abbrev pub withWorkers : Graph → (ℕ → Worker) → Graph
-withWorkers g h = record { jobs = g .jobs; reserved = g .reserved; queue = g .queue; workers = h }
-
 -- a view by its parts: made, reserved, taken, put; jobs, arcs, buckets, cells, workers
 abbrev pub viewOf : ℕ → ℕ → ℕ → ℕ → (ℕ → ℕ → ℕ) → (ℕ → ℕ → ℕ) → (ℕ → ℕ → ℕ) → (ℕ → ℕ → ℕ) → (ℕ → ℕ → ℕ) → View
 viewOf m r x y j a b c w =

@@ -9,9 +9,11 @@ use lib.ListN.{length, getD, set}
 use Rattle.terms.specs.Base.{pick, update}
 use Rattle.terms.specs.Terms.{Label, unexecuted, executing, finished, Arguments, listed, argumentsWrong, sameSizes}
 use Rattle.terms.specs.Terms.{wrongSizes, noSuchWorker, halfDone, nothingToStep, wrongArguments, unknownName}
-use Rattle.terms.specs.Terms.{namePresent, noRoom, damaged, alreadyHolding, notHeld}
+use Rattle.terms.specs.Terms.{namePresent, noRoom, damaged, alreadyHolding, notHeld, Finish}
+use Rattle.terms.specs.Order.{Order, inQueue, firstBy, without}
 use Rattle.terms.specs.Runs.{Item, postAdd, postFinish, step, get, Outcome, outcome}
 use Rattle.terms.specs.declared.Sizes.{Sizes}
+use Rattle.terms.specs.declared.HandOut.{HandOut}
 use Rattle.terms.specs.declared.Answer.{Answer}
 use Rattle.terms.specs.declared.Answer.the-variants.{Posted, Going, Ended, NoneReady, Handed, Refused}
 
@@ -70,6 +72,19 @@ abbrev pub find : Graph → ℕ → Found
 find g name = seek name (g .jobs) 0
 
 -- ---- changes
+-- a graph with one part changed
+abbrev pub withJobs : Graph → List Job → Graph
+withJobs g l = record { jobs = l; reserved = g .reserved; queue = g .queue; workers = g .workers }
+
+abbrev pub withReserved : Graph → ℕ → Graph
+withReserved g n = record { jobs = g .jobs; reserved = n; queue = g .queue; workers = g .workers }
+
+abbrev pub withQueue : Graph → List ℕ → Graph
+withQueue g q = record { jobs = g .jobs; reserved = g .reserved; queue = q; workers = g .workers }
+
+abbrev pub withWorkers : Graph → (ℕ → Worker) → Graph
+withWorkers g f = record { jobs = g .jobs; reserved = g .reserved; queue = g .queue; workers = f }
+
 abbrev pub withLabel : Job → Label → Job
 withLabel x l =
     record {
@@ -123,7 +138,7 @@ abbrev pub turn : Graph → ℕ → Call → ℕ → Worker
 turn g w c = update (g .workers) w (record { held = g .workers w .held; call = c })
 
 abbrev pub withCall : Graph → ℕ → Call → Graph
-withCall g w c = record { jobs = g .jobs; reserved = g .reserved; queue = g .queue; workers = turn g w c }
+withCall g w c = withWorkers g (turn g w c)
 
 -- a job enters the queue, at its end, if the test holds
 abbrev pub enqueue : Bool → List ℕ → ℕ → List ℕ
@@ -139,12 +154,8 @@ lookUp g w a i missing = outcome (Refused unknownName i) (withCall g w idle)
 -- entering: "makes the job with remaining count d, and reserves the next d arcs"
 abbrev pub entered : Graph → ℕ → Arguments → Graph
 entered g w a =
-    record {
-      jobs = g .jobs ++ (newJob a ∷ []);
-      reserved = g .reserved + a .count;
-      queue = g .queue;
-      workers = turn g w (linking a (length (g .jobs)) 0 0);
-    }
+    withJobs (withReserved (withCall g w (linking a (length (g .jobs)) 0 0)) (g .reserved + a .count))
+    (g .jobs ++ (newJob a ∷ []))
 
 unfoldable pub enter : Sizes → Graph → ℕ → Arguments → Found → Outcome Graph
 enter s g w a (at j) = outcome (Refused namePresent 0) (withCall g w idle)
@@ -156,12 +167,7 @@ enter s g w a missing =
 -- one link: "a finished prerequisite adds 1 to the worker's tally, any other gets the arc appended to its list"
 abbrev pub linked : Graph → ℕ → Arguments → ℕ → ℕ → ℕ → ℕ → Graph
 linked g w a j i t p =
-    record {
-      jobs = set (g .jobs) p (withDependent (job g p) j);
-      reserved = g .reserved;
-      queue = g .queue;
-      workers = turn g w (linking a j (suc i) t);
-    }
+    withJobs (withCall g w (linking a j (suc i) t)) (set (g .jobs) p (withDependent (job g p) j))
 
 unfoldable pub linkTo : Graph → ℕ → Arguments → ℕ → ℕ → ℕ → ℕ → Label → Outcome Graph
 linkTo g w a j i t p finished = outcome Going (withCall g w (linking a j (suc i) (suc t)))
@@ -179,23 +185,15 @@ settles count t d = eqb count 0 && (ltb 0 t || eqb d 0)
 
 abbrev pub settled : Graph → ℕ → ℕ → ℕ → ℕ → Graph
 settled g w j t d =
-    record {
-      jobs = set (g .jobs) j (withCount (job g j) (job g j .count - t));
-      reserved = g .reserved;
-      queue = enqueue (settles (job g j .count - t) t d) (g .queue) j;
-      workers = turn g w idle;
-    }
+    withJobs (withQueue (withCall g w idle) (enqueue (settles (job g j .count - t) t d) (g .queue) j))
+    (set (g .jobs) j (withCount (job g j) (job g j .count - t)))
 
 -- ---- the steps of a finish
 -- the mark: "labels the job finished and frees the worker's hold"; with no dependents the call ends
 abbrev pub marked : Graph → ℕ → ℕ → Call → Graph
 marked g w p c =
-    record {
-      jobs = set (g .jobs) p (withLabel (job g p) finished);
-      reserved = g .reserved;
-      queue = g .queue;
-      workers = update (g .workers) w (record { held = none; call = c });
-    }
+    withJobs (withWorkers g (update (g .workers) w (record { held = none; call = c })))
+    (set (g .jobs) p (withLabel (job g p) finished))
 
 unfoldable pub markDependents : Graph → ℕ → ℕ → List ℕ → Outcome Graph
 markDependents g w p [] = outcome Ended (marked g w p idle)
@@ -208,12 +206,8 @@ mark g w none = outcome (Refused damaged 0) g
 -- one arc: "lowers that dependent's count by 1; a count that reaches 0 puts that job in the queue"
 abbrev pub notified : Graph → ℕ → ℕ → Call → Graph
 notified g w j c =
-    record {
-      jobs = set (g .jobs) j (withCount (job g j) (job g j .count - 1));
-      reserved = g .reserved;
-      queue = enqueue (eqb (job g j .count - 1) 0) (g .queue) j;
-      workers = turn g w c;
-    }
+    withJobs (withQueue (withCall g w c) (enqueue (eqb (job g j .count - 1) 0) (g .queue) j))
+    (set (g .jobs) j (withCount (job g j) (job g j .count - 1)))
 
 unfoldable pub notify : Graph → ℕ → ℕ → ℕ → Outcome Graph
 notify g w p k =
@@ -244,27 +238,34 @@ unfoldable pub addPosted : Graph → ℕ → Arguments → Outcome Graph
 addPosted g w a =
     pick (argumentsWrong a) (outcome (Refused wrongArguments 0) g) (outcome Posted (withCall g w (looking a 0)))
 
-unfoldable pub finishPosted : Graph → ℕ → ℕ → Option ℕ → Outcome Graph
-finishPosted g w name none = outcome (Refused notHeld 0) g
-finishPosted g w name (some p) =
-    pick (eqb (job g p .name) name) (outcome Posted (withCall g w marking)) (outcome (Refused notHeld 0) g)
+unfoldable pub finishPosted : Graph → ℕ → Finish → Option ℕ → Outcome Graph
+finishPosted g w f none = outcome (Refused notHeld 0) g
+finishPosted g w f (some p) =
+    pick (eqb (job g p .name) (f .name)) (outcome Posted (withCall g w marking)) (outcome (Refused notHeld 0) g)
 
 -- a get "takes the job longest in the queue, labels it executing and records it as held"
 abbrev pub handedOut : Graph → ℕ → ℕ → List ℕ → Graph
 handedOut g w j q =
-    record {
-      jobs = set (g .jobs) j (withLabel (job g j) executing);
-      reserved = g .reserved;
-      queue = q;
-      workers = update (g .workers) w (record { held = some j; call = idle });
-    }
+    withJobs (withQueue (withWorkers g (update (g .workers) w (record { held = some j; call = idle }))) q)
+    (set (g .jobs) j (withLabel (job g j) executing))
 
-unfoldable pub takeNext : Graph → ℕ → List ℕ → Outcome Graph
-takeNext g w [] = outcome NoneReady g
-takeNext g w (j ∷ q) = outcome (Handed j (job g j .name)) (handedOut g w j q)
+-- what it answers of that job
+abbrev pub handOut : Graph → ℕ → HandOut
+handOut g j = record { job = j; name = job g j .name }
+
+-- the order of hand-outs, and the job that is next by it
+abbrev pub order : Graph → Order
+order g = inQueue
+
+abbrev pub nextOut : Graph → Option ℕ
+nextOut g = firstBy (order g) (g .queue)
+
+unfoldable pub takeNext : Graph → ℕ → Option ℕ → Outcome Graph
+takeNext g w none = outcome NoneReady g
+takeNext g w (some j) = outcome (Handed (handOut g j)) (handedOut g w j (without j (g .queue)))
 
 unfoldable pub getJob : Graph → ℕ → Option ℕ → Outcome Graph
-getJob g w none = takeNext g w (g .queue)
+getJob g w none = takeNext g w (nextOut g)
 getJob g w (some j) = outcome (Refused alreadyHolding 0) g
 
 -- ---- an item: number 1 for other sizes than those laid out, then 2, then the call's own rules
@@ -276,7 +277,7 @@ admitted laid s g w r =
 
 unfoldable pub perform : Sizes → Graph → Item → Outcome Graph
 perform laid g (postAdd s w a) = admitted laid s g w (whenIdle g (g .workers w .call) (addPosted g w a))
-perform laid g (postFinish s w name) =
-    admitted laid s g w (whenIdle g (g .workers w .call) (finishPosted g w name (g .workers w .held)))
+perform laid g (postFinish s w f) =
+    admitted laid s g w (whenIdle g (g .workers w .call) (finishPosted g w f (g .workers w .held)))
 perform laid g (step s w) = admitted laid s g w (stepCall laid g w (g .workers w .call))
 perform laid g (get s w) = admitted laid s g w (whenIdle g (g .workers w .call) (getJob g w (g .workers w .held)))

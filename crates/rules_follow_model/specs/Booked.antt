@@ -3,38 +3,37 @@
 -- sound.
 use mathlib.Core.Path.{_≡_, refl, sym, ap, _∙_, fun-ext}
 use mathlib.Core.Bool.{Bool, true, false}
-use mathlib.Core.List.{List, [], _∷_, _++_, map}
+use mathlib.Core.List.{[], _∷_, _++_, map}
 use mathlib.Core.Option.{Option, none, some}
-use Prim.Native.Nat.{ℕ}
+use Prim.Native.Nat.{ℕ, _≤_}
 use native.Mathlib.Omega.{arith}
 use lib.Dec.{eqb}
 use native.Mathlib.Decide.{ℕ-discrete}
 use lib.ListN.{length, getD, set, length-map, List·getD-map}
 use Rattle.terms.specs.Base.{pick, update, prefix}
 use Rattle.terms.specs.Terms.{Label, Arguments, wrongArguments, unknownName, namePresent, noRoom, alreadyHolding}
-use Rattle.terms.specs.Terms.{notHeld, finished, executing}
+use Rattle.terms.specs.Terms.{notHeld, finished, executing, finishOf}
+use Rattle.terms.specs.Order.{without}
+use Rattle.terms.specs.OrderLaws.{first-occurs}
+use Rattle.terms.specs.Runs.{Item}
 use Rattle.terms.specs.declared.Sizes.{Sizes}
 use Rattle.terms.specs.declared.Answer.{Answer}
-use Rattle.rules.specs.Rules.{Call, idle, looking, linking, notifying, Worker, Graph, empty, job, perform, withLabel}
-use Rattle.rules.specs.Rules.{newJob, turn, withCall, entered, marked, handedOut}
+use Rattle.rules.specs.Rules.{Call, idle, looking, linking, notifying, Worker, Graph, empty, job, withLabel}
+use Rattle.rules.specs.Rules.{newJob, turn, withCall, entered, marked, handedOut, nextOut, handOut, order}
 use Rattle.rules.specs.Sound.{Looking, Sound}
+use Rattle.rules_cases.specs.Deed as by
+use Rattle.rules_cases.specs.Deed.{Deed}
+use Rattle.rules_cases.specs.Deeds.{deed}
 use Rattle.sequential_model.specs.Book.{noEntry, Book, blank, labelled, finishedBy, next, Ends, Follows, done}
 use Rattle.sequential_model.specs.Book.{listedNames}
 use Rattle.sequential_model.specs.Book.{addEnd, add, get, finish, accepted, noneReady, handed, refused, holding, taken}
 use Rattle.sequential_model.specs.Book as book
-use Rattle.linearization.specs.Calls.{Reading, unread, becomes, decided, note, acceptedAdds}
+use Rattle.linearization.specs.Calls.{Reading, unread, becomes, decided, acceptedAdds}
 use Rattle.linearization.specs.Calls as reading
 use Rattle.rules_history.specs.History.{History, start, then, entryOf, entriesOf, noArguments, Booked}
-use Rattle.rules_follow_model.specs.Base.{update-at, update-other, head-occurs}
-use Rattle.rules_follow_model.specs.Change.{Change, nothing, addWrong, addPosted, finishWrong, finishPosted}
-use Rattle.rules_follow_model.specs.Change.{lookedUp}
-use Rattle.rules_follow_model.specs.Change.{nameUnknown, nameThere, roomLacking, jobEntered, tallied, arcAppended}
-use Rattle.rules_follow_model.specs.Change.{jobSettled, markedLast, markedGoing, arcNotified, lastNotified}
-use Rattle.rules_follow_model.specs.Change.{getHolding}
-use Rattle.rules_follow_model.specs.Change.{getNone, getHanded}
-use Rattle.terms.specs.Runs.{workerOf}
-use Rattle.rules_follow_model.specs.Changes.{changes}
-use Rattle.rules_follow_model.specs.Paced.{paced}
+use Rattle.rules_history.specs.Noted.{reads}
+use Rattle.rules_cases.specs.Base.{update-at, update-other}
+use Rattle.rules_follow_model.specs.Paced.{paced, read}
 use Rattle.rules_follow_model.specs.Entries.{entry-at, entries-length, entries-append, entries-set, entries-kept}
 use Rattle.rules_follow_model.specs.Entries.{listed-append, listed-kept, listed-length}
 use Rattle.rules_follow_model.specs.Feeding.{follows-then, Asked, askedOf, asks, accepted-asked}
@@ -69,7 +68,7 @@ next-refused : (b : Book) (x : book.Call) (n i : ℕ) → next b x (refused n i)
 unfolding next
 next-refused b (add w a) n i = refl
 next-refused b (get w) n i = refl
-next-refused b (finish w name) n i = refl
+next-refused b (finish w f) n i = refl
 
 labelled-same : (g : Graph) (j : ℕ) (l : Label)
     → entriesOf (set (g .jobs) j (withLabel (job g j) l)) ≡ labelled (bookOf g) j l
@@ -79,17 +78,24 @@ labelled-listed : (g : Graph) (j : ℕ) (l : Label) → listedNames (entriesOf (
     → listedNames (entriesOf (set (g .jobs) j (withLabel (job g j) l))) ≡ g .reserved
 labelled-listed g j l e = ap listedNames (labelled-same g j l) ∙ listed-kept (entriesOf (g .jobs)) j _ refl ∙ e
 
-module _ (s : Sizes) (g : Graph) (r : Reading) (S : Sound s g) (K : Kept s g r) (w : ℕ) where
+module _ (s : Sizes) (g : Graph) (r : Reading) (S : Sound s g) (K : Kept s g r) where
   same-book : (after : Graph) → entriesOf (after .jobs) ≡ entriesOf (g .jobs)
       → ((v : ℕ) → after .workers v .held ≡ g .workers v .held)
       → bookOf after ≡ bookOf g
   same-book after e h = λ i. record { jobs = e i; held = λ v. h v i }
 
-  turned : (c : Call) (v : ℕ) → turn g w c v .held ≡ g .workers v .held
-  turned c v = held-kept (g .workers) w c v
+  turned : (w : ℕ) (c : Call) (v : ℕ) → turn g w c v .held ≡ g .workers v .held
+  turned w c v = held-kept (g .workers) w c v
 
-  looking-at : {a : Arguments} {i : ℕ} → g .workers w .call ≡ looking a i → Looking g a i
-  looking-at e = rw e at (S .calls w)
+  looking-at : (w : ℕ) {a : Arguments} {i : ℕ} → g .workers w .call ≡ looking a i → Looking g a i
+  looking-at w e = rw e at (S .calls w)
+
+  all-looked : (w : ℕ) {a : Arguments} {i : ℕ} → g .workers w .call ≡ looking a i → a .count ≤ i
+      → Looking g a (a .count)
+  all-looked w {a} {i} e l =
+      let L = looking-at w e in
+      let all : i ≡ a .count = omega (arith, L .within) in
+      rw all at L
 
   -- ---- a change that does not show in the book
   unseen : (after : Graph) (later : Reading) → entriesOf (after .jobs) ≡ entriesOf (g .jobs)
@@ -110,71 +116,78 @@ module _ (s : Sizes) (g : Graph) (r : Reading) (S : Sound s g) (K : Kept s g r) 
       (K .reserved)
 
   -- the add is refused at a step, which ends it
-  refused-add : (a : Arguments) (n i : ℕ) → refused n i ≡ addEnd s (bookOf g) a
+  refused-add : (w : ℕ) (a : Arguments) (n i : ℕ) → refused n i ≡ addEnd s (bookOf g) a
       → Kept s (withCall g w idle) (becomes (decided r (add w a) (refused n i)) w reading.idle)
-  refused-add a n i z = fed (withCall g w idle) (becomes (decided r (add w a) (refused n i)) w reading.idle) (add w a)
+  refused-add w a n i z = fed (withCall g w idle) (becomes (decided r (add w a) (refused n i)) w reading.idle) (add w a)
       (refused n i) refl z
-      (same-book (withCall g w idle) refl (turned idle) ∙ sym (next-refused (bookOf g) (add w a) n i)) (K .reserved)
+      (same-book (withCall g w idle) refl (turned w idle) ∙ sym (next-refused (bookOf g) (add w a) n i)) (K .reserved)
 
-  enters : (a : Arguments) (later : Reading)
+  enters : (w : ℕ) (a : Arguments) (later : Reading)
       → later .calls ≡ r .calls ++ (record { call = add w a; end = accepted } ∷ []) → accepted ≡ addEnd s (bookOf g) a
       → Kept s (entered g w a) later
   unfolding next
-  enters a later c z = fed (entered g w a) later (add w a) accepted c z
+  enters w a later c z = fed (entered g w a) later (add w a) accepted c z
       (λ i. record {
         jobs = entries-append (g .jobs) (newJob a) i;
-        held = λ v. turned (linking a (length (g .jobs)) 0 0) v i;
+        held = λ v. turned w (linking a (length (g .jobs)) 0 0) v i;
       })
       (rw (entries-append, listed-append) (omega (arith, K .reserved, listed-length a)))
 
-  marks : (p : ℕ) (c : Call) (later : Reading)
-      → later .calls ≡ r .calls ++ (record { call = finish w (job g p .name); end = accepted } ∷ [])
+  marks : (w p : ℕ) (c : Call) (later : Reading)
+      → later .calls ≡ r .calls ++ (record { call = finish w (finishOf (job g p .name)); end = accepted } ∷ [])
       → g .workers w .held ≡ some p → Kept s (marked g w p c) later
   unfolding next finishedBy
-  marks p c later l h = fed (marked g w p c) later (finish w (job g p .name)) accepted l (rw h (finish-held g p))
+  marks w p c later l h = fed (marked g w p c) later (finish w (finishOf (job g p .name))) accepted l
+      (rw h (finish-held g p))
       (rw (h, labelled-same g p finished, held-after (g .workers) w none c))
       (labelled-listed g p finished (K .reserved))
 
-  hands : (j : ℕ) (q : List ℕ) → g .workers w .held ≡ none → g .queue ≡ j ∷ q
-      → Kept s (handedOut g w j q) (decided r (get w) (handed j (job g j .name)))
+  hands : (w j : ℕ) → g .workers w .held ≡ none → nextOut g ≡ some j
+      → Kept s (handedOut g w j (without j (g .queue))) (decided r (get w) (handed (handOut g j)))
   unfolding next
-  hands j q h z = fed (handedOut g w j q) (decided r (get w) (handed j (job g j .name))) (get w)
-      (handed j (job g j .name)) refl
-      (rw h (rw (name-at g j) at (taken j (queued-ready S j (rw z (head-occurs j q))))))
+  hands w j h z = fed (handedOut g w j (without j (g .queue))) (decided r (get w) (handed (handOut g j))) (get w)
+      (handed (handOut g j)) refl
+      (rw h (rw (name-at g j) at (taken j (queued-ready S j (first-occurs (order g) (g .queue) j z)))))
       (rw (labelled-same g j executing, held-after (g .workers) w (some j) idle))
       (labelled-listed g j executing (K .reserved))
 
-  finds-none : g .workers w .held ≡ none → Kept s g (decided r (get w) noneReady)
+  finds-none : (w : ℕ) → g .workers w .held ≡ none → Kept s g (decided r (get w) noneReady)
   unfolding next
-  finds-none h = fed g (decided r (get w) noneReady) (get w) noneReady refl (rw h book.nothing) refl (K .reserved)
+  finds-none w h = fed g (decided r (get w) noneReady) (get w) noneReady refl (rw h book.nothing) refl (K .reserved)
 
-  -- ---- each change
-  kept-on : (x : Answer) (after : Graph) (later : Reading) → Change s g r w x after later → Kept s after later
-  kept-on x after later nothing = K
-  kept-on x after later (addWrong a e) = refused-now (add w a) wrongArguments 0 (add-wrong s g a e)
-  kept-on x after later (addPosted a) = unseen after later refl (turned _) refl refl
-  kept-on x after later (finishWrong name e) =
-      refused-now (finish w name) notHeld 0 (finish-not g name (g .workers w .held) e)
-  kept-on x after later (finishPosted p e) = unseen after later refl (turned _) refl refl
-  kept-on x after later (lookedUp e h) = unseen after later refl (turned _) refl refl
-  kept-on x after later (nameUnknown {a} {i} e h z) =
-      refused-add a unknownName i (add-unknown s g a i (looking-at e) h z)
-  kept-on x after later (nameThere {a} j e z) =
-      refused-add a namePresent 0 (add-there s g a (looking-at e) (K .reserved) j z)
-  kept-on x after later (roomLacking {a} e z f) =
-      refused-add a noRoom 0 (add-no-room s g a (looking-at e) (K .reserved) z f)
-  kept-on x after later (jobEntered {a} e z f) =
-      enters a later refl (add-accepted s g a (looking-at e) (K .reserved) z f)
-  kept-on x after later (tallied e) = unseen after later refl (turned _) refl refl
-  kept-on x after later (arcAppended p e) = unseen after later (entries-kept (g .jobs) p _ refl) (turned _) refl refl
-  kept-on x after later (jobSettled {j} e) = unseen after later (entries-kept (g .jobs) j _ refl) (turned _) refl refl
-  kept-on x after later (markedLast p e h z) = marks p idle later refl h
-  kept-on x after later (markedGoing p e h) = marks p (notifying p 0) later refl h
-  kept-on x after later (arcNotified e) = unseen after later (entries-kept (g .jobs) _ _ refl) (turned _) refl refl
-  kept-on x after later (lastNotified e h) = unseen after later (entries-kept (g .jobs) _ _ refl) (turned _) refl refl
-  kept-on x after later (getHolding j e) = refused-now (get w) alreadyHolding 0 (rw e holding)
-  kept-on x after later (getNone e) = finds-none e
-  kept-on x after later (getHanded j {q} e f z) = hands j q e z
+  -- ---- each way in which an item can end
+  kept-on : {i : Item} {x : Answer} {after : Graph} (d : Deed s g i x after) → Kept s after (reads r d)
+  kept-on (by.otherSizes e) = K
+  kept-on (by.workerUnknown e l) = K
+  kept-on (by.callHalfDone A n c) = K
+  kept-on (by.made A c (by.addWrong {w} {a} e)) = refused-now (add w a) wrongArguments 0 (add-wrong s g a e)
+  kept-on (by.made A c (by.addPosted e)) = unseen _ _ refl (turned _ _) refl refl
+  kept-on (by.made A c (by.finishWrong {w} {f} e)) =
+      refused-now (finish w f) notHeld 0 (finish-not g f (g .workers w .held) e)
+  kept-on (by.made A c (by.finishPosted p e n)) = unseen _ _ refl (turned _ _) refl refl
+  kept-on (by.made A c (by.getHolding {w} j e)) = refused-now (get w) alreadyHolding 0 (rw e holding)
+  kept-on (by.made A c (by.getNone {w} e f)) = finds-none w e
+  kept-on (by.made A c (by.getHanded {w} e j f)) = hands w j e f
+  kept-on (by.stepped A c by.noCall) = K
+  kept-on (by.stepped A c (by.broken b)) = K
+  kept-on (by.stepped A c (by.lookedUp j l e)) = unseen _ _ refl (turned _ _) refl refl
+  kept-on (by.stepped {w} A c (by.nameUnknown {a} {i} l e)) =
+      refused-add w a unknownName i (add-unknown s g a i (looking-at w c) l e)
+  kept-on (by.stepped {w} A c (by.nameThere {a} j l e)) =
+      refused-add w a namePresent 0 (add-there s g a (all-looked w c l) (K .reserved) j e)
+  kept-on (by.stepped {w} A c (by.roomLacking {a} l e f)) =
+      refused-add w a noRoom 0 (add-no-room s g a (all-looked w c l) (K .reserved) e f)
+  kept-on (by.stepped {w} A c (by.jobEntered {a} l e f)) =
+      enters w a _ refl (add-accepted s g a (all-looked w c l) (K .reserved) e f)
+  kept-on (by.stepped A c (by.tallied p l e f)) = unseen _ _ refl (turned _ _) refl refl
+  kept-on (by.stepped A c (by.arcAppended p l e f)) =
+      unseen _ _ (entries-kept (g .jobs) p _ refl) (turned _ _) refl refl
+  kept-on (by.stepped A c (by.jobSettled {j} l)) =
+      unseen _ _ (entries-kept (g .jobs) j _ refl) (turned _ _) refl refl
+  kept-on (by.stepped {w} A c (by.markedLast p e f)) = marks w p idle _ refl e
+  kept-on (by.stepped {w} A c (by.markedGoing p e f)) = marks w p (notifying p 0) _ refl e
+  kept-on (by.stepped A c (by.arcNotified l)) = unseen _ _ (entries-kept (g .jobs) _ _ refl) (turned _ _) refl refl
+  kept-on (by.stepped A c (by.lastNotified l)) = unseen _ _ (entries-kept (g .jobs) _ _ refl) (turned _ _) refl refl
 
 -- ---- the accepted adds are those of the jobs, in order
 adds-booked : {s : Sizes} (g : Graph) (r : Reading) → Follows s blank (r .calls) (bookOf g) → Booked s g r
@@ -206,10 +219,9 @@ module _ {s : Sizes} (sound : (g : Graph) (r : Reading) (e : ℕ → ℕ) → Hi
   pub kept : {g : Graph} {r : Reading} {e : ℕ → ℕ} → History s g r e → Kept s g r
   unfolding empty unread blank entriesOf listedNames
   kept start = record { follows = done; reserved = refl }
-  kept (then {g} {r} {e} history x) =
-      kept-on s g r (sound g r e history) (kept history) (workerOf x) (perform s g x .answer) (perform s g x .state)
-      (note r x (perform s g x .answer))
-      (changes s g r (sound g r e history) (paced sound history) x)
+  kept (then {g} {r} {e} history i) =
+      let S = sound g r e history in
+      rw (read r S (paced sound history) (deed s g i)) (kept-on s g r S (kept history) (deed s g i))
 
   pub booked : {g : Graph} {r : Reading} {e : ℕ → ℕ} → History s g r e → Booked s g r
   booked {g} {r} history = adds-booked g r (kept history .follows)

@@ -9,15 +9,15 @@ use lib.ListN.{getD}
 use borrow.Author.Tests.{eq-eqb}
 use Rattle.terms.specs.Base.{pick, occurrences}
 use Rattle.terms.specs.Terms.{unexecuted, Arguments, listed, argumentsWrong, wrongArguments, unknownName, namePresent}
-use Rattle.terms.specs.Terms.{noRoom, notHeld}
+use Rattle.terms.specs.Terms.{noRoom, notHeld, finishOf, Finish}
 use Rattle.terms.specs.declared.Sizes.{Sizes}
 use Rattle.rules.specs.Rules.{Graph, job, find, at, missing}
 use Rattle.rules.specs.Sound.{Looking, Sound}
+use Rattle.rules_cases.specs.Deed.{HoldsNot, noPlace}
 use Rattle.sequential_model.specs.Book.{Entry, noEntry, Book, known, Ready, accepted, refused, firstUnknown, nowhere}
 use Rattle.sequential_model.specs.Book.{listedNames, full, addKnown, addEnd, finishEnd}
 use Rattle.sequential_model.specs.Book as book
 use Rattle.rules_history.specs.History.{entriesOf}
-use Rattle.rules_follow_model.specs.Change.{HoldsNot, noPlace}
 use Rattle.rules_follow_model.specs.Entries.{entry-at, entries-length, listed-length, known-found, unknown-at}
 use Rattle.rules_follow_model.specs.Entries.{unknown-nowhere, none-awaited, finished-not-awaited}
 
@@ -29,13 +29,13 @@ pub name-at : (g : Graph) (j : ℕ) → getD (entriesOf (g .jobs)) j noEntry .na
 name-at g j = ap (λ (x : Entry). x .name) (entry-at (g .jobs) j)
 
 -- ---- a finish
-pub finish-not : (g : Graph) (name : ℕ) (h : Option ℕ) → HoldsNot g name h
-    → refused notHeld 0 ≡ finishEnd (bookOf g) name h
+pub finish-not : (g : Graph) (f : Finish) (h : Option ℕ) → HoldsNot g (f .name) h
+    → refused notHeld 0 ≡ finishEnd (bookOf g) f h
 unfolding finishEnd
-finish-not g name none e = refl
-finish-not g name (some p) e = rw (name-at g p, e)
+finish-not g f none e = refl
+finish-not g f (some p) e = rw (name-at g p, e)
 
-pub finish-held : (g : Graph) (p : ℕ) → accepted ≡ finishEnd (bookOf g) (job g p .name) (some p)
+pub finish-held : (g : Graph) (p : ℕ) → accepted ≡ finishEnd (bookOf g) (finishOf (job g p .name)) (some p)
 unfolding finishEnd
 finish-held g p = rw (name-at g p, eq-eqb (job g p .name) (job g p .name) refl)
 

@@ -53,16 +53,16 @@ fed-call : (b : Book) (x : Call) (e : End) (l : List book.Ended) (m : List Asked
 unfolding next acceptedAdds
 fed-call b (add w a) accepted l m z = z ∙ rw (map-snoc, append-assoc)
 fed-call b (add w a) noneReady l m z = z
-fed-call b (add w a) (handed j name) l m z = z
+fed-call b (add w a) (handed h) l m z = z
 fed-call b (add w a) (refused n p) l m z = z
 fed-call b (get w) accepted l m z = z
 fed-call b (get w) noneReady l m z = z
-fed-call b (get w) (handed j name) l m z = rw (labelled-asked b j executing) at z
+fed-call b (get w) (handed h) l m z = rw (labelled-asked b (h .job) executing) at z
 fed-call b (get w) (refused n p) l m z = z
-fed-call b (finish w name) accepted l m z = rw (finished-asked b w (b .held w)) at z
-fed-call b (finish w name) noneReady l m z = z
-fed-call b (finish w name) (handed j other) l m z = z
-fed-call b (finish w name) (refused n p) l m z = z
+fed-call b (finish w f) accepted l m z = rw (finished-asked b w (b .held w)) at z
+fed-call b (finish w f) noneReady l m z = z
+fed-call b (finish w f) (handed h) l m z = z
+fed-call b (finish w f) (refused n p) l m z = z
 
 fed : {s : Sizes} {b c : Book} {l : List book.Ended} → Follows s b l c
     → map askedOf (c .jobs) ≡ map askedOf (b .jobs) ++ map asks (acceptedAdds l)

@@ -1,7 +1,3 @@
-pub mod Base
-pub mod Change
-pub mod Changes
-pub mod Own
 pub mod Paced
 pub mod Entries
 pub mod Feeding

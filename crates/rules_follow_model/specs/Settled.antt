@@ -1,40 +1,51 @@
 -- With no call half done: the graph's counts are the book's remaining counts, and the jobs in its queue are those ready
 -- in the book ("The plain book", demand 3). Assumes that the graph is booked and balanced.
 use mathlib.Core.Path.{_≡_, refl, sym, ap, _∙_}
-use mathlib.Core.List.{List, [], _∷_}
-use mathlib.Core.Option.{none}
+use mathlib.Core.Option.{none, some}
 use mathlib.Core.Logic.{_↔_}
 use Prim.Native.Nat.{ℕ, _<_}
 use native.Mathlib.Omega.{arith}
 use lib.ListN.{length}
 use Rattle.terms.specs.Base.{occurrences}
-use Rattle.terms.specs.Runs.{get, Outcome}
+use Rattle.terms.specs.Runs.{get}
+use Rattle.terms.specs.OrderLaws.{first-occurs}
 use Rattle.terms.specs.declared.Sizes.{Sizes}
-use Rattle.terms.specs.declared.Answer.the-variants.{NoneReady}
-use Rattle.rules.specs.Rules.{idle, Graph, job, takeNext, getJob, whenIdle, perform}
+use Rattle.terms.specs.declared.Answer.{Answer}
+use Rattle.terms.specs.declared.Answer.the-variants.{NoneReady, Handed}
+use Rattle.rules.specs.Rules.{idle, Graph, job, perform, nextOut, handOut, order}
+use Rattle.rules_cases.specs.Deed as by
+use Rattle.rules_cases.specs.Deed.{Made}
+use Rattle.rules_cases.specs.Base.{never}
 use Rattle.sequential_model.specs.Book.{entry, awaitedNames, remaining, Ready}
 use Rattle.linearization.specs.Calls.{Reading}
 use Rattle.rules_history.specs.History.{entryOf, entriesOf, Booked, Balanced, Free, AllIdle}
-use Rattle.rules_follow_model.specs.Base.{head-occurs}
-use Rattle.rules_follow_model.specs.Own.{performed}
+use Rattle.rules_cases.specs.Own.{own-sizes, own-made}
 use Rattle.rules_follow_model.specs.Entries.{entry-at, entries-length}
 
 -- ---- a get by an idle worker that holds nothing
-pub get-answer : (s : Sizes) (g : Graph) (w : ℕ) → w < s .workers → g .workers w .call ≡ idle
-    → g .workers w .held ≡ none
-    → perform s g (get s w) ≡ takeNext g w (g .queue)
-unfolding perform whenIdle getJob
-get-answer s g w h e f = performed s g w h _ ∙ rw (e, f)
+module _ (s : Sizes) (g : Graph) (w : ℕ) (l : w < s .workers) (c : g .workers w .call ≡ idle)
+    (f : g .workers w .held ≡ none) where
+  pub own-get : Made s g (get s w) (perform s g (get s w) .answer) (perform s g (get s w) .state)
+  own-get = own-made s g (get s w) (own-sizes s) l refl c
 
-none-in-queue : (g : Graph) (w : ℕ) (q : List ℕ)
-    → (takeNext g w q .answer ≡ NoneReady) ↔ ((j : ℕ) → 0 < occurrences j q → ⊥)
-unfolding takeNext occurrences
-none-in-queue g w [] = (λ e j h. omega arith, λ empty. refl)
-none-in-queue g w (x ∷ q) = (
-  λ e. let z : _≡_ {A = ℕ} 0 1 = cc in
-      absurd (omega arith),
-  λ empty. absurd (empty x (head-occurs x q)),
-)
+  pub hands-next : (j : ℕ) → nextOut g ≡ some j → perform s g (get s w) .answer ≡ Handed (handOut g j)
+  unfolding occurrences
+  hands-next j z = of own-get
+    where
+      of : {x : Answer} {h : Graph} → Made s g (get s w) x h → x ≡ Handed (handOut g j)
+      of (by.getHolding k e) = never (cc)
+      of (by.getNone e y) = absurd (omega (arith, first-occurs (order g) (g .queue) j z, ap (occurrences j) y))
+      of (by.getHanded e k y) = let same : k ≡ j = cc in rw same
+
+  none-in-queue : (perform s g (get s w) .answer ≡ NoneReady) ↔ ((j : ℕ) → 0 < occurrences j (g .queue) → ⊥)
+  unfolding occurrences
+  none-in-queue = of own-get
+    where
+      of : {x : Answer} {h : Graph} → Made s g (get s w) x h
+          → (x ≡ NoneReady) ↔ ((j : ℕ) → 0 < occurrences j (g .queue) → ⊥)
+      of (by.getHolding k e) = never (cc)
+      of (by.getNone e y) = rw y (λ e j h. omega arith, λ empty. refl)
+      of (by.getHanded e j y) = (λ e. never (cc), λ empty. absurd (empty j (first-occurs (order g) (g .queue) j y)))
 
 module _ {s : Sizes} {g : Graph} {r : Reading} (K : Booked s g r) (B : Balanced g) where
   -- the book's job is the graph's
@@ -75,8 +86,5 @@ module _ {s : Sizes} {g : Graph} {r : Reading} (K : Booked s g r) (B : Balanced 
   pub none-ready : AllIdle g → (w : ℕ) → w < s .workers → K .book .held w ≡ none
       → (perform s g (get s w) .answer ≡ NoneReady) ↔ ((j : ℕ) → Ready (K .book) j → ⊥)
   none-ready I w h e =
-      let same = get-answer s g w h (I w) (sym (K .held w) ∙ e) in
-      let here = none-in-queue g w (g .queue) in (
-        λ z j f. here .0 (ap (λ (o : Outcome Graph). o .answer) (sym same) ∙ z) j (waiting-ready j .1 f),
-        λ empty. ap (λ (o : Outcome Graph). o .answer) same ∙ here .1 (λ j f. empty j (waiting-ready j .0 f)),
-      )
+      let here = none-in-queue s g w h (I w) (sym (K .held w) ∙ e) in
+      (λ z j f. here .0 z j (waiting-ready j .1 f), λ empty. here .1 (λ j f. empty j (waiting-ready j .0 f)))

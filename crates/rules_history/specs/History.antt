@@ -9,7 +9,7 @@ use mathlib.Core.Option.{Option, none, some}
 use Prim.Native.Nat.{ℕ, zero, suc, _+_, _-_, _*_, _≤_, _<_}
 use lib.ListN.{length, getD}
 use Rattle.terms.specs.Base.{contains, occurrences}
-use Rattle.terms.specs.Terms.{unexecuted, Arguments, listed}
+use Rattle.terms.specs.Terms.{unexecuted, Arguments, listed, finishOf}
 use Rattle.terms.specs.Runs.{Item}
 use Rattle.terms.specs.declared.Sizes.{Sizes}
 use Rattle.rules.specs.Rules.{Job, Call, idle, looking, linking, marking, notifying, Graph, empty, job, perform}
@@ -83,8 +83,8 @@ PacedCall g h idle p = p ≡ Pending.idle
 PacedCall g h (looking a i) p = p ≡ adding a i
 PacedCall g h (linking a j i t) p = (p ≡ adding a (a .count + 1 + i)) × (a .name ≡ job g j .name)
 PacedCall g none marking p = ⊥
-PacedCall g (some j) marking p = p ≡ finishing (job g j .name) 0
-PacedCall g h (notifying j k) p = p ≡ finishing (job g j .name) (suc k)
+PacedCall g (some j) marking p = p ≡ finishing (finishOf (job g j .name)) 0
+PacedCall g h (notifying j k) p = p ≡ finishing (finishOf (job g j .name)) (suc k)
 
 abbrev pub Paced : Graph → Reading → Type 0
 Paced g r = (w : ℕ) → PacedCall g (g .workers w .held) (g .workers w .call) (r .pending w)

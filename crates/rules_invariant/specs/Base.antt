@@ -1,29 +1,15 @@
--- Maps changed at one place, occurrences in a list, and sums below a bound: the laws that the invariant rests on.
--- Assumes nothing.
+-- Occurrences in a list, and sums below a bound: the laws that the invariant rests on. Assumes nothing.
 use mathlib.Core.Path.{_≡_, refl, sym, ap}
 use mathlib.Core.Logic.{_≢_}
 use mathlib.Core.List.{List, [], _∷_, _++_}
-use Prim.Native.Nat.{ℕ, zero, suc, _+_, _-_, _≤_, _<_}
+use Prim.Native.Nat.{ℕ, zero, suc, _+_, _≤_, _<_}
 use native.Mathlib.Omega.{arith}
 use native.Mathlib.Decide.{ℕ-discrete}
 use borrow.Author.Tests.{eq-eqb, ne-eqb}
 use lib.Dec.{eqb}
 use lib.ListN.{length, getD, take, drop, take-append-drop}
 use lib.Seq.{drop-cons, drop-append-le, take-suc}
-use Rattle.terms.specs.Base.{pick, update, occurrences}
-
--- ---- a map changed at one place
-pub update-same : {A : Type 0} (f : ℕ → A) (i : ℕ) (v : A) → update f i v i ≡ v
-unfolding update
-update-same f i v = rw (eq-eqb i i refl)
-
-pub update-at : {A : Type 0} (f : ℕ → A) (i : ℕ) (v : A) (j : ℕ) → j ≡ i → update f i v j ≡ v
-unfolding update
-update-at f i v j e = rw (eq-eqb j i e)
-
-pub update-other : {A : Type 0} (f : ℕ → A) (i : ℕ) (v : A) (j : ℕ) → j ≢ i → update f i v j ≡ f j
-unfolding update
-update-other f i v j e = rw (ne-eqb j i e)
+use Rattle.terms.specs.Base.{pick, occurrences}
 
 -- ---- 1 where the two are the same, and else 0
 unfoldable pub hit : ℕ → ℕ → ℕ

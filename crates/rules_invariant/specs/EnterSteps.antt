@@ -4,7 +4,7 @@ use mathlib.Core.Path.{_≡_, refl, sym, ap, _∙_}
 use mathlib.Core.Logic.{_≢_}
 use mathlib.Core.Option.{some}
 use mathlib.Core.List.{List, [], _∷_, _++_}
-use Prim.Native.Nat.{ℕ, suc, _+_, _-_, _≤_, _<_}
+use Prim.Native.Nat.{ℕ, suc, _+_, _≤_, _<_}
 use native.Mathlib.Omega.{arith}
 use lib.ListN.{length, getD, length-append}
 use lib.Seq.{getD-append-seam}
@@ -13,13 +13,13 @@ use Rattle.terms.specs.declared.Sizes.{Sizes}
 use Rattle.rules.specs.Rules.{Job, looking, linking, Graph, noJob, job, find, at, missing, newJob, entered, linked}
 use Rattle.rules.specs.Sound.{Looking}
 use Rattle.linearization.specs.Calls.{Pending, Reading, becomes}
-use Rattle.rules_invariant.specs.Base.{update-same, update-other}
+use Rattle.rules_cases.specs.Base.{update-same, update-other}
 use Rattle.rules_invariant.specs.State.{adding, State, enter}
 use Rattle.rules_invariant.specs.Invariant.{Invariant, Below, startedBy-none}
 use Rattle.rules_invariant.specs.Entering.{enter-keeps}
 use Rattle.rules_invariant.specs.Names.{Extends, extends-append, Numbers, sought-there, seek-new, length-prefix}
 use Rattle.rules_invariant.specs.Names.{few}
-use Rattle.rules_invariant.specs.Relation.{Kept, Known, jobRel, WorkerRel, snoc-all}
+use Rattle.rules_invariant.specs.Relation.{Kept, Known, jobRel, WorkerRel, snoc-all, finished-keeps}
 use Rattle.rules_invariant.specs.Turns.{Next, own-stage, own-call, workers-after}
 
 module _ (s : Sizes) (g : Graph) (r : Reading) (x : State) (K : Kept s g r x) (I : Invariant x) (w : ℕ) where
@@ -94,7 +94,7 @@ module _ (s : Sizes) (g : Graph) (r : Reading) (x : State) (K : Kept s g r x) (I
           });
         }
 
-    new-worker : WorkerRel (entered g w a) (enter x w ps) w (Pending.adding a (suc i))
+    new-worker : WorkerRel (entered g w a) (enter x w ps) w (Pending.adding a (a .count + 1 + 0))
         (record { held = g .workers w .held; call = linking a (length (g .jobs)) 0 0 })
     new-worker = record {
       held = K .workers w .held;
@@ -106,13 +106,10 @@ module _ (s : Sizes) (g : Graph) (r : Reading) (x : State) (K : Kept s g r x) (I
         place = rw (K .size) (omega (arith, I .linked-within n, ap length (I .new-prerequisites n (omega arith))));
         tallied = rw (K .size) (sym (I .adder-done n (I .new-adder n (omega arith)) .1));
       };
-      paced = (
-        ap (Pending.adding a) (omega (arith, own .within)),
-        sym (ap (λ (y : Job). y .name) (getD-append-seam (g .jobs) (newJob a) [] noJob)),
-      );
+      paced = (refl, sym (ap (λ (y : Job). y .name) (getD-append-seam (g .jobs) (newJob a) [] noJob)));
     }
 
-    pub entering : Next s g x (entered g w a) (becomes r w (Pending.adding a (suc i)))
+    pub entering : Next s g x (entered g w a) (becomes r w (Pending.adding a (a .count + 1 + 0)))
     entering = record {
       state = enter x w ps;
       invariant = enter-keeps x I w ps (own-stage s g r x K I w (looking a i) f) below;
@@ -124,8 +121,8 @@ module _ (s : Sizes) (g : Graph) (r : Reading) (x : State) (K : Kept s g r x) (I
         queue = K .queue;
         jobs = snoc-all (λ k y. jobRel later (enter x w ps) k y) (g .jobs) (newJob a) noJob
             (rw (K .size) new-rel) old-rel;
-        workers = workers-after s g r x K I w (entered g w a) (enter x w ps) (Pending.adding a (suc i)) _ further
-            (omega (arith, longer)) new-worker
+        workers = workers-after s g r x K I w (entered g w a) (enter x w ps) (Pending.adding a (a .count + 1 + 0)) _
+            further (omega (arith, longer)) new-worker
             (λ v z. record {
               held = refl;
               stage = sym (update-other (x .stage) w (adding n) v z);
@@ -142,8 +139,6 @@ module _ (s : Sizes) (g : Graph) (r : Reading) (x : State) (K : Kept s g r x) (I
               ended = update-other (x .adder) n (some w) (o .job)
                   (omega (arith, K .size, sought-there name (g .jobs) (o .job) (o .found))) ∙ o .ended;
             };
-        finished = λ name e.
-            let o = K .finished name e in
-            record { job = o .job; found = further .found _ _ (o .found); finished = o .finished; ended = o .ended };
+        finished = λ name e. finished-keeps further (K .finished name e);
       };
     }

@@ -8,7 +8,8 @@ use native.Mathlib.Decide.{ℕ-discrete}
 use lib.ListN.{length}
 use lib.Seq.{drop-nil}
 use Rattle.terms.specs.Base.{occurrences}
-use Rattle.rules_invariant.specs.Base.{update-same, update-other, update-at, occurrences-nil, sum-suc}
+use Rattle.rules_cases.specs.Base.{update-same, update-other, update-at}
+use Rattle.rules_invariant.specs.Base.{occurrences-nil, sum-suc}
 use Rattle.rules_invariant.specs.Own.{owns-frame, owns-take}
 use Rattle.rules_invariant.specs.State.{apart, adding, finishing, tag, State, enter}
 use Rattle.rules_invariant.specs.Invariant.{Invariant, unserved, Below, adding-injective}

@@ -11,7 +11,8 @@ use lib.ListN.{length, getD}
 use Rattle.terms.specs.Base.{update, occurrences}
 use Rattle.terms.specs.Terms.{unexecuted, executing, finished}
 use Rattle.rules.specs.Sound.{startedBy}
-use Rattle.rules_invariant.specs.Base.{update-same, update-other, update-at, hit, hit-same, hit-other}
+use Rattle.rules_cases.specs.Base.{update-same, update-other, update-at}
+use Rattle.rules_invariant.specs.Base.{hit, hit-same, hit-other}
 use Rattle.rules_invariant.specs.Base.{occurrences-cons}
 use Rattle.rules_invariant.specs.Base.{occurrences-drop, sum, sum-at}
 use Rattle.rules_invariant.specs.Own.{owns-frame, owns-take, owns-drop}
@@ -22,18 +23,16 @@ use Rattle.rules_invariant.specs.Invariant.{hitIf-same, hitIf-other, occ
 
 module _ (s : State) (I : Invariant s) where
   -- ---- handing out
-  module _ (w j : ℕ) (q : List ℕ) (head : s .queue ≡ j ∷ q) where
-    pub head-occurrences : (k : ℕ) → occurrences k (s .queue) ≡ hit k j + occurrences k q
-    head-occurrences k = rw head (occurrences-cons k j q)
-
-    pub head-waits : s .label j ≡ unexecuted
-    head-waits = startedBy-none (s .label j) (omega (arith, head-occurrences j, hit-same j, I .queued j, once s I j))
+  module _ (w j : ℕ) (q : List ℕ)
+      (out-occurrences : (k : ℕ) → occurrences k (s .queue) ≡ hit k j + occurrences k q) where
+    pub out-waits : s .label j ≡ unexecuted
+    out-waits = startedBy-none (s .label j) (omega (arith, out-occurrences j, hit-same j, I .queued j, once s I j))
 
     taken-finished : (p : ℕ) → s .label p ≡ finished → p ≢ j
-    taken-finished p z e = finished-not-unexecuted (cc head-waits)
+    taken-finished p z e = finished-not-unexecuted (cc out-waits)
 
     taken-held : (v i : ℕ) → s .held v ≡ some i → i ≢ j
-    taken-held v i z e = executing-not-unexecuted (cc (head-waits, I .held-executing v i z))
+    taken-held v i z e = executing-not-unexecuted (cc (out-waits, I .held-executing v i z))
 
     taken-unfinished : (p : ℕ) → update (s .label) j executing p ≢ finished → s .label p ≢ finished
     taken-unfinished p u z = u (cc (update-other (s .label) j executing p (taken-finished p z)))
@@ -83,15 +82,15 @@ module _ (s : State) (I : Invariant s) where
       queued = λ k. elim (ℕ-discrete k j) [
         | yes e ↦ rw e (omega (
           arith,
-          head-occurrences j,
+          out-occurrences j,
           hit-same j,
           ap startedBy (update-same (s .label) j executing),
-          ap startedBy head-waits,
+          ap startedBy out-waits,
           I .queued j,
         ))
         | no e ↦ omega (
           arith,
-          head-occurrences k,
+          out-occurrences k,
           hit-other k j e,
           ap startedBy (update-other (s .label) j executing k e),
           I .queued k,

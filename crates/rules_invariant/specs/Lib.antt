@@ -12,7 +12,6 @@ pub mod EnterSteps
 pub mod LinkSteps
 pub mod MarkSteps
 pub mod NotifySteps
-pub mod Notes
 pub mod Steps
 pub mod Start
 pub mod Sound

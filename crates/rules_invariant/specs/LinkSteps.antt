@@ -14,12 +14,14 @@ use Rattle.terms.specs.declared.Sizes.{Sizes}
 use Rattle.rules.specs.Rules.{Job, idle, linking, Graph, noJob, job, find, at, withCall, withDependent, withCount}
 use Rattle.rules.specs.Rules.{linked, settles, settled, enqueue}
 use Rattle.linearization.specs.Calls.{Pending, Reading, becomes, addEnded}
-use Rattle.rules_invariant.specs.Base.{update-same, update-other, update-at, hit, hit-same, hit-other}
+use Rattle.rules_cases.specs.Base.{update-same, update-other, update-at}
+use Rattle.rules_invariant.specs.Base.{hit, hit-same, hit-other}
 use Rattle.rules_invariant.specs.State.{apart, adding, State, bit, linkFinished, linkDependent, settle}
 use Rattle.rules_invariant.specs.Invariant.{Invariant, occurrences-enqueue}
 use Rattle.rules_invariant.specs.Linking.{link-finished-keeps, link-dependent-keeps, settle-keeps, settles-right}
 use Rattle.rules_invariant.specs.Names.{Extends, extends-same, extends-set, length-prefix, contains-snoc}
 use Rattle.rules_invariant.specs.Relation.{Kept, known-keeps, jobRel, LinkRel, AddEnded, set-all}
+use Rattle.rules_invariant.specs.Relation.{added-keeps, finished-keeps}
 use Rattle.rules_invariant.specs.Turns.{Next, own-stage, own-call, other-add, workers-after}
 
 module _ (s : Sizes) (g : Graph) (r : Reading) (x : State) (K : Kept s g r x) (I : Invariant x) (w : ℕ) where
@@ -61,12 +63,9 @@ module _ (s : Sizes) (g : Graph) (r : Reading) (x : State) (K : Kept s g r x) (I
       tally-else : (v k : ℕ) → v ≢ w → x .stage v ≡ adding k → x .tally k ≡ x .tally k + hit k j
       tally-else v k e z = omega (arith, hit-other k j (other-add s g r x K I w j v k e at-stage z))
 
-      next-pending : Pending.adding a (suc (a .count + 1 + i)) ≡ Pending.adding a (a .count + 1 + suc i)
-      next-pending = ap (Pending.adding a) (omega arith)
-
       pub linking-finished : job g place .label ≡ finished
           → Next s g x (withCall g w (linking a j (suc i) (suc t)))
-          (becomes r w (Pending.adding a (suc (a .count + 1 + i))))
+          (becomes r w (Pending.adding a (a .count + 1 + suc i)))
       linking-finished e = record {
         state = linkFinished x j;
         grown = λ k. omega arith;
@@ -80,7 +79,7 @@ module _ (s : Sizes) (g : Graph) (r : Reading) (x : State) (K : Kept s g r x) (I
           added = K .added;
           finished = K .finished;
           workers = workers-after s g r x K I w (withCall g w (linking a j (suc i) (suc t))) (linkFinished x j)
-              (Pending.adding a (suc (a .count + 1 + i))) _
+              (Pending.adding a (a .count + 1 + suc i)) _
               (extends-same (g .jobs)) (omega arith)
               (record {
                 held = K .workers w .held;
@@ -92,7 +91,7 @@ module _ (s : Sizes) (g : Graph) (r : Reading) (x : State) (K : Kept s g r x) (I
                   place = omega (arith, own-link .place, hit-same j);
                   tallied = omega (arith, own-link .tallied, hit-same j);
                 };
-                paced = (next-pending, own-paced .1);
+                paced = (refl, own-paced .1);
               })
               (λ v z. record {
                 held = refl;
@@ -106,7 +105,7 @@ module _ (s : Sizes) (g : Graph) (r : Reading) (x : State) (K : Kept s g r x) (I
       }
 
       pub linking-dependent : job g place .label ≢ finished
-          → Next s g x (linked g w a j i t place) (becomes r w (Pending.adding a (suc (a .count + 1 + i))))
+          → Next s g x (linked g w a j i t place) (becomes r w (Pending.adding a (a .count + 1 + suc i)))
       linking-dependent e =
           let p : ℕ = place in
           let y : State = linkDependent x j p in
@@ -140,7 +139,7 @@ module _ (s : Sizes) (g : Graph) (r : Reading) (x : State) (K : Kept s g r x) (I
                     known = known-keeps further (o .known);
                   });
               workers = workers-after s g r x K I w (linked g w a j i t p) y
-                  (Pending.adding a (suc (a .count + 1 + i))) _ further (omega (arith, longer))
+                  (Pending.adding a (a .count + 1 + suc i)) _ further (omega (arith, longer))
                   (record {
                     held = K .workers w .held;
                     stage = at-stage;
@@ -151,7 +150,7 @@ module _ (s : Sizes) (g : Graph) (r : Reading) (x : State) (K : Kept s g r x) (I
                       place = omega (arith, own-link .place, hit-same j);
                       tallied = own-link .tallied;
                     };
-                    paced = (next-pending, own-paced .1 ∙ sym (further .name j (own-link .there)));
+                    paced = (refl, own-paced .1 ∙ sym (further .name j (own-link .there)));
                   })
                   (λ v u. record {
                     held = refl;
@@ -168,16 +167,8 @@ module _ (s : Sizes) (g : Graph) (r : Reading) (x : State) (K : Kept s g r x) (I
                       | no b ↦ omega (arith, ap length (update-other (x .dependents) p d q b))
                     ];
                   });
-              added = λ name b. let o = K .added name b in
-                  record { job = o .job; found = further .found _ _ (o .found); ended = o .ended };
-              finished = λ name b.
-                  let o = K .finished name b in
-                  record {
-                    job = o .job;
-                    found = further .found _ _ (o .found);
-                    finished = o .finished;
-                    ended = o .ended;
-                  };
+              added = λ name b. added-keeps further (K .added name b);
+              finished = λ name b. finished-keeps further (K .finished name b);
             };
           }
 
@@ -236,14 +227,7 @@ module _ (s : Sizes) (g : Graph) (r : Reading) (x : State) (K : Kept s g r x) (I
                   dependents = λ p. omega arith;
                 });
             added = λ name e. was-added further name (contains name (r .added)) refl e;
-            finished = λ name e.
-                let o = K .finished name e in
-                record {
-                  job = o .job;
-                  found = further .found _ _ (o .found);
-                  finished = o .finished;
-                  ended = o .ended;
-                };
+            finished = λ name e. finished-keeps further (K .finished name e);
           };
         }
       where

@@ -17,7 +17,8 @@ use lib.Seq.{getD-append-seam}
 use Rattle.terms.specs.Base.{occurrences}
 use Rattle.terms.specs.Terms.{finished}
 use Rattle.rules.specs.Rules.{settles}
-use Rattle.rules_invariant.specs.Base.{update-same, update-other, update-at, hit, hit-same, hit-other}
+use Rattle.rules_cases.specs.Base.{update-same, update-other, update-at}
+use Rattle.rules_invariant.specs.Base.{hit, hit-same, hit-other}
 use Rattle.rules_invariant.specs.Base.{occurrences-take}
 use Rattle.rules_invariant.specs.Base.{occurrences-take-le, occurrences-drop-snoc, sum-at}
 use Rattle.rules_invariant.specs.Own.{owns-frame, owns-drop}

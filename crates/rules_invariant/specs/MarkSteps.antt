@@ -4,23 +4,27 @@ use mathlib.Core.Logic.{_≢_}
 use mathlib.Core.Bool.{Bool, true, false}
 use mathlib.Core.Option.{none, some}
 use mathlib.Core.List.{List, [], _∷_, _++_}
-use Prim.Native.Nat.{ℕ, _+_, _-_, _<_}
+use Prim.Native.Nat.{ℕ, _+_, _<_}
 use native.Mathlib.Omega.{arith}
 use native.Mathlib.Decide.{ℕ-discrete}
 use lib.ListN.{length, getD, set, length-set}
 use Rattle.terms.specs.Base.{update, occurrences, contains}
-use Rattle.terms.specs.Terms.{Label, executing, finished}
+use Rattle.terms.specs.Terms.{Label, executing, finished, finishOf}
+use Rattle.terms.specs.Order.{without}
+use Rattle.terms.specs.OrderLaws.{first-out}
 use Rattle.terms.specs.declared.Sizes.{Sizes}
-use Rattle.rules.specs.Rules.{Job, idle, marking, notifying, Graph, noJob, job, withLabel, marked, handedOut}
+use Rattle.rules.specs.Rules.{Job, idle, marking, notifying, Graph, noJob, job, withLabel, marked, handedOut, nextOut}
+use Rattle.rules.specs.Rules.{order}
 use Rattle.linearization.specs.Calls.{Pending, Reading, becomes, finishEnded}
-use Rattle.rules_invariant.specs.Base.{update-same, update-other, hit, hit-same, occurrences-cons}
+use Rattle.rules_cases.specs.Base.{update-same, update-other}
+use Rattle.rules_invariant.specs.Base.{hit, hit-same}
 use Rattle.rules_invariant.specs.State.{apart, finishing, State, hand, mark, close}
 use Rattle.rules_invariant.specs.Invariant.{Invariant, finished-not-unexecuted, executing-not-finished}
 use Rattle.rules_invariant.specs.Invariant.{entered-there}
 use Rattle.rules_invariant.specs.Invariant.{held-there}
-use Rattle.rules_invariant.specs.Finishing.{head-waits, hand-keeps, mark-keeps, close-keeps}
+use Rattle.rules_invariant.specs.Finishing.{out-waits, hand-keeps, mark-keeps, close-keeps}
 use Rattle.rules_invariant.specs.Names.{Extends, extends-set, contains-snoc}
-use Rattle.rules_invariant.specs.Relation.{Kept, known-keeps, JobRel, FinishEnded, set-all}
+use Rattle.rules_invariant.specs.Relation.{Kept, known-keeps, JobRel, FinishEnded, set-all, added-keeps}
 use Rattle.rules_invariant.specs.Turns.{Next, own-stage, workers-after}
 
 module _ (s : Sizes) (g : Graph) (r : Reading) (x : State) (K : Kept s g r x) (I : Invariant x) (w : ℕ) where
@@ -55,11 +59,15 @@ module _ (s : Sizes) (g : Graph) (r : Reading) (x : State) (K : Kept s g r x) (I
         })
 
   -- ---- a get
-  pub handing : (j : ℕ) (q : List ℕ) → g .workers w .call ≡ idle → g .queue ≡ j ∷ q → Next s g x (handedOut g w j q) r
-  handing j q f e =
-      let head : x .queue ≡ j ∷ q = sym (K .queue) ∙ e in
+  pub handing : (j : ℕ) → g .workers w .call ≡ idle → nextOut g ≡ some j
+      → Next s g x (handedOut g w j (without j (g .queue))) r
+  unfolding hit
+  handing j f e =
+      let q : List ℕ = without j (g .queue) in
       let has : (k : ℕ) → occurrences k (g .queue) ≡ hit k j + occurrences k q =
-      (λ k. ap (occurrences k) e ∙ occurrences-cons k j q) in
+      first-out (order g) (g .queue) j e .has in
+      let here : (k : ℕ) → occurrences k (x .queue) ≡ hit k j + occurrences k q =
+      (λ k. ap (occurrences k) (sym (K .queue)) ∙ has k) in
       let there : j < length (g .jobs) =
       omega (
         arith,
@@ -73,7 +81,7 @@ module _ (s : Sizes) (g : Graph) (r : Reading) (x : State) (K : Kept s g r x) (I
       let own : r .pending w ≡ Pending.idle = rw f at (K .workers w .paced) in
       record {
         state = y;
-        invariant = hand-keeps x I w j q head;
+        invariant = hand-keeps x I w j q here;
         grown = λ k. omega (arith, has k);
         kept = record {
           jobs-room = omega (arith, longer, K .jobs-room);
@@ -98,8 +106,7 @@ module _ (s : Sizes) (g : Graph) (r : Reading) (x : State) (K : Kept s g r x) (I
                 served = λ p b. refl;
                 dependents = λ p. omega arith;
               }) v);
-          added = λ name b. let o = K .added name b in
-              record { job = o .job; found = further .found _ _ (o .found); ended = o .ended };
+          added = λ name b. added-keeps further (K .added name b);
           finished = λ name b.
               let o = K .finished name b in
               record {
@@ -107,7 +114,7 @@ module _ (s : Sizes) (g : Graph) (r : Reading) (x : State) (K : Kept s g r x) (I
                 found = further .found _ _ (o .found);
                 ended = o .ended;
                 finished = update-other (x .label) j executing (o .job)
-                    (λ z. finished-not-unexecuted (cc (head-waits x I w j q head, o .finished))) ∙ o .finished;
+                    (λ z. finished-not-unexecuted (cc (out-waits x I w j q here, o .finished))) ∙ o .finished;
               };
         };
       }
@@ -132,9 +139,6 @@ module _ (s : Sizes) (g : Graph) (r : Reading) (x : State) (K : Kept s g r x) (I
     marked-unserved : x .served p ≡ 0
     marked-unserved = I .served-none p (λ z. executing-not-finished (cc (I .held-executing w p marked-held)))
 
-    pub marked-paced : r .pending w ≡ Pending.finishing (job g p .name) 0
-    marked-paced = rw e at (rw f at (K .workers w .paced))
-
     further : Extends (g .jobs) (relabelled p marked-there finished)
     further = relabelled-extends p marked-there finished
 
@@ -146,7 +150,7 @@ module _ (s : Sizes) (g : Graph) (r : Reading) (x : State) (K : Kept s g r x) (I
     another name o z = executing-not-finished (cc (I .held-executing w p marked-held, o .finished))
 
     pub marking-on : 0 < length (job g p .dependents)
-        → Next s g x (marked g w p (notifying p 0)) (becomes r w (Pending.finishing (job g p .name) 1))
+        → Next s g x (marked g w p (notifying p 0)) (becomes r w (Pending.finishing (finishOf (job g p .name)) 1))
     marking-on h = record {
       state = mark x w p;
       invariant = mark-keeps x I w p marked-stage marked-held;
@@ -158,7 +162,7 @@ module _ (s : Sizes) (g : Graph) (r : Reading) (x : State) (K : Kept s g r x) (I
         queue = K .queue;
         jobs = relabelled-jobs p marked-there finished;
         workers = workers-after s g r x K I w (marked g w p (notifying p 0)) (mark x w p)
-            (Pending.finishing (job g p .name) 1) (record { held = none; call = notifying p 0 })
+            (Pending.finishing (finishOf (job g p .name)) 1) (record { held = none; call = notifying p 0 })
             further (omega (arith, longer))
             (record {
               held = sym (update-same (x .held) w none);
@@ -168,7 +172,7 @@ module _ (s : Sizes) (g : Graph) (r : Reading) (x : State) (K : Kept s g r x) (I
                 place = sym marked-unserved;
                 left = omega (arith, ap length (K .jobs p .dependents));
               };
-              paced = ap (λ (z : ℕ). Pending.finishing z 1) (sym (further .name p marked-there));
+              paced = ap (λ (z : ℕ). Pending.finishing (finishOf z) 1) (sym (further .name p marked-there));
             })
             (λ v z. record {
               held = sym (update-other (x .held) w none v z);
@@ -178,8 +182,7 @@ module _ (s : Sizes) (g : Graph) (r : Reading) (x : State) (K : Kept s g r x) (I
               served = λ q b. refl;
               dependents = λ q. omega arith;
             });
-        added = λ name b. let o = K .added name b in
-            record { job = o .job; found = further .found _ _ (o .found); ended = o .ended };
+        added = λ name b. added-keeps further (K .added name b);
         finished = λ name b.
             let o = K .finished name b in
             record {
@@ -246,8 +249,7 @@ module _ (s : Sizes) (g : Graph) (r : Reading) (x : State) (K : Kept s g r x) (I
               served = λ q b. refl;
               dependents = λ q. omega arith;
             });
-        added = λ name b. let o = K .added name b in
-            record { job = o .job; found = further .found _ _ (o .found); ended = o .ended };
+        added = λ name b. added-keeps further (K .added name b);
         finished = λ name b. was-finished name (contains name (r .finished)) refl b;
       };
     }

@@ -11,16 +11,18 @@ use borrow.Author.Tests.{eqb-true, eqb-false}
 use lib.Dec.{eqb}
 use lib.ListN.{length, getD, set, length-set}
 use Rattle.terms.specs.Base.{update, occurrences, contains}
-use Rattle.terms.specs.Terms.{finished}
+use Rattle.terms.specs.Terms.{finished, finishOf}
 use Rattle.terms.specs.declared.Sizes.{Sizes}
 use Rattle.rules.specs.Rules.{Job, idle, notifying, Graph, noJob, job, withCount, notified, enqueue}
 use Rattle.linearization.specs.Calls.{Pending, Reading, becomes, finishEnded}
-use Rattle.rules_invariant.specs.Base.{update-same, update-other, update-at, hit-same, hit-other}
+use Rattle.rules_cases.specs.Base.{update-same, update-other, update-at}
+use Rattle.rules_invariant.specs.Base.{hit-same, hit-other}
 use Rattle.rules_invariant.specs.State.{apart, finishing, State, bit, hitIf, serve, close}
 use Rattle.rules_invariant.specs.Invariant.{Invariant, occurrences-enqueue, counted-there}
 use Rattle.rules_invariant.specs.Finishing.{served-counted, serve-keeps, close-keeps}
 use Rattle.rules_invariant.specs.Names.{Extends, extends-set, contains-snoc}
 use Rattle.rules_invariant.specs.Relation.{Kept, known-keeps, jobRel, NotifyRel, FinishEnded, set-all}
+use Rattle.rules_invariant.specs.Relation.{added-keeps, finished-keeps}
 use Rattle.rules_invariant.specs.Turns.{Next, own-stage, own-call, other-finish, workers-after}
 
 -- whether a notified job is queued is right
@@ -40,9 +42,6 @@ module _ (s : Sizes) (g : Graph) (r : Reading) (x : State) (K : Kept s g r x) (I
 
     pub own-finishing : x .stage w ≡ finishing p
     own-finishing = own-stage s g r x K I w (notifying p k) f
-
-    pub notify-paced : r .pending w ≡ Pending.finishing (job g p .name) (suc k)
-    notify-paced = rw f at (K .workers w .paced)
 
     abbrev j : ℕ
     j = getD (job g p .dependents) k 0
@@ -108,7 +107,7 @@ module _ (s : Sizes) (g : Graph) (r : Reading) (x : State) (K : Kept s g r x) (I
 
     pub notifying-on : suc k < length (job g p .dependents)
         → Next s g x (notified g w j (notifying p (suc k)))
-        (becomes r w (Pending.finishing (job g p .name) (suc (suc k))))
+        (becomes r w (Pending.finishing (finishOf (job g p .name)) (suc (suc k))))
     notifying-on h = record {
       state = served-state;
       invariant = served-invariant;
@@ -120,7 +119,7 @@ module _ (s : Sizes) (g : Graph) (r : Reading) (x : State) (K : Kept s g r x) (I
         queue = ap (λ (l : List ℕ). enqueue test l j) (K .queue);
         jobs = later-jobs;
         workers = workers-after s g r x K I w (notified g w j (notifying p (suc k))) served-state
-            (Pending.finishing (job g p .name) (suc (suc k))) _ later-extends (omega (arith, later-length))
+            (Pending.finishing (finishOf (job g p .name)) (suc (suc k))) _ later-extends (omega (arith, later-length))
             (record {
               held = K .workers w .held;
               stage = own-finishing;
@@ -129,7 +128,7 @@ module _ (s : Sizes) (g : Graph) (r : Reading) (x : State) (K : Kept s g r x) (I
                 place = ap suc (own-notify .place) ∙ sym (update-same (x .served) p (suc (x .served p)));
                 left = omega (arith, ap length (K .jobs p .dependents));
               };
-              paced = ap (λ (z : ℕ). Pending.finishing z (suc (suc k)))
+              paced = ap (λ (z : ℕ). Pending.finishing (finishOf z) (suc (suc k)))
                   (sym (later-extends .name p (own-notify .there)));
             })
             (λ v z. record {
@@ -140,16 +139,8 @@ module _ (s : Sizes) (g : Graph) (r : Reading) (x : State) (K : Kept s g r x) (I
               served = λ q b. served-else v q z b;
               dependents = λ q. omega arith;
             });
-        added = λ name b. let o = K .added name b in
-            record { job = o .job; found = later-extends .found _ _ (o .found); ended = o .ended };
-        finished = λ name b.
-            let o = K .finished name b in
-            record {
-              job = o .job;
-              found = later-extends .found _ _ (o .found);
-              finished = o .finished;
-              ended = o .ended;
-            };
+        added = λ name b. added-keeps later-extends (K .added name b);
+        finished = λ name b. finished-keeps later-extends (K .finished name b);
       };
     }
 
@@ -206,8 +197,7 @@ module _ (s : Sizes) (g : Graph) (r : Reading) (x : State) (K : Kept s g r x) (I
               served = λ q b. served-else v q z b;
               dependents = λ q. omega arith;
             });
-        added = λ name b. let o = K .added name b in
-            record { job = o .job; found = later-extends .found _ _ (o .found); ended = o .ended };
+        added = λ name b. added-keeps later-extends (K .added name b);
         finished = λ name b. last-finished name (contains name (r .finished)) refl b;
       };
     }

@@ -6,7 +6,7 @@ use mathlib.Core.Option.{Option, none, some, Option·some-injective, Option·non
 use Prim.Native.Nat.{ℕ}
 use native.Mathlib.Decide.{ℕ-discrete}
 use Rattle.terms.specs.Base.{update}
-use Rattle.rules_invariant.specs.Base.{update-other, update-at}
+use Rattle.rules_cases.specs.Base.{update-other, update-at}
 
 module _ {C : Type 0} where
   pub record Owns (K : ℕ → C) (call : ℕ → C) (own : ℕ → Option ℕ) : Type 0 where

@@ -141,6 +141,15 @@ pub record FinishEnded (l : List Job) (now : ℕ → Label) (by : ℕ → Option
   pub finished : now job ≡ finished
   pub ended : by job ≡ none
 
+pub added-keeps : {l h : List Job} {by : ℕ → Option ℕ} {name : ℕ} → Extends l h → AddEnded l by name
+    → AddEnded h by name
+added-keeps x o = record { job = o .job; found = x .found _ _ (o .found); ended = o .ended }
+
+pub finished-keeps : {l h : List Job} {now : ℕ → Label} {by : ℕ → Option ℕ} {name : ℕ} → Extends l h
+    → FinishEnded l now by name → FinishEnded h now by name
+finished-keeps x o =
+    record { job = o .job; found = x .found _ _ (o .found); finished = o .finished; ended = o .ended }
+
 -- ---- the whole
 pub record Kept (s : Sizes) (g : Graph) (r : Reading) (x : State) : Type 0 where
   pub jobs-room : length (g .jobs) ≤ s .jobs

@@ -2,17 +2,19 @@
 -- nothing.
 use mathlib.Core.Path.{_≡_, refl, sym, ap, _∙_}
 use mathlib.Core.Logic.{_≢_}
+use mathlib.Core.List.{List}
 use mathlib.Core.Option.{Option·some-injective}
 use Prim.Native.Nat.{ℕ, _+_, _-_, _≤_}
 use native.Mathlib.Omega.{arith}
 use native.Mathlib.Decide.{ℕ-discrete}
 use lib.ListN.{length}
-use Rattle.terms.specs.Base.{update, occurrences, contains}
+use Rattle.terms.specs.Base.{update, occurrences}
 use Rattle.terms.specs.declared.Sizes.{Sizes}
 use Rattle.rules.specs.Rules.{Call, Worker, Graph, withCall}
+use Rattle.sequential_model.specs.Book.{Ended}
 use Rattle.linearization.specs.Calls.{Pending, Reading, becomes}
 use Rattle.rules_history.specs.History.{PacedCall}
-use Rattle.rules_invariant.specs.Base.{update-same, update-other}
+use Rattle.rules_cases.specs.Base.{update-same, update-other}
 use Rattle.rules_invariant.specs.State.{apart, adding, finishing, State}
 use Rattle.rules_invariant.specs.Invariant.{Invariant, held-there}
 use Rattle.rules_invariant.specs.Names.{Extends, extends-same}
@@ -25,17 +27,10 @@ pub record Next (s : Sizes) (g : Graph) (x : State) (h : Graph) (q : Reading) : 
   pub kept : Kept s h q state
   pub grown : (k : ℕ) → state .entries k ≡ x .entries k + (occurrences k (h .queue) - occurrences k (g .queue))
 
--- a reading with the same calls half done and the same ended ones
-pub record Alike (r q : Reading) : Type 0 where
-  pub pending : (v : ℕ) → r .pending v ≡ q .pending v
-  pub added : r .added ≡ q .added
-  pub finished : r .finished ≡ q .finished
-
-pub alike-same : (r : Reading) → Alike r r
-alike-same r = record { pending = λ v. refl; added = refl; finished = refl }
-
-pub retold : {s : Sizes} {g h : Graph} {x : State} {r q : Reading} → Alike r q → Next s g x h r → Next s g x h q
-retold {s} {g} {h} {x} {r} {q} a n =
+-- the calls decided so far do not matter
+pub decided-too : {s : Sizes} {g h : Graph} {x : State} {q : Reading} (l : List Ended) → Next s g x h q
+    → Next s g x h (record { pending = q .pending; calls = l; added = q .added; finished = q .finished })
+decided-too l n =
     let k = n .kept in
     record {
       state = n .state;
@@ -47,9 +42,9 @@ retold {s} {g} {h} {x} {r} {q} a n =
         size = k .size;
         jobs = k .jobs;
         queue = k .queue;
-        workers = λ v. rw (← (a .pending v)) (k .workers v);
-        added = λ name e. k .added name (ap (contains name) (a .added) ∙ e);
-        finished = λ name e. k .finished name (ap (contains name) (a .finished) ∙ e);
+        workers = k .workers;
+        added = k .added;
+        finished = k .finished;
       };
     }
 

@@ -9,8 +9,9 @@ use lib.Dec.{ltb, leb, eqb}
 use lib.ListN.{length, getD, set}
 use Rattle.terms.specs.Base.{pick, update}
 use Rattle.terms.specs.Terms.{Label, unexecuted, executing, finished, Arguments, listed, argumentsWrong, wrongArguments}
-use Rattle.terms.specs.Terms.{unknownName, namePresent, noRoom, alreadyHolding, notHeld}
+use Rattle.terms.specs.Terms.{unknownName, namePresent, noRoom, alreadyHolding, notHeld, Finish}
 use Rattle.terms.specs.declared.Sizes.{Sizes}
+use Rattle.terms.specs.declared.HandOut.{HandOut}
 
 -- "the jobs in order of entry (name, list, class, grower, label)"
 pub record Entry : Type 0 where
@@ -68,13 +69,12 @@ pub record Ready (b : Book) (j : ℕ) : Type 0 where
 pub data Call : Type 0 where
   add : ℕ → Arguments → Call
   get : ℕ → Call
-  finish : ℕ → ℕ → Call
+  finish : ℕ → Finish → Call
 
--- a job is handed out by its number and its name
 pub data End : Type 0 where
   accepted : End
   noneReady : End
-  handed : ℕ → ℕ → End
+  handed : HandOut → End
   refused : ℕ → ℕ → End
 
 -- the first place whose name no job has
@@ -106,22 +106,26 @@ addEnd s b a =
     pick (argumentsWrong a) (refused wrongArguments 0) (addKnown s b a (firstUnknown (b .jobs) (listed a) 0))
 
 -- "Finish: 11 unless the worker holds a job of that name"
-unfoldable pub finishEnd : Book → ℕ → Option ℕ → End
-finishEnd b name none = refused notHeld 0
-finishEnd b name (some j) = pick (eqb (entry b j .name) name) accepted (refused notHeld 0)
+unfoldable pub finishEnd : Book → Finish → Option ℕ → End
+finishEnd b f none = refused notHeld 0
+finishEnd b f (some j) = pick (eqb (entry b j .name) (f .name)) accepted (refused notHeld 0)
+
+-- a job as it is handed out
+abbrev pub handOut : Book → ℕ → HandOut
+handOut b j = record { job = j; name = entry b j .name }
 
 -- "Get: 10 exactly if the worker holds a job. Else the answer is none ready, or a job ready in the book", under its own
 -- name
 pub data GetEnd (b : Book) : Option ℕ → End → Type 0 where
   holding : {j : ℕ} → GetEnd b (some j) (refused alreadyHolding 0)
   nothing : GetEnd b none noneReady
-  taken : (j : ℕ) → Ready b j → GetEnd b none (handed j (entry b j .name))
+  taken : (j : ℕ) → Ready b j → GetEnd b none (handed (handOut b j))
 
 -- how the book has a call end
 abbrev pub Ends : Sizes → Book → Call → End → Type 0
 Ends s b (add w a) e = e ≡ addEnd s b a
 Ends s b (get w) e = GetEnd b (b .held w) e
-Ends s b (finish w name) e = e ≡ finishEnd b name (b .held w)
+Ends s b (finish w f) e = e ≡ finishEnd b f (b .held w)
 
 -- ---- what a call leaves; "A refused call changes nothing"
 abbrev pub labelled : Book → ℕ → Label → List Entry
@@ -141,17 +145,18 @@ next b (add w a) accepted =
           { name = a .name; list = listed a; class = a .class; grower = a .grower; label = unexecuted } ∷ []);
       held = b .held;
     }
-next b (get w) (handed j name) = record { jobs = labelled b j executing; held = update (b .held) w (some j) }
-next b (finish w name) accepted = finishedBy b w (b .held w)
+next b (get w) (handed h) =
+    record { jobs = labelled b (h .job) executing; held = update (b .held) w (some (h .job)) }
+next b (finish w f) accepted = finishedBy b w (b .held w)
 next b (add w a) noneReady = b
-next b (add w a) (handed j name) = b
+next b (add w a) (handed h) = b
 next b (add w a) (refused n p) = b
 next b (get w) accepted = b
 next b (get w) noneReady = b
 next b (get w) (refused n p) = b
-next b (finish w name) noneReady = b
-next b (finish w name) (handed j other) = b
-next b (finish w name) (refused n p) = b
+next b (finish w f) noneReady = b
+next b (finish w f) (handed h) = b
+next b (finish w f) (refused n p) = b
 
 -- a whole call with how it ended
 pub record Ended : Type 0 where

@@ -5,10 +5,10 @@ ghost use mathlib.Core.List.{List};
 ghost use Prim.Native.Nat.{ℕ, _+_, _*_, _≤_};
 ghost use lib.ListN.{length};
 ghost use lib.Dec.{leb};
-ghost use Rattle.sheet_format.specs.Job.{mostNames, nameBytes, countBytes, bitOf};
+ghost use Rattle.sheet_format.specs.Job.{mostNames, nameBytes, countBytes, bitOf, mapByte};
 ghost use Rattle.sheet_format.specs.Decode.{rowWords};
 ghost use Rattle.sheet_format.specs.Write.{listBytes, entryAt, entriesFrom, entriesOf};
-ghost use Rattle.sheet_limits.specs.Jobs.{entryWith};
+ghost use Rattle.sheet_limits.specs.Jobs.{entryWith, jobOn};
 ghost use Rattle.sheet_limits.specs.Judge.{judged, sheetJudged};
 
 // The most names of a list, the highest class and the highest grower.
@@ -61,6 +61,13 @@ pub fn bit(x: u32) -> usize
     ensures { λ r. ⌜ (r ≡ bitOf x) × (r ≤ 1) ⌝ }
 {
     if x == 0 { 0 } else { 1 }
+}
+
+// The map byte: bit 0 name, bit 1 prerequisites, bit 2 class, bit 3 grower.
+pub fn map_byte(count: u32, class: u32, grower: u32) -> u8
+    ensures { λ r. ⌜ ((name : ℕ) (list : List ℕ) → length list ≡ count → r ≡ mapByte (jobOn name list class grower)) ⌝ }
+{
+    (1 + 2 * bit(count) + 4 * bit(class) + 8 * bit(grower)) as u8
 }
 
 // The bytes of a list of n names.

@@ -15,21 +15,21 @@ use sheet_limits::NAME_BYTES;
 use sheet_limits::NAMES_WORD;
 use sheet_limits::ROW_WORDS;
 use sheet_limits::SheetJudged;
-use sheet_limits::bit;
 use sheet_limits::has_room;
 use sheet_limits::judge;
 use sheet_limits::judge_sheet;
+use sheet_limits::map_byte;
 ghost use mathlib.Core.Path.{_≡_};
-ghost use mathlib.Core.List.{List, map};
-ghost use Prim.Native.Nat.{ℕ, _+_, _*_, _≤_};
+ghost use mathlib.Core.List.{map};
+ghost use Prim.Native.Nat.{_+_, _*_, _≤_};
 ghost use lib.ListN.{length, take, drop};
 ghost use Rattle.sheet_format.specs.Number.{spelt};
 ghost use Rattle.sheet_format.specs.Job.{nameBytes, classBytes, growerBytes, bitOf, speltUnlessZero, speltNames};
-ghost use Rattle.sheet_format.specs.Job.{speltList, mapByte, encode, encodeSheet};
+ghost use Rattle.sheet_format.specs.Job.{speltList, encode, encodeSheet};
 ghost use Rattle.sheet_format.specs.Decode.{rowWords};
 ghost use Rattle.sheet_format.specs.Write.{listBytes, Fault, faultOf, jobOf, entryAt, entriesFrom};
 ghost use Rattle.sheet_format.specs.Write.{SheetFault, sheetFault, written, writeEntry, sheetWritten, writeSheet};
-ghost use Rattle.sheet_limits.specs.Jobs.{jobOn, jobWith};
+ghost use Rattle.sheet_limits.specs.Jobs.{jobWith};
 ghost use Rattle.sheet_writer.specs.Put.{Put};
 
 // Refusals: a table shorter than its records need, a field off its limits, an output without room.
@@ -102,13 +102,6 @@ fn put_grower(out: &mut [u8], place: usize, grower: u32) -> usize
     out[place] = (grower % 256) as u8;
     out[place + 1] = (grower / 256 % 256) as u8;
     place + GROWER_BYTES
-}
-
-// The map byte: bit 0 name, bit 1 prerequisites, bit 2 class, bit 3 grower.
-fn map_byte(count: u32, class: u32, grower: u32) -> u8
-    ensures { λ r. ⌜ ((name : ℕ) (list : List ℕ) → length list ≡ count → r ≡ mapByte (jobOn name list class grower)) ⌝ }
-{
-    (1 + 2 * bit(count) + 4 * bit(class) + 8 * bit(grower)) as u8
 }
 
 // An entry for which there is room, its names from words[from] on.

@@ -45,7 +45,8 @@ graphAnswer Answer.Posted = plain kindPosted
 graphAnswer Answer.Going = plain kindGoingOn
 graphAnswer Answer.Ended = plain kindEnded
 graphAnswer Answer.NoneReady = plain kindNoneReady
-graphAnswer (Answer.Handed j name) = record { kind = kindHandedOut; number = accepted; place = 0; job = j; name = name }
+graphAnswer (Answer.Handed h) =
+    record { kind = kindHandedOut; number = accepted; place = 0; job = h .job; name = h .name }
 graphAnswer (Answer.Refused number place) =
     record { kind = kindRefused; number = number; place = place; job = 0; name = 0 }
 

@@ -53,12 +53,12 @@ pub fn answered(answer: Answer) -> GraphAnswer
         Answer::Going => plain(GOING_ON),
         Answer::Ended => plain(ENDED),
         Answer::NoneReady => plain(NONE_READY),
-        Answer::Handed { job, name } => GraphAnswer {
+        Answer::Handed { out } => GraphAnswer {
             kind: HANDED_OUT,
             number: 0,
             place: 0,
-            job,
-            name,
+            job: out.job,
+            name: out.name,
         },
         Answer::Refused { number, place } => GraphAnswer {
             kind: REFUSED,

@@ -1,5 +1,7 @@
 pub mod Base
 pub mod Terms
+pub mod Order
+pub mod OrderLaws
 pub mod Seen
 pub mod Runs
 pub mod Starred

@@ -2,7 +2,7 @@
 use mathlib.Core.List.{List, [], _∷_}
 use Prim.Native.Nat.{ℕ, _+_, _-_}
 use Rattle.terms.specs.Base.{occurrences}
-use Rattle.terms.specs.Terms.{Arguments}
+use Rattle.terms.specs.Terms.{Arguments, Finish}
 use Rattle.terms.specs.declared.Sizes.{Sizes}
 use Rattle.terms.specs.declared.Answer.{Answer}
 
@@ -10,19 +10,19 @@ use Rattle.terms.specs.declared.Answer.{Answer}
 -- brings
 pub data Item : Type 0 where
   postAdd : Sizes → ℕ → Arguments → Item
-  postFinish : Sizes → ℕ → ℕ → Item
+  postFinish : Sizes → ℕ → Finish → Item
   step : Sizes → ℕ → Item
   get : Sizes → ℕ → Item
 
 abbrev pub sizesOf : Item → Sizes
 sizesOf (postAdd s w a) = s
-sizesOf (postFinish s w name) = s
+sizesOf (postFinish s w f) = s
 sizesOf (step s w) = s
 sizesOf (get s w) = s
 
 abbrev pub workerOf : Item → ℕ
 workerOf (postAdd s w a) = w
-workerOf (postFinish s w name) = w
+workerOf (postFinish s w f) = w
 workerOf (step s w) = w
 workerOf (get s w) = w
 

@@ -7,6 +7,7 @@ use mathlib.Core.Option.{Option}
 use Prim.Native.Nat.{ℕ, _<_}
 use Rattle.terms.specs.Terms.{Arguments, listed}
 use Rattle.terms.specs.declared.Sizes.{Sizes}
+use Rattle.terms.specs.declared.HandOut.{HandOut}
 
 -- what an add asks for: its arguments up to the count of its list
 pub record Request : Type 0 where
@@ -46,6 +47,10 @@ pub record Seen : Type 0 where
   pub waiting : List ℕ
   pub held : ℕ → Option ℕ
   pub call : ℕ → CallSeen
+
+-- a job as it is handed out
+abbrev pub handOut : Seen → ℕ → HandOut
+handOut x j = record { job = j; name = x .job j .name }
 
 -- the same is seen: of all jobs that were made and of all workers
 pub record Same (s : Sizes) (x y : Seen) : Type 0 where

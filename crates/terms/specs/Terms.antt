@@ -98,6 +98,13 @@ pub record Arguments : Type 0 where
 abbrev pub listed : Arguments → List ℕ
 listed a = prefix (a .count) (a .names)
 
+-- ---- what a finish brings: the name of the job
+pub record Finish : Type 0 where
+  pub name : ℕ
+
+abbrev pub finishOf : ℕ → Finish
+finishOf name = record { name = name }
+
 -- number 5: "a class over 15, a grower over 65,535, or a list over 32, holding its own job's name or a name twice"
 unfoldable pub argumentsWrong : Arguments → Bool
 argumentsWrong a =

@@ -9,6 +9,12 @@ pub struct Sizes {
     pub workers: u32,
 }
 
+// What a get hands out: the job's number and its name.
+pub struct HandOut {
+    pub job: u32,
+    pub name: u32,
+}
+
 // What a call or a step answers.
 pub enum Answer {
     // The tables were laid out.
@@ -22,7 +28,7 @@ pub enum Answer {
     // A get found the queue empty.
     NoneReady,
     // A get handed a job out.
-    Handed { job: u32, name: u32 },
+    Handed { out: HandOut },
     // A number of document 01's list; 6 comes with a place in the list, and for every other number the place is 0.
     Refused { number: u32, place: u32 },
 }

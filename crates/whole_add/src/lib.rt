@@ -4,7 +4,7 @@ ghost use mathlib.Core.Path.{_≡_};
 ghost use Rattle.terms.specs.Runs.{outcome};
 ghost use Rattle.words.specs.Layout.{atEntry, atExit};
 ghost use Rattle.whole_words.specs.Whole.{wholeAdd};
-use graph_posts::post_add;
+use graph_post_add::post_add;
 use terms::Answer;
 use terms::Sizes;
 use whole_steps::rest;

@@ -4,28 +4,26 @@ use mathlib.Core.Path.{_≡_, refl, sym, ap, ap₂, _∙_}
 use mathlib.Core.List.{[], _∷_}
 use Prim.Native.Nat.{ℕ, zero, suc, _+_, _*_, _≤_, _<_}
 use native.Mathlib.Omega.{arith}
-use lib.ListN.{length, getD, length-append}
-use borrow.Author.Tests.{lt-ltb, le-ltb}
-use Rattle.terms.specs.Terms.{Arguments, listed, argumentsWrong, wrongArguments, unknownName, namePresent, noRoom}
+use lib.ListN.{length, length-append}
+use Rattle.terms.specs.Terms.{Arguments, wrongArguments, unknownName, namePresent, noRoom}
 use Rattle.terms.specs.Runs.{postAdd, step, Outcome, outcome, after, events}
 use Rattle.terms.specs.declared.Sizes.{Sizes}
 use Rattle.terms.specs.declared.Answer.{Answer}
 use Rattle.terms.specs.declared.Answer.the-variants.{Going, Ended, Refused}
-use Rattle.rules.specs.Rules.{Found, at, missing, idle, looking, linking, Worker, Graph, find, newJob, withCall}
-use Rattle.rules.specs.Rules.{lookUp, entered, enter, stepCall, whenIdle, addPosted, perform}
+use Rattle.rules.specs.Rules.{idle, looking, linking, Worker, Graph, newJob, withCall, entered, perform, withWorkers}
+use Rattle.rules_cases.specs.Deed as by
+use Rattle.rules_cases.specs.Deed.{Stepped, Made}
 use Rattle.linearization.specs.Calls.{Reading}
 use Rattle.rules_history.specs.History.{History, then}
-use Rattle.rules_follow_model.specs.Base.{pick-by}
-use Rattle.rules_follow_model.specs.Change.{noPlace}
-use Rattle.rules_follow_model.specs.Own.{performed}
+use Rattle.rules_cases.specs.Own.{own-sizes, own-step, own-made}
 use Rattle.whole_calls.specs.Whole.{stepsOf, answers, through, goingTo, Kept, Unchanged, AddLeft, WholeAdd}
 use Rattle.whole_calls.specs.Whole.{AddEnd, accepted, wrong, unknown, present, no-room}
 use Rattle.whole_calls.specs.Kept.{grown-same, entered-labels, kept-same, kept-on, turned, call-turned, with-call}
-use Rattle.whole_calls.specs.Last.{own-step, links-end}
+use Rattle.whole_calls.specs.Last.{links-end}
 
 -- ---- where nothing changes at first
 unchanged : (g : Graph) (f : ℕ → Worker)
-    → Unchanged g (record { jobs = g .jobs; reserved = g .reserved; queue = g .queue; workers = f })
+    → Unchanged g (withWorkers g f)
 unchanged g f = record { jobs = refl; reserved = refl; queue = refl }
 
 unchanged-on : {g h k : Graph} → Unchanged g h → Unchanged h k → Unchanged g k
@@ -64,9 +62,9 @@ module _ (s : Sizes) {w : ℕ} (h : w < s .workers) (a : Arguments) where
       record { more = 0; answer = Refused n q; answered = ap (λ (o : Outcome Graph). o .answer ∷ []) E; left = L }
 
   entering : {g : Graph} {r : Reading} {e : ℕ → ℕ} → History s g r e
-      → perform s g (step s w) ≡ outcome Going (entered g w a) → FromLook g (a .count)
+      → (i : ℕ) → i ≡ a .count → perform s g (step s w) ≡ outcome Going (entered g w a) → FromLook g i
   unfolding after events
-  entering {g} history E =
+  entering {g} history i all E =
       let T = links-end s h (a .count) (then history (step s w)) a (length (g .jobs)) 0 0
       (rw E (call-turned g w (linking a (length (g .jobs)) 0 0))) (omega arith) in
       let K : Kept w g (perform s g (step s w) .state) =
@@ -84,68 +82,63 @@ module _ (s : Sizes) {w : ℕ} (h : w < s .workers) (a : Arguments) where
         };
       }
 
-  enters : {g : Graph} {r : Reading} {e : ℕ → ℕ} → History s g r e → (f : Found)
-      → perform s g (step s w) ≡ enter s g w a f → FromLook g (a .count)
-  unfolding enter
-  enters {g} history (at j) E = refuses g (a .count) namePresent 0 E (present refl (unchanged g _))
-  enters {g} history missing E = pick-by (λ o. perform s g (step s w) ≡ o → FromLook g (a .count)) (noPlace s g a)
-      (λ _ E. refuses g (a .count) noRoom 0 E (no-room refl (unchanged g _)))
-      (λ _ E. entering history E) E
-
-  looks : (g : Graph) (i : ℕ) → i < a .count
-      → (perform s g (step s w) .state .workers w .call ≡ looking a (suc i)
+  looks : {g : Graph} {r : Reading} {e : ℕ → ℕ} → History s g r e → (i : ℕ) → i ≤ a .count
+      → (i < a .count → perform s g (step s w) .state .workers w .call ≡ looking a (suc i)
       → FromLook (perform s g (step s w) .state) (suc i))
-      → (f : Found) → perform s g (step s w) ≡ lookUp g w a i f → FromLook g i
-  unfolding lookUp after events
-  looks g i l rest (at j) E =
-      let R = rest (rw E (call-turned g w (looking a (suc i)))) in
+      → {x : Answer} {k : Graph} → Stepped s g w (looking a i) x k → perform s g (step s w) ≡ outcome x k
+      → FromLook g i
+  unfolding after events
+  looks history i l rest (by.broken b) E = absurd b
+  looks {g} history i l rest (by.lookedUp j m z) E =
+      let R = rest m (rw E (call-turned g w (looking a (suc i)))) in
       record {
         more = suc (R .more);
         answer = R .answer;
         answered = ap₂ (λ x l. x ∷ l) (ap (λ (o : Outcome Graph). o .answer) E) (R .answered);
         left = left-so (rw E (unchanged g _)) (omega arith) (rw E (with-call g w (looking a (suc i)))) (R .left);
       }
-  looks g i l rest missing E = refuses g i unknownName i E (unknown l refl (unchanged g _))
+  looks {g} history i l rest (by.nameUnknown m z) E =
+      refuses g i unknownName i E (unknown m refl (unchanged g _))
+  looks {g} history i l rest (by.nameThere j m z) E =
+      refuses g i namePresent 0 E (present (omega arith) (unchanged g _))
+  looks {g} history i l rest (by.roomLacking m z y) E =
+      refuses g i noRoom 0 E (no-room (omega arith) (unchanged g _))
+  looks history i l rest (by.jobEntered m z y) E = entering history i (omega arith) E
 
   looks-end : (n : ℕ) {g : Graph} {r : Reading} {e : ℕ → ℕ} → History s g r e → (i : ℕ)
       → g .workers w .call ≡ looking a i → i + n ≡ a .count → FromLook g i
-  unfolding stepCall
   looks-end zero {g} history i c k =
-      let all : i ≡ a .count = omega arith in
-      rw all (enters history (find g (a .name))
-      (own-step s g h (looking a i) c ∙ rw (le-ltb i (a .count) (omega arith))))
+      looks history i (omega arith) (λ l. absurd (omega arith)) (own-step s g h c) refl
   looks-end (suc n) {g} history i c k =
-      looks g i (omega arith) (λ d. looks-end n (then history (step s w)) (suc i) d (omega arith))
-      (find g (getD (listed a) i 0)) (own-step s g h (looking a i) c ∙ rw (lt-ltb i (a .count) (omega arith)))
-
--- the post, by an idle worker
-posted : (s : Sizes) (g : Graph) (w : ℕ) → w < s .workers → g .workers w .call ≡ idle → (a : Arguments)
-    → perform s g (postAdd s w a) ≡ addPosted g w a
-unfolding perform whenIdle
-posted s g w h c a = performed s g w h _ ∙ rw c
+      looks history i (omega arith) (λ l d. looks-end n (then history (step s w)) (suc i) d (omega arith))
+      (own-step s g h c) refl
 
 -- "each run whole": an add that an idle worker posts
 pub whole-add : {s : Sizes} {g : Graph} {r : Reading} {e : ℕ → ℕ} → History s g r e → (w : ℕ) → w < s .workers
     → g .workers w .call ≡ idle → (a : Arguments) → WholeAdd s g w a
-unfolding addPosted after events
-whole-add {s} {g} history w h c a = pick-by (λ o. perform s g (postAdd s w a) ≡ o → WholeAdd s g w a) (argumentsWrong a)
-    (λ _ E. let L : AddLeft w a g (perform s g (postAdd s w a) .state) 0 (Refused wrongArguments 0) =
-    rw E (record { idle = c; kept = kept-same g w; end = wrong refl (unchanged g _) }) in
-    record {
-      steps = 0;
-      answer = Refused wrongArguments 0;
-      answered = ap (λ (o : Outcome Graph). o .answer ∷ []) E;
-      left = L;
-    })
-    (λ _ E. let R = looks-end s h a (a .count) (then history (postAdd s w a)) 0 (rw E (call-turned g w (looking a 0)))
-    (omega arith) in
-    record {
-      steps = suc (R .more);
-      answer = R .answer;
-      answered = ap₂ (λ x l. x ∷ l) (ap (λ (o : Outcome Graph). o .answer) E) (R .answered);
-      left = left-so (rw E (unchanged g _)) (omega arith) (rw E (with-call g w (looking a 0))) (R .left);
-    })
-    (posted s g w h c a)
+unfolding after events
+whole-add {s} {g} history w h c a = of (own-made s g (postAdd s w a) (own-sizes s) h refl c) refl
+  where
+    of : {x : Answer} {k : Graph} → Made s g (postAdd s w a) x k → perform s g (postAdd s w a) ≡ outcome x k
+        → WholeAdd s g w a
+    of (by.addWrong z) E =
+        let L : AddLeft w a g (perform s g (postAdd s w a) .state) 0 (Refused wrongArguments 0) =
+        rw E (record { idle = c; kept = kept-same g w; end = wrong refl (unchanged g _) }) in
+        record {
+          steps = 0;
+          answer = Refused wrongArguments 0;
+          answered = ap (λ (o : Outcome Graph). o .answer ∷ []) E;
+          left = L;
+        }
+    of (by.addPosted z) E =
+        let R = looks-end s h a (a .count) (then history (postAdd s w a)) 0 (rw E (call-turned g w (looking a 0)))
+        (omega arith) in
+        record {
+          steps = suc (R .more);
+          answer = R .answer;
+          answered = ap₂ (λ x l. x ∷ l) (ap (λ (o : Outcome Graph). o .answer) E) (R .answered);
+          left = left-so (rw E (unchanged g _)) (omega arith) (rw E (with-call g w (looking a 0))) (R .left);
+        }
 
 -- no add takes more steps than an accepted one
 pub steps-within : {a : Arguments} {g later : Graph} {k : ℕ} {x : Answer} → AddEnd a g later k x → k ≤ 2 * a .count + 2

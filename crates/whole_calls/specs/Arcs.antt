@@ -19,7 +19,7 @@ use Rattle.rules_invariant.specs.Base.{place-of, sum, sum-zero, sum-first, sum-
 use Rattle.rules_invariant.specs.Invariant.{executing-not-finished}
 use Rattle.rules_invariant.specs.Start.{reached}
 use Rattle.rules_invariant.specs.Sound.{sound}
-use Rattle.rules_follow_model.specs.Base.{pick-by}
+use Rattle.rules_cases.specs.Base.{pick-by}
 use Rattle.rules_follow_model.specs.Booked.{kept}
 
 -- ---- sums

@@ -1,47 +1,41 @@
 -- A finish run whole ends, by the rules: "Its first step labels the job finished and frees the worker's hold", and then
 -- the arcs, which Last has. Assumes nothing.
-use mathlib.Core.Path.{_≡_, refl, ap, ap₂, _∙_}
-use mathlib.Core.List.{List, [], _∷_}
-use mathlib.Core.Option.{Option, none, some}
-use Prim.Native.Nat.{ℕ, suc, _<_}
+use mathlib.Core.Path.{_≡_, refl, sym, ap, ap₂, _∙_}
+use mathlib.Core.Bool.{true≢false}
+use mathlib.Core.List.{[], _∷_}
+use mathlib.Core.Option.{none, some, Option·some-injective}
+use Prim.Native.Nat.{ℕ, suc, _-_, _<_}
 use native.Mathlib.Omega.{arith}
 use lib.ListN.{length, length-set}
 use lib.Seq.{getD-set-same, getD-set-other}
 use borrow.Author.Tests.{eq-eqb}
-use Rattle.terms.specs.Terms.{finished, notHeld}
+use Rattle.terms.specs.Terms.{finished, notHeld, Finish, finishOf}
 use Rattle.terms.specs.Runs.{postFinish, step, Outcome, outcome, after, events}
 use Rattle.terms.specs.declared.Sizes.{Sizes}
-use Rattle.terms.specs.declared.Answer.the-variants.{Posted, Ended, Refused}
+use Rattle.terms.specs.declared.Answer.{Answer}
+use Rattle.terms.specs.declared.Answer.the-variants.{Posted, Going, Ended, Refused}
 use Rattle.rules.specs.Rules.{Job, noJob, Call, idle, marking, notifying, Worker, Graph, job, withCall, withLabel}
-use Rattle.rules.specs.Rules.{marked, markDependents, mark, stepCall, whenIdle, finishPosted, perform}
+use Rattle.rules.specs.Rules.{marked, perform}
+use Rattle.rules_cases.specs.Deed as by
+use Rattle.rules_cases.specs.Deed.{HoldsNot, Stepped, Made}
+use Rattle.rules_cases.specs.Base.{never, update-same, update-other, kept-field}
 use Rattle.linearization.specs.Calls.{Reading}
 use Rattle.rules_history.specs.History.{History}
 use Rattle.rules_invariant.specs.Sound.{sound}
-use Rattle.rules_follow_model.specs.Base.{update-same, update-other, kept-field}
-use Rattle.rules_follow_model.specs.Change.{HoldsNot}
-use Rattle.rules_follow_model.specs.Own.{performed}
+use Rattle.rules_cases.specs.Own.{own-sizes, own-step, own-made}
 use Rattle.whole_calls.specs.Whole.{stepsOf, answers, through, goingTo, FinishLeft, WholeFinish}
 use Rattle.whole_calls.specs.Kept.{kept-same, call-turned, with-call}
-use Rattle.whole_calls.specs.Last.{own-step, Ran, arcs-end}
-
--- the post, by an idle worker
-posted : (s : Sizes) (g : Graph) (w name : ℕ) (o : Option ℕ) → w < s .workers → g .workers w .call ≡ idle
-    → g .workers w .held ≡ o → perform s g (postFinish s w name) ≡ finishPosted g w name o
-unfolding perform whenIdle
-posted s g w name o h c e = performed s g w h _ ∙ rw (c, e)
+use Rattle.whole_calls.specs.Last.{Ran, arcs-end}
 
 -- 11: "finish of a name that this worker does not hold", "nothing changed"
-refused : (g : Graph) (w name : ℕ) (o : Option ℕ) → HoldsNot g name o
-    → finishPosted g w name o ≡ outcome (Refused notHeld 0) g
-unfolding finishPosted
-refused g w name none e = refl
-refused g w name (some p) e = rw e
-
 pub finish-refused : (s : Sizes) (g : Graph) (w : ℕ) → w < s .workers → g .workers w .call ≡ idle
-    → (name : ℕ) → HoldsNot g name (g .workers w .held)
-    → perform s g (postFinish s w name) ≡ outcome (Refused notHeld 0) g
-finish-refused s g w h c name e =
-    posted s g w name (g .workers w .held) h c refl ∙ refused g w name (g .workers w .held) e
+    → (f : Finish) → HoldsNot g (f .name) (g .workers w .held)
+    → perform s g (postFinish s w f) ≡ outcome (Refused notHeld 0) g
+finish-refused s g w h c f n = of (own-made s g (postFinish s w f) (own-sizes s) h refl c)
+  where
+    of : {x : Answer} {k : Graph} → Made s g (postFinish s w f) x k → outcome x k ≡ outcome (Refused notHeld 0) g
+    of (by.finishWrong z) = refl
+    of (by.finishPosted p e z) = absurd (true≢false (sym (eq-eqb (job g p .name) (f .name) z) ∙ rw e at n))
 
 -- ---- the mark
 module _ (g : Graph) (w p : ℕ) where
@@ -80,41 +74,57 @@ record FromMark (s : Sizes) (w p : ℕ) (g : Graph) (arcs : ℕ) : Type 0 where
   answered : answers s g (stepsOf s w (suc arcs)) ≡ goingTo arcs Ended
   left : FinishLeft w p g (through s g (stepsOf s w (suc arcs)))
 
-marks : (s : Sizes) {w : ℕ} → w < s .workers → (g : Graph) (p : ℕ) → p < length (g .jobs) → (l : List ℕ)
-    → job g p .dependents ≡ l → perform s g (step s w) ≡ markDependents g w p l → FromMark s w p g (length l)
-unfolding markDependents after events
-marks s {w} h g p there [] d E = record {
-  answered = ap (λ (o : Outcome Graph). o .answer ∷ []) E;
-  left = mark-left g w p there idle (perform s g (step s w) .state) _ (ap (λ (o : Outcome Graph). o .state) E)
-      (record { kept = kept-same _ w; jobs = refl })
-      (rw E (ap (λ (z : Worker). z .call) (update-same (g .workers) w _)));
-}
-marks s {w} h g p there (j ∷ l) d E =
-    let arcs : length (job (perform s g (step s w) .state) p .dependents) ≡ suc (length l) =
-    rw E (kept-field (λ (x : Job). length (x .dependents)) (g .jobs) p _ noJob refl p ∙ ap length d) in
-    let T = arcs-end s h (length l) (perform s g (step s w) .state) p 0
+marks : (s : Sizes) {w : ℕ} → w < s .workers → (g : Graph) (p : ℕ) → p < length (g .jobs) → g .workers w .held ≡ some p
+    → {x : Answer} {k : Graph} → Stepped s g w marking x k → perform s g (step s w) ≡ outcome x k
+    → FromMark s w p g (length (job g p .dependents))
+unfolding after events
+marks s h g p there held (by.broken b) E = never (cc)
+marks s {w} h g p there held (by.markedLast q e d) E =
+    let same : q ≡ p = Option·some-injective q p (sym e ∙ held) in
+    let E : perform s g (step s w) ≡ outcome Ended (marked g w p idle) = rw same at E in
+    let M : FromMark s w p g 0 = record {
+      answered = ap (λ (o : Outcome Graph). o .answer ∷ []) E;
+      left = mark-left g w p there idle (perform s g (step s w) .state) _ (ap (λ (o : Outcome Graph). o .state) E)
+          (record { kept = kept-same _ w; jobs = refl })
+          (rw E (ap (λ (z : Worker). z .call) (update-same (g .workers) w _)));
+    } in
+    rw (← same, d) (rw (← same) at M)
+marks s {w} h g p there held (by.markedGoing q e d) E =
+    let same : q ≡ p = Option·some-injective q p (sym e ∙ held) in
+    let E : perform s g (step s w) ≡ outcome Going (marked g w p (notifying p 0)) = rw same at E in
+    let n = length (job g p .dependents) - 1 in
+    let some-left : length (job g p .dependents) ≡ suc n = omega (arith, rw same at d) in
+    let arcs : length (job (perform s g (step s w) .state) p .dependents) ≡ length (job g p .dependents) =
+    rw E (kept-field (λ (x : Job). length (x .dependents)) (g .jobs) p _ noJob refl p) in
+    let T = arcs-end s h n (perform s g (step s w) .state) p 0
     (rw E (ap (λ (z : Worker). z .call) (update-same (g .workers) w _))) (omega arith) in
-    record {
+    let M : FromMark s w p g (suc n) = record {
       answered = ap₂ (λ x l. x ∷ l) (ap (λ (o : Outcome Graph). o .answer) E) (T .answered);
       left = mark-left g w p there (notifying p 0) (perform s g (step s w) .state) _
           (ap (λ (o : Outcome Graph). o .state) E) (T .ran) (T .idle);
-    }
+    } in
+    rw some-left M
 
 -- "each run whole": a finish that an idle worker posts with the name of the job that it holds
 pub whole-finish : {s : Sizes} {g : Graph} {r : Reading} {e : ℕ → ℕ} → History s g r e → (w : ℕ) → w < s .workers
     → g .workers w .call ≡ idle → (p : ℕ) → g .workers w .held ≡ some p → WholeFinish s g w p
-unfolding finishPosted stepCall mark after events
+unfolding after events
 whole-finish {s} {g} history w h c p e =
-    let i = postFinish s w (job g p .name) in
-    let E : perform s g i ≡ outcome Posted (withCall g w marking) =
-    posted s g w (job g p .name) (some p) h c e ∙ rw (eq-eqb (job g p .name) (job g p .name) refl) in
+    let i = postFinish s w (finishOf (job g p .name)) in
+    let E : perform s g i ≡ outcome Posted (withCall g w marking) = posted (own-made s g i (own-sizes s) h refl c) in
     let m = perform s g i .state in
     let called : m .workers w .call ≡ marking = rw E (call-turned g w marking) in
     let held : m .workers w .held ≡ some p = rw E (with-call g w marking .held ∙ e) in
+    let arcs : length (job m p .dependents) ≡ length (job g p .dependents) = rw E in
     let M : FromMark s w p m (length (job g p .dependents)) =
-    marks s h m p (rw E (sound history .held-there w p e)) (job g p .dependents) (rw E)
-    (own-step s m h marking called ∙ rw held (rw E)) in
+    rw arcs at (marks s h m p (rw E (sound history .held-there w p e)) held (own-step s m h called) refl) in
     record {
       answered = ap₂ (λ x l. x ∷ l) (ap (λ (o : Outcome Graph). o .answer) E) (M .answered);
       left = post-left g w p m _ (ap (λ (o : Outcome Graph). o .state) E) (M .left);
     }
+  where
+    posted : {x : Answer} {k : Graph} → Made s g (postFinish s w (finishOf (job g p .name))) x k
+        → outcome x k ≡ outcome Posted (withCall g w marking)
+    posted (by.finishWrong z) =
+        absurd (true≢false (sym (eq-eqb (job g p .name) (job g p .name) refl) ∙ rw e at z))
+    posted (by.finishPosted q d z) = refl

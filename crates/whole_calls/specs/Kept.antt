@@ -9,7 +9,7 @@ use lib.ListN.{getD, set}
 use Rattle.terms.specs.Terms.{unexecuted}
 use Rattle.rules.specs.Rules.{Job, noJob, Call, idle, Worker, Graph, job, turn, withCall, enqueue}
 use Rattle.rules_history.specs.History.{AllIdle}
-use Rattle.rules_follow_model.specs.Base.{update-same, update-other, kept-field}
+use Rattle.rules_cases.specs.Base.{update-same, update-other, kept-field}
 use Rattle.whole_calls.specs.Whole.{Grown, Kept}
 
 -- ---- the queue

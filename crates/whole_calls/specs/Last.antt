@@ -2,32 +2,28 @@
 -- that go on, and one that ends the call ("Steps"). Assumes nothing.
 use mathlib.Core.Path.{_≡_, refl, ap, ap₂, _∙_}
 use mathlib.Core.List.{[], _∷_}
-use Prim.Native.Nat.{ℕ, zero, suc, _+_, _-_, _<_}
+use mathlib.Core.Option.{none}
+use Prim.Native.Nat.{ℕ, zero, suc, _+_, _-_, _≤_, _<_}
 use native.Mathlib.Omega.{arith}
 use lib.Dec.{eqb}
 use lib.ListN.{length, getD, length-set, set}
-use borrow.Author.Tests.{lt-ltb, le-ltb}
-use Rattle.terms.specs.Terms.{Label, unexecuted, executing, finished, Arguments}
+use Rattle.terms.specs.Terms.{Arguments}
 use Rattle.terms.specs.Runs.{step, Outcome, outcome, after, events}
 use Rattle.terms.specs.declared.Sizes.{Sizes}
 use Rattle.terms.specs.declared.Answer.{Answer}
 use Rattle.terms.specs.declared.Answer.the-variants.{Going, Ended}
-use Rattle.rules.specs.Rules.{Job, noJob, Call, idle, linking, notifying, Worker, Graph, job, turn}
-use Rattle.rules.specs.Rules.{link, linkTo, settles, settled, notified, notify, stepCall, perform}
+use Rattle.rules.specs.Rules as rules
+use Rattle.rules.specs.Rules.{Job, noJob, Call, idle, linking, notifying, Worker, Graph, job, turn, perform}
 use Rattle.rules.specs.Sound.{Linking}
+use Rattle.rules_cases.specs.Deed as by
+use Rattle.rules_cases.specs.Deeds.{unbroken}
 use Rattle.linearization.specs.Calls.{Reading}
 use Rattle.rules_history.specs.History.{History, then}
 use Rattle.rules_invariant.specs.Sound.{sound}
-use Rattle.rules_follow_model.specs.Base.{kept-field}
-use Rattle.rules_follow_model.specs.Own.{performed}
+use Rattle.rules_cases.specs.Base.{kept-field}
+use Rattle.rules_cases.specs.Own.{own-step}
 use Rattle.whole_calls.specs.Whole.{stepsOf, answers, through, goingTo, Grown, Kept}
 use Rattle.whole_calls.specs.Kept.{grown-same, grown-by, set-labels, kept-on, turned, call-turned}
-
--- a step is that of the worker's call
-pub own-step : (s : Sizes) (g : Graph) {w : ℕ} → w < s .workers → (c : Call) → g .workers w .call ≡ c
-    → perform s g (step s w) ≡ stepCall s g w c
-unfolding perform
-own-step s g {w} h c e = performed s g w h _ ∙ ap (stepCall s g w) e
 
 -- what is left where neither labels nor holds change, nor a job enters
 pub record Ran (w : ℕ) (g later : Graph) : Type 0 where
@@ -64,18 +60,44 @@ module _ (g : Graph) (w : ℕ) where
   set-one x c h p y e f l q =
       changed x c h e (λ j. rw f (set-labels (g .jobs) p y l j)) q (rw f (length-set (g .jobs) p y))
 
-  links : (a : Arguments) (j i t p : ℕ) (l : Label)
-      → (u : ℕ) × Stepped w g Going (linking a j (suc i) u) (linkTo g w a j i t p l)
-  unfolding linkTo
-  links a j i t p unexecuted = (t, set-one Going _ _ p _ refl refl refl (grown-same (g .queue)))
-  links a j i t p executing = (t, set-one Going _ _ p _ refl refl refl (grown-same (g .queue)))
-  links a j i t p finished = (suc t, changed Going _ _ refl (λ j. refl) (grown-same (g .queue)) refl)
+module _ {s : Sizes} {g : Graph} {w : ℕ} where
+  links : (a : Arguments) (j i t : ℕ) → Linking g a j i t → i < a .count
+      → {x : Answer} {h : Graph} → by.Stepped s g w (linking a j i t) x h
+      → (u : ℕ) × Stepped w g Going (linking a j (suc i) u) (outcome x h)
+  links a j i t L l (by.broken b) = absurd (unbroken g none (linking a j i t) L b)
+  links a j i t L l (by.tallied p m e f) = (suc t, changed g w Going _ _ refl (λ j. refl) (grown-same (g .queue)) refl)
+  links a j i t L l (by.arcAppended p m e f) = (t, set-one g w Going _ _ p _ refl refl refl (grown-same (g .queue)))
+  links a j i t L l (by.jobSettled m) = absurd (omega arith)
 
-  settling : (j t d : ℕ) → Stepped w g Ended idle (outcome Ended (settled g w j t d))
-  settling j t d = set-one Ended _ _ j _ refl refl refl (grown-by (settles (job g j .count - t) t d) (g .queue) j)
+  settles : {a : Arguments} {j i t : ℕ} {x : Answer} {h : Graph} → a .count ≤ i → by.Stepped s g w (linking a j i t) x h
+      → Stepped w g Ended idle (outcome x h)
+  settles l (by.broken b) = absurd (omega (arith, b .0))
+  settles l (by.tallied p m e f) = absurd (omega arith)
+  settles l (by.arcAppended p m e f) = absurd (omega arith)
+  settles {a} {j} {i} {t} l (by.jobSettled m) =
+      set-one g w Ended _ _ j _ refl refl refl
+      (grown-by (rules.settles (job g j .count - t) t (a .count)) (g .queue) j)
 
-  notifies : (x : Answer) (c : Call) (j : ℕ) → Stepped w g x c (outcome x (notified g w j c))
-  notifies x c j = set-one x c _ j _ refl refl refl (grown-by (eqb (job g j .count - 1) 0) (g .queue) j)
+  notifies-on : {p k : ℕ} {x : Answer} {h : Graph} → suc k < length (job g p .dependents)
+      → by.Stepped s g w (notifying p k) x h
+      → Stepped w g Going (notifying p (suc k)) (outcome x h)
+      × (length (job h p .dependents) ≡ length (job g p .dependents))
+  notifies-on l (by.broken b) = absurd b
+  notifies-on {p} {k} l (by.arcNotified m) =
+      let j = getD (job g p .dependents) k 0 in (
+        set-one g w Going _ _ j _ refl refl refl (grown-by (eqb (job g j .count - 1) 0) (g .queue) j),
+        kept-field (λ (x : Job). length (x .dependents)) (g .jobs) j _ noJob refl p,
+      )
+  notifies-on l (by.lastNotified m) = absurd (omega arith)
+
+  notifies-last : {p k : ℕ} {x : Answer} {h : Graph} → length (job g p .dependents) ≤ suc k
+      → by.Stepped s g w (notifying p k) x h
+      → Stepped w g Ended idle (outcome x h)
+  notifies-last l (by.broken b) = absurd b
+  notifies-last l (by.arcNotified m) = absurd (omega arith)
+  notifies-last {p} {k} l (by.lastNotified m) =
+      let j = getD (job g p .dependents) k 0 in
+      set-one g w Ended _ _ j _ refl refl refl (grown-by (eqb (job g j .count - 1) 0) (g .queue) j)
 
 -- ---- to the end
 module _ (s : Sizes) {w : ℕ} (h : w < s .workers) where
@@ -95,30 +117,16 @@ module _ (s : Sizes) {w : ℕ} (h : w < s .workers) where
   -- "one link step for each listed name. Last one settling step"
   pub links-end : (n : ℕ) {g : Graph} {r : Reading} {e : ℕ → ℕ} → History s g r e → (a : Arguments) (j i t : ℕ)
       → g .workers w .call ≡ linking a j i t → i + n ≡ a .count → ToEnd s w g n
-  unfolding stepCall link
-  links-end zero {g} history a j i t c k =
-      last-step g (rw (own-step s g h (linking a j i t) c, le-ltb i (a .count) (omega arith))
-      (settling g w j t (a .count)))
+  links-end zero {g} history a j i t c k = last-step g (settles (omega arith) (own-step s g h c))
   links-end (suc n) {g} history a j i t c k =
-      let L : Linking g a j i t = rw c at (sound history .calls w) in
-      let F = L .found i (omega arith) in
-      let X = links g w a j i t (F .job) (job g (F .job) .label) in
-      let S : Stepped w g Going (linking a j (suc i) (X .0)) (perform s g (step s w)) =
-      rw (own-step s g h (linking a j i t) c, lt-ltb i (a .count) (omega arith), F .found) (X .1) in
-      one-more g S (links-end n (then history (step s w)) a j (suc i) (X .0) (S .call) (omega arith))
+      let X = links a j i t (rw c at (sound history .calls w)) (omega arith) (own-step s g h c) in
+      one-more g (X .1) (links-end n (then history (step s w)) a j (suc i) (X .0) (X .1 .call) (omega arith))
 
   -- "Then one step for each arc"
   pub arcs-end : (n : ℕ) (g : Graph) (p k : ℕ) → g .workers w .call ≡ notifying p k
       → suc k + n ≡ length (job g p .dependents) → ToEnd s w g n
-  unfolding stepCall notify
-  arcs-end zero g p k c l =
-      last-step g (rw (own-step s g h (notifying p k) c, le-ltb (suc k) (length (job g p .dependents)) (omega arith))
-      (notifies g w Ended idle _))
+  arcs-end zero g p k c l = last-step g (notifies-last (omega arith) (own-step s g h c))
   arcs-end (suc n) g p k c l =
-      let j = getD (job g p .dependents) k 0 in
-      let same : perform s g (step s w) ≡ outcome Going (notified g w j (notifying p (suc k))) =
-      rw (own-step s g h (notifying p k) c, lt-ltb (suc k) (length (job g p .dependents)) (omega arith)) in
-      let S : Stepped w g Going (notifying p (suc k)) (perform s g (step s w)) = rw same (notifies g w Going _ j) in
-      let arcs : length (job (perform s g (step s w) .state) p .dependents) ≡ length (job g p .dependents) =
-      rw same (kept-field (λ (x : Job). length (x .dependents)) (g .jobs) j _ noJob refl p) in
-      one-more g S (arcs-end n (perform s g (step s w) .state) p (suc k) (S .call) (omega arith))
+      let X = notifies-on (omega arith) (own-step s g h c) in
+      one-more g (X .0)
+      (arcs-end n (perform s g (step s w) .state) p (suc k) (X .0 .call) (omega (arith, X .1)))

@@ -7,7 +7,7 @@ use mathlib.Core.List.{List, [], _∷_, _++_, map}
 use mathlib.Core.Option.{none}
 use Prim.Native.Nat.{ℕ, zero, suc, _+_, _*_, _<_}
 use lib.ListN.{length, replicate}
-use Rattle.terms.specs.Terms.{Arguments, finished, wrongArguments, unknownName, namePresent, noRoom}
+use Rattle.terms.specs.Terms.{Arguments, finished, wrongArguments, unknownName, namePresent, noRoom, finishOf}
 use Rattle.terms.specs.Runs.{Item, postAdd, postFinish, step, Event, after, events}
 use Rattle.terms.specs.declared.Sizes.{Sizes}
 use Rattle.terms.specs.declared.Answer.{Answer}
@@ -88,7 +88,7 @@ pub record FinishLeft (w p : ℕ) (g later : Graph) : Type 0 where
   pub queue : Grown (g .queue) (later .queue)
 
 abbrev pub finishItems : Sizes → Graph → ℕ → ℕ → List Item
-finishItems s g w p = postFinish s w (job g p .name) ∷ stepsOf s w (suc (length (job g p .dependents)))
+finishItems s g w p = postFinish s w (finishOf (job g p .name)) ∷ stepsOf s w (suc (length (job g p .dependents)))
 
 pub record WholeFinish (s : Sizes) (g : Graph) (w p : ℕ) : Type 0 where
   pub answered : answers s g (finishItems s g w p) ≡ wholly (suc (length (job g p .dependents))) Ended

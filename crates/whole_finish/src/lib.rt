@@ -4,7 +4,7 @@ ghost use mathlib.Core.Path.{_≡_};
 ghost use Rattle.terms.specs.Runs.{outcome};
 ghost use Rattle.words.specs.Layout.{atEntry, atExit};
 ghost use Rattle.whole_words.specs.Whole.{wholeFinish};
-use graph_posts::post_finish;
+use graph_post_finish::post_finish;
 use terms::Answer;
 use terms::Sizes;
 use whole_steps::rest;

@@ -17,7 +17,7 @@ goesOn Posted = true
 goesOn Laid = false
 goesOn Ended = false
 goesOn NoneReady = false
-goesOn (Handed j name) = false
+goesOn (Handed h) = false
 goesOn (Refused n i) = false
 
 -- true is not false
@@ -30,7 +30,7 @@ on Posted t next e = refl
 on Laid t next e = never (cc)
 on Ended t next e = never (cc)
 on NoneReady t next e = never (cc)
-on (Handed j name) t next e = never (cc)
+on (Handed h) t next e = never (cc)
 on (Refused n i) t next e = never (cc)
 
 pub ended : (a : Answer) (t : Tables) (next : Tables → Outcome Tables) → goesOn a ≡ false
@@ -40,7 +40,7 @@ ended Posted t next e = never e
 ended Laid t next e = refl
 ended Ended t next e = refl
 ended NoneReady t next e = refl
-ended (Handed j name) t next e = refl
+ended (Handed h) t next e = refl
 ended (Refused n i) t next e = refl
 
 -- a step that goes on, and one that ends the call

@@ -19,7 +19,7 @@ fn goes_on(answer: Answer) -> bool
         Answer::Going => true,
         Answer::Ended => false,
         Answer::NoneReady => false,
-        Answer::Handed { job: _, name: _ } => false,
+        Answer::Handed { .. } => false,
         Answer::Refused {
             number: _,
             place: _,

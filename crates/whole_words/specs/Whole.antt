@@ -15,7 +15,7 @@ andThen Posted t next = next t
 andThen Laid t next = outcome Laid t
 andThen Ended t next = outcome Ended t
 andThen NoneReady t next = outcome NoneReady t
-andThen (Handed j name) t next = outcome (Handed j name) t
+andThen (Handed h) t next = outcome (Handed h) t
 andThen (Refused n i) t next = outcome (Refused n i) t
 
 -- at most k steps of worker w

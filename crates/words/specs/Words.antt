@@ -14,6 +14,7 @@ use Rattle.terms.specs.Terms.{noSuchWorker, halfDone, nothingToStep, wrongArgum
 use Rattle.terms.specs.Terms.{damaged, alreadyHolding, notHeld}
 use Rattle.terms.specs.Runs.{Item, postAdd, postFinish, step, get, Outcome, outcome}
 use Rattle.terms.specs.declared.Sizes.{Sizes}
+use Rattle.terms.specs.declared.HandOut.{HandOut}
 use Rattle.terms.specs.declared.Answer.{Answer}
 use Rattle.terms.specs.declared.Answer.the-variants.{Laid, Posted, Going, Ended, NoneReady, Handed, Refused}
 use Rattle.words.specs.Columns.{place, put, putHeader}
@@ -271,14 +272,22 @@ unfoldable pub stepWords : Sizes → Tables → ℕ → Outcome Tables
 stepWords s t w = outcome (answerOf (planStep s t w)) (applied (planStep s t w) t w)
 
 -- ---- get
-unfoldable pub planTake : Sizes → View → ℕ → GetPlan
-planTake s v j =
-    pick (ltb j (v .made) && eqb (v .job LABEL j) 0) (Take j (v .job NAME j) (v .taken)) (RefuseGet damaged)
+-- a job as it is handed out
+abbrev pub handOut : View → ℕ → HandOut
+handOut v j = record { job = j; name = v .job NAME j }
+
+-- the cell of the job that is next by the order of hand-outs: the one longest in the queue
+abbrev pub nextCell : View → ℕ
+nextCell v = v .taken
+
+unfoldable pub planTake : View → ℕ → GetPlan
+planTake v j =
+    pick (ltb j (v .made) && eqb (v .job LABEL j) 0) (Take (handOut v j) (nextCell v)) (RefuseGet damaged)
 
 unfoldable pub planQueue : Sizes → View → GetPlan
 planQueue s v =
     pick (countersOk s v && leb (v .taken) (v .put) && leb (v .put) (s .jobs))
-    (pick (eqb (v .taken) (v .put)) Wait (planTake s v (v .cell 0 (v .taken))))
+    (pick (eqb (v .taken) (v .put)) Wait (planTake v (v .cell 0 (nextCell v))))
     (RefuseGet damaged)
 
 unfoldable pub planGet : Sizes → View → ℕ → GetPlan
@@ -290,15 +299,15 @@ planGet s v w =
 abbrev pub answerGet : GetPlan → Answer
 answerGet (RefuseGet n) = Refused n 0
 answerGet Wait = NoneReady
-answerGet (Take j name q) = Handed j name
+answerGet (Take h q) = Handed h
 
 unfoldable pub appliedGet : GetPlan → Tables → ℕ → Tables
 appliedGet (RefuseGet n) t w = t
 appliedGet Wait t w = t
-appliedGet (Take j name q) t w =
-    tables (put jobShape (t .jobs) j LABEL 1) (t .arcs) (t .buckets)
+appliedGet (Take h q) t w =
+    tables (put jobShape (t .jobs) (h .job) LABEL 1) (t .arcs) (t .buckets)
     (putHeader (put queueShape (t .queue) q 0 none) TAKEN (q + 1))
-    (putField (t .workers) w HELD j)
+    (putField (t .workers) w HELD (h .job))
 
 abbrev pub planGetOf : Sizes → Tables → ℕ → GetPlan
 planGetOf s t w = admitted s t w RefuseGet (planGet s (view t) w)
@@ -351,6 +360,6 @@ layOut s t = pick (roomFor s t) (outcome Laid (freshTables s t)) (outcome (Refus
 -- ---- an item of demand 3's list
 unfoldable pub perform : Tables → Item → Outcome Tables
 perform t (postAdd s w a) = addWords s t w a
-perform t (postFinish s w name) = finishWords s t w name
+perform t (postFinish s w f) = finishWords s t w (f .name)
 perform t (step s w) = stepWords s t w
 perform t (get s w) = getWords s t w

@@ -1,5 +1,6 @@
 // What a call plans to do with the tables: it first reads and judges, and stores only once nothing is left to refuse.
 // What each plan means stands in specs/.
+use terms::HandOut;
 
 // Where a bucket's walk ended: at the job of the name, at the bucket's end, or at a damaged word.
 pub enum Found {
@@ -75,5 +76,5 @@ pub enum Plan {
 pub enum GetPlan {
     RefuseGet { number: u32 },
     Wait,
-    Take { job: u32, name: u32, cell: u32 },
+    Take { out: HandOut, cell: u32 },
 }

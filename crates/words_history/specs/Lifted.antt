@@ -10,17 +10,19 @@ use native.Mathlib.Omega.{arith}
 use lib.ListN.{length, getD}
 use Rattle.bucket.specs.Bucket.{bucketOf}
 use Rattle.terms.specs.Base.{contains, occurrences}
-use Rattle.terms.specs.Terms.{Arguments, listed, sameSizes, mostNames, labelNumber, unexecuted, finished}
+use Rattle.terms.specs.Terms.{Arguments, listed, sameSizes, mostNames, labelNumber, unexecuted, finished, Finish}
 use Rattle.terms.specs.Runs.{Item, step, get, after, events}
 use Rattle.terms.specs.Seen.{JobSeen, CallSeen, Same}
 use Rattle.terms.specs.Seen as seen-as
+use Rattle.terms.specs.OrderLaws.{head-occurs, head-first}
 use Rattle.terms.specs.declared.Sizes.{Sizes}
+use Rattle.terms.specs.declared.HandOut.{HandOut}
 use Rattle.terms.specs.declared.Answer.the-variants.{Laid, NoneReady, Handed}
 use Rattle.words.specs.Layout.{Tables, view, workerShape, NAME, HELD, LIST-COUNT, NAMES, IDLE, bareWorker}
 use Rattle.words.specs.Layout as words
 use Rattle.words.specs.Words.{perform, layOut}
 use Rattle.words.specs.Observed.{bucketFrom, newestFirst, seen}
-use Rattle.rules.specs.Rules.{Call, idle, looking, linking, marking, notifying, Graph, empty, job, takeNext}
+use Rattle.rules.specs.Rules.{Call, idle, looking, linking, marking, notifying, Graph, empty, job}
 use Rattle.rules.specs.Rules as rules
 use Rattle.rules.specs.Observed as rules-seen
 use Rattle.rules.specs.Sound.{Sound, Finished}
@@ -37,9 +39,8 @@ use Rattle.representation_kept.specs.Arcs.{few-arcs}
 use Rattle.representation_kept.specs.Chains.{chains}
 use Rattle.words_refine_rules.specs.Items.{item}
 use Rattle.words_refine_rules.specs.Reset.{idle-fresh, past-count}
-use Rattle.rules_follow_model.specs.Base.{head-occurs}
 use Rattle.rules_follow_model.specs.Entries.{listed-length}
-use Rattle.rules_follow_model.specs.Settled.{get-answer}
+use Rattle.rules_follow_model.specs.Settled.{hands-next}
 use Rattle.rules_follow_model.specs.Paced.{paced, worker-idle, all-idle}
 use Rattle.rules_follow_model.specs.Steps.{add-step, finish-step, pending-there}
 use Rattle.rules_invariant.specs.Sound.{sound}
@@ -95,21 +96,21 @@ module _ (s : Sizes) (t : Tables) (laid : layOut s t .answer ≡ Laid) (items : 
       distinct : (a : Arguments) (k : ℕ) → adding a k ≡ reading.idle → ⊥
       distinct a k z = let no : _≡_ {A = ℕ} 0 1 = cc in omega arith
 
-  pub finish-ends : (w name k : ℕ) → read .pending w ≡ finishing name k
-      → FinishOf (seen T) name k (perform T (step s w) .answer)
-  finish-ends w name k = rw told (λ e.
-      let there = pending-there soundly history w (λ z. absurd (distinct name k (sym e ∙ z))) in
-      let f = finish-step soundly history w there name k e in
-      let row = does .jobs (f .job) (f .there) in
+  pub finish-ends : (w : ℕ) (f : Finish) (k : ℕ) → read .pending w ≡ finishing f k
+      → FinishOf (seen T) (f .name) k (perform T (step s w) .answer)
+  finish-ends w f k = rw told (λ e.
+      let there = pending-there soundly history w (λ z. absurd (distinct f k (sym e ∙ z))) in
+      let o = finish-step soundly history w there f k e in
+      let row = does .jobs (o .job) (o .there) in
       rw (next (step s w)) (record {
-        job = f .job;
-        there = rw (does .made) (f .there);
-        named = ap (λ (x : JobSeen). x .name) row ∙ f .named;
-        step = rw (ap (λ (x : JobSeen). x .arcs) row) (f .step);
+        job = o .job;
+        there = rw (does .made) (o .there);
+        named = ap (λ (x : JobSeen). x .name) row ∙ o .named;
+        step = rw (ap (λ (x : JobSeen). x .arcs) row) (o .step);
       }))
     where
-      distinct : (name k : ℕ) → finishing name k ≡ reading.idle → ⊥
-      distinct name k z = let no : _≡_ {A = ℕ} 0 1 = cc in omega arith
+      distinct : (f : Finish) (k : ℕ) → finishing f k ≡ reading.idle → ⊥
+      distinct f k z = let no : _≡_ {A = ℕ} 0 1 = cc in omega arith
 
   -- ---- what the auditor asked
   pub once-handed : (j : ℕ) → occurrences j (handedOut (events perform (layOut s t .state) items)) ≤ 1
@@ -133,20 +134,21 @@ module _ (s : Sizes) (t : Tables) (laid : layOut s t .answer ≡ Laid) (items : 
   finished-name name f =
       let at = found-there g name (f .job) (f .found) in rw (at .1) at (finishes-of (f .job) (at .0) (f .finished))
 
-  pub rightly-handed : (q : Sizes) (w j name : ℕ) → perform T (get q w) .answer ≡ Handed j name
-      → HandedRightly (seen T) (read .calls) j name
-  rightly-handed q w j name = rw (told, next (get q w)) (λ e.
-      let h = handed-ready history q w j name e in
-      let same = K .added j (h .there) in
+  pub rightly-handed : (q : Sizes) (w : ℕ) (h : HandOut) → perform T (get q w) .answer ≡ Handed h
+      → HandedRightly (seen T) (read .calls) h
+  rightly-handed q w h = rw (told, next (get q w)) (λ e.
+      let j : ℕ = h .job in
+      let o = handed-ready history q w h e in
+      let same = K .added j (o .there) in
       let n : addOf adds j .count ≡ length (job g j .list) =
       sym (listed-length (addOf adds j)) ∙ ap length (same .list) in
       record {
-        there = omega (arith, h .there, K .adds);
-        named = h .named ∙ sym (same .name);
-        unexecuted = ap (λ (x : JobSeen). x .label) (does .jobs j (h .there)) ∙ ap labelNumber (h .unexecuted);
+        there = omega (arith, o .there, K .adds);
+        named = ap (λ (x : HandOut). x .name) (o .said) ∙ sym (same .name);
+        unexecuted = ap (λ (x : JobSeen). x .label) (does .jobs j (o .there)) ∙ ap labelNumber (o .unexecuted);
         prerequisites = λ i l. rw (same .list)
-            (marked-finished s t laid items _ (h .prerequisites i (omega (arith, n))));
-        finishes = λ i l. rw (same .list) (finished-name _ (h .prerequisites i (omega (arith, n))));
+            (marked-finished s t laid items _ (o .prerequisites i (omega (arith, n))));
+        finishes = λ i l. rw (same .list) (finished-name _ (o .prerequisites i (omega (arith, n))));
       })
 
   pub drained : Quiet read → ((w : ℕ) → w < s .workers → seen T .held w ≡ none) → seen T .waiting ≡ []
@@ -170,15 +172,15 @@ module _ (s : Sizes) (t : Tables) (laid : layOut s t .answer ≡ Laid) (items : 
 
   -- ---- a worker that is idle and jobless is handed the job longest in the queue
   pub hands-out : (w j : ℕ) (rest : List ℕ) → w < s .workers → seen T .call w ≡ seen-as.idle → seen T .held w ≡ none
-      → seen T .waiting ≡ j ∷ rest → perform T (get s w) .answer ≡ Handed j (seen T .job j .name)
-  unfolding takeNext
+      → seen T .waiting ≡ j ∷ rest → perform T (get s w) .answer ≡ Handed (seen-as.handOut (seen T) j)
   hands-out w j rest h c f q =
       let queue : g .queue ≡ j ∷ rest = sym (does .waiting) ∙ q in
       let there : j < length (g .jobs) = R .sound .queue-there j (rw queue (head-occurs j rest)) in
       let named : seen T .job j .name ≡ job g j .name = ap (λ (x : JobSeen). x .name) (does .jobs j there) in
       next (get s w)
-      ∙ ap (λ o. o .answer) (get-answer s g w h (seen-idle _ (sym (does .calls w h) ∙ c)) (sym (does .held w h) ∙ f))
-      ∙ rw (queue, named)
+      ∙ hands-next s g w h (seen-idle _ (sym (does .calls w h) ∙ c)) (sym (does .held w h) ∙ f) j
+      (rw queue (head-first j rest))
+      ∙ rw named
 
   -- ---- "With an empty queue it says none ready, and then only"
   pub none-ready : (q : Sizes) (w : ℕ) → (perform T (get q w) .answer ≡ NoneReady)

@@ -118,4 +118,5 @@ module _ (s : Sizes) where
         let history = onward s start items in
         let b = along s soundly countedly bookedly quietly (after perform T items)
         (after (rules.perform s) empty items) (a .ghost) _ _ (a .stands) history later in
-        rw (b .told, waiting-queue (a .stands)) (λ h l. kth _ _ _ (in-order soundly history later) k h l)
+        rw (b .told, waiting-queue (a .stands))
+        (λ h l. kth _ _ _ (in-order s (after (rules.perform s) empty items) later) k h l)

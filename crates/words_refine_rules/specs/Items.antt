@@ -5,7 +5,7 @@ use Prim.Native.Nat.{ℕ, _<_}
 use lib.Dec.{eqb}
 use Rattle.terms.specs.Base.{pick}
 use Rattle.terms.specs.Terms.{Arguments, argumentsWrong, nothingToStep, halfDone, wrongArguments, alreadyHolding}
-use Rattle.terms.specs.Terms.{notHeld}
+use Rattle.terms.specs.Terms.{notHeld, Finish}
 use Rattle.terms.specs.Runs.{Item, postAdd, postFinish, step, get}
 use Rattle.terms.specs.declared.Sizes.{Sizes}
 use Rattle.words.specs.Layout.{HELD, MARKING, bareWorker, view, Tables}
@@ -68,17 +68,17 @@ module _ (s : Sizes) (t : Tables) (g : Graph) (G : Ghost) (S : Stands s t g G) (
         refl
         (λ e B. add-agrees s t g G S O w hw B a)
 
-    pub finishing-agrees : (name : ℕ)
-        → Agrees s (posted (judgedFinish s (view t) w name) t w (bareWorker MARKING (view t .worker HELD w)))
-        (whenIdle g (g .workers w .call) (finishPosted g w name (g .workers w .held)))
+    pub finishing-agrees : (f : Finish)
+        → Agrees s (posted (judgedFinish s (view t) w (f .name)) t w (bareWorker MARKING (view t .worker HELD w)))
+        (whenIdle g (g .workers w .call) (finishPosted g w f (g .workers w .held)))
     unfolding posted
-    finishing-agrees name =
+    finishing-agrees f =
         when-idle s t g G S O w hw (λ n. posted n t w (bareWorker MARKING (view t .worker HELD w)))
-        (pick (holdsName (view t) w name) (judgedCounters s (view t)) notHeld)
+        (pick (holdsName (view t) w (f .name)) (judgedCounters s (view t)) notHeld)
         halfDone
-        (finishPosted g w name (g .workers w .held))
+        (finishPosted g w f (g .workers w .held))
         refl
-        (λ e B. finish-agrees s t g G S O w hw B name)
+        (λ e B. finish-agrees s t g G S O w hw B f)
 
   -- ---- an item
   pub item : (i : Item) → Agrees s (words.perform t i) (rules.perform s g i)
@@ -91,13 +91,13 @@ module _ (s : Sizes) (t : Tables) (g : Graph) (G : Ghost) (S : Stands s t g G) (
       refl
       (λ hw. adding-agrees w hw a)
       r
-  item (postFinish r w name) =
-      admit s t g G S O w refusal (λ z. judgedFinish z (view t) w name)
+  item (postFinish r w f) =
+      admit s t g G S O w refusal (λ z. judgedFinish z (view t) w (f .name))
       (λ n. posted n t w (bareWorker MARKING (view t .worker HELD w)))
       _
       refl
       refl
-      (λ hw. finishing-agrees w hw name)
+      (λ hw. finishing-agrees w hw f)
       r
   item (step r w) = admit s t g G S O w Refuse (λ z. planPhase z (view t) w) (λ p. done p t w) _ refl refl
       (step-agrees w) r

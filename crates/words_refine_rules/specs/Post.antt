@@ -10,8 +10,10 @@ use lib.Dec.{eqb}
 use lib.ListN.{length}
 use borrow.Author.Tests.{eq-eqb, ne-eqb, lt-ltb, le-leb}
 use Rattle.terms.specs.Base.{pick}
-use Rattle.terms.specs.Terms.{labelNumber, Arguments, argumentsWrong, wrongArguments, alreadyHolding, notHeld}
+use Rattle.terms.specs.Terms.{labelNumber, Arguments, argumentsWrong, wrongArguments, alreadyHolding, notHeld, Finish}
 use Rattle.terms.specs.Runs.{Outcome, outcome}
+use Rattle.terms.specs.Order.{without}
+use Rattle.terms.specs.OrderLaws.{none-first, first-head}
 use Rattle.terms.specs.declared.Sizes.{Sizes}
 use Rattle.terms.specs.declared.Answer.the-variants.{Posted, NoneReady, Handed, Refused}
 use Rattle.words.specs.Columns.{columns, columns-put, update-same}
@@ -22,7 +24,7 @@ use Rattle.words.specs.Words.{judgedCounters}
 use Rattle.words.specs.declared.GetPlan.{GetPlan}
 use Rattle.words.specs.declared.GetPlan.the-variants.{RefuseGet, Wait, Take}
 use Rattle.rules.specs.Rules.{Call, idle, looking, marking, Graph, job, withCall, addPosted, finishPosted, handedOut}
-use Rattle.rules.specs.Rules.{takeNext, getJob}
+use Rattle.rules.specs.Rules.{takeNext, getJob, handOut, nextOut, order}
 use Rattle.rules.specs.Sound.{Sound, started}
 use Rattle.representation.specs.Rep.{Ghost, TablesRep, holdWord, BareWords, WorkerRep, Stands}
 use Rattle.representation_kept.specs.Stand.{tables-part, frame}
@@ -85,18 +87,18 @@ module _ (s : Sizes) (t : Tables) (g : Graph) (G : Ghost) (S : Stands s t g G) (
           })
 
   -- ---- the post of a finish
-  finish-word : (name : ℕ) → f HELD w ≡ holdWord (g .workers w .held) → (h : Option ℕ) → g .workers w .held ≡ h
-      → Agrees s (posted (pick (holdsName (view t) w name) 0 notHeld) t w (bareWorker MARKING (f HELD w)))
-      (finishPosted g w name h)
+  finish-word : (b : Finish) → f HELD w ≡ holdWord (g .workers w .held) → (h : Option ℕ) → g .workers w .held ≡ h
+      → Agrees s (posted (pick (holdsName (view t) w (b .name)) 0 notHeld) t w (bareWorker MARKING (f HELD w)))
+      (finishPosted g w b h)
   unfolding posted finishPosted
-  finish-word name e none z =
+  finish-word b e none z =
       let held : f HELD w ≡ layout.none = e ∙ ap holdWord z in
       rw held (refused s t g G S O notHeld)
-  finish-word name e (some p) z =
+  finish-word b e (some p) z =
       let held : f HELD w ≡ p = e ∙ ap holdWord z in
       let there = O .held-there w p z in
       rw (held, job-place s t g G S O w hw p there, R .rows p (omega (arith, O .jobs)) .name)
-      (go (eqb (job g p .name) name))
+      (go (eqb (job g p .name) (b .name)))
     where
       go : (b : Bool) → Agrees s (posted (pick b 0 notHeld) t w (bareWorker MARKING p))
           (pick b (outcome Posted (withCall g w marking)) (outcome (Refused notHeld 0) g))
@@ -108,32 +110,32 @@ module _ (s : Sizes) (t : Tables) (g : Graph) (G : Ghost) (S : Stands s t g G) (
           })
       go false = refused s t g G S O notHeld
 
-  pub finish-agrees : (name : ℕ)
+  pub finish-agrees : (b : Finish)
       → Agrees s
-      (posted (pick (holdsName (view t) w name) (judgedCounters s (view t)) notHeld) t w
+      (posted (pick (holdsName (view t) w (b .name)) (judgedCounters s (view t)) notHeld) t w
       (bareWorker MARKING (f HELD w)))
-      (finishPosted g w name (g .workers w .held))
+      (finishPosted g w b (g .workers w .held))
   unfolding posted
-  finish-agrees name = rw judged (finish-word name (S .calls w hw .held) (g .workers w .held) refl)
+  finish-agrees b = rw judged (finish-word b (S .calls w hw .held) (g .workers w .held) refl)
 
   -- ---- the get
   abbrev taken : ℕ
   taken = started (g .jobs)
 
   take-agrees : (j : ℕ) (q : List ℕ) → g .queue ≡ j ∷ q
-      → Agrees s (doneGet (Take j (job g j .name) taken) t w) (outcome (Handed j (job g j .name)) (handedOut g w j q))
+      → Agrees s (doneGet (Take (handOut g j) taken) t w) (outcome (Handed (handOut g j)) (handedOut g w j q))
   unfolding appliedGet
   take-agrees j q e =
-      agrees s t g G S O w (doneGet (Take j (job g j .name) taken) t w)
-      (outcome (Handed j (job g j .name)) (handedOut g w j q)) G (record { held = some j; call = idle }) refl
-      (get-stands s t g G S O w j (job g j .name) q e)
+      agrees s t g G S O w (doneGet (Take (handOut g j) taken) t w)
+      (outcome (Handed (handOut g j)) (handedOut g w j q)) G (record { held = some j; call = idle }) refl
+      (get-stands s t g G S O w (handOut g j) q e)
       refl
       (field s t g G S O w hw (t .workers) (here s t g G S O w hw) HELD j refl)
       (unchanged g G w)
       (rw (columns-put workerShape (s .workers) (t .workers) w HELD j refl (S .workers) hw)
       (record { held = update-same (f HELD) w j; call = held-words f w IDLE layout.none B j }))
 
-  plan-next : (j : ℕ) (q : List ℕ) → g .queue ≡ j ∷ q → planQueue s (view t) ≡ Take j (job g j .name) taken
+  plan-next : (j : ℕ) (q : List ℕ) → g .queue ≡ j ∷ q → planQueue s (view t) ≡ Take (handOut g j) taken
   unfolding planQueue planTake
   plan-next j q e =
       let n = next-job s t g G S O j q e in
@@ -157,9 +159,10 @@ module _ (s : Sizes) (t : Tables) (g : Graph) (G : Ghost) (S : Stands s t g G) (
   unfolding appliedGet
   wait-agrees = record { answer = refl; ghost = G; stands = S }
 
-  queue-agrees : (l : List ℕ) → g .queue ≡ l → Agrees s (doneGet (planQueue s (view t)) t w) (takeNext g w l)
+  queue-agrees : (o : Option ℕ) → nextOut g ≡ o → Agrees s (doneGet (planQueue s (view t)) t w) (takeNext g w o)
   unfolding planQueue takeNext
-  queue-agrees [] e =
+  queue-agrees none z =
+      let e : g .queue ≡ [] = none-first (order g) (g .queue) z in
       rw (
         counters-ok s t g G S O,
         put-there s t g G S O,
@@ -169,7 +172,10 @@ module _ (s : Sizes) (t : Tables) (g : Graph) (G : Ghost) (S : Stands s t g G) (
         eq-eqb taken (taken + length (g .queue)) (omega (arith, ap length e)),
       )
       wait-agrees
-  queue-agrees (j ∷ q) e = rw (plan-next j q e) (take-agrees j q e)
+  queue-agrees (some j) z =
+      let q : List ℕ = without j (g .queue) in
+      let e : g .queue ≡ j ∷ q = first-head (g .queue) j z in
+      rw (plan-next j q e) (take-agrees j q e)
 
   pub get-agrees : Agrees s (doneGet
       (pick (eqb (f HELD w) layout.none) (planQueue s (view t)) (RefuseGet alreadyHolding)) t w)
@@ -180,5 +186,5 @@ module _ (s : Sizes) (t : Tables) (g : Graph) (G : Ghost) (S : Stands s t g G) (
       go : (h : Option ℕ) → g .workers w .held ≡ h
           → Agrees s (doneGet (pick (eqb (holdWord h) layout.none) (planQueue s (view t)) (RefuseGet alreadyHolding)) t
           w) (getJob g w h)
-      go none e = queue-agrees (g .queue) refl
+      go none e = queue-agrees (nextOut g) refl
       go (some j) e = rw (job-place s t g G S O w hw j (O .held-there w j e)) (refused s t g G S O alreadyHolding)

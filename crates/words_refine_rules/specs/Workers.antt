@@ -8,17 +8,17 @@ use Prim.Native.Nat.{ℕ, zero, suc, _+_, _≤_, _<_}
 use native.Mathlib.Omega.{arith}
 use native.Mathlib.Decide.{ℕ-discrete}
 use lib.Dec.{ltb}
-use lib.ListN.{length, getD, length-replicate}
+use lib.ListN.{length, getD, length-replicate, take}
 use borrow.Author.Tests.{eq-eqb, ne-eqb, ltb-true}
 use Rattle.terms.specs.Base.{prefix}
 use Rattle.terms.specs.Terms.{mostNames, Arguments, listed}
 use Rattle.words.specs.Columns.{Rows, columns, columns-put, rows-put, store, update-same, update-other}
 use Rattle.words.specs.Layout.{none, workerShape, PHASE, HELD, TALLY, PLACE, OWN-JOB, OWN-ARC, NAMES, LOOKING, LINKING}
-use Rattle.words.specs.Layout.{NOTIFYING, LIST-COUNT, bareWorker}
+use Rattle.words.specs.Layout.{NOTIFYING, LIST-COUNT, bareWorker, OWN-NAME, OWN-CLASS, OWN-GROWER}
 use Rattle.words.specs.Words.{putField, putWorker, addingWorker, firstArc}
 use Rattle.representation.specs.Rep.{AddWords, BareWords}
 use Rattle.representation_kept.specs.Records.{record-at, record-off, rows-sets}
-use Rattle.representation_kept.specs.Lists.{bare-name, length-prefix}
+use Rattle.representation_kept.specs.Lists.{bare-name, length-prefix, getD-past}
 
 -- ---- one field stored
 store-off : (f : ℕ → ℕ → ℕ) (i k x q u : ℕ) → u ≢ i → store f i k x q u ≡ f q u
@@ -78,19 +78,19 @@ module _ (P : ℕ) (l : List ℕ) (w : ℕ) (long : Rows workerShape P l) (hw : 
       (omega (arith, length-replicate {A = ℕ} mostNames 0))
 
   pub bare-held : (ph held : ℕ) → columns workerShape (putWorker l w (bareWorker ph held)) HELD w ≡ held
-  bare-held ph held = bare-at ph held 1 (omega arith)
+  bare-held ph held = bare-at ph held HELD (omega arith)
 
   pub bare-words : (ph held : ℕ) → BareWords (columns workerShape (putWorker l w (bareWorker ph held))) w ph none
   bare-words ph held = record {
-    phase = bare-at ph held 0 (omega arith);
-    name = bare-at ph held 2 (omega arith);
-    count = bare-at ph held 3 (omega arith);
-    class = bare-at ph held 4 (omega arith);
-    grower = bare-at ph held 5 (omega arith);
-    tally = bare-at ph held 6 (omega arith);
-    place = bare-at ph held 7 (omega arith);
-    job = bare-at ph held 8 (omega arith);
-    arc = bare-at ph held 9 (omega arith);
+    phase = bare-at ph held PHASE (omega arith);
+    name = bare-at ph held OWN-NAME (omega arith);
+    count = bare-at ph held LIST-COUNT (omega arith);
+    class = bare-at ph held OWN-CLASS (omega arith);
+    grower = bare-at ph held OWN-GROWER (omega arith);
+    tally = bare-at ph held TALLY (omega arith);
+    place = bare-at ph held PLACE (omega arith);
+    job = bare-at ph held OWN-JOB (omega arith);
+    arc = bare-at ph held OWN-ARC (omega arith);
     names = λ q b. bare-at ph held (NAMES + q) (omega arith) ∙ bare-name ph held q b;
   }
 
@@ -105,26 +105,25 @@ module _ (P : ℕ) (l : List ℕ) (w : ℕ) (long : Rows workerShape P l) (hw : 
       (omega (arith, length-prefix mostNames (listed a)))
 
   pub adding-held : (held : ℕ) (a : Arguments) → columns workerShape (putWorker l w (addingWorker held a)) HELD w ≡ held
-  adding-held held a = adding-at held a 1 (omega arith)
+  adding-held held a = adding-at held a HELD (omega arith)
 
   name-at : (held : ℕ) (a : Arguments) (q : ℕ)
       → getD (addingWorker held a) (NAMES + q) 0 ≡ getD (prefix mostNames (listed a)) q 0
   name-at held a q =
-      ap (λ k. getD (addingWorker held a) k 0) {x = NAMES + q}
-      {y = suc (suc (suc (suc (suc (suc (suc (suc (suc (suc q)))))))))} (omega arith)
+      getD-past (take NAMES (addingWorker held a)) (prefix mostNames (listed a)) q
 
   pub adding-words : (held : ℕ) (a : Arguments)
       → AddWords (columns workerShape (putWorker l w (addingWorker held a))) w a LOOKING 0 0 none none
   adding-words held a = record {
-    phase = adding-at held a 0 (omega arith);
-    name = adding-at held a 2 (omega arith);
-    count = adding-at held a 3 (omega arith);
-    class = adding-at held a 4 (omega arith);
-    grower = adding-at held a 5 (omega arith);
-    tally = adding-at held a 6 (omega arith);
-    place = adding-at held a 7 (omega arith);
-    job = adding-at held a 8 (omega arith);
-    arc = adding-at held a 9 (omega arith);
+    phase = adding-at held a PHASE (omega arith);
+    name = adding-at held a OWN-NAME (omega arith);
+    count = adding-at held a LIST-COUNT (omega arith);
+    class = adding-at held a OWN-CLASS (omega arith);
+    grower = adding-at held a OWN-GROWER (omega arith);
+    tally = adding-at held a TALLY (omega arith);
+    place = adding-at held a PLACE (omega arith);
+    job = adding-at held a OWN-JOB (omega arith);
+    arc = adding-at held a OWN-ARC (omega arith);
     names = λ q h.
         adding-at held a (NAMES + q) (omega arith) ∙ name-at held a q ∙ getD-prefix mostNames (listed a) q h;
   }

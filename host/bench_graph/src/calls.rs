@@ -1,6 +1,6 @@
 //! Building and draining a graph by calls: of the proved library, or of the same rules in unproved Rust.
 
-use library::graph::{self, kind, Answer, Entry, Sizes, Tables};
+use taskgraph::raw::{kind, Answer, Entry, Sizes, Tables};
 
 use crate::{shapes::Shape, unproved};
 
@@ -50,7 +50,7 @@ macro_rules! calls {
     };
 }
 
-calls!(Proved, "library", graph);
+calls!(Proved, "library", taskgraph::raw);
 calls!(Unproved, "unproved Rust", unproved);
 
 /// The words of five tables.

@@ -20,8 +20,8 @@ use bench_graph::{
     shapes::{self, Shape},
 };
 use counting::Row;
-use library::graph::Sizes;
 use peers::Peer;
+use taskgraph::raw::Sizes;
 
 /// Rounds of a graph of 4,096 jobs. The two implementations take turns; the best round of each counts.
 const ROUNDS: usize = 100;

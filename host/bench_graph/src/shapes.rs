@@ -1,7 +1,7 @@
 //! The graphs that are built and drained.
 
-use conformance::random::Random;
-use library::{graph::Sizes, Entry, MAX_NAMES};
+use compare_sheets::random::Random;
+use taskgraph::raw::{Entry, Sizes, MAX_NAMES};
 
 pub struct Shape {
     pub name: String,

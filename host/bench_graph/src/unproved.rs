@@ -1,58 +1,16 @@
 //! The rules of document 01 over the same tables of words with the same tests, in plain unproved Rust:
-//! what the proved library is timed beside. The layout of the tables is that of `include/taskgraph.h`. The
-//! five calls are never inlined, as those of the library cannot be.
+//! what the proved library is timed beside. The five calls are never inlined, as those of the library cannot be.
 
-use library::graph::{kind, Answer, Entry, Sizes, Tables};
+use compare_graph::layout::{
+    job, phase, worker, ARCS_HEADER, ARC_WORDS, JOBS_HEADER, JOB_WORDS, NONE, QUEUE_HEADER, WORKER_WORDS,
+};
+use taskgraph::raw::{kind, Answer, Entry, Sizes, Tables};
 
-const NONE: u32 = u32::MAX;
 const FACTOR: u32 = 2_654_435_769;
-
-/// Words before the first record of each table.
-const JOBS_HEADER: usize = 5;
-const ARCS_HEADER: usize = 1;
-const QUEUE_HEADER: usize = 2;
-
-/// Words per record.
-const JOB_WORDS: usize = 8;
-const ARC_WORDS: usize = 2;
-const WORKER_WORDS: usize = 42;
 
 const MAX_NAMES: u32 = 32;
 const MAX_CLASS: u32 = 15;
 const MAX_GROWER: u32 = 65_535;
-
-/// The fields of a job.
-mod job {
-    pub const NAME: usize = 0;
-    pub const LABEL: usize = 1;
-    pub const COUNT: usize = 2;
-    pub const FIRST: usize = 5;
-    pub const LAST: usize = 6;
-    pub const NEXT: usize = 7;
-}
-
-/// The fields of a worker.
-mod worker {
-    pub const PHASE: usize = 0;
-    pub const HELD: usize = 1;
-    pub const NAME: usize = 2;
-    pub const COUNT: usize = 3;
-    pub const CLASS: usize = 4;
-    pub const GROWER: usize = 5;
-    pub const TALLY: usize = 6;
-    pub const PLACE: usize = 7;
-    pub const JOB: usize = 8;
-    pub const ARC: usize = 9;
-    pub const NAMES: usize = 10;
-}
-
-mod phase {
-    pub const IDLE: u32 = 0;
-    pub const LOOKING_UP: u32 = 1;
-    pub const LINKING: u32 = 2;
-    pub const MARKING: u32 = 3;
-    pub const NOTIFYING: u32 = 4;
-}
 
 const UNEXECUTED: u32 = 0;
 const EXECUTING: u32 = 1;
@@ -292,10 +250,11 @@ impl<'a> Graph<'a> {
             return Err(DAMAGED);
         }
         let label = self.job(prerequisite)[job::LABEL];
+        if label > FINISHED {
+            return Err(DAMAGED);
+        }
         if label == FINISHED {
             self.workers[at + worker::TALLY] += 1;
-        } else if label > FINISHED {
-            return Err(DAMAGED);
         } else {
             let last = self.job(prerequisite)[job::LAST];
             let fits = dependent < self.made()

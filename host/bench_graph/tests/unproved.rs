@@ -2,16 +2,16 @@
 //! words.
 
 use bench_graph::calls::{Calls, Proved, Unproved};
-use conformance::random::{seed, Random};
-use conformance_graph::{
+use compare_graph::{
     damaged,
     event::{Event, History},
     generate, histories,
     tables::Tables,
     world::to_library,
 };
-use library::graph::{Answer, Entry, Sizes};
-use reference::history::Item;
+use compare_sheets::random::{seed, Random};
+use second_implementation::history::Item;
+use taskgraph::raw::{Answer, Entry, Sizes};
 
 fn call<C: Calls>(event: &Event, laid_out: &mut Sizes, tables: &mut Tables) -> Option<Answer> {
     match event {

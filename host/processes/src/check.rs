@@ -1,5 +1,7 @@
 //! What the logs and the tables must say after a run.
 
+use compare_graph::layout::{job, job_at, phase, worker, JOB_WORDS, MADE, PUT, RESERVED, TAKEN, WORKER_WORDS};
+
 use crate::{
     log::Line,
     plan::Plan,
@@ -23,13 +25,6 @@ pub struct Words {
     pub workers: Vec<u32>,
 }
 
-const JOBS_HEADER: usize = 5;
-const JOB_WORDS: usize = 8;
-const MADE: usize = 4;
-const LABEL: usize = 1;
-const COUNT: usize = 2;
-const CLASS: usize = 3;
-const WORKER_WORDS: usize = 42;
 const FINISHED: u32 = 2;
 
 pub struct Check<'a> {
@@ -48,7 +43,7 @@ impl<'a> Check<'a> {
     }
 
     fn record(&mut self, name: u32) -> Result<&mut Record, String> {
-        let job = self.plan.job(name).ok_or_else(|| format!("no job has the name {name}"))?;
+        let job = self.plan.number(name).ok_or_else(|| format!("no job has the name {name}"))?;
         Ok(&mut self.records[job])
     }
 
@@ -106,26 +101,33 @@ impl<'a> Check<'a> {
     pub fn tables(&self, words: &Words, killed: usize) -> Result<(), String> {
         let made = words.jobs[MADE] as usize;
         for number in 0..made.min(JOBS) {
-            let record = &words.jobs[JOBS_HEADER + JOB_WORDS * number..][..JOB_WORDS];
-            let job = self.plan.job(record[0]).ok_or_else(|| format!("no job has the name {}", record[0]))?;
-            let (said, class) = (self.records[job], (job % 16) as u32);
-            if record[CLASS] != class || said.finished && record[LABEL] != FINISHED {
-                return Err(format!("the words of job {job} are {record:?}"));
-            }
-            if killed == 0 && (record[LABEL], record[COUNT]) != (FINISHED, 0) {
-                return Err(format!("at the end the words of job {job} are {record:?}"));
-            }
+            self.job(&words.jobs[job_at(number)..][..JOB_WORDS], killed)?;
         }
-        let idle = words.workers.chunks(WORKER_WORDS).filter(|worker| worker[0] == 0).count();
+        let idle = words.workers.chunks(WORKER_WORDS).filter(|own| own[worker::PHASE] == phase::IDLE).count();
         if idle + killed < WORKERS {
             return Err(format!("only {idle} workers are idle at the end"));
         }
-        let counters = (made, words.arcs[0] as usize, words.queue[0] as usize, words.queue[1] as usize);
+        let (taken, put) = (words.queue[TAKEN] as usize, words.queue[PUT] as usize);
+        let counters = (made, words.arcs[RESERVED] as usize, taken, put);
         if killed == 0 && counters != (JOBS, ARCS, JOBS, JOBS) {
             return Err(format!("jobs made, arcs reserved, taken and put are {counters:?}"));
         }
-        if words.queue[0] != words.queue[1] {
+        if taken != put {
             return Err("jobs still wait in the queue".into());
+        }
+        Ok(())
+    }
+
+    /// The words of a job made.
+    fn job(&self, record: &[u32], killed: usize) -> Result<(), String> {
+        let name = record[job::NAME];
+        let number = self.plan.number(name).ok_or_else(|| format!("no job has the name {name}"))?;
+        let class = self.plan.job(number).class;
+        if record[job::CLASS] != class || self.records[number].finished && record[job::LABEL] != FINISHED {
+            return Err(format!("the words of job {number} are {record:?}"));
+        }
+        if killed == 0 && (record[job::LABEL], record[job::COUNT]) != (FINISHED, 0) {
+            return Err(format!("at the end the words of job {number} are {record:?}"));
         }
         Ok(())
     }

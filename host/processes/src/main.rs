@@ -1,19 +1,20 @@
-//! Sixteen worker processes over one graph in shared memory, with one lock round each call: 4,096 jobs with
-//! 32,768 arcs, jobs of random length. Afterwards the workers' logs say whether a job was taken before its
+//! Sixteen worker processes over one graph in shared memory, with the lock round each call and each step: 4,096 jobs
+//! with 32,768 arcs, jobs of random length. Afterwards the workers' logs say whether a job was taken before its
 //! prerequisites or twice. Then the same with a worker killed between two calls at a random moment, after
 //! which the others go on.
 //!
 //! usage: processes [RUNS]      RUNS with a killed worker, 8 if it is not said
 
+#![forbid(unsafe_code)]
+
 mod check;
 mod log;
-mod mapping;
 mod plan;
 mod shared;
 mod worker;
 
 use std::{
-    env, fs, io,
+    env, fs,
     path::{Path, PathBuf},
     process::{self, Child, Command, ExitCode},
     thread,
@@ -21,22 +22,29 @@ use std::{
 };
 
 use check::{Check, Words};
-use conformance::random::{seed, Random};
-use library::graph::{self, kind};
+use compare_sheets::random::{seed, Random};
 use plan::Plan;
-use shared::{Shared, JOBS, WORKERS};
+use shared::{Fallible, Shared, JOBS, WORKERS};
+use taskgraph::TaskGraph;
 use worker::Worker;
 
-/// A run that takes longer has failed.
-const LIMIT: Duration = Duration::from_secs(120);
+/// A run that takes so long hangs.
+const LIMIT: Duration = Duration::from_secs(3_600);
 
 fn main() -> ExitCode {
     let arguments: Vec<String> = env::args().skip(1).collect();
-    if let [worker, number, seed, mapping, log] = &arguments[..] {
-        assert_eq!(worker, "worker");
-        return work(number, seed, Path::new(mapping), Path::new(log));
+    match arguments.iter().map(String::as_str).collect::<Vec<_>>()[..] {
+        ["worker", number, seed, folder, log] => work(number, seed, Path::new(folder), Path::new(log)),
+        [] => run_all(8),
+        [runs] if runs.parse::<u64>().is_ok() => run_all(runs.parse().unwrap_or(0)),
+        _ => {
+            eprintln!("usage: processes [RUNS]");
+            ExitCode::from(2)
+        }
     }
-    let killing = arguments.first().map_or(8, |runs| runs.parse().expect("RUNS is a number"));
+}
+
+fn run_all(killing: u64) -> ExitCode {
     let seed = seed();
     let (mut passed, mut failed) = (0, 0);
     for run in 0..=killing {
@@ -60,19 +68,19 @@ fn main() -> ExitCode {
     }
 }
 
-fn work(number: &str, seed: &str, mapping: &Path, log: &Path) -> ExitCode {
+fn work(number: &str, seed: &str, folder: &Path, log: &Path) -> ExitCode {
     let number = number.parse().expect("the worker's number");
     let seed = seed.parse().expect("the seed");
-    match Worker::new(number, seed, mapping, log).and_then(Worker::run) {
+    match Worker::new(number, seed, folder, log).and_then(Worker::run) {
         Ok(()) => ExitCode::SUCCESS,
         Err(error) => {
-            eprintln!("{error}");
+            eprintln!("worker {number}: {error}");
             ExitCode::FAILURE
         }
     }
 }
 
-/// One run: a folder with the mapped file and the logs.
+/// One run: a folder with the shared files and the logs.
 struct Run {
     seed: u64,
     folder: PathBuf,
@@ -91,19 +99,11 @@ impl Drop for Run {
     }
 }
 
-fn text(error: io::Error) -> String {
-    error.to_string()
-}
-
 impl Run {
-    fn new(seed: u64) -> Result<Run, String> {
+    fn new(seed: u64) -> Fallible<Run> {
         let folder = env::temp_dir().join(format!("taskgraph-processes-{}-{seed}", process::id()));
-        fs::create_dir_all(&folder).map_err(text)?;
-        let shared = Shared::new(&folder.join("words")).map_err(text)?;
-        let answer = shared.lock().call(graph::lay_out);
-        if answer.kind != kind::LAID_OUT {
-            return Err(format!("laying out answers {answer:?}"));
-        }
+        fs::create_dir(&folder)?;
+        let shared = Shared::create(&folder)?;
         Ok(Run { seed, folder, shared, workers: Vec::new() })
     }
 
@@ -112,19 +112,22 @@ impl Run {
     }
 
     /// Runs the workers, and says what they did or what is wrong with it.
-    fn run(&mut self, kill: bool) -> Result<String, String> {
+    fn run(&mut self, kill: bool) -> Fallible<String> {
         let start = Instant::now();
-        self.start().map_err(text)?;
+        self.start()?;
         let victim = if kill { Some(self.kill_one()?) } else { None };
         self.wait(victim, start + LIMIT)?;
         let took = start.elapsed();
         let plan = Plan::new(self.seed);
         let killed = usize::from(kill);
         let logs: Result<Vec<String>, _> = (0..WORKERS).map(|worker| fs::read_to_string(self.log(worker))).collect();
-        let check = Check::new(&plan, &logs.map_err(text)?)?;
+        let check = Check::new(&plan, &logs?)?;
         check.order()?;
         check.progress(killed)?;
-        check.tables(&self.words(), killed)?;
+        check.tables(&self.words()?, killed)?;
+        if !kill && !self.shared.lock()?.graph.drained()? {
+            return Err("the graph is not drained".into());
+        }
         Ok(format!(
             "{} of {JOBS} jobs finished by {WORKERS} processes in {:.1} s",
             check.finished(),
@@ -132,26 +135,26 @@ impl Run {
         ))
     }
 
-    fn start(&mut self) -> io::Result<()> {
+    fn start(&mut self) -> Fallible<()> {
         let program = env::current_exe()?;
         for worker in 0..WORKERS {
             let mut command = Command::new(&program);
             command.args(["worker", &worker.to_string(), &self.seed.to_string()]);
-            self.workers.push(command.arg(self.folder.join("words")).arg(self.log(worker)).spawn()?);
+            self.workers.push(command.arg(&self.folder).arg(self.log(worker)).spawn()?);
         }
         Ok(())
     }
 
     /// Kills a worker at a random moment. The lock is held meanwhile, so the worker is between two calls.
-    fn kill_one(&mut self) -> Result<usize, String> {
+    fn kill_one(&mut self) -> Fallible<u32> {
         let mut random = Random::new(self.seed, "the moment of the kill");
-        let victim = random.below(WORKERS);
+        let victim = random.below(WORKERS) as u32;
         let (tickets, pause) = (random.below(JOBS) as u32, random.below(3_000) as u64);
         let end = Instant::now() + LIMIT;
-        while self.shared.tickets() < tickets {
+        while self.shared.lock()?.tickets()? < tickets {
             for (number, worker) in self.workers.iter_mut().enumerate() {
-                if let Some(status) = worker.try_wait().map_err(text)? {
-                    return Err(format!("worker {number} has ended already: {status}"));
+                if let Some(status) = worker.try_wait()? {
+                    return Err(format!("worker {number} has ended already: {status}").into());
                 }
             }
             if Instant::now() > end {
@@ -160,24 +163,24 @@ impl Run {
             thread::sleep(Duration::from_micros(200));
         }
         thread::sleep(Duration::from_micros(pause));
-        let mut locked = self.shared.lock();
-        self.workers[victim].kill().map_err(text)?;
-        self.workers[victim].wait().map_err(text)?;
-        locked.set_dead(victim);
+        let held = self.shared.lock()?;
+        self.workers[victim as usize].kill()?;
+        self.workers[victim as usize].wait()?;
+        held.set_dead(victim)?;
         Ok(victim)
     }
 
     /// Waits for all workers but the one killed.
-    fn wait(&mut self, killed: Option<usize>, end: Instant) -> Result<(), String> {
+    fn wait(&mut self, killed: Option<u32>, end: Instant) -> Fallible<()> {
         for (number, worker) in self.workers.iter_mut().enumerate() {
-            if Some(number) == killed {
+            if Some(number as u32) == killed {
                 continue;
             }
             loop {
-                match worker.try_wait().map_err(text)? {
+                match worker.try_wait()? {
                     Some(status) if status.success() => break,
-                    Some(status) => return Err(format!("worker {number}: {status}")),
-                    None if Instant::now() > end => return Err(format!("worker {number} does not end")),
+                    Some(status) => return Err(format!("worker {number}: {status}").into()),
+                    None if Instant::now() > end => return Err(format!("worker {number} does not end").into()),
                     None => thread::sleep(Duration::from_millis(2)),
                 }
             }
@@ -185,9 +188,9 @@ impl Run {
         Ok(())
     }
 
-    fn words(&self) -> Words {
-        let mut locked = self.shared.lock();
-        let [jobs, arcs, _, queue, workers] = locked.tables();
-        Words { jobs: jobs.to_vec(), arcs: arcs.to_vec(), queue: queue.to_vec(), workers: workers.to_vec() }
+    fn words(&self) -> Fallible<Words> {
+        let held = self.shared.lock()?;
+        let [jobs, arcs, _, queue, workers] = held.graph.words().map(<[u32]>::to_vec);
+        Ok(Words { jobs, arcs, queue, workers })
     }
 }

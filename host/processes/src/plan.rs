@@ -2,8 +2,8 @@
 
 use std::collections::HashMap;
 
-use conformance::random::Random;
-use library::{Entry, MAX_NAMES};
+use compare_sheets::random::Random;
+use taskgraph::{raw::MAX_NAMES, Job};
 
 use crate::shared::{ARCS, JOBS};
 
@@ -38,15 +38,13 @@ impl Plan {
         Plan { lists, names, numbers }
     }
 
-    /// The job of a name, if it is one of the plan's.
-    pub fn job(&self, name: u32) -> Option<usize> {
+    /// The number of the job of a name, if it is one of the plan's.
+    pub fn number(&self, name: u32) -> Option<usize> {
         self.numbers.get(&name).copied()
     }
 
-    pub fn entry(&self, job: usize) -> Entry {
-        let list = &self.lists[job];
-        let mut names = [0; MAX_NAMES];
-        names.iter_mut().zip(list).for_each(|(name, prerequisite)| *name = self.names[*prerequisite]);
-        Entry { name: self.names[job], count: list.len() as u32, class: (job % 16) as u32, grower: job as u32, names }
+    pub fn job(&self, number: usize) -> Job {
+        let prerequisites = self.lists[number].iter().map(|listed| self.names[*listed]).collect();
+        Job { name: self.names[number], prerequisites, class: (number % 16) as u32, grower: number as u32 }
     }
 }

@@ -3,25 +3,23 @@
 
 use std::{
     fs::File,
-    io::{self, Write},
+    io::Write,
     path::Path,
     thread,
     time::{Duration, Instant},
 };
 
-use conformance::random::Random;
-use library::graph::{self, kind, Answer, Sizes, Tables};
+use compare_sheets::random::Random;
+use taskgraph::{Progress, Refusal, TaskGraph};
 
 use crate::{
     log::Line,
     plan::Plan,
-    shared::{Locked, Shared},
+    shared::{Fallible, Shared},
 };
 
-const UNKNOWN_NAME: u32 = 6;
-
 pub struct Worker {
-    number: usize,
+    number: u32,
     shared: Shared,
     plan: Plan,
     random: Random,
@@ -31,104 +29,95 @@ pub struct Worker {
 }
 
 impl Worker {
-    pub fn new(number: usize, seed: u64, mapping: &Path, log: &Path) -> io::Result<Worker> {
+    pub fn new(number: u32, seed: u64, folder: &Path, log: &Path) -> Fallible<Worker> {
         Ok(Worker {
             number,
-            shared: Shared::new(mapping)?,
+            shared: Shared::open(folder)?,
             plan: Plan::new(seed),
-            random: Random::nth(seed, "workers", number as u64),
+            random: Random::nth(seed, "workers", u64::from(number)),
             log: File::create(log)?,
             claimed: None,
         })
     }
 
-    pub fn run(mut self) -> io::Result<()> {
+    pub fn run(mut self) -> Fallible<()> {
         loop {
             // Mostly adding at first, so that many prerequisites are still unfinished when they are linked.
             if !self.random.once_in(8) {
-                self.claim();
+                self.claim()?;
                 self.add()?;
             }
-            let shared = &self.shared;
-            let mut locked = shared.lock();
-            let answer = call(&mut locked, self.number, graph::get);
-            match answer.kind {
-                kind::HANDED_OUT => {
-                    locked.set_busy(self.number, true);
-                    drop(locked);
-                    self.work(answer.name)?;
+            let mut held = self.shared.lock()?;
+            match held.graph.get(self.number)? {
+                Some(job) => {
+                    held.set_busy(self.number, true)?;
+                    drop(held);
+                    self.work(job.name)?;
                 }
-                kind::NONE_READY if locked.is_over() => return Ok(()),
-                kind::NONE_READY => {
-                    drop(locked);
+                None if held.is_over()? => return Ok(()),
+                None => {
+                    drop(held);
                     thread::yield_now();
-                }
-                _ => {
-                    drop(locked);
-                    return self.fault("a get", answer);
                 }
             }
         }
     }
 
-    fn write(&mut self, line: Line) -> io::Result<()> {
+    fn write(&mut self, line: Line) -> Fallible<()> {
         // One write for each line, so that a killed worker leaves whole lines.
-        self.log.write_all(format!("{line}\n").as_bytes())
+        Ok(self.log.write_all(format!("{line}\n").as_bytes())?)
     }
 
-    fn fault(&mut self, what: &str, answer: Answer) -> io::Result<()> {
-        Err(io::Error::new(io::ErrorKind::Other, format!("worker {}: {what} answers {answer:?}", self.number)))
-    }
-
-    fn claim(&mut self) {
+    fn claim(&mut self) -> Fallible<()> {
         if self.claimed.is_none() {
-            let mut locked = self.shared.lock();
-            self.claimed = locked.claim(self.number);
-            locked.set_busy(self.number, self.claimed.is_some());
+            let held = self.shared.lock()?;
+            self.claimed = held.claim(self.number)?;
+            held.set_busy(self.number, self.claimed.is_some())?;
         }
+        Ok(())
     }
 
     /// Tries to add the claimed job; while a prerequisite is not there yet, it stays claimed.
-    fn add(&mut self) -> io::Result<()> {
+    fn add(&mut self) -> Fallible<()> {
         let job = match self.claimed {
             Some(job) => job,
             None => return Ok(()),
         };
-        let entry = self.plan.entry(job);
-        let number = self.number;
-        let post = |sizes, tables: &mut Tables, worker| graph::post_add(sizes, tables, worker, entry);
-        let mut answer = call(&mut self.shared.lock(), number, post);
-        while answer.kind == kind::POSTED || answer.kind == kind::GOING_ON {
-            let mut locked = self.shared.lock();
-            answer = call(&mut locked, number, graph::step);
-            if answer.kind == kind::ENDED {
-                locked.set_added(job);
-                locked.set_busy(number, false);
-                self.claimed = None;
+        self.shared.lock()?.graph.post_add(self.number, &self.plan.job(job))?;
+        loop {
+            let mut held = self.shared.lock()?;
+            match held.graph.step(self.number) {
+                Ok(Progress::GoingOn) => {}
+                Ok(Progress::Ended) => {
+                    held.set_added(job)?;
+                    held.set_busy(self.number, false)?;
+                    drop(held);
+                    self.claimed = None;
+                    return self.write(Line::Added { job });
+                }
+                Err(Refusal::UnknownName { place }) => {
+                    drop(held);
+                    return self.give_up_if_lost(job, self.plan.lists[job][place]);
+                }
+                Err(refusal) => return Err(refusal.into()),
             }
-        }
-        match (answer.kind, answer.number) {
-            (kind::ENDED, _) => self.write(Line::Added { job }),
-            (kind::REFUSED, UNKNOWN_NAME) => {
-                self.give_up_if_lost(job, self.plan.lists[job][answer.place as usize]);
-                Ok(())
-            }
-            _ => self.fault("an add", answer),
         }
     }
 
-    fn give_up_if_lost(&mut self, job: usize, prerequisite: usize) {
-        let mut locked = self.shared.lock();
-        if locked.is_lost(prerequisite) {
-            locked.give_up(job);
-            locked.set_busy(self.number, false);
+    fn give_up_if_lost(&mut self, job: usize, prerequisite: usize) -> Fallible<()> {
+        let held = self.shared.lock()?;
+        if held.is_lost(prerequisite)? {
+            held.give_up(job)?;
+            held.set_busy(self.number, false)?;
             self.claimed = None;
         }
+        Ok(())
     }
 
     /// Works at a job for a random time and finishes it.
-    fn work(&mut self, name: u32) -> io::Result<()> {
-        self.write(Line::Start { name, ticket: self.shared.ticket() })?;
+    fn work(&mut self, name: u32) -> Fallible<()> {
+        let ticket = self.shared.ticket()?;
+        self.write(Line::Start { name, ticket })?;
         if self.random.once_in(256) {
             thread::sleep(Duration::from_micros(self.random.below(4_000) as u64));
         }
@@ -136,29 +125,20 @@ impl Worker {
         while Instant::now() < end {
             std::hint::spin_loop();
         }
-        self.write(Line::End { name, ticket: self.shared.ticket() })?;
+        let ticket = self.shared.ticket()?;
+        self.write(Line::End { name, ticket })?;
         self.finish(name)
     }
 
-    fn finish(&mut self, name: u32) -> io::Result<()> {
-        let post = |sizes, tables: &mut Tables, worker| graph::post_finish(sizes, tables, worker, name);
-        let mut answer = call(&mut self.shared.lock(), self.number, post);
-        while answer.kind == kind::POSTED || answer.kind == kind::GOING_ON {
-            let mut locked = self.shared.lock();
-            answer = call(&mut locked, self.number, graph::step);
-            if answer.kind == kind::ENDED {
-                locked.set_busy(self.number, self.claimed.is_some());
+    fn finish(&mut self, name: u32) -> Fallible<()> {
+        self.shared.lock()?.graph.post_finish(self.number, name)?;
+        loop {
+            let mut held = self.shared.lock()?;
+            if held.graph.step(self.number)? == Progress::Ended {
+                held.set_busy(self.number, self.claimed.is_some())?;
+                drop(held);
+                return self.write(Line::Finished { name });
             }
         }
-        if answer.kind == kind::ENDED {
-            self.write(Line::Finished { name })
-        } else {
-            self.fault("a finish", answer)
-        }
     }
-}
-
-/// One call by a worker.
-fn call(locked: &mut Locked, worker: usize, call: impl FnOnce(Sizes, &mut Tables, u32) -> Answer) -> Answer {
-    locked.call(|sizes, tables| call(sizes, tables, worker as u32))
 }

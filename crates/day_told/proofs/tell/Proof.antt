@@ -35,7 +35,7 @@ neither Posted h = refl
 neither Going h = refl
 neither Ended h = refl
 neither NoneReady h = refl
-neither (Handed j name) h = absurd (miss others 5 tt h)
+neither (Handed x) h = absurd (miss others 5 tt h)
 neither (Refused n p) h = absurd (miss others 6 tt h)
 
 returns-3 : tie.Need-returns-3

@@ -21,9 +21,10 @@ within-if-requires c κs = search needs
 
 from-grower-requires : tie.Need-from-grower-requires
 from-grower-requires c κs =
-    let a = c .before .before .before .before .before .before .before in
+    let c4 = c .before .before .before .before in
+    let a = c4 .before .before .before in
     number-behind 1 (a .args .map / 4 % 2) _ (a .args .s .now) _ _ _ (λ e. e) (a .pre)
-    (sym (c .before .before .before .before .before .number1-if .ensures)
+    (sym (c4 .before .number1-if .ensures)
     ∙ c .before .before .before .class .given .1) .within
 
 returns : tie.Need-returns
@@ -32,22 +33,26 @@ returns c = λ list e. rw (← c .before .before .before .number1-if .ensures, c
 
 returns-2 : tie.Need-returns-2
 unfolding fromClass judgedThen
-returns-2 c = λ list e. rw (
-  ← c .before .before .before .before .before .before .number1-if .ensures,
-  c .before .before .before .before .class .given .1,
-  ← c .before .before .within-if .ensures,
-  c .before .if1 .taken,
-)
+returns-2 c =
+    let c4 = c .before .before .before .before in
+    λ list e. rw (
+      ← c4 .before .before .number1-if .ensures,
+      c4 .class .given .1,
+      ← c .before .before .within-if .ensures,
+      c .before .if1 .taken,
+    )
     (c .from-grower .ensures list e)
 
 returns-3 : tie.Need-returns-3
 unfolding fromClass judgedThen
-returns-3 c = λ list e. rw (
-  ← c .before .before .before .before .before .number1-if .ensures,
-  c .before .before .before .class .given .1,
-  ← c .before .within-if .ensures,
-  c .if1 .left,
-)
+returns-3 c =
+    let c4 = c .before .before .before .before in
+    λ list e. rw (
+      ← c4 .before .number1-if .ensures,
+      c .before .before .before .class .given .1,
+      ← c .before .within-if .ensures,
+      c .if1 .left,
+    )
 
 pub from-class-spec : {M : Type 1} → statement M
 from-class-spec =

@@ -22,22 +22,26 @@ returns c = λ list e. rw (← c .before .before .before .number2-if .ensures, c
 
 returns-2 : tie.Need-returns-2
 unfolding fromGrower judgedThen
-returns-2 c = λ list e. rw (
-  ← c .before .before .before .before .before .number2-if .ensures,
-  c .before .before .before .grower .given .1,
-  ← c .before .within-if .ensures,
-  c .if1 .taken,
-  e,
-)
+returns-2 c =
+    let c4 = c .before .before .before .before in
+    λ list e. rw (
+      ← c4 .before .number2-if .ensures,
+      c .before .before .before .grower .given .1,
+      ← c .before .within-if .ensures,
+      c .if1 .taken,
+      e,
+    )
 
 returns-3 : tie.Need-returns-3
 unfolding fromGrower judgedThen
-returns-3 c = λ list e. rw (
-  ← c .before .before .before .before .before .number2-if .ensures,
-  c .before .before .before .grower .given .1,
-  ← c .before .within-if .ensures,
-  c .if1 .left,
-)
+returns-3 c =
+    let c4 = c .before .before .before .before in
+    λ list e. rw (
+      ← c4 .before .number2-if .ensures,
+      c .before .before .before .grower .given .1,
+      ← c .before .within-if .ensures,
+      c .if1 .left,
+    )
 
 pub from-grower-spec : {M : Type 1} → statement M
 from-grower-spec =

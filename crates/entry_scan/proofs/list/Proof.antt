@@ -34,13 +34,15 @@ add-end-2 c = search needs
 returns-2 : tie.Need-returns-2
 unfolding listAt limitedAt
 returns-2 c =
-    rw (le-leb _ _ (c .before .before .before .before .if1 .left), number1-at, ← c .before .before .wide .ensures)
+    let c4 = c .before .before .before .before in
+    rw (le-leb _ _ (c4 .if1 .left), number1-at, ← c .before .before .wide .ensures)
     (rw (c .before .if2 .taken, le-leb _ _ (c .if3 .taken)))
 
 returns-3 : tie.Need-returns-3
 unfolding listAt limitedAt
 returns-3 c =
-    rw (le-leb _ _ (c .before .before .before .before .if1 .left), number1-at, ← c .before .before .wide .ensures)
+    let c4 = c .before .before .before .before in
+    rw (le-leb _ _ (c4 .if1 .left), number1-at, ← c .before .before .wide .ensures)
     (rw (c .before .if2 .taken, lt-leb _ _ (c .if3 .left)))
 
 returns-4 : tie.Need-returns-4

@@ -39,7 +39,8 @@ add-t19 c = search needs
 returns : tie.Need-returns
 unfolding nameAt
 returns c =
-    rw (le-leb _ _ (c .before .before .before .before .before .if1 .taken), number4-at, c .spelt4 .ensures)
+    let c4 = c .before .before .before .before in
+    rw (le-leb _ _ (c4 .before .if1 .taken), number4-at, c .spelt4 .ensures)
 
 returns-2 : tie.Need-returns-2
 unfolding nameAt

@@ -30,7 +30,8 @@ add-t14 c = search needs
 returns-2 : tie.Need-returns-2
 unfolding nameAt
 returns-2 c =
-    rw (ne-eqb _ _ (c .before .before .before .before .if1 .left), le-leb _ _ (c .before .before .before .if2 .taken))
+    let c4 = c .before .before .before .before in
+    rw (ne-eqb _ _ (c4 .if1 .left), le-leb _ _ (c .before .before .before .if2 .taken))
     (rw (number2-at, c .spelt2 .ensures))
 
 returns-3 : tie.Need-returns-3

@@ -44,16 +44,21 @@ enum-known-count c = search needs
 
 from-class-requires : tie.Need-from-class-requires
 from-class-requires c κs =
-    listed nameBytes (c .before .before .before .before .before .before .before .before .before .wide .result / 2 % 2)
-    (c .before .before .before .before .before .before .before .before .before .before .before .before .before .args .s .now) _ _ _ (list-if-requires (c .before .before .before .before) κs) (sym (c .before .before .before .list-if .ensures) ∙ c .before .count .given .1) .within
+    let c4 = c .before .before .before .before in
+    let c8 = c4 .before .before .before .before in
+    let c12 = c8 .before .before .before .before in
+    listed nameBytes (c8 .before .wide .result / 2 % 2)
+    (c12 .before .args .s .now) _ _ _ (list-if-requires c4 κs)
+    (sym (c .before .before .before .list-if .ensures) ∙ c .before .count .given .1) .within
 
 returns-2 : tie.Need-returns-2
 unfolding decode mapAt
 returns-2 c =
+    let c4 = c .before .before .before .before in
     rw (
-      lt-ltb _ _ (c .before .before .before .before .before .before .before .if1 .left),
-      ← c .before .before .before .before .before .wide .ensures,
-      c .before .before .before .before .if2 .taken,
+      lt-ltb _ _ (c4 .before .before .before .if1 .left),
+      ← c4 .before .wide .ensures,
+      c4 .if2 .taken,
       ← c .before .before .before .name .ensures,
       c .before .number .given .1,
     )
@@ -61,13 +66,15 @@ returns-2 c =
 returns-3 : tie.Need-returns-3
 unfolding decode mapAt
 returns-3 c =
+    let c4 = c .before .before .before .before in
+    let c8 = c4 .before .before .before .before in
     rw (
       lt-ltb _ _
-          (c .before .before .before .before .before .before .before .before .before .before .before .if1 .left),
-      ← c .before .before .before .before .before .before .before .before .before .wide .ensures,
-      c .before .before .before .before .before .before .before .before .if2 .taken,
-      ← c .before .before .before .before .before .before .before .name .ensures,
-      c .before .before .before .before .before .name2 .given .1,
+          (c8 .before .before .before .if1 .left),
+      ← c8 .before .wide .ensures,
+      c8 .if2 .taken,
+      ← c4 .before .before .before .name .ensures,
+      c4 .before .name2 .given .1,
       ← c .before .before .before .list-if .ensures,
       c .before .number2 .given .1,
     )
@@ -75,14 +82,17 @@ returns-3 c =
 returns-4 : tie.Need-returns-4
 unfolding decode mapAt
 returns-4 c =
+    let c4 = c .before .before .before .before in
+    let c8 = c4 .before .before .before .before in
+    let c12 = c8 .before .before .before .before in
     rw (
       lt-ltb _ _
-          (c .before .before .before .before .before .before .before .before .before .before .before .before .if1 .left),
-      ← c .before .before .before .before .before .before .before .before .before .before .wide .ensures,
-      c .before .before .before .before .before .before .before .before .before .if2 .taken,
-      ← c .before .before .before .before .before .before .before .before .name .ensures,
-      c .before .before .before .before .before .before .name2 .given .1,
-      ← c .before .before .before .before .list-if .ensures,
+          (c12 .if1 .left),
+      ← c8 .before .before .wide .ensures,
+      c8 .before .if2 .taken,
+      ← c8 .name .ensures,
+      c4 .before .before .name2 .given .1,
+      ← c4 .list-if .ensures,
       c .before .before .count .given .1,
     )
     (c .from-class .ensures _ (names-length nameBytes _ _ _) ∙ ap scanOf (from-class-is _ _ _ _ _))

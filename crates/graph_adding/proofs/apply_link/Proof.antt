@@ -30,10 +30,13 @@ same-length-3 c = search needs
 
 returns : tie.Need-returns
 unfolding Fitting
-returns c = λ g buckets queue h.
-    let e = c .before .before .before .before .before .before .before .before .before .before .before .plan .given .1 in
+returns c =
+    λ g buckets queue h.
+    let c4 = c .before .before .before .before in
+    let c8 = c4 .before .before .before .before in
+    let e = c8 .before .before .before .plan .given .1 in
     let k = rw e at h in
-    rw e (c .before .before .before .before .before .before .link-first .ensures k buckets queue)
+    rw e (c4 .before .before .link-first .ensures k buckets queue)
 
 same-length-4 : tie.Need-same-length-4
 same-length-4 c = search needs
@@ -46,11 +49,14 @@ same-length-6 c = search needs
 
 returns-2 : tie.Need-returns-2
 unfolding Fitting
-returns-2 c = λ g buckets queue h.
-    let e = c .before .before .before .before .before .before .before .before .before .before .before .plan2 .given .1
+returns-2 c =
+    λ g buckets queue h.
+    let c4 = c .before .before .before .before in
+    let c8 = c4 .before .before .before .before in
+    let e = c8 .before .before .before .plan2 .given .1
     in
     let k = rw e at h in
-    rw e (c .before .before .before .before .before .before .link-after .ensures k buckets queue)
+    rw e (c4 .before .before .link-after .ensures k buckets queue)
 
 returns-3 : tie.Need-returns-3
 returns-3 c =

@@ -28,8 +28,10 @@ same-length-2 c = search needs
 returns : tie.Need-returns
 returns c =
     λ g arcs buckets h.
-    let e = c .before .before .before .before .before .before .before .before .plan .given .1 in
-    rw e (c .before .before .before .before .settle .ensures arcs buckets _)
+    let c4 = c .before .before .before .before in
+    let c8 = c4 .before .before .before .before in
+    let e = c8 .plan .given .1 in
+    rw e (c4 .settle .ensures arcs buckets _)
 
 same-length-3 : tie.Need-same-length-3
 same-length-3 c = search needs
@@ -42,11 +44,14 @@ same-length-5 c = search needs
 
 returns-2 : tie.Need-returns-2
 unfolding Fitting
-returns-2 c = λ g arcs buckets h.
-    let e = c .before .before .before .before .before .before .before .before .before .before .before .plan2 .given .1
+returns-2 c =
+    λ g arcs buckets h.
+    let c4 = c .before .before .before .before in
+    let c8 = c4 .before .before .before .before in
+    let e = c8 .before .before .before .plan2 .given .1
     in
     let k = rw e at h in
-    rw e (c .before .before .before .before .before .before .settle-queue .ensures k arcs buckets)
+    rw e (c4 .before .before .settle-queue .ensures k arcs buckets)
 
 returns-3 : tie.Need-returns-3
 returns-3 c =

@@ -27,10 +27,12 @@ returns : tie.Need-returns
 unfolding applied
 returns c =
     λ h buckets queue.
+    let c4 = c .before .before .before .before in
+    let c8 = c4 .before .before .before .before in
     rw (
       c .before .before .count-place .ensures h,
-      c .before .before .before .before .before .before .append-arc .ensures,
-      c .before .before .before .before .before .before .before .before .before .before .put-job .ensures,
+      c4 .before .before .append-arc .ensures,
+      c8 .before .before .put-job .ensures,
     )
 
 pub link-after-spec : {M : Type 1} → statement M

@@ -45,16 +45,22 @@ same-length-4 c = search needs
 
 returns-2 : tie.Need-returns-2
 unfolding Fitting
-returns-2 c = λ h.
-    let e = c .before .before .before .before .before .before .before .before .before .before .before .before .before .before .plan .given .1 in
+returns-2 c =
+    λ h.
+    let c4 = c .before .before .before .before in
+    let c8 = c4 .before .before .before .before in
+    let c12 = c8 .before .before .before .before in
+    let e = c12 .before .before .plan .given .1 in
     let k = rw e at h in
-    rw e (c .before .before .before .before .before .before .before .before .enter .ensures (k .0) (k .1) _)
+    rw e (c8 .enter .ensures (k .0) (k .1) _)
 
 same-length-5 : tie.Need-same-length-5
 same-length-5 c = search needs
 
 returns-3 : tie.Need-returns-3
-returns-3 c = λ h. let k = c .before .before .before .before .match .keys3 in
+returns-3 c =
+    let c4 = c .before .before .before .before in
+    λ h. let k = c4 .match .keys3 in
     c .before .before .apply-own .ensures k _ _ _ _ h
 
 same-length-6 : tie.Need-same-length-6
@@ -69,8 +75,10 @@ same-length-8 c = search needs
 returns-4 : tie.Need-returns-4
 returns-4 c =
     λ h.
-    let k = c .before .before .before .before .before .before .before .before .before .before .match .keys4 in
-    c .before .before .before .before .before .before .apply-link .ensures k _ _ h
+    let c4 = c .before .before .before .before in
+    let c8 = c4 .before .before .before .before in
+    let k = c8 .before .before .match .keys4 in
+    c4 .before .before .apply-link .ensures k _ _ h
 
 same-length-9 : tie.Need-same-length-9
 same-length-9 c = search needs
@@ -84,8 +92,10 @@ same-length-11 c = search needs
 returns-5 : tie.Need-returns-5
 returns-5 c =
     λ h.
-    let k = c .before .before .before .before .before .before .before .before .before .before .match .keys5 in
-    c .before .before .before .before .before .before .apply-settle .ensures k _ _ h
+    let c4 = c .before .before .before .before in
+    let c8 = c4 .before .before .before .before in
+    let k = c8 .before .before .match .keys5 in
+    c4 .before .before .apply-settle .ensures k _ _ h
 
 same-length-12 : tie.Need-same-length-12
 same-length-12 c = search needs
@@ -99,8 +109,10 @@ same-length-14 c = search needs
 returns-6 : tie.Need-returns-6
 returns-6 c =
     λ h.
-    let k = c .before .before .before .before .before .before .before .before .before .before .match .keys6 in
-    c .before .before .before .before .before .before .apply-finish .ensures k _ _ h
+    let c4 = c .before .before .before .before in
+    let c8 = c4 .before .before .before .before in
+    let k = c8 .before .before .match .keys6 in
+    c4 .before .before .apply-finish .ensures k _ _ h
 
 pub apply-spec : {M : Type 1} → statement M
 apply-spec =

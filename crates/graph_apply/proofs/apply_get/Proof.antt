@@ -39,8 +39,10 @@ returns-3 : tie.Need-returns-3
 unfolding FittingGet
 returns-3 c =
     λ h arcs buckets.
-    let e = c .before .before .before .before .before .before .before .before .before .before .before .plan .given .1 in
-    rw e (c .before .before .before .before .before .before .take .ensures (rw e at h) _ arcs buckets)
+    let c4 = c .before .before .before .before in
+    let c8 = c4 .before .before .before .before in
+    let e = c8 .before .before .before .plan .given .1 in
+    rw e (c4 .before .before .take .ensures (rw e at h) arcs buckets)
 
 pub apply-get-spec : {M : Type 1} → statement M
 apply-get-spec =

@@ -33,7 +33,8 @@ returns : tie.Need-returns
 unfolding applied
 returns c =
     λ g jobs arcs buckets queue h.
-    rw (c .before .before .before .before .enum-told .given .1, c .before .before .idle-worker .ensures)
+    let c4 = c .before .before .before .before in
+    rw (c4 .enum-told .given .1, c .before .before .idle-worker .ensures)
 
 same-length-2 : tie.Need-same-length-2
 same-length-2 c = search needs
@@ -42,7 +43,8 @@ returns-2 : tie.Need-returns-2
 unfolding applied Fitting
 returns-2 c =
     λ g jobs arcs buckets queue h.
-    let e = c .before .before .before .before .enum-told2 .given .1 in
+    let c4 = c .before .before .before .before in
+    let e = c4 .enum-told2 .given .1 in
     rw (e, c .before .before .count-place .ensures (rw e at h))
 
 same-length-3 : tie.Need-same-length-3
@@ -50,8 +52,10 @@ same-length-3 c = search needs
 
 returns-3 : tie.Need-returns-3
 unfolding applied Fitting
-returns-3 c = λ g jobs arcs buckets queue h.
-    let e = c .before .before .before .before .enum-told3 .given .1 in
+returns-3 c =
+    λ g jobs arcs buckets queue h.
+    let c4 = c .before .before .before .before in
+    let e = c4 .enum-told3 .given .1 in
     let k = rw e at h in
     rw (e, c .before .before .count-tally .ensures (k .0) (k .1))
 

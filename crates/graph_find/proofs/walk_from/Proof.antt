@@ -32,9 +32,10 @@ job-word-requires c κs = search needs
 
 returns-3 : tie.Need-returns-3 Inv-loop μ-loop
 returns-3 c =
-    here _ _ _ _ _ (c .before .before .before .before .loop-test .taken) (c .before .before .before .if1 .left)
+    let c4 = c .before .before .before .before in
+    here _ _ _ _ _ (c4 .loop-test .taken) (c .before .before .before .if1 .left)
     (c .before .before .if2 .left) (sym (c .before .job-word .ensures) ∙ c .if3 .taken)
-    ∙ c .before .before .before .before .before .loop .inv
+    ∙ c4 .before .loop .inv
 
 job-word-requires-2 : tie.Need-job-word-requires-2 Inv-loop μ-loop
 job-word-requires-2 c κs = search needs
@@ -47,11 +48,12 @@ loop-less c = omega arith
 
 loop-again : tie.Need-loop-again Inv-loop μ-loop
 loop-again c =
+    let c4 = c .before .before .before .before in
     rw (c .job-word2 .ensures)
-    (on _ _ _ _ _ (c .before .before .before .before .before .loop-test .taken)
-    (c .before .before .before .before .if1 .left) (c .before .before .before .if2 .left)
+    (on _ _ _ _ _ (c4 .before .loop-test .taken)
+    (c4 .if1 .left) (c .before .before .before .if2 .left)
     (λ q. c .before .if3 .left (c .before .before .job-word .ensures ∙ q))
-    ∙ c .before .before .before .before .before .before .loop .inv)
+    ∙ c4 .before .before .loop .inv)
 
 returns-4 : tie.Need-returns-4 Inv-loop μ-loop
 returns-4 c = ends _ _ _ _ _ (c .if4 .taken) ∙ c .before .before .loop .inv

@@ -34,8 +34,10 @@ same-length-2 c = search needs
 returns : tie.Need-returns
 returns c =
     λ g arcs buckets h.
-    let e = c .before .before .before .before .before .before .before .before .plan .given .1 in
-    rw e (c .before .before .before .before .mark .ensures arcs buckets _)
+    let c4 = c .before .before .before .before in
+    let c8 = c4 .before .before .before .before in
+    let e = c8 .plan .given .1 in
+    rw e (c4 .mark .ensures arcs buckets _)
 
 same-length-3 : tie.Need-same-length-3
 same-length-3 c = search needs
@@ -46,8 +48,10 @@ same-length-4 c = search needs
 returns-2 : tie.Need-returns-2
 returns-2 c =
     λ g arcs buckets h.
-    let e = c .before .before .before .before .before .before .before .before .plan2 .given .1 in
-    rw e (c .before .before .before .before .notify .ensures arcs buckets _)
+    let c4 = c .before .before .before .before in
+    let c8 = c4 .before .before .before .before in
+    let e = c8 .plan2 .given .1 in
+    rw e (c4 .notify .ensures arcs buckets _)
 
 same-length-5 : tie.Need-same-length-5
 same-length-5 c = search needs
@@ -60,11 +64,14 @@ same-length-7 c = search needs
 
 returns-3 : tie.Need-returns-3
 unfolding Fitting
-returns-3 c = λ g arcs buckets h.
-    let e = c .before .before .before .before .before .before .before .before .before .before .before .plan3 .given .1
+returns-3 c =
+    λ g arcs buckets h.
+    let c4 = c .before .before .before .before in
+    let c8 = c4 .before .before .before .before in
+    let e = c8 .before .before .before .plan3 .given .1
     in
     let k = rw e at h in
-    rw e (c .before .before .before .before .before .before .notify-queue .ensures k arcs buckets)
+    rw e (c4 .before .before .notify-queue .ensures k arcs buckets)
 
 returns-4 : tie.Need-returns-4
 returns-4 c =

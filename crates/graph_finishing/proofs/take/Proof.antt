@@ -26,11 +26,13 @@ same-length-3 c = search needs
 returns : tie.Need-returns
 unfolding appliedGet
 returns c =
-    λ h name arcs buckets.
+    λ h arcs buckets.
+    let c4 = c .before .before .before .before in
+    let c8 = c4 .before .before .before .before in
     rw (
       c .before .before .put-worker .ensures,
-      c .before .before .before .before .before .before .take-job .ensures h,
-      c .before .before .before .before .before .before .before .before .before .before .put-job .ensures,
+      c4 .before .before .take-job .ensures h,
+      c8 .before .before .put-job .ensures,
     )
 
 pub take-spec : {M : Type 1} → statement M

@@ -31,11 +31,13 @@ same-length c = search needs
 returns : tie.Need-returns
 unfolding putHeader
 returns c =
+    let c4 = c .before .before .before .before in
+    let c8 = c4 .before .before .before .before in
     rw (
       c .before .before .fill .ensures,
-      c .before .before .before .before .before .before .before .put-header .ensures,
+      c4 .before .before .before .put-header .ensures,
       repeated-two
-          (c .before .before .before .before .before .before .before .before .before .before .args .sizes .arcs) none,
+          (c8 .before .before .args .sizes .arcs) none,
     )
 
 pub fresh-arcs-spec : {M : Type 1} → statement M

@@ -17,7 +17,9 @@ same-length : tie.Need-same-length
 same-length c = search needs
 
 returns : tie.Need-returns
-returns c = λ h. rw (c .before .before .fill .ensures, c .before .before .before .before .buckets-of .ensures h)
+returns c =
+    let c4 = c .before .before .before .before in
+    λ h. rw (c .before .before .fill .ensures, c4 .buckets-of .ensures h)
 
 pub fresh-buckets-spec : {M : Type 1} → statement M
 fresh-buckets-spec =

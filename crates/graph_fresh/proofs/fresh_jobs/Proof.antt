@@ -29,13 +29,18 @@ same-length c = search needs
 returns : tie.Need-returns
 unfolding putHeader
 returns c =
+    let c4 = c .before .before .before .before in
+    let c8 = c4 .before .before .before .before in
+    let c12 = c8 .before .before .before .before in
+    let c16 = c12 .before .before .before .before in
+    let c20 = c16 .before .before .before .before in
     rw (
       c .before .before .fresh-job-records .ensures,
-      c .before .before .before .before .before .before .put-header5 .ensures,
-      c .before .before .before .before .before .before .before .before .before .before .put-header4 .ensures,
-      c .before .before .before .before .before .before .before .before .before .before .before .before .before .before .put-header3 .ensures,
-      c .before .before .before .before .before .before .before .before .before .before .before .before .before .before .before .before .before .before .put-header2 .ensures,
-      c .before .before .before .before .before .before .before .before .before .before .before .before .before .before .before .before .before .before .before .before .before .before .put-header .ensures,
+      c4 .before .before .put-header5 .ensures,
+      c8 .before .before .put-header4 .ensures,
+      c12 .before .before .put-header3 .ensures,
+      c16 .before .before .put-header2 .ensures,
+      c20 .before .before .put-header .ensures,
     )
 
 pub fresh-jobs-spec : {M : Type 1} → statement M

@@ -26,10 +26,12 @@ same-length c = search needs
 returns : tie.Need-returns
 unfolding putHeader
 returns c =
+    let c4 = c .before .before .before .before in
+    let c8 = c4 .before .before .before .before in
     rw (
       c .before .before .fill .ensures,
-      c .before .before .before .before .before .before .before .put-header2 .ensures,
-      c .before .before .before .before .before .before .before .before .before .before .before .put-header .ensures,
+      c4 .before .before .before .put-header2 .ensures,
+      c8 .before .before .before .put-header .ensures,
     )
 
 pub fresh-queue-spec : {M : Type 1} → statement M

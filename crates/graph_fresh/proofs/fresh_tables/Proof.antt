@@ -39,12 +39,16 @@ returns : tie.Need-returns
 unfolding freshTables
 returns c =
     λ h.
+    let c4 = c .before .before .before .before in
+    let c8 = c4 .before .before .before .before in
+    let c12 = c8 .before .before .before .before in
+    let c16 = c12 .before .before .before .before in
     rw (
       c .before .before .fresh-workers .ensures,
-      c .before .before .before .before .before .before .fresh-queue .ensures,
-      c .before .before .before .before .before .before .before .before .before .before .fresh-buckets .ensures h,
-      c .before .before .before .before .before .before .before .before .before .before .before .before .before .before .fresh-arcs .ensures,
-      c .before .before .before .before .before .before .before .before .before .before .before .before .before .before .before .before .before .before .fresh-jobs .ensures,
+      c4 .before .before .fresh-queue .ensures,
+      c8 .before .before .fresh-buckets .ensures h,
+      c12 .before .before .fresh-arcs .ensures,
+      c16 .before .before .fresh-jobs .ensures,
     )
 
 pub fresh-tables-spec : {M : Type 1} → statement M

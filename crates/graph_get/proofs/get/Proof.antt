@@ -33,10 +33,12 @@ same-length-5 c = search needs
 returns : tie.Need-returns
 unfolding getWords
 returns c =
-    let p = c .before .before .before .before .before .before .before .before .before .before .before .plan-get in
+    let c4 = c .before .before .before .before in
+    let c8 = c4 .before .before .before .before in
+    let p = c8 .before .before .before .plan-get in
     rw (
       ← p .ensures,
-      ← c .before .before .before .before .before .before .before .apply-get .ensures
+      ← c4 .before .before .before .apply-get .ensures
           (rw (p .ensures) (planGet-fits _ _ _)),
       ← c .answer-get .ensures,
     )

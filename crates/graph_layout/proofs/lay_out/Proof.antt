@@ -32,10 +32,14 @@ same-length-5 c = search needs
 returns : tie.Need-returns
 unfolding layOut
 returns c =
+    let c4 = c .before .before .before .before in
+    let c8 = c4 .before .before .before .before in
+    let c12 = c8 .before .before .before .before in
+    let c16 = c12 .before .before .before .before in
     let room =
-    sym (c .before .before .before .before .before .before .before .before .before .before .before .before .before .before .before .before .before .room-for .ensures) ∙ c .before .before .before .before .before .before .before .before .before .before .before .before .before .before .before .before .if1 .taken in
+    sym (c16 .before .room-for .ensures) ∙ c16 .if1 .taken in
     rw (
-      c .before .before .before .before .before .before .before .before .before .before .fresh-tables .ensures
+      c8 .before .before .fresh-tables .ensures
           (room-bits _ _ room),
       room,
     )

@@ -1,7 +1,8 @@
 -- `graph_layout::words_needed` meets its contract: the code's test and sums are the definition's.
 -- Assumes nothing.
 use mathlib.Core.Path.{sym, _∙_}
-use Rattle.graph_layout.proofs.Laws.{bits-within, buckets-need}
+use Rattle.graph_sizes.proofs.Laws.{bits-within}
+use Rattle.graph_layout.proofs.Laws.{buckets-need}
 use borrow.Author.Needs.{needs}
 use Rattle.graph_layout.proofs.words_needed.Statement.{statement}
 use Rattle.graph_layout.proofs.words_needed.Tie as tie
@@ -26,15 +27,16 @@ need-requires-4 c κs = search needs
 
 returns : tie.Need-returns
 returns c =
-    let within = sym (c .before .before .before .before .before .before .within-limits .ensures)
-    ∙ c .before .before .before .before .before .if1 .taken in
+    let c4 = c .before .before .before .before in
+    let within = sym (c4 .before .before .within-limits .ensures)
+    ∙ c4 .before .if1 .taken in
     rw (
       within,
       c .need4 .ensures,
       c .before .need3 .ensures,
       c .before .before .buckets-of .ensures (bits-within _ within),
       c .before .before .before .need2 .ensures,
-      c .before .before .before .before .need .ensures,
+      c4 .need .ensures,
       buckets-need,
     )
 

@@ -15,9 +15,10 @@ same-length c = search needs
 
 returns : tie.Need-returns
 returns c =
+    let c4 = c .before .before .before .before in
     rw (
       c .before .before .put-arc2 .ensures,
-      c .before .before .before .before .before .before .put-arc .ensures,
+      c4 .before .before .put-arc .ensures,
     )
 
 pub new-arc-spec : {M : Type 1} → statement M

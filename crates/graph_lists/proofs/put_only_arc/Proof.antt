@@ -15,9 +15,10 @@ same-length c = search needs
 
 returns : tie.Need-returns
 returns c =
+    let c4 = c .before .before .before .before in
     rw (
       c .before .before .put-job2 .ensures,
-      c .before .before .before .before .before .before .put-job .ensures,
+      c4 .before .before .put-job .ensures,
     )
 
 pub put-only-arc-spec : {M : Type 1} → statement M

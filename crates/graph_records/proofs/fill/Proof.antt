@@ -31,7 +31,8 @@ same-length c = search needs
 
 returns-2 : tie.Need-returns-2
 returns-2 c =
-    let a = c .before .before .before .before .before .before .before .args in
+    let c4 = c .before .before .before .before in
+    let a = c4 .before .before .before .args in
     let z : a .from + a .count - a .from ≡ a .count = omega arith in
     rw (c .before .before .fill-to .ensures, z)
 
@@ -40,7 +41,8 @@ same-length-2 c = search needs
 
 returns-3 : tie.Need-returns-3
 returns-3 c =
-    let a = c .before .before .before .before .before .before .before .args in
+    let c4 = c .before .before .before .before in
+    let a = c4 .before .before .before .args in
     rw (c .before .before .fill-to2 .ensures)
     (fill-clipped (length (a .s .now) - a .from) (a .count) (a .s .now) (a .from) (a .value) (omega arith)
     (omega arith))

@@ -31,14 +31,19 @@ same-length c = search needs
 
 returns : tie.Need-returns
 returns c =
-    let a = c .before .before .before .before .before .before .before .before .before .before .before .before .before .before .before .before .before .before .before .before .before .before .args in
+    let c4 = c .before .before .before .before in
+    let c8 = c4 .before .before .before .before in
+    let c12 = c8 .before .before .before .before in
+    let c16 = c12 .before .before .before .before in
+    let c20 = c16 .before .before .before .before in
+    let a = c20 .before .before .args in
     rw (
       c .before .before .put-worker4 .ensures,
-      c .before .before .before .before .before .before .put-worker3 .ensures,
-      c .before .before .before .before .before .before .before .before .before .before .put-worker2 .ensures,
-      c .before .before .before .before .before .before .before .before .before .before .before .before .before .before .put-worker .ensures,
-      c .before .before .before .before .before .before .before .before .before .before .before .before .before .before .before .before .before .before .fill .ensures,
-      c .before .before .before .before .before .before .before .before .before .before .before .before .before .before .before .before .before .before .before .record-at .ensures,
+      c4 .before .before .put-worker3 .ensures,
+      c8 .before .before .put-worker2 .ensures,
+      c12 .before .before .put-worker .ensures,
+      c16 .before .before .fill .ensures,
+      c16 .before .before .before .record-at .ensures,
     )
     (bare-record (a .workers .now) (a .worker) (a .phase) (a .held))
 

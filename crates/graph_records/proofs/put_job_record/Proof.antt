@@ -36,15 +36,22 @@ same-length c = search needs
 
 returns : tie.Need-returns
 returns c =
+    let c4 = c .before .before .before .before in
+    let c8 = c4 .before .before .before .before in
+    let c12 = c8 .before .before .before .before in
+    let c16 = c12 .before .before .before .before in
+    let c20 = c16 .before .before .before .before in
+    let c24 = c20 .before .before .before .before in
+    let c28 = c24 .before .before .before .before in
     rw (
       c .before .before .put-job8 .ensures,
-      c .before .before .before .before .before .before .put-job7 .ensures,
-      c .before .before .before .before .before .before .before .before .before .before .put-job6 .ensures,
-      c .before .before .before .before .before .before .before .before .before .before .before .before .before .before .put-job5 .ensures,
-      c .before .before .before .before .before .before .before .before .before .before .before .before .before .before .before .before .before .before .put-job4 .ensures,
-      c .before .before .before .before .before .before .before .before .before .before .before .before .before .before .before .before .before .before .before .before .before .before .put-job3 .ensures,
-      c .before .before .before .before .before .before .before .before .before .before .before .before .before .before .before .before .before .before .before .before .before .before .before .before .before .before .put-job2 .ensures,
-      c .before .before .before .before .before .before .before .before .before .before .before .before .before .before .before .before .before .before .before .before .before .before .before .before .before .before .before .before .before .before .put-job .ensures,
+      c4 .before .before .put-job7 .ensures,
+      c8 .before .before .put-job6 .ensures,
+      c12 .before .before .put-job5 .ensures,
+      c16 .before .before .put-job4 .ensures,
+      c20 .before .before .put-job3 .ensures,
+      c24 .before .before .put-job2 .ensures,
+      c28 .before .before .put-job .ensures,
     )
     (puts-sets jobShape _ _ 0 (_ ∷ _ ∷ _ ∷ _ ∷ _ ∷ _ ∷ _ ∷ _ ∷ []))
 

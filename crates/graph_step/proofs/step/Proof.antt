@@ -33,10 +33,14 @@ same-length-5 c = search needs
 returns : tie.Need-returns
 unfolding stepWords
 returns c =
-    let p = c .before .before .before .before .before .before .before .before .before .before .before .before .before .before .before .before .before .plan-step in
+    let c4 = c .before .before .before .before in
+    let c8 = c4 .before .before .before .before in
+    let c12 = c8 .before .before .before .before in
+    let c16 = c12 .before .before .before .before in
+    let p = c16 .before .plan-step in
     rw (
       ← p .ensures,
-      ← c .before .before .before .before .before .before .before .before .before .before .before .apply .ensures
+      ← c8 .before .before .before .apply .ensures
           (rw (p .ensures) (planStep-fits _ _ _)),
       ← c .answer-of .ensures,
     )

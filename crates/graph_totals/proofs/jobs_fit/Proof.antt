@@ -27,11 +27,13 @@ header-requires-4 c κs = search needs
 returns : tie.Need-returns
 unfolding jobsFit sizesKept
 returns c =
+    let c4 = c .before .before .before .before in
+    let c8 = c4 .before .before .before .before in
     rw (
-      ← c .before .before .before .before .before .before .before .before .before .within-limits .ensures,
-      ← c .before .before .before .before .before .before .before .before .need .ensures,
-      ← c .before .before .before .before .before .before .before .header .ensures,
-      ← c .before .before .before .before .before .header2 .ensures,
+      ← c8 .before .within-limits .ensures,
+      ← c8 .need .ensures,
+      ← c4 .before .before .before .header .ensures,
+      ← c4 .before .header2 .ensures,
       ← c .before .before .before .header3 .ensures,
       ← c .before .header4 .ensures,
     )

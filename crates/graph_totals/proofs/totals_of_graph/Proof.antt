@@ -58,13 +58,14 @@ blank-requires-2 c κs = search needs
 returns : tie.Need-returns
 unfolding graphTotals totalsOfTable
 returns c =
+    let c4 = c .before .before .before .before in
     let made = c .before .before .before .header .result in
-    let s = c .before .before .before .before .before .before .before .args .sizes in
-    let taken = c .before .before .before .before .if1 .taken in
-    let fit = sym (c .before .before .before .before .before .jobs-fit .ensures) ∙ taken in
+    let s = c4 .before .before .before .args .sizes in
+    let taken = c4 .if1 .taken in
+    let fit = sym (c4 .before .jobs-fit .ensures) ∙ taken in
     rw (
-      ← c .before .before .before .before .before .jobs-fit .ensures,
-      c .before .before .before .before .if1 .taken,
+      ← c4 .before .jobs-fit .ensures,
+      c4 .if1 .taken,
       ← c .before .before .before .header .ensures,
       le-leb made (s .jobs) (omega arith),
       ← (graph-rows _ 0 _),
@@ -74,11 +75,12 @@ returns c =
 returns-2 : tie.Need-returns-2
 unfolding graphTotals
 returns-2 c =
+    let c4 = c .before .before .before .before in
     let made = c .before .before .before .header .result in
-    let s = c .before .before .before .before .before .before .before .args .sizes in
+    let s = c4 .before .before .before .args .sizes in
     rw (
-      ← c .before .before .before .before .before .jobs-fit .ensures,
-      c .before .before .before .before .if1 .taken,
+      ← c4 .before .jobs-fit .ensures,
+      c4 .if1 .taken,
       ← c .before .before .before .header .ensures,
       lt-leb made (s .jobs) (omega arith),
     )

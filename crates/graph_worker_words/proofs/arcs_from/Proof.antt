@@ -14,13 +14,17 @@ same-length : tie.Need-same-length
 same-length c = search needs
 
 returns : tie.Need-returns
-returns c = rw (c .before .before .idle-worker .ensures, c .before .before .before .before .if1 .taken)
+returns c =
+    let c4 = c .before .before .before .before in
+    rw (c .before .before .idle-worker .ensures, c4 .if1 .taken)
 
 same-length-2 : tie.Need-same-length-2
 same-length-2 c = search needs
 
 returns-2 : tie.Need-returns-2
-returns-2 c = rw (c .before .before .put-worker .ensures, c .before .before .before .before .if1 .left)
+returns-2 c =
+    let c4 = c .before .before .before .before in
+    rw (c .before .before .put-worker .ensures, c4 .if1 .left)
 
 pub arcs-from-spec : {M : Type 1} → statement M
 arcs-from-spec =

@@ -20,11 +20,12 @@ same-length c = search needs
 returns : tie.Need-returns
 returns c =
     λ h.
+    let c4 = c .before .before .before .before in
     rw (
-      ← c .before .before .before .before .before .worker-word .ensures,
+      ← c4 .before .worker-word .ensures,
       c .before .before .put-worker .ensures,
       c .before .before .before .sum .ensures
-          (let k = rw (← c .before .before .before .before .before .worker-word .ensures) at h in omega arith),
+          (let k = rw (← c4 .before .worker-word .ensures) at h in omega arith),
     )
 
 pub count-place-spec : {M : Type 1} → statement M

@@ -23,14 +23,16 @@ same-length c = search needs
 returns : tie.Need-returns
 returns c =
     λ h k.
+    let c4 = c .before .before .before .before in
+    let c8 = c4 .before .before .before .before in
     rw (
       c .before .before .put-worker .ensures,
-      c .before .before .before .before .before .before .before .count-place .ensures h,
+      c4 .before .before .before .count-place .ensures h,
       c .before .before .before .sum .ensures
           (let m =
-          rw (← c .before .before .before .before .before .before .before .before .before .worker-word .ensures) at k
+          rw (← c8 .before .worker-word .ensures) at k
           in omega arith),
-      c .before .before .before .before .before .before .before .before .before .worker-word .ensures,
+      c8 .before .worker-word .ensures,
     )
 
 pub count-tally-spec : {M : Type 1} → statement M

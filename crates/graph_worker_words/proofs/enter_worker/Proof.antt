@@ -27,13 +27,17 @@ same-length c = search needs
 
 returns : tie.Need-returns
 returns c =
+    let c4 = c .before .before .before .before in
+    let c8 = c4 .before .before .before .before in
+    let c12 = c8 .before .before .before .before in
+    let c16 = c12 .before .before .before .before in
     rw (
       c .before .before .put-worker4 .ensures,
-      c .before .before .before .before .before .before .put-worker3 .ensures,
-      c .before .before .before .before .before .before .before .before .before .before .put-worker2 .ensures,
-      c .before .before .before .before .before .before .before .before .before .before .before .before .before .before .put-worker .ensures,
-      c .before .before .before .before .before .before .before .before .before .before .before .before .before .before .before .before .first-arc .ensures,
-      c .before .before .before .before .before .before .before .before .before .before .before .before .before .before .before .before .before .worker-word .ensures,
+      c4 .before .before .put-worker3 .ensures,
+      c8 .before .before .put-worker2 .ensures,
+      c12 .before .before .put-worker .ensures,
+      c16 .first-arc .ensures,
+      c16 .before .worker-word .ensures,
     )
 
 pub enter-worker-spec : {M : Type 1} → statement M

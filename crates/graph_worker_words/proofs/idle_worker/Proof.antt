@@ -14,7 +14,9 @@ same-length : tie.Need-same-length
 same-length c = search needs
 
 returns : tie.Need-returns
-returns c = rw (c .before .before .put-bare-worker .ensures, c .before .before .before .before .worker-word .ensures)
+returns c =
+    let c4 = c .before .before .before .before in
+    rw (c .before .before .put-bare-worker .ensures, c4 .worker-word .ensures)
 
 pub idle-worker-spec : {M : Type 1} → statement M
 idle-worker-spec =

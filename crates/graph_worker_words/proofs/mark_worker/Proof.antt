@@ -20,18 +20,23 @@ same-length : tie.Need-same-length
 same-length c = search needs
 
 returns : tie.Need-returns
-returns c = rw (c .before .before .put-bare-worker .ensures, c .before .before .before .before .if1 .taken)
+returns c =
+    let c4 = c .before .before .before .before in
+    rw (c .before .before .put-bare-worker .ensures, c4 .if1 .taken)
 
 same-length-2 : tie.Need-same-length-2
 same-length-2 c = search needs
 
 returns-2 : tie.Need-returns-2
 returns-2 c =
+    let c4 = c .before .before .before .before in
+    let c8 = c4 .before .before .before .before in
+    let c12 = c8 .before .before .before .before in
     rw (
       c .before .before .put-worker3 .ensures,
-      c .before .before .before .before .before .before .put-worker2 .ensures,
-      c .before .before .before .before .before .before .before .before .before .before .put-worker .ensures,
-      c .before .before .before .before .before .before .before .before .before .before .before .before .if1 .left,
+      c4 .before .before .put-worker2 .ensures,
+      c8 .before .before .put-worker .ensures,
+      c12 .if1 .left,
     )
 
 pub mark-worker-spec : {M : Type 1} → statement M

@@ -41,8 +41,10 @@ add-grower-place c = search needs
 
 returns-3 : tie.Need-returns-3
 unfolding judged faultOf
-returns-3 c = λ name names all.
-    let a = c .before .before .before .before .before .args in
+returns-3 c =
+    λ name names all.
+    let c4 = c .before .before .before .before in
+    let a = c4 .before .args in
     rw (
       le-leb (a .count) mostNames (omega arith),
       le-leb (a .class) mostClass (omega arith),
@@ -62,14 +64,16 @@ add-bytes c = search needs
 
 returns-4 : tie.Need-returns-4
 unfolding judged faultOf
-returns-4 c = λ name names all.
-    let a = c .before .before .before .before .before .before .args in
+returns-4 c =
+    λ name names all.
+    let c4 = c .before .before .before .before in
+    let a = c4 .before .before .args in
     rw (
       le-leb (a .count) mostNames (omega arith),
       le-leb (a .class) mostClass (omega arith),
       le-leb (a .grower) mostGrower (omega arith),
       encode-length names 0 (a .count) (a .class) (a .grower) (omega arith) name,
-      c .before .before .before .before .list-bytes .ensures .0,
+      c4 .list-bytes .ensures .0,
       c .before .before .bit .ensures .0,
       c .bit2 .ensures .0,
     )

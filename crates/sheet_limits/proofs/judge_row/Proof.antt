@@ -40,7 +40,8 @@ judge-requires c κs = search needs
 
 returns : tie.Need-returns
 returns c =
-    let s = c .before .before .before .before .before in
+    let c4 = c .before .before .before .before in
+    let s = c4 .before in
     c .judge .ensures _ _ (names-all (now (s .args .rows)) (s .args .i) (s .pre))
 
 pub judge-row-spec : {M : Type 1} → statement M

@@ -38,7 +38,8 @@ turn : (c : tie.After-known-told2 Inv-loop μ-loop) → let l = c .before .befor
     × (length (encode (jobOf (entryAt rows i))) ≤ rowBytes)
     × (length (restBytes rows i n) ≡ length (encode (jobOf (entryAt rows i))) + length (restBytes rows (i + 1) n))
 turn c =
-    let l = c .before .before .before .before .before in
+    let c4 = c .before .before .before .before in
+    let l = c4 .before in
     let s = l .before .before in
     let rows = now (s .args .rows) in
     let i = l .loop .i in
@@ -63,7 +64,8 @@ enum-known-at c = search needs
 returns : tie.Need-returns Inv-loop μ-loop
 unfolding sheetJudged
 returns c =
-    let l = c .before .before .before .before .before in
+    let c4 = c .before .before .before .before in
+    let l = c4 .before in
     let s = l .before .before in
     let rows = now (s .args .rows) in
     let i = l .loop .i in
@@ -85,8 +87,10 @@ loop-less : tie.Need-loop-less Inv-loop μ-loop
 loop-less c = omega arith
 
 loop-again : tie.Need-loop-again Inv-loop μ-loop
-loop-again c = let t = turn c in
-    (omega arith, omega arith, sym (t .1) ∙ c .before .before .before .before .before .loop .inv .2, omega arith)
+loop-again c =
+    let c4 = c .before .before .before .before in
+    let t = turn c in
+    (omega arith, omega arith, sym (t .1) ∙ c4 .before .loop .inv .2, omega arith)
 
 returns-2 : tie.Need-returns-2 Inv-loop μ-loop
 unfolding sheetJudged

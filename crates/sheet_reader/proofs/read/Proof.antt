@@ -34,18 +34,22 @@ without-entry-requires-2 : tie.Need-without-entry-requires-2
 without-entry-requires-2 c κs = search needs
 
 returns : tie.Need-returns
-returns c = rw (
-  scan-job (c .before .before .before .before .scan .ensures) (c .before .before .name .given .1) .entry,
-  c .names .ensures,
-  names-length,
-)
+returns c =
+    let c4 = c .before .before .before .before in
+    rw (
+      scan-job (c4 .scan .ensures) (c .before .before .name .given .1) .entry,
+      c .names .ensures,
+      names-length,
+    )
 
 returns-2 : tie.Need-returns-2
 returns-2 c = rw (scan-end _ _ (c .before .before .before .scan .ensures) (c .before .enum-told .given .1))
     (c .without-entry .ensures)
 
 returns-3 : tie.Need-returns-3
-returns-3 c = rw (scan-refused _ _ (c .before .before .before .before .scan .ensures)
+returns-3 c =
+    let c4 = c .before .before .before .before in
+    rw (scan-refused _ _ (c4 .scan .ensures)
     (c .before .before .number .given .1)) (c .without-entry2 .ensures)
 
 pub read-spec : {M : Type 1} → statement M

@@ -17,11 +17,12 @@ enum-known-entries : tie.Need-enum-known-entries
 enum-known-entries c = search needs
 
 store-sheet-requires : tie.Need-store-sheet-requires
-store-sheet-requires c κs = (
-  (sym (c .before .before .before .before .before .scan-sheet .ensures)
-      ∙ c .before .before .before .entries .given .1),
-  omega arith,
-)
+store-sheet-requires c κs =
+    let c4 = c .before .before .before .before in (
+      (sym (c4 .before .scan-sheet .ensures)
+          ∙ c .before .before .before .entries .given .1),
+      omega arith,
+    )
 
 returns : tie.Need-returns
 returns c = read-refused (decodeSheet _) _ _ _
@@ -34,8 +35,10 @@ returns-2 : tie.Need-returns-2
 returns-2 c = search needs
 
 returns-3 : tie.Need-returns-3
-returns-3 c = read-no-room (decodeSheet _) _ _
-    (sym (c .before .before .before .before .scan-sheet .ensures) ∙ c .before .before .entries .given .1) (omega arith)
+returns-3 c =
+    let c4 = c .before .before .before .before in
+    read-no-room (decodeSheet _) _ _
+    (sym (c4 .scan-sheet .ensures) ∙ c .before .before .entries .given .1) (omega arith)
 
 pub read-sheet-spec : {M : Type 1} → statement M
 read-sheet-spec =

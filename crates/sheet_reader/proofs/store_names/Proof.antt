@@ -71,7 +71,8 @@ loop-less c = search needs
 
 loop-again : tie.Need-loop-again Inv-loop μ-loop
 loop-again c =
-    let inv = c .before .before .before .before .before .before .loop .inv in (
+    let c4 = c .before .before .before .before in
+    let inv = c4 .before .before .loop .inv in (
       search needs,
       simp length-set (omega arith),
       rw (inv .2, c .spelt4 .ensures, ← number4-at)
@@ -83,7 +84,8 @@ same-length c = search needs
 
 returns : tie.Need-returns Inv-loop μ-loop
 returns c =
-    let q : c .before .loop .i ≡ c .before .before .before .before .args .count = omega arith in
+    let c4 = c .before .before .before .before in
+    let q : c .before .loop .i ≡ c4 .args .count = omega arith in
     rw (← q) (c .before .loop .inv .2)
 
 pub store-names-spec : {M : Type 1} → statement M

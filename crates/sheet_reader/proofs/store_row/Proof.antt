@@ -57,16 +57,19 @@ store-names-requires c κs = (
 
 same-length : tie.Need-same-length
 same-length c =
+    let c4 = c .before .before .before .before in
     omega (
       arith,
-      simp length-set at (c .before .before .before .before .before .before .clear-names .kept .0),
+      simp length-set at (c4 .before .before .clear-names .kept .0),
       c .before .before .store-names .kept .1 .1 .1 .0,
     )
 
 returns : tie.Need-returns
 returns c =
-    let a = c .before .before .before .before .before .before .before .before .before .before .args in
-    let cleared = c .before .before .before .before .before .before .clear-names .ensures in
+    let c4 = c .before .before .before .before in
+    let c8 = c4 .before .before .before .before in
+    let a = c8 .before .before .args in
+    let cleared = c4 .before .before .clear-names .ensures in
     rw (c .before .before .store-names .ensures, cleared)
     (row-stored mostNames (a .rows .now) (a .from) (a .name) (a .count) (a .class) (a .grower) nameBytes _ _ _
     (omega arith))

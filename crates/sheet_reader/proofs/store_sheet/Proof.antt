@@ -38,28 +38,31 @@ store-row-requires c κs =
 
 add-from : tie.Need-add-from Inv-loop μ-loop
 add-from c =
-    let s = c .before .before .before .before .before .before .before in
+    let c4 = c .before .before .before .before in
+    let s = c4 .before .before .before in
     let l = s .before .loop .inv in
     let e = scan-job (left-sound l (s .scan-again .ensures))
-    (c .before .before .before .before .before .name .given .1) in
+    (c4 .before .name .given .1) in
     omega (arith, left-room l (e .entry))
 
 loop-less : tie.Need-loop-less Inv-loop μ-loop
 loop-less c =
-    let s = c .before .before .before .before .before .before .before in
+    let c4 = c .before .before .before .before in
+    let s = c4 .before .before .before in
     let l = s .before .loop .inv in
     omega (
       arith,
       scan-job (left-sound l (s .scan-again .ensures))
-          (c .before .before .before .before .before .name .given .1),
+          (c4 .before .name .given .1),
     )
 
 loop-again : tie.Need-loop-again Inv-loop μ-loop
 loop-again c =
-    let s = c .before .before .before .before .before .before .before in
+    let c4 = c .before .before .before .before in
+    let s = c4 .before .before .before in
     let l = s .before .loop .inv in
     let e = scan-job (left-sound l (s .scan-again .ensures))
-    (c .before .before .before .before .before .name .given .1) in
+    (c4 .before .name .given .1) in
     left-more l (e .entry) (rw names-length (e .reach .most))
     (rw names-length (rw names-length at (c .before .before .store-row .ensures)))
 
@@ -71,7 +74,8 @@ same-length c = c .before .before .before .loop .inv .same
 
 returns : tie.Need-returns Inv-loop μ-loop
 returns c =
-    let a = c .before .before .before .before .before .before .pre in
+    let c4 = c .before .before .before .before in
+    let a = c4 .before .before .pre in
     let l = c .before .before .before .loop .inv in
     let e = scan-end _ _ (left-sound l (c .before .before .scan-again .ensures)) (c .enum-told .given .1) in
     left-none l e (a .0) (a .1)

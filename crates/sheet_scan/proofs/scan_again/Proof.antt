@@ -38,11 +38,14 @@ number4-requires : tie.Need-number4-requires
 number4-requires c κs = search needs
 
 returns : tie.Need-returns
-returns c = λ sound.
-    let a = c .before .before .before .before .before .before .before .before .before .args in
+returns c =
+    λ sound.
+    let c4 = c .before .before .before .before in
+    let c8 = c4 .before .before .before .before in
+    let a = c8 .before .args in
     let l = c .before .last-fields .ensures in
     let n = c .before .before .before .number1 .ensures in
-    let m = c .before .before .before .before .wide .ensures in
+    let m = c4 .wide .ensures in
     rw (c .number4 .ensures, l .0, l .1, l .2, n, m) (unrefused (a .s .now) (a .at) (omega arith) sound .0)
 
 scan-requires : tie.Need-scan-requires

@@ -29,7 +29,8 @@ within-if-requires c κs = search needs
 
 last-fields-requires : tie.Need-last-fields-requires
 last-fields-requires c κs =
-    let map = c .before .before .before .before .args .map in
+    let c4 = c .before .before .before .before in
+    let map = c4 .args .map in
     let t = both (ltb map 16 && eqb (map % 2) 1) (c .before .within-if .result) (c .if1 .taken) in (
       omega arith,
       within-most (map / 2 % 2) (c .before .before .number1 .result) mostNames (omega arith)
@@ -50,16 +51,18 @@ number4-requires c κs = search needs
 
 returns : tie.Need-returns
 returns c =
-    let a = c .before .before .before .before .before .before .before .before .before in
+    let c4 = c .before .before .before .before in
+    let c8 = c4 .before .before .before .before in
+    let a = c8 .before in
     let map = a .args .map in
     let m = a .pre .1 in
-    let n = c .before .before .before .before .before .before .before .number1 .ensures in
-    let l = c .before .before .before .before .last-fields .ensures in
-    let t = both (ltb map 16 && eqb (map % 2) 1) (c .before .before .before .before .before .before .within-if .result)
-    (c .before .before .before .before .before .if1 .taken) in
+    let n = c4 .before .before .before .number1 .ensures in
+    let l = c4 .last-fields .ensures in
+    let t = both (ltb map 16 && eqb (map % 2) 1) (c4 .before .before .within-if .result)
+    (c4 .before .if1 .taken) in
     let u = both (c .before .before .before .within-if2 .result) (c .before .before .within-if3 .result)
     (c .before .if2 .taken) in
-    let list-within = sym (c .before .before .before .before .before .before .within-if .ensures) ∙ t .1 in
+    let list-within = sym (c4 .before .before .within-if .ensures) ∙ t .1 in
     let class-within = sym (c .before .before .before .within-if2 .ensures) ∙ u .0 in
     let grower-within = sym (c .before .before .within-if3 .ensures) ∙ u .1 in
     rw (c .number4 .ensures, l .0, l .1, l .2, n, m)

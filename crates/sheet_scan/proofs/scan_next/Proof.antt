@@ -37,7 +37,8 @@ add-t13 c = search needs
 
 returns-2 : tie.Need-returns-2
 returns-2 c =
-    let a = c .before .before .before .before .before .before .args in
+    let c4 = c .before .before .before .before in
+    let a = c4 .before .before .args in
     rw (c .number4 .ensures) (name-alone (a .s .now) (a .at) (omega arith)
     (sym (c .before .before .wide .ensures) ∙ c .before .if2 .taken))
 
@@ -70,8 +71,10 @@ add-t21 c = search needs
 
 returns-3 : tie.Need-returns-3
 returns-3 c =
-    let a = c .before .before .before .before .before .before .before .before .args in
-    let map = c .before .before .before .before .wide in
+    let c4 = c .before .before .before .before in
+    let c8 = c4 .before .before .before .before in
+    let a = c8 .args in
+    let map = c4 .wide in
     let count = c .before .before .number1 in
     let t = both (eqb (map .result) 3) (leb 1 (count .result) && leb (count .result) mostNames)
     (c .before .if3 .taken) in

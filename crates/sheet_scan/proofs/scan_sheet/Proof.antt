@@ -36,8 +36,9 @@ loop-less c = omega (arith, scan-job (c .before .before .before .scan-next .ensu
 
 loop-again : tie.Need-loop-again Inv-loop μ-loop
 loop-again c =
+    let c4 = c .before .before .before .before in
     let e = scan-job (c .before .before .before .scan-next .ensures) (c .before .next .given .1) in
-    let k = c .before .before .before .before .loop .inv .2 in
+    let k = c4 .loop .inv .2 in
     (e .reach .within, omega arith, rw (rest-on, e .entry, counted-more) at k)
 
 enum-told : tie.Need-enum-told Inv-loop μ-loop
@@ -53,7 +54,8 @@ enum-known-number c = search needs
 
 returns-2 : tie.Need-returns-2 Inv-loop μ-loop
 returns-2 c =
-    let k = c .before .before .before .before .loop .inv .2 in
+    let c4 = c .before .before .before .before in
+    let k = c4 .loop .inv .2 in
     rw (rest-on, scan-refused _ _ (c .before .before .before .scan-next .ensures) (c .before .number .given .1)) at k
 
 pub scan-sheet-spec : {M : Type 1} → statement M

@@ -31,9 +31,10 @@ same-length c = c .before .before .put-names .kept .0 ∙ simp length-set
 returns-2 : tie.Need-returns-2
 unfolding spelt
 returns-2 c =
-    let s = c .before .before .before .before .before .before .before in
+    let c4 = c .before .before .before .before in
+    let s = c4 .before .before .before in
     let a = s .args in
-    rw (list-some (a .n) (c .before .before .before .before .if1 .left) _
+    rw (list-some (a .n) (c4 .if1 .left) _
     (take (a .n) (drop (a .from) (now (a .words)))) (taken (now (a .words)) (a .from) (a .n) (s .pre .0)))
     (after (one _ _ _) (c .before .before .put-names .ensures))
 

@@ -50,7 +50,8 @@ loop-less c = search needs
 
 loop-again : tie.Need-loop-again Inv-loop μ-loop
 loop-again c =
-    let l = c .before .before .before .before .before .before in
+    let c4 = c .before .before .before .before in
+    let l = c4 .before .before in
     let f = c .before .before .put-name .ensures in
     let a = l .before .before .before .args in
     let p = l .before .before .before .pre in

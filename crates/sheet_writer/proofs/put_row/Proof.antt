@@ -49,7 +49,8 @@ add-put-entry c = search needs
 
 put-entry-requires : tie.Need-put-entry-requires
 put-entry-requires c κs =
-    let s = c .before .before .before .before .before .before .before in
+    let c4 = c .before .before .before .before in
+    let s = c4 .before .before .before in
     let rows = now (s .args .rows) in
     let w = few (entryAt rows (s .args .i)) (s .pre .1) in
     (omega arith, rw (job-at rows (s .args .i) w) at (s .pre .2))
@@ -59,7 +60,9 @@ same-length c = search needs
 
 returns : tie.Need-returns
 returns c =
-    let s = c .before .before .before .before .before .before .before .before .before .before in
+    let c4 = c .before .before .before .before in
+    let c8 = c4 .before .before .before .before in
+    let s = c8 .before .before in
     let rows = now (s .args .rows) in
     let w = few (entryAt rows (s .args .i)) (s .pre .1) in
     rw (job-at rows (s .args .i) w) (c .before .before .put-entry .ensures)

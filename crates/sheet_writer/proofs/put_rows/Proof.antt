@@ -52,7 +52,8 @@ loop-less c = omega arith
 
 loop-again : tie.Need-loop-again Inv-loop μ-loop
 loop-again c =
-    let l = c .before .before .before .before .before in
+    let c4 = c .before .before .before .before in
+    let l = c4 .before in
     let s = l .before .before .before in
     let rows = now (s .args .rows) in
     let i = l .loop .i in

@@ -16,7 +16,8 @@ use Rattle.sheet_writer.proofs.write.Tie as tie
 takes-at : (c : tie.After-known-told2) → let e = c .before .before .before .before .before .args .entry in
     (faultOf e ≡ Fault.none) × (length (encode (jobOf e)) ≡ c .before .bytes .given .0 .0)
 takes-at c =
-    let e = c .before .before .before .before .before .args .entry in
+    let c4 = c .before .before .before .before in
+    let e = c4 .before .args .entry in
     takes e _ (sym (c .before .before .before .judge .ensures (e .name) (e .names) (search needs))
     ∙ c .before .bytes .given .1)
 
@@ -34,7 +35,9 @@ has-room-requires c κs = search needs
 
 put-whole-requires : tie.Need-put-whole-requires
 put-whole-requires c κs =
-    let a = c .before .before .before .before .before .before .before .before .args in
+    let c4 = c .before .before .before .before in
+    let c8 = c4 .before .before .before .before in
+    let a = c8 .args in
     let t = takes-at (c .before .before .before) in
     let fits = sym (c .before .before .has-room .ensures) ∙ c .before .if1 .taken in
     (t .0, leb-true (a .at + length (encode (jobOf (a .entry)))) (length (now (a .out))) (rw (t .1) fits))
@@ -42,7 +45,8 @@ put-whole-requires c κs =
 returns : tie.Need-returns
 unfolding writeEntry
 returns c =
-    let e = c .before .before .before .before .before .args .entry in
+    let c4 = c .before .before .before .before in
+    let e = c4 .before .args .entry in
     rw (refused e _ (sym (c .before .before .before .judge .ensures (e .name) (e .names) (search needs))
     ∙ c .before .place .given .1))
 
@@ -52,9 +56,10 @@ same-length c = search needs
 returns-2 : tie.Need-returns-2
 unfolding writeEntry
 returns-2 c =
-    let t = takes-at (c .before .before .before .before .before .before) in
+    let c4 = c .before .before .before .before in
+    let t = takes-at (c4 .before .before) in
     let f = c .before .before .put-whole .ensures in
-    let i = c .before .before .before .before in
+    let i = c4 in
     let fits = sym (i .before .has-room .ensures) ∙ i .if1 .taken in
     rw (t .0, f .stored, f .past, t .1, fits)
 

@@ -15,13 +15,14 @@ use Rattle.sheet_writer.proofs.write_sheet.Statement.{statement}
 use Rattle.sheet_writer.proofs.write_sheet.Tie as tie
 
 -- what the judgement says of a sheet that takes so many bytes
-takes-at : (c : tie.After-known-told2) → let rows =
-    now (c .before .before .before .before .before .before .before .args .rows) in
+takes-at : (c : tie.After-known-told2) → let c4 = c .before .before .before .before in
+    let rows = now (c4 .before .before .before .args .rows) in
     (sheetFault 0 (entriesOf rows) ≡ SheetFault.none)
     × (length (allBytes rows (length rows / rowWords)) ≡ c .before .bytes .given .0 .0)
 takes-at c =
+    let c4 = c .before .before .before .before in
     sheet-takes
-    (entriesOf (now (c .before .before .before .before .before .before .before .args .rows)))
+    (entriesOf (now (c4 .before .before .before .args .rows)))
     _
     (sym (c .before .before .before .judge-sheet .ensures) ∙ c .before .bytes .given .1)
 
@@ -44,10 +45,11 @@ put-rows-requires c κs = let t = takes-at (c .before .before) in (omega arith, 
 returns-2 : tie.Need-returns-2
 unfolding writeSheet
 returns-2 c =
-    let rows = now (c .before .before .before .before .before .before .before .args .rows) in
+    let c4 = c .before .before .before .before in
+    let rows = now (c4 .before .before .before .args .rows) in
     let h = sym (c .before .before .before .judge-sheet .ensures) ∙ c .before .entry .given .1 in
     let f = sheet-refused (entriesOf rows) _ _ h in
-    rw (eq-eqb _ _ (c .before .before .before .before .if1 .left), f)
+    rw (eq-eqb _ _ (c4 .if1 .left), f)
 
 same-length : tie.Need-same-length
 same-length c = search needs
@@ -55,14 +57,17 @@ same-length c = search needs
 returns-3 : tie.Need-returns-3
 unfolding writeSheet
 returns-3 c =
-    let a = c .before .before .before .before .before .before .before .before .before .before .before .before .args in
+    let c4 = c .before .before .before .before in
+    let c8 = c4 .before .before .before .before in
+    let c12 = c8 .before .before .before .before in
+    let a = c12 .args in
     let rows = now (a .rows) in
-    let t = takes-at (c .before .before .before .before .before) in
+    let t = takes-at (c4 .before) in
     let f = c .before .before .put-rows .ensures in
     let k = length-map (entriesOf rows) jobOf ∙ entries-length rows 0 (length rows / rowWords) in
     let fits = le-leb (length (allBytes rows (length rows / rowWords))) (length (now (a .out))) (omega arith) in
     rw (
-      eq-eqb _ _ (c .before .before .before .before .before .before .before .before .before .if1 .left),
+      eq-eqb _ _ (c8 .before .if1 .left),
       t .0,
       fits,
       k,
@@ -74,11 +79,13 @@ returns-3 c =
 returns-4 : tie.Need-returns-4
 unfolding writeSheet
 returns-4 c =
-    let a = c .before .before .before .before .before .before .before .before .args in
+    let c4 = c .before .before .before .before in
+    let c8 = c4 .before .before .before .before in
+    let a = c8 .args in
     let rows = now (a .rows) in
     let t = takes-at (c .before) in
     let short = lt-leb (length (allBytes rows (length rows / rowWords))) (length (now (a .out))) (omega arith) in
-    rw (eq-eqb _ _ (c .before .before .before .before .before .if1 .left), t .0, short)
+    rw (eq-eqb _ _ (c4 .before .if1 .left), t .0, short)
 
 pub write-sheet-spec : {M : Type 1} → statement M
 write-sheet-spec =

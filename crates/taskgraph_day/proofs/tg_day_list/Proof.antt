@@ -22,7 +22,8 @@ same-length c = search needs
 
 returns : tie.Need-returns
 returns c =
-    let told : _ = c .before .before .before .before .before .day-list .ensures in (
+    let c4 = c .before .before .before .before in
+    let told : _ = c4 .before .day-list .ensures in (
       ap dayPrinted (sym (c .before .bytes .given .1) ∙ ap (λ (w : Printing). w .answer) told),
       ap (λ (w : Printing). w .out) told,
     )
@@ -32,7 +33,8 @@ same-length-2 c = search needs
 
 returns-2 : tie.Need-returns-2
 returns-2 c =
-    let told : _ = c .before .before .before .before .before .day-list .ensures in (
+    let c4 = c .before .before .before .before in
+    let told : _ = c4 .before .day-list .ensures in (
       ap dayPrinted (sym (c .before .number .given .1) ∙ ap (λ (w : Printing). w .answer) told),
       ap (λ (w : Printing). w .out) told,
     )

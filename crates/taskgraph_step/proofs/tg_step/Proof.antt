@@ -28,7 +28,9 @@ same-length-5 c = search needs
 
 returns : tie.Need-returns
 returns c =
-    in-c (c .before .before .before .before .before .before .before .before .before .before .before .step .ensures)
+    let c4 = c .before .before .before .before in
+    let c8 = c4 .before .before .before .before in
+    in-c (c8 .before .before .before .step .ensures)
     (c .answered .ensures)
 
 pub tg-step-spec : {M : Type 1} → statement M

@@ -1,0 +1,245 @@
+// What the steps of an add plan: the look-ups, the entry, the links and the settling.
+// Follows document 01, "Steps" and "Turned-away calls". Assumes nothing: each definition holds of all tables, and where
+// a table is not read the contract holds with any.
+ghost use mathlib.Core.Path.{_≡_};
+ghost use mathlib.Core.List.{List};
+ghost use Prim.Native.Nat.{ℕ};
+ghost use Rattle.words.specs.Layout.{tables, atEntry, view};
+ghost use Rattle.words.specs.Words.{planLookUp, planEnter, planAppend, planLink, planSettle, planAdd, planLinks};
+ghost use Rattle.words.specs.Words.{withCell};
+use bucket::bucket;
+use graph_find::find;
+use graph_own::place_ok;
+use graph_words::bucket_word;
+use graph_words::header;
+use graph_words::job_word;
+use graph_words::layout::*;
+use graph_words::less;
+use graph_words::name_word;
+use graph_words::numbers::*;
+use graph_words::worker_word;
+use terms::Sizes;
+use words::Found;
+use words::Plan;
+
+fn plan_look_up(place: u32, found: Found) -> Plan
+    ensures { λ r. ⌜ r ≡ planLookUp place found ⌝ }
+{
+    match found {
+        Found::At { job: _ } => Plan::Pass,
+        Found::Missing => Plan::Quit {
+            number: UNKNOWN_NAME,
+            place,
+        },
+        Found::Damaged => Plan::Refuse { number: DAMAGED },
+    }
+}
+
+// The sum of the arcs is formed in 64 bits, where it cannot wrap.
+fn plan_enter(
+    sizes: Sizes,
+    jobs: &[u32],
+    arcs: &[u32],
+    buckets: &[u32],
+    name: u32,
+    count: u32,
+    found: Found,
+) -> Plan
+    ensures { λ r. ⌜ ((queue workers : List ℕ)
+        → r ≡ planEnter sizes (view (tables (now (jobs .entry)) (now (arcs .entry))
+        (now (buckets .entry)) queue workers)) name count found) ⌝ }
+{
+    match found {
+        Found::At { job: _ } => Plan::Quit {
+            number: NAME_PRESENT,
+            place: 0,
+        },
+        Found::Missing => {
+            let made = header(jobs, MADE);
+            let reserved = header(arcs, RESERVED);
+            let full = (sizes.jobs <= made)
+                | ((sizes.arcs as u64) < (reserved as u64) + (count as u64));
+            if full {
+                Plan::Quit {
+                    number: NO_ROOM,
+                    place: 0,
+                }
+            } else {
+                let k = bucket(name, sizes.bits);
+                Plan::Enter {
+                    job: made,
+                    bucket: k,
+                    head: bucket_word(buckets, k),
+                    arc: reserved,
+                }
+            }
+        }
+        Found::Damaged => Plan::Refuse { number: DAMAGED },
+    }
+}
+
+// The arc has 64 bits: the first reserved arc may be none, and the sum with a place then passes 32 bits.
+fn plan_append(
+    sizes: Sizes,
+    jobs: &[u32],
+    arcs: &[u32],
+    prerequisite: u32,
+    arc: u64,
+    job: u32,
+) -> Plan
+    ensures { λ r. ⌜ ((buckets queue workers : List ℕ)
+        → r ≡ planAppend sizes (view (tables (now (jobs .entry)) (now (arcs .entry)) buckets queue workers))
+        prerequisite arc job) ⌝ }
+{
+    let made = header(jobs, MADE);
+    let reserved = header(arcs, RESERVED);
+    let last = job_word(jobs, prerequisite, LAST);
+    let kept = place_ok(last, reserved, sizes.arcs);
+    let sound = (job < made) & (arc < (reserved as u64)) & kept;
+    if sound {
+        let arc = arc as u32;
+        let first = last == NONE;
+        if first {
+            Plan::LinkFirst {
+                prerequisite,
+                arc,
+                job,
+            }
+        } else {
+            Plan::LinkAfter {
+                prerequisite,
+                last,
+                arc,
+                job,
+            }
+        }
+    } else {
+        Plan::Refuse { number: DAMAGED }
+    }
+}
+
+fn plan_link(sizes: Sizes, jobs: &[u32], arcs: &[u32], arc: u64, job: u32, found: Found) -> Plan
+    ensures { λ r. ⌜ ((buckets queue workers : List ℕ)
+        → r ≡ planLink sizes (view (tables (now (jobs .entry)) (now (arcs .entry)) buckets queue workers)) arc job
+        found) ⌝ }
+{
+    match found {
+        Found::At { job: prerequisite } => {
+            let label = job_word(jobs, prerequisite, LABEL);
+            let sound = label <= FINISHED;
+            if sound {
+                let finished = label == FINISHED;
+                if finished {
+                    Plan::Tally
+                } else {
+                    plan_append(sizes, jobs, arcs, prerequisite, arc, job)
+                }
+            } else {
+                Plan::Refuse { number: DAMAGED }
+            }
+        }
+        Found::Missing => Plan::Refuse { number: DAMAGED },
+        Found::Damaged => Plan::Refuse { number: DAMAGED },
+    }
+}
+
+// The cell of the queue that the job is put in, where its count reaches 0.
+fn settle_queue(sizes: Sizes, queue: &[u32], job: u32, count: u32) -> Plan
+    ensures { λ r. ⌜ ((jobs arcs buckets workers : List ℕ)
+        → r ≡ withCell sizes (view (tables jobs arcs buckets (now (queue .entry)) workers))
+        (Plan.SettleQueue job count)) ⌝ }
+{
+    let cell = header(queue, PUT);
+    let free = (header(queue, TAKEN) <= cell) & (cell < sizes.jobs);
+    if free {
+        Plan::SettleQueue { job, count, cell }
+    } else {
+        Plan::Refuse { number: DAMAGED }
+    }
+}
+
+// The job's count is read only where it is one: a read of none would lie past the table.
+fn plan_settle(sizes: Sizes, jobs: &[u32], queue: &[u32], job: u32, tally: u32, listed: u32) -> Plan
+    ensures { λ r. ⌜ ((arcs buckets workers : List ℕ)
+        → r ≡ planSettle sizes (view (tables (now (jobs .entry)) arcs buckets (now (queue .entry)) workers)) job tally
+        listed) ⌝ }
+{
+    let none = job == NONE;
+    if none {
+        return Plan::Refuse { number: DAMAGED };
+    }
+    let count = job_word(jobs, job, COUNT);
+    let sound = (count <= MOST_NAMES) & (tally <= count);
+    if sound {
+        let left = less(count, tally);
+        let settles = (left == 0) & ((0 < tally) | (listed == 0));
+        if settles {
+            settle_queue(sizes, queue, job, left)
+        } else {
+            Plan::Settle { job, count: left }
+        }
+    } else {
+        Plan::Refuse { number: DAMAGED }
+    }
+}
+
+// An add that looks its names up, and then enters.
+pub fn plan_add(
+    sizes: Sizes,
+    jobs: &[u32],
+    arcs: &[u32],
+    buckets: &[u32],
+    workers: &[u32],
+    worker: u32,
+) -> Plan
+    ensures { λ r. ⌜ ((queue : List ℕ)
+        → r ≡ planAdd sizes (view (tables (now (jobs .entry)) (now (arcs .entry)) (now (buckets .entry)) queue
+        (now (workers .entry)))) worker) ⌝ }
+{
+    let place = worker_word(workers, worker, PLACE);
+    let count = worker_word(workers, worker, LIST_COUNT);
+    let looking = place < count;
+    if looking {
+        let name = name_word(workers, worker, place);
+        let found = find(sizes, jobs, buckets, name);
+        plan_look_up(place, found)
+    } else {
+        let name = worker_word(workers, worker, OWN_NAME);
+        let found = find(sizes, jobs, buckets, name);
+        plan_enter(sizes, jobs, arcs, buckets, name, count, found)
+    }
+}
+
+// An add that links its prerequisites, and then settles.
+pub fn plan_links(
+    sizes: Sizes,
+    jobs: &[u32],
+    arcs: &[u32],
+    buckets: &[u32],
+    queue: &[u32],
+    workers: &[u32],
+    worker: u32,
+) -> Plan
+    ensures { λ r. ⌜ r ≡ planLinks sizes (view (atEntry jobs arcs buckets queue workers)) worker ⌝ }
+{
+    let place = worker_word(workers, worker, PLACE);
+    let count = worker_word(workers, worker, LIST_COUNT);
+    let job = worker_word(workers, worker, OWN_JOB);
+    let linking = place < count;
+    if linking {
+        let first = worker_word(workers, worker, OWN_ARC);
+        let name = name_word(workers, worker, place);
+        let found = find(sizes, jobs, buckets, name);
+        plan_link(
+            sizes,
+            jobs,
+            arcs,
+            (first as u64) + (place as u64),
+            job,
+            found,
+        )
+    } else {
+        let tally = worker_word(workers, worker, TALLY);
+        plan_settle(sizes, jobs, queue, job, tally, count)
+    }
+}

@@ -1,0 +1,93 @@
+// What the steps of a finish plan: the mark, and the notice along each arc.
+// Follows document 01, "Steps" and "Turned-away calls". Assumes nothing: each definition holds of all tables, and where
+// a table is not read the contract holds with any.
+ghost use mathlib.Core.Path.{_≡_};
+ghost use mathlib.Core.List.{List};
+ghost use Prim.Native.Nat.{ℕ};
+ghost use Rattle.words.specs.Layout.{tables, view};
+ghost use Rattle.words.specs.Words.{planMark, planNotify, withCell};
+use graph_own::place_ok;
+use graph_words::arc_word;
+use graph_words::header;
+use graph_words::job_word;
+use graph_words::layout::*;
+use graph_words::less;
+use graph_words::numbers::*;
+use terms::Sizes;
+use words::Plan;
+
+// The job's words are read only where it is one: a read of none would lie past the table.
+pub fn plan_mark(sizes: Sizes, jobs: &[u32], arcs: &[u32], job: u32) -> Plan
+    ensures { λ r. ⌜ ((buckets queue workers : List ℕ)
+        → r ≡ planMark sizes (view (tables (now (jobs .entry)) (now (arcs .entry)) buckets queue workers)) job) ⌝ }
+{
+    let none = job == NONE;
+    if none {
+        return Plan::Refuse { number: DAMAGED };
+    }
+    let label = job_word(jobs, job, LABEL);
+    let first = job_word(jobs, job, FIRST);
+    let kept = place_ok(first, header(arcs, RESERVED), sizes.arcs);
+    let sound = (label == EXECUTING) & kept;
+    if sound {
+        Plan::Mark { job, first }
+    } else {
+        Plan::Refuse { number: DAMAGED }
+    }
+}
+
+// The cell of the queue that the job is put in, where its count reaches 0.
+fn notify_queue(sizes: Sizes, queue: &[u32], job: u32, count: u32, next: u32) -> Plan
+    ensures { λ r. ⌜ ((jobs arcs buckets workers : List ℕ)
+        → r ≡ withCell sizes (view (tables jobs arcs buckets (now (queue .entry)) workers))
+        (Plan.NotifyQueue job count next)) ⌝ }
+{
+    let cell = header(queue, PUT);
+    let free = (header(queue, TAKEN) <= cell) & (cell < sizes.jobs);
+    if free {
+        Plan::NotifyQueue {
+            job,
+            count,
+            next,
+            cell,
+        }
+    } else {
+        Plan::Refuse { number: DAMAGED }
+    }
+}
+
+// The dependent's count is read only where its number is that of a job.
+pub fn plan_notify(sizes: Sizes, jobs: &[u32], arcs: &[u32], queue: &[u32], arc: u32) -> Plan
+    ensures { λ r. ⌜ ((buckets workers : List ℕ)
+        → r ≡ planNotify sizes (view (tables (now (jobs .entry)) (now (arcs .entry)) buckets
+        (now (queue .entry)) workers)) arc) ⌝ }
+{
+    let none = arc == NONE;
+    if none {
+        return Plan::Refuse { number: DAMAGED };
+    }
+    let job = arc_word(arcs, arc, DEPENDENT);
+    let next = arc_word(arcs, arc, AFTER);
+    let known = job < header(jobs, MADE);
+    if known {} else {
+        return Plan::Refuse { number: DAMAGED };
+    }
+    let count = job_word(jobs, job, COUNT);
+    let kept = place_ok(next, header(arcs, RESERVED), sizes.arcs);
+    let sound = kept & (1 <= count) & (count <= MOST_NAMES);
+    if sound {
+        let left = less(count, 1);
+        let last = count == 1;
+        if last {
+            notify_queue(sizes, queue, job, left, next)
+        } else {
+            Plan::Notify {
+                job,
+                count: left,
+                next,
+            }
+        }
+    } else {
+        Plan::Refuse { number: DAMAGED }
+    }
+}

@@ -1,0 +1,153 @@
+// What turns the posts of an add and of a finish away: it reads and judges, and stores nothing.
+// Follows document 01, "Turned-away calls". Assumes nothing: each definition holds of all tables and arguments. The
+// tests that come first stand in both as in a step: docs/DECISIONS.md, 43.
+ghost use mathlib.Core.Path.{_≡_};
+ghost use mathlib.Core.List.{List};
+ghost use Prim.Native.Nat.{ℕ};
+ghost use lib.Dec.{eqb};
+ghost use Rattle.terms.specs.Base.{pick};
+ghost use Rattle.terms.specs.Terms.{argumentsWrong, halfDone, wrongArguments, damaged, notHeld};
+ghost use Rattle.words.specs.Columns.{columns};
+ghost use Rattle.words.specs.Layout.{workerShape, PHASE, IDLE, tables, atEntry, view};
+ghost use Rattle.words.specs.Words.{admitted, refusal, judgedAdd, holdsName, judgedFinish};
+use graph_arguments::arguments_wrong;
+use graph_own::counters_ok;
+use graph_own::own_ok;
+use graph_sizes::sizes_fit;
+use graph_words::job_word;
+use graph_words::layout::*;
+use graph_words::numbers::*;
+use graph_words::worker_word;
+use terms::Sizes;
+
+// What turns the post of an add away, given whether the counters are within their range.
+fn judge_admitted_add(
+    workers: &[u32],
+    worker: u32,
+    counted: bool,
+    name: u32,
+    names: [u32; 32],
+    count: u32,
+    class: u32,
+    grower: u32,
+) -> u32
+    ensures { λ r. ⌜ r ≡ pick (eqb (columns workerShape (now (workers .entry)) PHASE worker) IDLE)
+        (pick (argumentsWrong (record { name = name; count = count; names = names; class = class; grower = grower }))
+        wrongArguments (pick counted 0 damaged)) halfDone ⌝ }
+{
+    let idle = worker_word(workers, worker, PHASE) == IDLE;
+    if idle {
+        let wrong = arguments_wrong(name, names, count, class, grower);
+        if wrong {
+            WRONG_ARGUMENTS
+        } else if counted {
+            0
+        } else {
+            DAMAGED
+        }
+    } else {
+        HALF_DONE
+    }
+}
+
+// The number that turns the post of an add away, or 0.
+pub fn judge_add(
+    sizes: Sizes,
+    jobs: &[u32],
+    arcs: &[u32],
+    buckets: &[u32],
+    queue: &[u32],
+    workers: &[u32],
+    worker: u32,
+    name: u32,
+    names: [u32; 32],
+    count: u32,
+    class: u32,
+    grower: u32,
+) -> u32
+    ensures { λ r. ⌜ r ≡ admitted sizes (atEntry jobs arcs buckets queue workers) worker refusal
+        (judgedAdd sizes (view (atEntry jobs arcs buckets queue workers)) worker
+        (record { name = name; count = count; names = names; class = class; grower = grower })) ⌝ }
+{
+    let fit = sizes_fit(sizes, jobs, arcs, buckets, queue, workers);
+    if fit {
+        let known = worker < sizes.workers;
+        if known {
+            let sound = own_ok(sizes, jobs, arcs, workers, worker);
+            if sound {
+                let counted = counters_ok(sizes, jobs, arcs);
+                judge_admitted_add(workers, worker, counted, name, names, count, class, grower)
+            } else {
+                DAMAGED
+            }
+        } else {
+            NO_SUCH_WORKER
+        }
+    } else {
+        WRONG_SIZES
+    }
+}
+
+// The same for a finish. The held job's name is read only where there is one.
+fn judge_admitted_finish(
+    jobs: &[u32],
+    workers: &[u32],
+    worker: u32,
+    counted: bool,
+    name: u32,
+) -> u32
+    ensures { λ r. ⌜ ((arcs buckets queue : List ℕ)
+        → r ≡ pick (eqb (columns workerShape (now (workers .entry)) PHASE worker) IDLE)
+        (pick (holdsName (view (tables (now (jobs .entry)) arcs buckets queue (now (workers .entry)))) worker name)
+        (pick counted 0 damaged) notHeld) halfDone) ⌝ }
+{
+    let idle = worker_word(workers, worker, PHASE) == IDLE;
+    if idle {
+        let held = worker_word(workers, worker, HELD);
+        let none = held == NONE;
+        if none {
+            return NOT_HELD;
+        }
+        let holds = job_word(jobs, held, NAME) == name;
+        if holds {
+            if counted { 0 } else { DAMAGED }
+        } else {
+            NOT_HELD
+        }
+    } else {
+        HALF_DONE
+    }
+}
+
+// The number that turns the post of a finish away, or 0.
+pub fn judge_finish(
+    sizes: Sizes,
+    jobs: &[u32],
+    arcs: &[u32],
+    buckets: &[u32],
+    queue: &[u32],
+    workers: &[u32],
+    worker: u32,
+    name: u32,
+) -> u32
+    ensures { λ r. ⌜ r ≡ admitted sizes (atEntry jobs arcs buckets queue workers) worker refusal
+        (judgedFinish sizes (view (atEntry jobs arcs buckets queue workers)) worker name) ⌝ }
+{
+    let fit = sizes_fit(sizes, jobs, arcs, buckets, queue, workers);
+    if fit {
+        let known = worker < sizes.workers;
+        if known {
+            let sound = own_ok(sizes, jobs, arcs, workers, worker);
+            if sound {
+                let counted = counters_ok(sizes, jobs, arcs);
+                judge_admitted_finish(jobs, workers, worker, counted, name)
+            } else {
+                DAMAGED
+            }
+        } else {
+            NO_SUCH_WORKER
+        }
+    } else {
+        WRONG_SIZES
+    }
+}

@@ -1,2 +1,0 @@
-pub mod Admitted
-pub mod Listed

@@ -1,0 +1,115 @@
+// What a get is to do with the tables: it reads and judges, and stores nothing.
+// Follows document 01, "Steps" and "Turned-away calls". Assumes nothing: each definition holds of all tables.
+ghost use mathlib.Core.Path.{_≡_};
+ghost use mathlib.Core.List.{List};
+ghost use Prim.Native.Nat.{ℕ};
+ghost use Rattle.words.specs.Layout.{tables, atEntry, view};
+ghost use Rattle.words.specs.Words.{planQueue, planGet, planGetOf};
+use graph_own::counters_ok;
+use graph_own::own_ok;
+use graph_sizes::sizes_fit;
+use graph_words::cell;
+use graph_words::header;
+use graph_words::job_word;
+use graph_words::layout::*;
+use graph_words::numbers::*;
+use graph_words::worker_word;
+use terms::HandOut;
+use terms::Sizes;
+use words::GetPlan;
+
+// The job's label is read only where its number is that of a job.
+fn plan_queue(sizes: Sizes, jobs: &[u32], arcs: &[u32], queue: &[u32]) -> GetPlan
+    ensures { λ r. ⌜ ((buckets workers : List ℕ)
+        → r ≡ planQueue sizes (view (tables (now (jobs .entry)) (now (arcs .entry)) buckets
+        (now (queue .entry)) workers))) ⌝ }
+{
+    let taken = header(queue, TAKEN);
+    let put = header(queue, PUT);
+    let sound = counters_ok(sizes, jobs, arcs) & (taken <= put) & (put <= sizes.jobs);
+    if sound {} else {
+        return GetPlan::RefuseGet { number: DAMAGED };
+    }
+    let empty = taken == put;
+    if empty {
+        return GetPlan::Wait;
+    }
+    let job = cell(queue, taken);
+    let known = job < header(jobs, MADE);
+    if known {} else {
+        return GetPlan::RefuseGet { number: DAMAGED };
+    }
+    let unexecuted = job_word(jobs, job, LABEL) == UNEXECUTED;
+    if unexecuted {
+        GetPlan::Take {
+            out: HandOut {
+                job,
+                name: job_word(jobs, job, NAME),
+            },
+            cell: taken,
+        }
+    } else {
+        GetPlan::RefuseGet { number: DAMAGED }
+    }
+}
+
+fn plan_admitted_get(
+    sizes: Sizes,
+    jobs: &[u32],
+    arcs: &[u32],
+    queue: &[u32],
+    workers: &[u32],
+    worker: u32,
+) -> GetPlan
+    ensures { λ r. ⌜ ((buckets : List ℕ)
+        → r ≡ planGet sizes (view (tables (now (jobs .entry)) (now (arcs .entry)) buckets (now (queue .entry))
+        (now (workers .entry)))) worker) ⌝ }
+{
+    let idle = worker_word(workers, worker, PHASE) == IDLE;
+    if idle {
+        let free = worker_word(workers, worker, HELD) == NONE;
+        if free {
+            plan_queue(sizes, jobs, arcs, queue)
+        } else {
+            GetPlan::RefuseGet {
+                number: ALREADY_HOLDING,
+            }
+        }
+    } else {
+        GetPlan::RefuseGet { number: HALF_DONE }
+    }
+}
+
+// The tests that come first stand here as in a step: docs/DECISIONS.md, 43.
+pub fn plan_get(
+    sizes: Sizes,
+    jobs: &[u32],
+    arcs: &[u32],
+    buckets: &[u32],
+    queue: &[u32],
+    workers: &[u32],
+    worker: u32,
+) -> GetPlan
+    ensures { λ r. ⌜ r ≡ planGetOf sizes (atEntry jobs arcs buckets queue workers) worker ⌝ }
+{
+    let fit = sizes_fit(sizes, jobs, arcs, buckets, queue, workers);
+    if fit {
+        let known = worker < sizes.workers;
+        if known {
+            let sound = own_ok(sizes, jobs, arcs, workers, worker);
+            if sound {
+                plan_admitted_get(sizes, jobs, arcs, queue, workers, worker)
+            } else {
+                GetPlan::RefuseGet { number: DAMAGED }
+            }
+        } else {
+            GetPlan::RefuseGet {
+                number: NO_SUCH_WORKER,
+            }
+        }
+    } else {
+        GetPlan::RefuseGet {
+            number: WRONG_SIZES,
+        }
+    }
+}

@@ -1,0 +1,36 @@
+// The post of a finish over five lent tables: a number refuses the call, or it is kept in its worker's record.
+// Follows document 01, "Steps" and "Turned-away calls". Nothing is required: it answers for all tables and arguments.
+ghost use mathlib.Core.Path.{_≡_};
+ghost use Rattle.terms.specs.Runs.{outcome};
+ghost use Rattle.words.specs.Layout.{atEntry, atExit};
+ghost use Rattle.words.specs.Words.{finishWords};
+use graph_judge::judge_finish;
+use graph_records::put_bare_worker;
+use graph_words::layout::*;
+use graph_words::worker_word;
+use terms::Answer;
+use terms::Sizes;
+
+// Posts a finish of the held job `name`.
+pub fn post_finish(
+    sizes: Sizes,
+    jobs: &mut [u32],
+    arcs: &mut [u32],
+    buckets: &mut [u32],
+    queue: &mut [u32],
+    workers: &mut [u32],
+    worker: u32,
+    name: u32,
+) -> Answer
+    ensures { λ r. ⌜ outcome r (atExit jobs arcs buckets queue workers)
+        ≡ finishWords sizes (atEntry jobs arcs buckets queue workers) worker name ⌝ }
+{
+    let number = judge_finish(sizes, jobs, arcs, buckets, queue, workers, worker, name);
+    if number == 0 {
+        let held = worker_word(workers, worker, HELD);
+        put_bare_worker(workers, worker, MARKING, held);
+        Answer::Posted
+    } else {
+        Answer::Refused { number, place: 0 }
+    }
+}

@@ -1,0 +1,71 @@
+-- The names of a list, and a worker's record stored in three runs. Assumes nothing.
+use mathlib.Core.Path.{_≡_, refl, ap, _∙_}
+use mathlib.Core.List.{List, [], _∷_, _++_}
+use Prim.Native.Nat.{ℕ, zero, suc, _+_, _-_, _≤_, _<_}
+use native.Mathlib.Omega.{arith}
+use native.Mathlib.Numerals.{add-one}
+use lib.ListN.{length, getD, set, drop, replicate}
+use lib.Seq.{sets, drop-cons}
+use Rattle.terms.specs.Base.{prefix}
+use Rattle.words.specs.Columns.{place}
+use Rattle.words.specs.Layout.{workerShape, PHASE, TALLY, NAMES}
+use Rattle.graph_records.proofs.Laws.{sets-append}
+
+-- ---- the names of a list, and 0 past them
+prefix-none : (n : ℕ) → prefix n [] ≡ replicate n 0
+unfolding prefix
+prefix-none zero = refl
+prefix-none (suc n) = ap (λ (l : List ℕ). 0 ∷ l) (prefix-none n)
+
+prefix-length : (n : ℕ) (l : List ℕ) → length (prefix n l) ≡ n
+unfolding prefix
+prefix-length zero l = refl
+prefix-length (suc n) [] = ap suc (prefix-length n [])
+prefix-length (suc n) (x ∷ l) = ap suc (prefix-length n l)
+
+prefix-at : (n : ℕ) (l : List ℕ) (i : ℕ) → i < n → getD (prefix n l) i 0 ≡ getD l i 0
+unfolding prefix
+prefix-at zero l i h = absurd (omega arith)
+prefix-at (suc n) [] zero h = refl
+prefix-at (suc n) [] (suc i) h = prefix-at n [] i (omega arith)
+prefix-at (suc n) (x ∷ l) zero h = refl
+prefix-at (suc n) (x ∷ l) (suc i) h = prefix-at n l i (omega arith)
+
+pub names-one : (n d : ℕ) (names l : List ℕ) (at i : ℕ) → i < n → i < d
+    → sets (set l (at + i) (getD names i 0)) (at + (i + 1)) (drop (i + 1) (prefix n (prefix d names)))
+    ≡ sets l (at + i) (drop i (prefix n (prefix d names)))
+names-one n d names l at i a b =
+    let z : at + (i + 1) ≡ suc (at + i) = omega arith in
+    let q : i < length (prefix n (prefix d names)) = rw (prefix-length n (prefix d names)) a in
+    rw (
+      drop-cons (prefix n (prefix d names)) i 0 q,
+      prefix-at n (prefix d names) i a,
+      prefix-at d names i b,
+      z,
+      add-one i,
+    )
+
+-- after the last listed name there are only 0
+pub names-rest : (n d r : ℕ) (names : List ℕ) → r ≤ n → r ≤ d → (r < n → r ≡ d)
+    → drop r (prefix n (prefix d names)) ≡ replicate (n - r) 0
+unfolding prefix
+names-rest zero d zero names a b e = refl
+names-rest (suc n) zero zero names a b e = let z : suc n - 0 ≡ suc n = omega arith in rw z (prefix-none (suc n))
+names-rest (suc n) (suc d) zero names a b e = absurd (omega (arith, e (omega arith)))
+names-rest zero d (suc r) names a b e = absurd (omega arith)
+names-rest (suc n) zero (suc r) names a b e = absurd (omega arith)
+names-rest (suc n) (suc d) (suc r) [] a b e =
+    let z : suc n - suc r ≡ n - r = omega arith in
+    rw z (names-rest n d r [] (omega arith) (omega arith) (λ h. omega (arith, e (omega arith))))
+names-rest (suc n) (suc d) (suc r) (x ∷ l) a b e =
+    let z : suc n - suc r ≡ n - r = omega arith in
+    rw z (names-rest n d r l (omega arith) (omega arith) (λ h. omega (arith, e (omega arith))))
+
+-- ---- a worker's record in three runs
+pub worker-record : (l : List ℕ) (w : ℕ) (xs ys zs : List ℕ) → length xs ≡ TALLY → length xs + length ys ≡ NAMES
+    → sets (sets (sets l (place workerShape w PHASE) xs) (place workerShape w TALLY) ys) (place workerShape w NAMES) zs
+    ≡ sets l (place workerShape w PHASE) (xs ++ (ys ++ zs))
+worker-record l w xs ys zs a b =
+    sets-append (sets l (place workerShape w PHASE) xs) ys zs (place workerShape w TALLY) (place workerShape w NAMES)
+    (omega arith)
+    ∙ sets-append l xs (ys ++ zs) (place workerShape w PHASE) (place workerShape w TALLY) (omega arith)

@@ -1,0 +1,46 @@
+-- `graph_posted_add::put_adding_worker` meets its contract: a worker's record is stored in three runs.
+-- Assumes nothing.
+use mathlib.Core.List.{[], _∷_}
+use mathlib.Core.Path.{refl}
+use Rattle.terms.specs.Base.{prefix}
+use Rattle.terms.specs.Terms.{mostNames}
+use Rattle.words.specs.Layout.{none, LOOKING}
+use Rattle.graph_posted_add.proofs.Laws.{worker-record}
+use borrow.Author.Needs.{needs}
+use Rattle.graph_posted_add.proofs.put_adding_worker.Statement.{statement}
+use Rattle.graph_posted_add.proofs.put_adding_worker.Tie as tie
+
+put-arguments-requires : tie.Need-put-arguments-requires
+put-arguments-requires c κs = search needs
+
+put-start-requires : tie.Need-put-start-requires
+put-start-requires c κs = search needs
+
+put-names-requires : tie.Need-put-names-requires
+put-names-requires c κs = search needs
+
+same-length : tie.Need-same-length
+same-length c = search needs
+
+returns : tie.Need-returns
+returns c =
+    let c4 = c .before .before .before .before in
+    let c8 = c4 .before .before .before .before in
+    let c12 = c8 .before .before .before .before in
+    let a = c12 .before .args in
+    rw (
+      c .before .before .put-names .ensures,
+      c4 .before .before .put-start .ensures,
+      c8 .before .before .put-arguments .ensures,
+    )
+    (worker-record (a .workers .now) (a .worker)
+    (LOOKING ∷ a .held ∷ a .name ∷ a .count ∷ a .class ∷ a .grower ∷ [])
+    (0 ∷ 0 ∷ none ∷ none ∷ [])
+    (prefix mostNames (prefix (a .count) (a .names)))
+    refl
+    refl)
+
+pub put-adding-worker-spec : {M : Type 1} → statement M
+put-adding-worker-spec =
+    tie.close
+    (tie.spec put-arguments-requires put-start-requires put-names-requires same-length returns)

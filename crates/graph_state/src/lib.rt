@@ -1,0 +1,195 @@
+// What a worker holds, and whether the graph is drained: both read the tables, and store nothing.
+// Follows document 01, "Tables and their measures" and "Turned-away calls". Assumes nothing.
+ghost use mathlib.Core.Path.{_≡_};
+ghost use mathlib.Core.Bool.{true};
+ghost use mathlib.Core.List.{List};
+ghost use Prim.Native.Nat.{ℕ};
+ghost use Rattle.words.specs.Columns.{columns};
+ghost use Rattle.words.specs.Layout.{workerShape, tables, lent, atEntry, view, sizesFit};
+ghost use Rattle.words.specs.Words.{ownOk};
+ghost use Rattle.worker_state.specs.Held.{callOf, refused, holdingOf, heldWords};
+ghost use Rattle.worker_state.specs.Drained.{every, free, judged, drainedWords};
+use graph_own::counters_ok;
+use graph_own::own_ok;
+use graph_sizes::sizes_fit;
+use graph_words::header;
+use graph_words::job_word;
+use graph_words::layout::*;
+use graph_words::numbers::*;
+use graph_words::worker_word;
+use terms::Sizes;
+use worker_state::Drained;
+use worker_state::Holding;
+
+// The call half done.
+const NO_CALL: u32 = 0;
+
+const AN_ADD: u32 = 1;
+
+const A_FINISH: u32 = 2;
+
+// The call of a phase.
+fn call_of(phase: u32) -> u32
+    ensures { λ r. ⌜ r ≡ callOf phase ⌝ }
+{
+    let idle = phase == IDLE;
+    if idle {
+        return NO_CALL;
+    }
+    let adding = (phase == LOOKING) | (phase == LINKING);
+    if adding { AN_ADD } else { A_FINISH }
+}
+
+// The held job's name is read only where there is one.
+fn holding_of(jobs: &[u32], workers: &[u32], worker: u32) -> Holding
+    ensures { λ r. ⌜ ((arcs buckets queue : List ℕ)
+        → r ≡ holdingOf (view (tables (now (jobs .entry)) arcs buckets queue (now (workers .entry)))) worker) ⌝ }
+{
+    let call = call_of(worker_word(workers, worker, PHASE));
+    let held = worker_word(workers, worker, HELD);
+    let none = held == NONE;
+    if none {
+        Holding {
+            number: 0,
+            holds: 0,
+            job: 0,
+            name: 0,
+            call,
+        }
+    } else {
+        Holding {
+            number: 0,
+            holds: 1,
+            job: held,
+            name: job_word(jobs, held, NAME),
+            call,
+        }
+    }
+}
+
+fn refused(number: u32) -> Holding
+    ensures { λ r. ⌜ r ≡ refused number ⌝ }
+{
+    Holding {
+        number,
+        holds: 0,
+        job: 0,
+        name: 0,
+        call: 0,
+    }
+}
+
+// What the worker holds, and the call that it has half done.
+pub fn held(
+    sizes: Sizes,
+    jobs: &[u32],
+    arcs: &[u32],
+    buckets: &[u32],
+    queue: &[u32],
+    workers: &[u32],
+    worker: u32,
+) -> Holding
+    ensures { λ r. ⌜ r ≡ heldWords sizes (atEntry jobs arcs buckets queue workers) worker ⌝ }
+{
+    let fit = sizes_fit(sizes, jobs, arcs, buckets, queue, workers);
+    if fit {
+        let known = worker < sizes.workers;
+        if known {
+            let sound = own_ok(sizes, jobs, arcs, workers, worker);
+            if sound {
+                holding_of(jobs, workers, worker)
+            } else {
+                refused(DAMAGED)
+            }
+        } else {
+            refused(NO_SUCH_WORKER)
+        }
+    } else {
+        refused(WRONG_SIZES)
+    }
+}
+
+// Every worker's own words are sound. No worker is passed over, so that there is one way through.
+fn all_sound(
+    sizes: Sizes,
+    jobs: &[u32],
+    arcs: &[u32],
+    buckets: &[u32],
+    queue: &[u32],
+    workers: &[u32],
+) -> bool
+    requires { ⌜ sizesFit sizes (lent jobs arcs buckets queue workers) ≡ true ⌝ }
+    ensures { λ r. ⌜ r ≡ every (ownOk sizes (view (atEntry jobs arcs buckets queue workers))) (sizes .workers) ⌝ }
+{
+    let mut sound = true;
+    let mut worker = 0;
+    while worker < sizes.workers {
+        sound = sound & own_ok(sizes, jobs, arcs, workers, worker);
+        worker += 1;
+    }
+    sound
+}
+
+// Each of the first `count` workers is idle and holds nothing.
+fn all_free(workers: &[u32], count: u32) -> bool
+    ensures { λ r. ⌜ r ≡ every (free (columns workerShape (now (workers .entry)))) count ⌝ }
+{
+    let mut all = true;
+    let mut worker = 0;
+    while worker < count {
+        all = all
+            & ((worker_word(workers, worker, PHASE) == IDLE)
+                & (worker_word(workers, worker, HELD) == NONE));
+        worker += 1;
+    }
+    all
+}
+
+fn judged(done: bool) -> Drained
+    ensures { λ r. ⌜ r ≡ judged done ⌝ }
+{
+    if done {
+        Drained {
+            number: 0,
+            drained: 1,
+        }
+    } else {
+        Drained {
+            number: 0,
+            drained: 0,
+        }
+    }
+}
+
+// Whether the queue is empty and every worker is idle and holds nothing.
+pub fn drained(
+    sizes: Sizes,
+    jobs: &[u32],
+    arcs: &[u32],
+    buckets: &[u32],
+    queue: &[u32],
+    workers: &[u32],
+) -> Drained
+    ensures { λ r. ⌜ r ≡ drainedWords sizes (atEntry jobs arcs buckets queue workers) ⌝ }
+{
+    let fit = sizes_fit(sizes, jobs, arcs, buckets, queue, workers);
+    if fit {
+        let taken = header(queue, TAKEN);
+        let put = header(queue, PUT);
+        let sound = all_sound(sizes, jobs, arcs, buckets, queue, workers)
+            & (counters_ok(sizes, jobs, arcs) & ((taken <= put) & (put <= sizes.jobs)));
+        if sound {
+            judged((taken == put) & all_free(workers, sizes.workers))
+        } else {
+            Drained {
+                number: DAMAGED,
+                drained: 0,
+            }
+        }
+    } else {
+        Drained {
+            number: WRONG_SIZES,
+            drained: 0,
+        }
+    }
+}

@@ -1,0 +1,147 @@
+-- Every item ends by the rules in one of the ways of `Deed`: the one case analysis of the rules. Assumes nothing.
+use mathlib.Core.Path.{_≡_, refl, ap}
+use mathlib.Core.Bool.{false}
+use mathlib.Core.List.{List, [], _∷_}
+use mathlib.Core.Option.{Option, none, some}
+use Prim.Native.Nat.{ℕ, suc, _≤_, _<_}
+use native.Mathlib.Omega.{arith}
+use lib.Dec.{ltb, eqb}
+use lib.ListN.{length, getD}
+use borrow.Author.Tests.{ltb-true, ltb-false, eqb-true}
+use Rattle.terms.specs.Terms.{Label, unexecuted, executing, finished, Arguments, listed, argumentsWrong, sameSizes}
+use Rattle.terms.specs.Terms.{Finish}
+use Rattle.terms.specs.OrderLaws.{none-first}
+use Rattle.terms.specs.Runs.{Item, postAdd, postFinish, step, get, Outcome, sizesOf, workerOf}
+use Rattle.terms.specs.declared.Sizes.{Sizes}
+use Rattle.rules.specs.Rules.{Found, at, missing, Call, idle, looking, linking, marking, notifying, Graph, job, find}
+use Rattle.rules.specs.Rules.{lookUp, enter, link, linkTo, markDependents, mark, notify, stepCall, whenIdle}
+use Rattle.rules.specs.Rules.{addPosted, finishPosted, takeNext, getJob, admitted, perform, nextOut, order}
+use Rattle.rules.specs.Sound.{CallSound}
+use Rattle.rules_cases.specs.Base.{never, pick-by}
+use Rattle.rules_cases.specs.Deed as to
+use Rattle.rules_cases.specs.Deed.{Admitted, isStep, noPlace, Broken, Stepped, Made, Deed}
+
+-- ---- a step
+module _ (s : Sizes) (g : Graph) (w : ℕ) where
+  abbrev By : Call → Outcome Graph → Type 0
+  By c o = Stepped s g w c (o .answer) (o .state)
+
+  looks : (a : Arguments) (i : ℕ) → i < a .count → (f : Found) → find g (getD (listed a) i 0) ≡ f
+      → By (looking a i) (lookUp g w a i f)
+  unfolding lookUp
+  looks a i h (at j) e = to.lookedUp j h e
+  looks a i h missing e = to.nameUnknown h e
+
+  enters : (a : Arguments) (i : ℕ) → a .count ≤ i → (f : Found) → find g (a .name) ≡ f
+      → By (looking a i) (enter s g w a f)
+  unfolding enter
+  enters a i h (at j) e = to.nameThere j h e
+  enters a i h missing e =
+      pick-by (By (looking a i)) (noPlace s g a) (λ z. to.roomLacking h e z) (λ z. to.jobEntered h e z)
+
+  module _ (a : Arguments) (j i t : ℕ) (h : i < a .count) where
+    links-to : (p : ℕ) → find g (getD (listed a) i 0) ≡ at p → (l : Label) → job g p .label ≡ l
+        → By (linking a j i t) (linkTo g w a j i t p l)
+    unfolding linkTo
+    links-to p e finished z = to.tallied p h e z
+    links-to p e unexecuted z = to.arcAppended p h e (λ y. never (cc))
+    links-to p e executing z = to.arcAppended p h e (λ y. never (cc))
+
+    links : (f : Found) → find g (getD (listed a) i 0) ≡ f → By (linking a j i t) (link g w a j i t f)
+    unfolding link
+    links (at p) e = links-to p e (job g p .label) refl
+    links missing e = to.broken {c = linking a j i t} (h, e)
+
+  marks-dependents : (p : ℕ) → g .workers w .held ≡ some p → (l : List ℕ) → job g p .dependents ≡ l
+      → By marking (markDependents g w p l)
+  unfolding markDependents
+  marks-dependents p e [] z = to.markedLast p e z
+  marks-dependents p e (j ∷ l) z = to.markedGoing p e (omega (arith, ap length z))
+
+  marks : (h : Option ℕ) → g .workers w .held ≡ h → By marking (mark g w h)
+  unfolding mark
+  marks none e = to.broken {c = marking} e
+  marks (some p) e = marks-dependents p e (job g p .dependents) refl
+
+  steps : (c : Call) → By c (stepCall s g w c)
+  unfolding stepCall notify
+  steps idle = to.noCall
+  steps (looking a i) = pick-by (By (looking a i)) (ltb i (a .count))
+      (λ z. looks a i (ltb-true i (a .count) z) (find g (getD (listed a) i 0)) refl)
+      (λ z. enters a i (ltb-false i (a .count) z) (find g (a .name)) refl)
+  steps (linking a j i t) = pick-by (By (linking a j i t)) (ltb i (a .count))
+      (λ z. links a j i t (ltb-true i (a .count) z) (find g (getD (listed a) i 0)) refl)
+      (λ z. to.jobSettled (ltb-false i (a .count) z))
+  steps marking = marks (g .workers w .held) refl
+  steps (notifying p k) = pick-by (By (notifying p k)) (ltb (suc k) (length (job g p .dependents)))
+      (λ z. to.arcNotified (ltb-true (suc k) (length (job g p .dependents)) z))
+      (λ z. to.lastNotified (ltb-false (suc k) (length (job g p .dependents)) z))
+
+module _ (s : Sizes) (g : Graph) where
+  -- ---- a post or a get
+  abbrev By-made : Item → Outcome Graph → Type 0
+  By-made i o = Made s g i (o .answer) (o .state)
+
+  module _ (t : Sizes) (w : ℕ) where
+    posts-add : (a : Arguments) → By-made (postAdd t w a) (addPosted g w a)
+    unfolding addPosted
+    posts-add a = pick-by (By-made (postAdd t w a)) (argumentsWrong a) (λ z. to.addWrong z) (λ z. to.addPosted z)
+
+    posts-finish : (f : Finish) (h : Option ℕ) → g .workers w .held ≡ h
+        → By-made (postFinish t w f) (finishPosted g w f h)
+    unfolding finishPosted
+    posts-finish f none e = to.finishWrong {w = w} {f = f} (rw e tt)
+    posts-finish f (some p) e = pick-by (By-made (postFinish t w f)) (eqb (job g p .name) (f .name))
+        (λ z. to.finishPosted p e (eqb-true (job g p .name) (f .name) z)) (λ z. to.finishWrong {w = w} {f = f} (rw e z))
+
+    takes : g .workers w .held ≡ none → (o : Option ℕ) → nextOut g ≡ o → By-made (get t w) (takeNext g w o)
+    unfolding takeNext
+    takes e none z = to.getNone e (none-first (order g) (g .queue) z)
+    takes e (some j) z = to.getHanded e j z
+
+    gets : (h : Option ℕ) → g .workers w .held ≡ h → By-made (get t w) (getJob g w h)
+    unfolding getJob
+    gets none e = takes e (nextOut g) refl
+    gets (some j) e = to.getHolding j e
+
+  -- ---- an item
+  abbrev Does : Item → Outcome Graph → Type 0
+  Does i o = Deed s g i (o .answer) (o .state)
+
+  admits : (i : Item) {o : Outcome Graph} → (Admitted s i → Does i o)
+      → Does i (admitted s (sizesOf i) g (workerOf i) o)
+  unfolding admitted
+  admits i {o} d = pick-by (Does i) (sameSizes (sizesOf i) s)
+      (λ e. pick-by (Does i) (ltb (workerOf i) (s .workers))
+      (λ h. d (record { sizes = e; worker = ltb-true (workerOf i) (s .workers) h }))
+      (λ h. to.workerUnknown e (ltb-false (workerOf i) (s .workers) h)))
+      (λ e. to.otherSizes e)
+
+  when-idle : (i : Item) → isStep i ≡ false → Admitted s i → {o : Outcome Graph}
+      → (c : Call) → g .workers (workerOf i) .call ≡ c → By-made i o → Does i (whenIdle g c o)
+  unfolding whenIdle
+  when-idle i n A idle e M = to.made A e M
+  when-idle i n A (looking a k) e M = to.callHalfDone A n (λ z. never (cc))
+  when-idle i n A (linking a j k t) e M = to.callHalfDone A n (λ z. never (cc))
+  when-idle i n A marking e M = to.callHalfDone A n (λ z. never (cc))
+  when-idle i n A (notifying p k) e M = to.callHalfDone A n (λ z. never (cc))
+
+  pub deed : (i : Item) → Deed s g i (perform s g i .answer) (perform s g i .state)
+  unfolding perform
+  deed (postAdd t w a) = admits (postAdd t w a)
+      (λ A. when-idle (postAdd t w a) refl A (g .workers w .call) refl (posts-add t w a))
+  deed (postFinish t w f) = admits (postFinish t w f)
+      (λ A. when-idle (postFinish t w f) refl A (g .workers w .call) refl
+      (posts-finish t w f (g .workers w .held) refl))
+  deed (step t w) = admits (step t w) (λ A. to.stepped A refl (steps s g w (g .workers w .call)))
+  deed (get t w) = admits (get t w)
+      (λ A. when-idle (get t w) refl A (g .workers w .call) refl (gets t w (g .workers w .held) refl))
+
+-- ---- a sound graph excludes number 9
+pub unbroken : (g : Graph) (h : Option ℕ) (c : Call) → CallSound g h c → Broken g h c → ⊥
+unbroken g h idle S b = b
+unbroken g h (looking a i) S b = b
+unbroken g h (linking a j i t) S b = let n = S .found i (b .0) in never (cc (n .found, b .1))
+unbroken g none marking S b = S
+unbroken g (some p) marking S b = never (cc)
+unbroken g h (notifying p k) S b = b

@@ -1,0 +1,4 @@
+pub mod Base
+pub mod Deed
+pub mod Deeds
+pub mod Own

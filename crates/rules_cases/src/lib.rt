@@ -1,0 +1,1 @@
+// The ways in which an item can end by the rules stand in specs/.

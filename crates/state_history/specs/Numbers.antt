@@ -1,0 +1,50 @@
+-- Over all tables, damaged ones too: neither question is turned away by another number than 1, 2 and 9, and that of a
+-- drained graph not by 2. Follows document 01, "Turned-away calls". Assumes nothing.
+use mathlib.Core.Path.{_≡_, refl}
+use mathlib.Core.Bool.{Bool, true, false}
+use mathlib.Core.List.{[], _∷_}
+use Prim.Native.Nat.{ℕ}
+use lib.Dec.{ltb}
+use Rattle.terms.specs.Base.{pick, contains}
+use Rattle.terms.specs.Terms.{wrongSizes, noSuchWorker, damaged}
+use Rattle.terms.specs.declared.Sizes.{Sizes}
+use Rattle.words.specs.Layout.{HELD, Tables, view, sizesFit}
+use Rattle.words.specs.Words.{isPlace, ownOk, admitted}
+use Rattle.worker_state.specs.Held.{refused, holdingOf, heldWords}
+use Rattle.worker_state.specs.Drained.{wordsOk, isDrained, judged, drainedWords}
+use Rattle.worker_state.specs.Drained as drained
+use Rattle.worker_state.specs.declared.Holding.{Holding}
+use Rattle.worker_state.specs.declared.Drained.{Drained}
+
+-- what is told without a refusal has number 0
+served : (b : Bool) (x y : Holding) → x .number ≡ 0 → y .number ≡ 0 → pick b x y .number ≡ 0
+served true x y e f = e
+served false x y e f = f
+
+-- served, or turned away by a number of the list
+module _ (s : Sizes) (t : Tables) where
+  pub held-number : (w : ℕ) → contains (heldWords s t w .number) (0 ∷ wrongSizes ∷ noSuchWorker ∷ damaged ∷ []) ≡ true
+  unfolding heldWords admitted holdingOf contains
+  held-number w =
+      go (sizesFit s t) (ltb w (s .workers)) (ownOk s (view t) w) (holdingOf (view t) w)
+      (served (isPlace (view t .worker HELD w)) _ _ refl refl)
+    where
+      go : (a b c : Bool) (h : Holding) → h .number ≡ 0
+          → contains (pick a (pick b (pick c h (refused damaged)) (refused noSuchWorker)) (refused wrongSizes) .number)
+          (0 ∷ wrongSizes ∷ noSuchWorker ∷ damaged ∷ []) ≡ true
+      go true true true h e = rw e
+      go true true false h e = refl
+      go true false c h e = refl
+      go false b c h e = refl
+
+  pub drained-number : contains (drainedWords s t .number) (0 ∷ wrongSizes ∷ damaged ∷ []) ≡ true
+  unfolding drainedWords contains
+  drained-number = go (sizesFit s t) (wordsOk s (view t))
+    where
+      go : (a b : Bool) → contains
+          (pick {A = Drained} a (pick b (judged (isDrained s (view t))) (drained.refused damaged))
+          (drained.refused wrongSizes) .number)
+          (0 ∷ wrongSizes ∷ damaged ∷ []) ≡ true
+      go true true = refl
+      go true false = refl
+      go false b = refl

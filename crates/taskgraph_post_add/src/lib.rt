@@ -1,0 +1,46 @@
+// The post of an add as C has it: the sizes, the five lent tables, then the worker and the entry of its job.
+// A slice is a pointer and a count of elements in C; answers are structs by value. include/taskgraph.h declares all of
+// this.
+// Follows document 01, "Steps" and "Turned-away calls".
+// Assumes nothing but that a pointer with a count points to that many elements.
+ghost use mathlib.Core.Path.{_≡_};
+ghost use Rattle.words.specs.Layout.{atEntry, atExit};
+ghost use Rattle.words.specs.Words.{addWords};
+ghost use Rattle.taskgraph_answer.specs.Answers.{Gives};
+ghost use Rattle.taskgraph_post_add.specs.Arguments.{argumentsOf};
+use sheet_format::Entry;
+use taskgraph_answer::GraphAnswer;
+use taskgraph_answer::answered;
+use terms::Sizes;
+
+// Posts an add of the entry's job.
+#[no_mangle]
+pub extern "C" fn tg_post_add(
+    sizes: Sizes,
+    jobs: &mut [u32],
+    arcs: &mut [u32],
+    buckets: &mut [u32],
+    queue: &mut [u32],
+    workers: &mut [u32],
+    worker: u32,
+    entry: Entry,
+) -> GraphAnswer
+    ensures { λ r. ⌜ Gives r (atExit jobs arcs buckets queue workers)
+        (addWords sizes (atEntry jobs arcs buckets queue workers) worker (argumentsOf entry)) ⌝ }
+{
+    let names = entry.names;
+    answered(graph_post_add::post_add(
+        sizes,
+        jobs,
+        arcs,
+        buckets,
+        queue,
+        workers,
+        worker,
+        entry.name,
+        names,
+        entry.count,
+        entry.class,
+        entry.grower,
+    ))
+}

@@ -1,0 +1,39 @@
+// The post of a finish as C has it: the sizes, the five lent tables, then the worker and the name of its job.
+// A slice is a pointer and a count of elements in C; answers are structs by value. include/taskgraph.h declares all of
+// this.
+// Follows document 01, "Steps" and "Turned-away calls".
+// Assumes nothing but that a pointer with a count points to that many elements.
+ghost use mathlib.Core.Path.{_≡_};
+ghost use Rattle.words.specs.Layout.{atEntry, atExit};
+ghost use Rattle.words.specs.Words.{finishWords};
+ghost use Rattle.taskgraph_answer.specs.Answers.{Gives};
+use taskgraph_answer::GraphAnswer;
+use taskgraph_answer::answered;
+use terms::Sizes;
+
+// Posts a finish of the held job of this name.
+#[no_mangle]
+pub extern "C" fn tg_post_finish(
+    sizes: Sizes,
+    jobs: &mut [u32],
+    arcs: &mut [u32],
+    buckets: &mut [u32],
+    queue: &mut [u32],
+    workers: &mut [u32],
+    worker: u32,
+    name: u32,
+) -> GraphAnswer
+    ensures { λ r. ⌜ Gives r (atExit jobs arcs buckets queue workers)
+        (finishWords sizes (atEntry jobs arcs buckets queue workers) worker name) ⌝ }
+{
+    answered(graph_post_finish::post_finish(
+        sizes,
+        jobs,
+        arcs,
+        buckets,
+        queue,
+        workers,
+        worker,
+        name,
+    ))
+}

@@ -1,0 +1,28 @@
+-- The structs of the C interface for reading job sheets: for each case of an answer the number and the values that
+-- document 01, "Turned-away calls" and "Job sheets", has for it. What does not belong to a case is 0.
+-- Assumes nothing.
+use Prim.Native.Nat.{ℕ}
+use Rattle.sheet_format.specs.Decode.{Decoded, job, end, refused, entryOf, blank, Sheet, scanSheet}
+use Rattle.sheet_format.specs.declared.SheetRead.{SheetRead}
+use Rattle.taskgraph_reader.specs.declared.EntryRead.{EntryRead}
+use Rattle.taskgraph_reader.specs.declared.SheetScanned.{SheetScanned}
+
+-- the list of refusals starts at 1, so 0 says that nothing was refused
+abbrev pub accepted : ℕ
+accepted = 0
+
+-- what stands at an offset of a sheet. 12 to 14: "nothing handed out for that entry", so it is blank, and the byte
+-- offset of the field. At the end of the sheet the offset is the one asked for.
+abbrev pub entryRead : ℕ → Decoded → EntryRead
+entryRead asked (job j next) = record { number = accepted; found = 1; at = next; entry = entryOf j }
+entryRead asked end = record { number = accepted; found = 0; at = asked; entry = blank }
+entryRead asked (refused number field) = record { number = number; found = 0; at = field; entry = blank }
+
+-- how many entries the sheet has. 12 to 14: the byte offset of the field; 15, of rows that are too few, has none
+abbrev pub sheetRead : SheetRead → SheetScanned
+sheetRead (SheetRead.Whole entries) = record { number = accepted; entries = entries; at = 0 }
+sheetRead (SheetRead.Refused number field) = record { number = number; entries = 0; at = field }
+
+-- the same of a sheet that is read into no rows: never 15
+abbrev pub sheetScanned : Sheet → SheetScanned
+sheetScanned sheet = sheetRead (scanSheet sheet)

@@ -1,0 +1,96 @@
+// Reading job sheets as C has it. A slice is a pointer and a count of elements in C; answers are structs by value.
+// Numbers are those of document 01, "Turned-away calls", and 0 where nothing was refused. include/taskgraph.h
+// declares all of this.
+// Assumes nothing but that a pointer with a count points to that many elements.
+ghost use mathlib.Core.Path.{_≡_};
+ghost use Rattle.sheet_format.specs.Decode.{decode, decodeSheet, readSheet};
+ghost use Rattle.taskgraph_reader.specs.Answers.{entryRead, sheetScanned, sheetRead};
+use sheet_format::Entry;
+use sheet_format::Read;
+use sheet_format::SheetRead;
+
+// The number where nothing was refused.
+const ACCEPTED: u32 = 0;
+
+// What stands at an offset of a sheet: found is 1 for a job, at the offset past it; number and found are 0 at the end
+// of the sheet.
+#[repr(C)]
+pub struct EntryRead {
+    pub number: u32,
+    pub found: u32,
+    pub at: usize,
+    pub entry: Entry,
+}
+
+// How many entries a sheet has, or a refusal with its offset.
+#[repr(C)]
+pub struct SheetScanned {
+    pub number: u32,
+    pub entries: usize,
+    pub at: usize,
+}
+
+// The entry at an offset of a sheet.
+#[no_mangle]
+pub extern "C" fn tg_read_entry(sheet: &[u8], at: usize) -> EntryRead
+    ensures { λ r. ⌜ r ≡ entryRead at (decode (now (sheet .entry)) at) ⌝ }
+{
+    let reading = sheet_reader::read(sheet, at);
+    let answer = reading.answer;
+    let entry = reading.entry;
+    match answer {
+        Read::Job { next } => EntryRead {
+            number: ACCEPTED,
+            found: 1,
+            at: next,
+            entry,
+        },
+        Read::End => EntryRead {
+            number: ACCEPTED,
+            found: 0,
+            at,
+            entry,
+        },
+        Read::Refused { number, at: field } => EntryRead {
+            number,
+            found: 0,
+            at: field,
+            entry,
+        },
+    }
+}
+
+// How reading a whole sheet ended, as C has it.
+fn scanned(answer: SheetRead) -> SheetScanned
+    ensures { λ r. ⌜ r ≡ sheetRead answer ⌝ }
+{
+    match answer {
+        SheetRead::Whole { entries } => SheetScanned {
+            number: ACCEPTED,
+            entries,
+            at: 0,
+        },
+        SheetRead::Refused { number, at } => SheetScanned {
+            number,
+            entries: 0,
+            at,
+        },
+    }
+}
+
+// Judges a whole sheet and counts its entries.
+#[no_mangle]
+pub extern "C" fn tg_scan_sheet(sheet: &[u8]) -> SheetScanned
+    ensures { λ r. ⌜ r ≡ sheetScanned (decodeSheet (now (sheet .entry))) ⌝ }
+{
+    scanned(sheet_scan::scan_sheet(sheet))
+}
+
+// Reads a whole sheet into rows of words, one for each entry. A refusal leaves the rows as they were.
+#[no_mangle]
+pub extern "C" fn tg_read_sheet(sheet: &[u8], rows: &mut [u32]) -> SheetScanned
+    ensures { λ r. ⌜ r ≡ sheetRead (readSheet (decodeSheet (now (sheet .entry))) (now (rows .entry)) .answer)
+        × now (rows .exit) ≡ readSheet (decodeSheet (now (sheet .entry))) (now (rows .entry)) .rows ⌝ }
+{
+    scanned(sheet_reader::read_sheet(sheet, rows))
+}

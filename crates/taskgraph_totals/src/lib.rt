@@ -1,0 +1,25 @@
+// The board over words and over a lent row of records, as C has it: totals are a struct by value.
+// A slice is a pointer and a count of elements in C. include/taskgraph.h declares all of this.
+// Follows document 01, "The board and the day list".
+// Assumes nothing but that a pointer with a count points to that many elements.
+ghost use mathlib.Core.Path.{_≡_};
+ghost use Rattle.minutes.specs.Minutes.{fixedMinutes};
+ghost use Rattle.totals.specs.Board.{totalsOf, totalsOfWords};
+use totals::JobRecord;
+use totals::Totals;
+
+// The board on words: a label and a class for each record.
+#[no_mangle]
+pub extern "C" fn tg_totals_of_words(words: &[u32]) -> Totals
+    ensures { λ r. ⌜ r ≡ totalsOfWords fixedMinutes (now (words .entry)) ⌝ }
+{
+    totals_of_words::of_words(words)
+}
+
+// The board on a lent row of records.
+#[no_mangle]
+pub extern "C" fn tg_totals_of_records(records: &[JobRecord]) -> Totals
+    ensures { λ r. ⌜ r ≡ totalsOf fixedMinutes (now (records .entry)) ⌝ }
+{
+    totals_of_records::of_records(records)
+}

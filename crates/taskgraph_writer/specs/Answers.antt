@@ -1,0 +1,24 @@
+-- The structs of the C interface for writing job sheets: for each case of an answer the number and the values that
+-- document 01, "Turned-away calls" and "Job sheets", has for it. What does not belong to a case is 0.
+-- Assumes nothing.
+use Prim.Native.Nat.{ℕ}
+use Rattle.sheet_format.specs.declared.Wrote.{Wrote}
+use Rattle.sheet_format.specs.declared.SheetWrote.{SheetWrote}
+use Rattle.taskgraph_writer.specs.declared.EntryWritten.{EntryWritten}
+use Rattle.taskgraph_writer.specs.declared.SheetWritten.{SheetWritten}
+
+-- the list of refusals starts at 1, so 0 says that nothing was refused
+abbrev pub accepted : ℕ
+accepted = 0
+
+-- the offset past the entry in the output. 14: the offset "of the first such field, from the entry's start"; 15 has
+-- none, and 0 stands there
+abbrev pub entryWritten : Wrote → EntryWritten
+entryWritten (Wrote.Done next) = record { number = accepted; at = next }
+entryWritten (Wrote.Refused number field) = record { number = number; at = field }
+
+-- how many entries were written, in how many bytes. 14: which entry, from 0, and the offset from its start; 1 and 15
+-- have neither
+abbrev pub sheetWritten : SheetWrote → SheetWritten
+sheetWritten (SheetWrote.Done entries bytes) = record { number = accepted; entry = entries; at = bytes }
+sheetWritten (SheetWrote.Refused number entry field) = record { number = number; entry = entry; at = field }

@@ -1,0 +1,60 @@
+// Writing job sheets as C has it. A slice is a pointer and a count of elements in C; answers are structs by value.
+// Numbers are those of document 01, "Turned-away calls", and 0 where nothing was refused. include/taskgraph.h
+// declares all of this.
+// Assumes nothing but that a pointer with a count points to that many elements.
+ghost use mathlib.Core.Path.{_≡_};
+ghost use Rattle.sheet_format.specs.Write.{writeEntry, writeSheet};
+ghost use Rattle.taskgraph_writer.specs.Answers.{entryWritten, sheetWritten};
+use sheet_format::Entry;
+use sheet_format::SheetWrote;
+use sheet_format::Wrote;
+
+// The number where nothing was refused.
+const ACCEPTED: u32 = 0;
+
+// Where the entry ends in the output, or a refusal with the place of its field from the entry's start.
+#[repr(C)]
+pub struct EntryWritten {
+    pub number: u32,
+    pub at: usize,
+}
+
+// How many entries and bytes were written, or a refusal with the entry's number and the place of its field from the
+// entry's start.
+#[repr(C)]
+pub struct SheetWritten {
+    pub number: u32,
+    pub entry: usize,
+    pub at: usize,
+}
+
+// Stores an entry at an offset of the output. A refusal leaves the output as it was.
+#[no_mangle]
+pub extern "C" fn tg_write_entry(out: &mut [u8], at: usize, entry: Entry) -> EntryWritten
+    ensures { λ r. ⌜ r ≡ entryWritten (writeEntry entry (now (out .entry)) at .answer)
+        × now (out .exit) ≡ writeEntry entry (now (out .entry)) at .out ⌝ }
+{
+    match sheet_writer::write(out, at, entry) {
+        Wrote::Done { next } => EntryWritten {
+            number: ACCEPTED,
+            at: next,
+        },
+        Wrote::Refused { number, at: field } => EntryWritten { number, at: field },
+    }
+}
+
+// Stores the entries of all rows in the front of the output. A refusal leaves the output as it was.
+#[no_mangle]
+pub extern "C" fn tg_write_sheet(rows: &[u32], out: &mut [u8]) -> SheetWritten
+    ensures { λ r. ⌜ r ≡ sheetWritten (writeSheet (now (rows .entry)) (now (out .entry)) .answer)
+        × now (out .exit) ≡ writeSheet (now (rows .entry)) (now (out .entry)) .out ⌝ }
+{
+    match sheet_writer::write_sheet(rows, out) {
+        SheetWrote::Done { entries, bytes } => SheetWritten {
+            number: ACCEPTED,
+            entry: entries,
+            at: bytes,
+        },
+        SheetWrote::Refused { number, entry, at } => SheetWritten { number, entry, at },
+    }
+}

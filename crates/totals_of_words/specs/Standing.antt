@@ -1,0 +1,9 @@
+-- A table of words, judged by its length: at most 4,096 records, which stand in it. Assumes nothing.
+use mathlib.Core.Bool.{Bool, _&&_}
+use Prim.Native.Nat.{ℕ, _+_, _*_}
+use lib.Dec.{leb, ltb}
+use Rattle.totals.specs.Board.{mostRecords}
+
+abbrev pub standing : (head width label class length count : ℕ) → Bool
+standing head width label class length count =
+    leb count mostRecords && (ltb label width && (ltb class width && leb (head + width * count) length))

@@ -1,0 +1,66 @@
+// The board over a table of words. Document 01, "The board and the day list"; specs/Board.antt of `totals` has the
+// definitions. Assumes nothing.
+ghost use mathlib.Core.Path.{_≡_};
+ghost use Rattle.minutes.specs.Minutes.{fixedMinutes};
+ghost use Rattle.totals.specs.Board.{totalsOfWords, totalsOfTable};
+ghost use Rattle.totals_of_words.specs.Standing.{standing};
+use totals::MOST_RECORDS;
+use totals::OFF_LIMITS;
+use totals::SERVED;
+use totals::Totals;
+use totals::blank;
+use totals_step::with_record;
+
+// Whether `count` records of `width` words stand in a table of `length` words after its first `head`, and the places
+// `label` and `class` lie inside a record.
+fn stands(length: usize, head: u32, width: u32, label: u32, class: u32, count: usize) -> bool
+    ensures { λ r. ⌜ r ≡ standing head width label class length count ⌝ }
+{
+    // First, so that the sum below fits its 64 bits.
+    let few = count <= MOST_RECORDS;
+    if few {
+        (label < width) & ((class < width) & ((head as usize) + (width as usize) * count <= length))
+    } else {
+        false
+    }
+}
+
+// The board on a table of words: `count` records of `width` words follow the first `head`, and words `label` and
+// `class` of a record are its label and class. A shorter table is refused, and so is a place outside the record.
+pub fn of_table(
+    words: &[u32],
+    head: u32,
+    width: u32,
+    label: u32,
+    class: u32,
+    count: usize,
+) -> Totals
+    ensures { λ r. ⌜ r ≡ totalsOfTable fixedMinutes head width label class (now (words .entry)) count ⌝ }
+{
+    let stand = stands(words.len(), head, width, label, class, count);
+    if stand {} else {
+        return blank(OFF_LIMITS);
+    }
+    let mut t = blank(SERVED);
+    let mut i = 0;
+    while i < count {
+        let at = (head as usize) + (width as usize) * i;
+        t = with_record(
+            t,
+            words[at + (label as usize)],
+            words[at + (class as usize)],
+        );
+        i += 1;
+    }
+    t
+}
+
+// The board on words: a label and a class for each record. An odd number of words is refused as too many records are.
+pub fn of_words(words: &[u32]) -> Totals
+    ensures { λ r. ⌜ r ≡ totalsOfWords fixedMinutes (now (words .entry)) ⌝ }
+{
+    if words.len() % 2 != 0 {
+        return blank(OFF_LIMITS);
+    }
+    of_table(words, 0, 2, 0, 1, words.len() / 2)
+}

@@ -1,0 +1,32 @@
+-- One job record more on running totals: what the loops over a row of records do at each turn.
+-- Document 01, "The board and the day list". Assumes nothing.
+use mathlib.Core.List.{List}
+use Prim.Native.Nat.{ℕ, _+_, _*_, _%_, _^_, _<_}
+use lib.Dec.{eqb}
+use lib.ListN.{getD, set}
+use Rattle.minutes.specs.Minutes.{minutesIn}
+use Rattle.minutes.specs.Rising.{mostMinutes}
+use Rattle.totals.specs.declared.Totals.{Totals}
+use Rattle.totals.specs.Board.{pick, served, damaged, refused, wellFormed, mostRecords}
+
+-- a sum with one entry raised, at 32 bits
+abbrev pub raised : List ℕ → ℕ → ℕ → List ℕ
+raised sums at by = set sums at ((getD sums at 0 + by) % 2 ^ 32)
+
+-- the totals of a refused row stay refused
+unfoldable pub withRecord : List ℕ → Totals → ℕ → ℕ → Totals
+withRecord table t label class =
+    pick (eqb (t .number) served)
+    (pick (wellFormed (record { label = label; class = class }))
+    (record {
+      number = t .number;
+      jobs = raised (t .jobs) label 1;
+      minutes = raised (t .minutes) label (minutesIn table class);
+    })
+    (refused damaged))
+    t
+
+-- room for one record more under a label: its entries lie below what the most records can come to
+pub record Room (t : Totals) (label : ℕ) : Type 0 where
+  pub jobs-room : getD (t .jobs) label 0 < mostRecords
+  pub minutes-room : getD (t .minutes) label 0 < mostRecords * mostMinutes

@@ -1,0 +1,164 @@
+//! Histories over damaged tables: words altered at random, tables cut short, sizes swapped. Every answer is
+//! the one that document 01's list and `docs/TABLES.md` settle, and the tables hold afterwards what the list
+//! says.
+
+mod answer;
+mod change;
+mod make;
+
+use compare_sheets::case::{differ, Case};
+use second_implementation::{
+    graph::{Graph, Sizes},
+    history::Item,
+    refusal,
+    sheet::MAX_NAMES,
+    totals,
+};
+use taskgraph::raw::{self as proved, kind};
+
+use crate::{
+    event::{worker_of, Call, Event, History},
+    expected_words,
+    layout::{self, job},
+    tables::{Tables, JOBS},
+    world::{call_library, to_library},
+};
+
+use answer::{expected_answer, expected_drained, expected_holding, of_kind, refused};
+use change::Change;
+
+pub use make::{history, numbered};
+
+pub struct Damaged(pub History);
+
+impl Case for Damaged {
+    fn difference(&self) -> Option<String> {
+        first_fault(&self.0).map(|(number, fault)| format!("event {number}: {fault}"))
+    }
+
+    fn smaller(&self) -> Box<dyn Iterator<Item = Self> + '_> {
+        Box::new(self.0.smaller().map(Damaged))
+    }
+
+    fn show(&self) -> String {
+        format!("(to be read back by `cargo run --release --offline -p compare_graph --bin replay`)\n{}", self.0)
+    }
+}
+
+/// The number of the first event at which the list is not kept, and how.
+pub fn first_fault(history: &History) -> Option<(usize, String)> {
+    let mut lent = Lent { tables: Tables::new(&history.setup), sizes: history.setup.sizes };
+    let all = std::iter::once(Event::LayOut(history.setup.sizes)).chain(history.events.iter().cloned());
+    let last = history.events.len() + 1;
+    all.enumerate()
+        .find_map(|(number, event)| lent.fault(&event).map(|fault| (number, fault)))
+        .or_else(|| lent.run_out().map(|fault| (last, fault)))
+}
+
+/// The tables, and the sizes that calls bring.
+struct Lent {
+    tables: Tables,
+    sizes: Sizes,
+}
+
+impl Lent {
+    fn fault(&mut self, event: &Event) -> Option<String> {
+        match event {
+            Event::Set { table, place, value } => {
+                self.tables.set(*table, *place, *value);
+                None
+            }
+            Event::LayOut(sizes) => self.lay_out(*sizes),
+            Event::Call(call) => self.call(call).1.or_else(|| self.wrong_totals()),
+        }
+    }
+
+    fn lay_out(&mut self, sizes: Sizes) -> Option<String> {
+        let before = self.tables.clone();
+        let answer = proved::lay_out(to_library(sizes), &mut self.tables.lent(None));
+        let fresh = Graph::lay_out(sizes).ok().filter(|_| layout::suffice(self.tables.lens(), sizes));
+        let expected = if fresh.is_some() { of_kind(kind::LAID_OUT) } else { refused(refusal::SIZE) };
+        if answer != expected {
+            return Some(format!("tg_lay_out answers {answer:?}, not {expected:?}"));
+        }
+        match fresh {
+            None => Tables::difference(&before, &self.tables),
+            Some(graph) => {
+                self.sizes = sizes;
+                expected_words::difference(&graph, &self.tables).or_else(|| self.touched_past_the_need(&before))
+            }
+        }
+    }
+
+    /// The answer of a call, and its fault.
+    fn call(&mut self, call: &Call) -> (proved::Answer, Option<String>) {
+        let sizes = call.sizes.unwrap_or(self.sizes);
+        let expected = expected_answer(&self.tables, sizes, call);
+        if let Some(fault) = self.wrong_state(sizes, call) {
+            return (expected, Some(fault));
+        }
+        let before = self.tables.clone();
+        let answer = call_library(sizes, &mut self.tables.lent(call.short), &call.item);
+        if answer != expected {
+            return (answer, Some(format!("the answer is {answer:?}, not {expected:?}")));
+        }
+        let after = Change { before: &before, after: &self.tables, item: &call.item };
+        (answer, after.fault(answer).or_else(|| self.touched_past_the_need(&before)))
+    }
+
+    /// What the worker of a call holds and whether the graph is drained, asked with the call's sizes and tables.
+    fn wrong_state(&self, sizes: Sizes, call: &Call) -> Option<String> {
+        let holding = expected_holding(&self.tables, sizes, call);
+        let drained = expected_drained(&self.tables, sizes, call.short);
+        let tables = self.tables.read(call.short);
+        differ("tg_held", proved::held(to_library(sizes), tables, worker_of(&call.item)), holding)
+            .or_else(|| differ("tg_drained", proved::drained(to_library(sizes), tables), drained))
+    }
+
+    fn touched_past_the_need(&self, before: &Tables) -> Option<String> {
+        let need = layout::words_needed(self.sizes);
+        let touched =
+            (0..5).find(|table| self.tables.words(*table)[need[*table]..] != before.words(*table)[need[*table]..]);
+        touched
+            .map(|table| format!("words past the need of table {table} were touched"))
+            .or_else(|| self.tables.broken_guard())
+    }
+
+    /// The totals: 9 for a wrong label or class among the jobs made, or a counter over R.
+    fn wrong_totals(&self) -> Option<String> {
+        let words = self.tables.words(JOBS);
+        let made = words[layout::MADE] as usize;
+        let sizes_stand =
+            words[..layout::MADE] == [self.sizes.jobs, self.sizes.arcs, self.sizes.bits, self.sizes.workers];
+        let expected = if !sizes_stand {
+            Err(totals::TotalsError::Size)
+        } else if made > self.sizes.jobs as usize {
+            Err(totals::TotalsError::Damaged)
+        } else {
+            let record = |number: usize| &words[layout::job_at(number)..layout::job_at(number + 1)];
+            let pairs = (0..made).flat_map(|number| [record(number)[job::LABEL], record(number)[job::CLASS]]);
+            totals::of_words(&pairs.collect::<Vec<u32>>())
+        };
+        let answer = proved::totals_of_graph(to_library(self.sizes), words);
+        differ("tg_totals_of_graph", answer, compare_sheets::totals::expected(expected))
+    }
+
+    /// Every call half done ends, or is refused, after a bounded number of steps: an add has at most
+    /// 2d + 2, and each step of a finish lowers a count.
+    fn run_out(&mut self) -> Option<String> {
+        let most = 2 * MAX_NAMES + 4 + MAX_NAMES * self.sizes.jobs as usize;
+        (0..self.sizes.workers).find_map(|worker| {
+            let step = Call { item: Item::Step { worker }, sizes: None, short: None };
+            for _ in 0..most {
+                let (answer, fault) = self.call(&step);
+                if fault.is_some() {
+                    return fault;
+                }
+                if answer.kind != kind::GOING_ON {
+                    return None;
+                }
+            }
+            Some(format!("worker {worker} goes on after {most} steps"))
+        })
+    }
+}

@@ -1,0 +1,128 @@
+//! Every order of two workers' turns over a small graph.
+
+use second_implementation::{
+    history::Item,
+    sheet::{Entry, Names, MAX_NAMES},
+};
+
+use crate::{
+    event::{Event, History},
+    tables::Setup,
+    world::World,
+};
+
+/// A call of a script.
+#[derive(Clone, Copy, Debug, PartialEq, Eq)]
+pub enum Call {
+    Add {
+        name: u32,
+        list: &'static [u32],
+    },
+    Get,
+    /// A finish of the held job, or of name 0 where none is held.
+    Finish,
+}
+
+impl Call {
+    /// The turns that it takes, as far as they are known beforehand: a post and its steps, with one arc
+    /// for a finish.
+    pub fn turns(self) -> usize {
+        match self {
+            Call::Add { list, .. } => 3 + 2 * list.len(),
+            Call::Get => 1,
+            Call::Finish => 3,
+        }
+    }
+}
+
+/// All scripts of at most so many calls.
+pub fn scripts(calls: &[Call], longest: usize) -> Vec<Vec<Call>> {
+    let mut all = vec![Vec::new()];
+    let mut last = all.clone();
+    for _ in 0..longest {
+        let longer = |script: &Vec<Call>| calls.iter().map(|call| [&script[..], &[*call]].concat()).collect::<Vec<_>>();
+        last = last.iter().flat_map(longer).collect();
+        all.extend(last.iter().cloned());
+    }
+    all
+}
+
+/// A graph to start from: the events that lead to it.
+pub struct Start {
+    pub setup: Setup,
+    pub events: Vec<Event>,
+}
+
+impl Start {
+    pub fn world(&self) -> Result<World, Box<History>> {
+        let mut world = World::new(&self.setup).map_err(|_| self.history(&[]))?;
+        self.events.iter().try_for_each(|event| world.apply(event)).map_err(|_| self.history(&[]))?;
+        Ok(world)
+    }
+
+    fn history(&self, trace: &[Event]) -> Box<History> {
+        Box::new(History { setup: self.setup.clone(), events: [&self.events, trace].concat() })
+    }
+
+    /// Takes both scripts in every order of their turns. The number of orders, or a history that differs.
+    pub fn every_order(&self, world: &World, scripts: [&[Call]; 2]) -> Result<u64, Box<History>> {
+        self.orders(world.clone(), scripts, &mut Vec::new())
+    }
+
+    fn orders(&self, world: World, scripts: [&[Call]; 2], trace: &mut Vec<Event>) -> Result<u64, Box<History>> {
+        let mut rest = [scripts; 2];
+        let turns = [turn(&world, 0, &mut rest[0][0]), turn(&world, 1, &mut rest[1][1])];
+        // The world is copied only where both workers have a turn.
+        match turns {
+            [Some(first), Some(second)] => {
+                let orders = self.orders_after(world.clone(), first, rest[0], trace)?;
+                Ok(orders + self.orders_after(world, second, rest[1], trace)?)
+            }
+            [Some(only), None] => self.orders_after(world, only, rest[0], trace),
+            [None, Some(only)] => self.orders_after(world, only, rest[1], trace),
+            [None, None] => Ok(1),
+        }
+    }
+
+    fn orders_after(
+        &self,
+        mut world: World,
+        item: Item,
+        rest: [&[Call]; 2],
+        trace: &mut Vec<Event>,
+    ) -> Result<u64, Box<History>> {
+        trace.push(item.into());
+        world.apply(&trace[trace.len() - 1]).map_err(|_| self.history(trace))?;
+        let orders = self.orders(world, rest, trace)?;
+        trace.pop();
+        Ok(orders)
+    }
+}
+
+/// The next turn of a worker: a step of its call half done, or its script's next call.
+fn turn(world: &World, worker: u32, script: &mut &[Call]) -> Option<Item> {
+    let state = &world.graph().workers()[worker as usize];
+    if state.call.is_some() {
+        return Some(Item::Step { worker });
+    }
+    let (call, rest) = script.split_first()?;
+    *script = rest;
+    Some(match *call {
+        Call::Add { name, list } => add(worker, name, list),
+        Call::Get => Item::Get { worker },
+        Call::Finish => {
+            let name = state.held.map_or(0, |job| world.graph().jobs()[job].name);
+            Item::PostFinish { worker, name }
+        }
+    })
+}
+
+/// The post of an add.
+pub fn add(worker: u32, name: u32, list: &[u32]) -> Item {
+    let mut names = [0; MAX_NAMES];
+    names[..list.len()].copy_from_slice(list);
+    Item::PostAdd {
+        worker,
+        entry: Entry { name, prerequisites: Names { count: list.len(), names }, class: 0, grower: 0 },
+    }
+}

@@ -1,0 +1,293 @@
+//! The library and the second implementation side by side over one history: after every event the answers agree
+//! and the tables stand for the same graph, and whenever no call is half done the plain book agrees.
+
+use compare_sheets::case::differ;
+use second_implementation::{
+    book::{Book, Ending},
+    graph::{self, Answer, Graph, HalfDone, Holding, Refusal, Reply, Sizes},
+    history::{Entries, History, Item},
+    refusal,
+    sheet::Entry,
+    totals::{self, Label},
+};
+use taskgraph::raw as proved;
+
+use crate::{
+    event::{worker_of, Call, Event},
+    expected_words, layout,
+    tables::{Setup, Tables, JOBS},
+    view,
+};
+
+/// Graphs of more jobs than this have some checks only every so many items.
+const SMALL: usize = 64;
+
+const FINISHED: u32 = 2;
+
+#[derive(Clone)]
+pub struct World {
+    tables: Tables,
+    /// The words past each table's need, as they were when it was laid out.
+    tails: [Vec<u32>; 5],
+    graph: Graph,
+    history: History,
+    entries: Entries,
+    book: Book,
+    /// How the calls that the book was fed ended in it.
+    endings: Vec<Ending>,
+    items: usize,
+}
+
+/// The sizes in the shape of the C interface.
+pub fn to_library(sizes: Sizes) -> proved::Sizes {
+    let Sizes { jobs, arcs, bits, workers } = sizes;
+    proved::Sizes { jobs, arcs, bits, workers }
+}
+
+fn entry_to_library(entry: &Entry) -> proved::Entry {
+    proved::Entry {
+        name: entry.name,
+        count: entry.prerequisites.count as u32,
+        class: entry.class,
+        grower: entry.grower,
+        names: entry.prerequisites.names,
+    }
+}
+
+/// An answer in the shape of the C interface.
+pub fn answer_to_library(answer: &Answer) -> proved::Answer {
+    use proved::kind;
+    let of_kind = |kind: u32| proved::Answer { kind, ..proved::Answer::default() };
+    match *answer {
+        Err(Refusal { number, place }) => proved::Answer { number, place: place as u32, ..of_kind(kind::REFUSED) },
+        Ok(Reply::Posted) => of_kind(kind::POSTED),
+        Ok(Reply::GoingOn) => of_kind(kind::GOING_ON),
+        Ok(Reply::Ended) => of_kind(kind::ENDED),
+        Ok(Reply::NoneReady) => of_kind(kind::NONE_READY),
+        Ok(Reply::HandedOut { job, name }) => proved::Answer { job: job as u32, name, ..of_kind(kind::HANDED_OUT) },
+    }
+}
+
+/// What a worker holds, in the shape of the C interface.
+pub fn holding_to_library(holding: Result<Holding, Refusal>) -> proved::Holding {
+    use proved::{Holding as Told, CALL_ADD, CALL_FINISH, CALL_NONE};
+    let Holding { held, call } = match holding {
+        Err(Refusal { number, .. }) => return Told { number, ..Told::default() },
+        Ok(holding) => holding,
+    };
+    let call = match call {
+        HalfDone::Nothing => CALL_NONE,
+        HalfDone::Add => CALL_ADD,
+        HalfDone::Finish => CALL_FINISH,
+    };
+    match held {
+        None => Told { call, ..Told::default() },
+        Some((job, name)) => Told { number: 0, holds: 1, job: job as u32, name, call },
+    }
+}
+
+/// Whether the graph is drained, in the shape of the C interface.
+pub fn drained_to_library(drained: Result<bool, Refusal>) -> proved::DrainedAnswer {
+    match drained {
+        Err(Refusal { number, .. }) => proved::DrainedAnswer { number, drained: 0 },
+        Ok(drained) => proved::DrainedAnswer { number: 0, drained: u32::from(drained) },
+    }
+}
+
+/// The library's answer to an item.
+pub fn call_library(sizes: Sizes, tables: &mut proved::Tables, item: &Item) -> proved::Answer {
+    let sizes = to_library(sizes);
+    match item {
+        Item::PostAdd { worker, entry } => proved::post_add(sizes, tables, *worker, entry_to_library(entry)),
+        Item::PostFinish { worker, name } => proved::post_finish(sizes, tables, *worker, *name),
+        Item::Step { worker } => proved::step(sizes, tables, *worker),
+        Item::Get { worker } => proved::get(sizes, tables, *worker),
+    }
+}
+
+/// The second implementation's answer to an item.
+pub fn call_second(graph: &mut Graph, sizes: Sizes, item: &Item) -> Answer {
+    match item {
+        Item::PostAdd { worker, entry } => graph.post_add(sizes, *worker, entry),
+        Item::PostFinish { worker, name } => graph.post_finish(sizes, *worker, *name),
+        Item::Step { worker } => graph.step(sizes, *worker),
+        Item::Get { worker } => graph.get(sizes, *worker),
+    }
+}
+
+/// Numbers 6 to 8 put the words of the call back; every other refusal changes nothing.
+pub fn changes_nothing(number: u32) -> bool {
+    !(refusal::UNKNOWN_NAME..=refusal::FULL).contains(&number)
+}
+
+fn none_or_err(difference: Option<String>) -> Result<(), String> {
+    difference.map_or(Ok(()), Err)
+}
+
+impl World {
+    /// Lays out the first graph.
+    pub fn new(setup: &Setup) -> Result<World, String> {
+        let mut world = World {
+            tables: Tables::new(setup),
+            tails: Default::default(),
+            graph: Graph::lay_out(setup.sizes).map_err(|_| "the first sizes are off their limits")?,
+            history: History::default(),
+            entries: Entries::default(),
+            book: Book::new(setup.sizes),
+            endings: Vec::new(),
+            items: 0,
+        };
+        world.lay_out(setup.sizes)?;
+        Ok(world)
+    }
+
+    pub fn graph(&self) -> &Graph {
+        &self.graph
+    }
+
+    /// The library's answer of an event, or how it differs from what is expected.
+    pub fn apply(&mut self, event: &Event) -> Result<(), String> {
+        match event {
+            Event::LayOut(sizes) => self.lay_out(*sizes),
+            Event::Call(call) => self.call(call),
+            Event::Set { .. } => Err("damage has no place in a history that the second implementation follows".into()),
+        }
+    }
+
+    fn lay_out(&mut self, sizes: Sizes) -> Result<(), String> {
+        use proved::kind;
+        let laid_out = Graph::lay_out(sizes).ok().filter(|_| layout::suffice(self.tables.lens(), sizes));
+        let before = self.tables.clone();
+        let answer = proved::lay_out(to_library(sizes), &mut self.tables.lent(None));
+        let expected = match laid_out {
+            Some(_) => proved::Answer { kind: kind::LAID_OUT, ..proved::Answer::default() },
+            None => proved::Answer { number: refusal::SIZE, ..proved::Answer::default() },
+        };
+        none_or_err(differ("tg_lay_out", answer, expected))?;
+        match laid_out {
+            None => none_or_err(Tables::difference(&before, &self.tables)),
+            Some(graph) => {
+                let need = layout::words_needed(sizes);
+                let tail = |table: usize| before.words(table)[need[table]..].to_vec();
+                self.tails = [tail(0), tail(1), tail(2), tail(3), tail(4)];
+                self.graph = graph;
+                self.history = History::default();
+                self.entries = Entries::default();
+                self.book = Book::new(sizes);
+                self.endings.clear();
+                self.check_tables()
+            }
+        }
+    }
+
+    fn call(&mut self, call: &Call) -> Result<(), String> {
+        let quiet = !self.history.is_half_done();
+        let sizes = call.sizes.unwrap_or_else(|| self.graph.sizes());
+        // Sizes other than those laid out are refused whatever the lengths, so the need is theirs.
+        let long_enough = layout::suffice(self.tables.cut_lens(call.short), self.graph.sizes());
+        let expected =
+            if long_enough { call_second(&mut self.graph, sizes, &call.item) } else { graph::refused(refusal::SIZE) };
+        let unchanged = matches!(expected, Err(refusal) if changes_nothing(refusal.number));
+        let before = unchanged.then(|| self.tables.clone());
+        let answer = call_library(sizes, &mut self.tables.lent(call.short), &call.item);
+        none_or_err(differ("the answer", answer, answer_to_library(&expected)))?;
+        if let Some(before) = before {
+            none_or_err(Tables::difference(&before, &self.tables))?;
+        }
+        self.check_state(sizes, call)?;
+        self.check_tables()?;
+        if let (true, Item::Get { .. }, Ok(reply)) = (quiet, &call.item, expected) {
+            self.check_none_ready(reply)?;
+        }
+        self.history.take(&call.item, &expected);
+        self.check_drained()?;
+        self.check_history()
+    }
+
+    /// What the worker of a call holds and whether the graph is drained, asked with the call's sizes and tables.
+    fn check_state(&self, sizes: Sizes, call: &Call) -> Result<(), String> {
+        let long_enough = layout::suffice(self.tables.cut_lens(call.short), self.graph.sizes());
+        let (holding, drained) = if long_enough {
+            (self.graph.held(sizes, worker_of(&call.item)), self.graph.drained(sizes))
+        } else {
+            (graph::refused(refusal::SIZE), graph::refused(refusal::SIZE))
+        };
+        let tables = self.tables.read(call.short);
+        let answer = proved::held(to_library(sizes), tables, worker_of(&call.item));
+        none_or_err(differ("tg_held", answer, holding_to_library(holding)))?;
+        let answer = proved::drained(to_library(sizes), tables);
+        none_or_err(differ("tg_drained", answer, drained_to_library(drained)))
+    }
+
+    /// The graph is drained exactly if no call is half done and every job that entered is finished.
+    fn check_drained(&self) -> Result<(), String> {
+        let finished = self.graph.jobs().iter().all(|job| job.label == Label::Finished);
+        let expected = drained_to_library(Ok(finished && !self.history.is_half_done()));
+        let answer = proved::drained(to_library(self.graph.sizes()), self.tables.read(None));
+        none_or_err(differ("tg_drained, beside labels and history", answer, expected))
+    }
+
+    fn check_tables(&mut self) -> Result<(), String> {
+        none_or_err(expected_words::difference(&self.graph, &self.tables))?;
+        let need = layout::words_needed(self.graph.sizes());
+        let touched = (0..5).find(|table| self.tables.words(*table)[need[*table]..] != self.tails[*table][..]);
+        none_or_err(touched.map(|table| format!("words past the need of table {table} were touched")))?;
+        none_or_err(self.tables.broken_guard())
+    }
+
+    /// With no call half done, "none ready" is given exactly if no job is ready in the book.
+    fn check_none_ready(&self, reply: Reply) -> Result<(), String> {
+        none_or_err(differ(
+            "with no call half done: none ready, beside no job ready in the book",
+            reply == Reply::NoneReady,
+            !self.book.any_ready(),
+        ))
+    }
+
+    fn check_history(&mut self) -> Result<(), String> {
+        self.items += 1;
+        let sizes = self.graph.sizes();
+        let made = view::made(&self.tables, sizes);
+        self.entries.take(made, view::queue(&self.tables));
+        for call in &self.history.calls()[self.endings.len()..] {
+            self.endings.push(self.book.feed(call.worker, &call.request));
+        }
+        let all_now = self.items % (1 + made / SMALL) == 0;
+        if all_now {
+            let is_finished = |job: usize| view::label(&self.tables, job) == FINISHED;
+            none_or_err(self.history.wrong_entries(&self.entries, is_finished))?;
+            self.check_totals()?;
+        }
+        if !self.history.is_half_done() {
+            self.check_book(all_now)?;
+        }
+        Ok(())
+    }
+
+    /// With no call half done: how each call ended, and the view, equal the book's.
+    fn check_book(&self, all_calls: bool) -> Result<(), String> {
+        let calls = self.history.calls();
+        let since = if all_calls { 0 } else { calls.len().saturating_sub(SMALL) };
+        for (call, ending) in calls.iter().zip(&self.endings).skip(since) {
+            none_or_err(differ("how a call ended, beside the book", call.ending, Some(*ending)))?;
+        }
+        let (view, book) = (view::view(&self.tables, self.graph.sizes()), self.book.view());
+        if view == book {
+            return Ok(());
+        }
+        let jobs = view.jobs.iter().zip(&book.jobs).enumerate();
+        let job = jobs
+            .filter(|(_, (one, other))| one != other)
+            .map(|(job, (one, other))| format!("job {job}, beside the book\n  library  {one:?}\n  expected {other:?}"));
+        let holds = differ("what each worker holds, beside the book", &view.holds, &book.holds);
+        let count = differ("the number of jobs, beside the book", view.jobs.len(), book.jobs.len());
+        none_or_err(job.into_iter().next().or(holds).or(count))
+    }
+
+    fn check_totals(&self) -> Result<(), String> {
+        let words: Vec<u32> = self.graph.jobs().iter().flat_map(|job| [job.label as u32, job.class]).collect();
+        let answer = proved::totals_of_graph(to_library(self.graph.sizes()), self.tables.words(JOBS));
+        let expected = compare_sheets::totals::expected(totals::of_words(&words));
+        none_or_err(differ("tg_totals_of_graph", answer, expected))
+    }
+}

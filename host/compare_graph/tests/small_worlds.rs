@@ -1,0 +1,74 @@
+//! Every order of the turns of two workers with short scripts, over small graphs.
+
+use compare_graph::{
+    event::Event,
+    random_history::RandomHistory,
+    small_worlds::{add, scripts, Call, Start},
+    tables::Setup,
+};
+use compare_sheets::case::Comparison;
+use second_implementation::{graph::Sizes, history::Item};
+
+/// The most turns of two scripts together, the further arcs of a finish aside.
+const MOST_TURNS: usize = 12;
+
+const CALLS: [Call; 7] = [
+    Call::Get,
+    Call::Finish,
+    Call::Add { name: 4, list: &[] },
+    Call::Add { name: 4, list: &[1] },
+    Call::Add { name: 5, list: &[4] },
+    Call::Add { name: 4, list: &[5] },
+    Call::Add { name: 4, list: &[1, 2] },
+];
+
+/// A whole add by worker 0.
+fn whole_add(name: u32, list: &[u32]) -> Vec<Event> {
+    let steps = (0..2 * list.len() + 2).map(|_| Item::Step { worker: 0 });
+    std::iter::once(add(0, name, list)).chain(steps).map(Event::from).collect()
+}
+
+fn get(worker: u32) -> Vec<Event> {
+    vec![Item::Get { worker }.into()]
+}
+
+fn start(jobs: u32, arcs: u32, bits: u32, events: &[Vec<Event>]) -> Start {
+    let sizes = Sizes { jobs, arcs, bits, workers: 2 };
+    Start { setup: Setup { sizes, slack: [0; 5], fill: 1, guard: 0 }, events: events.concat() }
+}
+
+fn starts() -> Vec<Start> {
+    let jobs_1_2 = || [whole_add(1, &[]), whole_add(2, &[])].concat();
+    vec![
+        start(4, 4, 1, &[]),
+        start(1, 0, 2, &[]),
+        start(2, 1, 1, &[whole_add(1, &[])]),
+        start(3, 2, 2, &[whole_add(1, &[]), get(0)]),
+        start(4, 4, 1, &[jobs_1_2(), get(0), get(1)]),
+        start(4, 4, 2, &[jobs_1_2(), whole_add(3, &[1, 2]), get(0), get(1)]),
+        start(4, 3, 2, &[jobs_1_2(), whole_add(3, &[2]), get(0)]),
+    ]
+}
+
+#[test]
+fn every_order_of_two_scripts() {
+    let test = "graph, every order of the turns of two scripts";
+    let turns = |script: &[Call]| script.iter().map(|call| call.turns()).sum::<usize>();
+    let scripts: Vec<_> = scripts(&CALLS, 3).into_iter().filter(|script| turns(script) < MOST_TURNS).collect();
+    let (mut orders, mut pairs) = (0, 0_u64);
+    for start in starts() {
+        let world = start.world();
+        for one in &scripts {
+            for other in scripts.iter().filter(|other| turns(one) + turns(other) <= MOST_TURNS) {
+                let taken =
+                    world.as_ref().map_err(Clone::clone).and_then(|world| start.every_order(world, [one, other]));
+                match taken {
+                    Ok(taken) => orders += taken,
+                    Err(history) => Comparison::new(test).0.check(RandomHistory(*history)),
+                }
+                pairs += 1;
+            }
+        }
+    }
+    println!("\ncompared {orders} inputs: {test} ({pairs} pairs of scripts)");
+}

@@ -1,0 +1,15 @@
+//! What the comparisons share: cases on which the proved library and the second implementation must agree,
+//! seeded random inputs for them, and the search for the shortest input on which they differ.
+
+#![forbid(unsafe_code)]
+
+pub mod case;
+pub mod guarded;
+pub mod inputs;
+pub mod measures;
+pub mod random;
+pub mod reading;
+pub mod round_trip;
+pub mod shrink;
+pub mod totals;
+pub mod writing;

@@ -1,0 +1,102 @@
+"""The C interface as ctypes has it: structs and functions of include/taskgraph.h, under its names.
+
+python/tests/test_interface.py holds both to the header.
+"""
+from __future__ import annotations
+
+import ctypes as c
+from typing import Any
+
+MAX_NAMES = 32
+REFUSED, GOING_ON, HANDED_OUT = 0, 3, 6
+
+
+def _words(*names: str) -> list[tuple[str, Any]]:
+    return [(name, c.c_uint32) for name in names]
+
+
+def _lengths(*names: str) -> list[tuple[str, Any]]:
+    return [(name, c.c_size_t) for name in names]
+
+
+class tg_entry(c.Structure):
+    _fields_ = _words("name", "count", "class_", "grower") + [("names", c.c_uint32 * MAX_NAMES)]
+
+
+class tg_sheet(c.Structure):
+    _fields_ = _words("number") + _lengths("entries", "at")
+
+
+class tg_sheet_written(c.Structure):
+    _fields_ = _words("number") + _lengths("entry", "at")
+
+
+class tg_totals(c.Structure):
+    _fields_ = _words("number") + [("jobs", c.c_uint32 * 3), ("minutes", c.c_uint32 * 3)]
+
+
+class tg_sizes(c.Structure):
+    _fields_ = _words("jobs", "arcs", "bits", "workers")
+
+
+class tg_answer(c.Structure):
+    _fields_ = _words("kind", "number", "place", "job", "name")
+
+
+class tg_need(c.Structure):
+    _fields_ = _words("number") + _lengths("jobs", "arcs", "buckets", "queue", "workers")
+
+
+class tg_holding(c.Structure):
+    _fields_ = _words("number", "holds", "job", "name", "call")
+
+
+class tg_drained_answer(c.Structure):
+    _fields_ = _words("number", "drained")
+
+
+class tg_day(c.Structure):
+    _fields_ = _words("number") + _lengths("bytes")
+
+
+# A slice is a pointer and a count. Rows of entries are passed as the entries that they are laid out as.
+_BYTES = [c.c_char_p, c.c_size_t]
+_WORDS = [c.POINTER(c.c_uint32), c.c_size_t]
+_ROWS = [c.POINTER(tg_entry), c.c_size_t]
+_GRAPH = [tg_sizes, *_WORDS * 5]
+
+# What each function answers and takes.
+FUNCTIONS: dict[str, tuple[Any, list[Any]]] = {
+    "tg_scan_sheet": (tg_sheet, [*_BYTES]),
+    "tg_read_sheet": (tg_sheet, [*_BYTES, *_ROWS]),
+    "tg_write_sheet": (tg_sheet_written, [*_ROWS, *_BYTES]),
+    "tg_bucket": (c.c_uint32, [c.c_uint32, c.c_uint32]),
+    "tg_minutes": (c.c_uint32, [c.c_uint32]),
+    "tg_words_needed": (tg_need, [tg_sizes]),
+    "tg_lay_out": (tg_answer, [*_GRAPH]),
+    "tg_post_add": (tg_answer, [*_GRAPH, c.c_uint32, tg_entry]),
+    "tg_post_finish": (tg_answer, [*_GRAPH, c.c_uint32, c.c_uint32]),
+    "tg_step": (tg_answer, [*_GRAPH, c.c_uint32]),
+    "tg_get": (tg_answer, [*_GRAPH, c.c_uint32]),
+    "tg_totals_of_graph": (tg_totals, [tg_sizes, *_WORDS]),
+    "tg_day_list": (tg_day, [*_BYTES, c.c_uint32, *_BYTES]),
+}
+# Functions that a library may lack.
+OPTIONAL: dict[str, tuple[Any, list[Any]]] = {
+    "tg_message": (c.c_char_p, [c.c_uint32]),
+    "tg_held": (tg_holding, [*_GRAPH, c.c_uint32]),
+    "tg_drained": (tg_drained_answer, [*_GRAPH]),
+}
+
+
+def bind(library: c.CDLL) -> str | None:
+    """Gives the library's functions their types. Answers a function that it lacks, if there is one."""
+    for name, (answer, arguments) in {**FUNCTIONS, **OPTIONAL}.items():
+        try:
+            function = getattr(library, name)
+        except AttributeError:
+            if name in OPTIONAL:
+                continue
+            return name
+        function.restype, function.argtypes = answer, arguments
+    return None

@@ -1,0 +1,241 @@
+"""The task graph: five tables in memory of one's own, or in memory that processes share."""
+from __future__ import annotations
+
+import ctypes
+import enum
+import mmap
+from collections.abc import Callable
+from contextlib import AbstractContextManager, nullcontext
+from dataclasses import astuple, dataclass
+from typing import Any, NamedTuple, NoReturn
+
+from ._arguments import word
+from ._interface import GOING_ON, HANDED_OUT, REFUSED, tg_sizes
+from ._library import library
+from .refusal import Refusal
+from .sheets import Entry, row
+
+
+@dataclass(frozen=True)
+class Sizes:
+    """How much a graph holds. The library refuses by 1 what is off these limits."""
+
+    jobs: int  # 1 to 4,096
+    arcs: int  # 0 to 32,768
+    bits: int  # bucket bits, 1 to 8
+    workers: int  # 1 to 16
+
+    def __post_init__(self) -> None:
+        for name, value in vars(self).items():
+            word(value, f"the size {name}")
+
+
+class Words(NamedTuple):
+    """The 32-bit words that each table needs."""
+
+    jobs: int
+    arcs: int
+    buckets: int
+    queue: int
+    workers: int
+
+
+class Job(NamedTuple):
+    """A job that was handed out: its number in the order of entry, and its name."""
+
+    number: int
+    name: int
+
+
+class Call(enum.IntEnum):
+    """The call that a worker has half done."""
+
+    NONE = 0
+    ADD = 1
+    FINISH = 2
+
+
+class Holding(NamedTuple):
+    """The job that a worker holds, or None, and the call that it has half done."""
+
+    job: Job | None
+    call: Call
+
+
+class Labels(NamedTuple):
+    """A figure for each label."""
+
+    unexecuted: int
+    executing: int
+    finished: int
+
+
+class Totals(NamedTuple):
+    """The number of jobs under each label, and the sums of their minutes."""
+
+    jobs: Labels
+    minutes: Labels
+
+
+class Graph:
+    """A task graph over lent memory, whose first `Graph.room(sizes)` bytes hold the tables.
+
+    memory  a bytearray, an mmap or the buffer of a SharedMemory; one process calls `lay_out` before the others
+            use it. Without it the graph has memory of its own, and is laid out.
+    lock    held during each single call (a post, a step, a get, ..), and free between the steps of `add` and
+            `finish`. Graphs that several processes or threads use need one, the same for all of them.
+
+    Each call may raise a Refusal. A worker number belongs to one process at a time.
+    """
+
+    def __init__(
+        self,
+        sizes: Sizes,
+        memory: bytearray | memoryview | mmap.mmap | None = None,
+        lock: AbstractContextManager[Any] | None = None,
+    ) -> None:
+        if lock is not None and not (hasattr(lock, "__enter__") and hasattr(lock, "__exit__")):
+            raise TypeError(f"a lock must be usable by `with`, unlike {type(lock).__name__}")
+        needed = self.words(sizes)
+        self.sizes = sizes
+        self._library = library()
+        self._sizes = tg_sizes(*astuple(sizes))
+        self._lock: AbstractContextManager[Any] = nullcontext() if lock is None else lock
+        self._tables: list[Any] | None = _tables(needed, bytearray(4 * sum(needed)) if memory is None else memory)
+        if memory is None:
+            self.lay_out()
+
+    @staticmethod
+    def words(sizes: Sizes) -> Words:
+        """The words that each table needs. Refused by 1 where a size is off its limits."""
+        if not isinstance(sizes, Sizes):
+            raise TypeError(f"sizes must be Sizes, not {type(sizes).__name__}")
+        need = library().tg_words_needed(tg_sizes(*astuple(sizes)))
+        if need.number:
+            raise Refusal(need.number)
+        return Words(need.jobs, need.arcs, need.buckets, need.queue, need.workers)
+
+    @staticmethod
+    def room(sizes: Sizes) -> int:
+        """The bytes that the memory of a graph must have."""
+        return 4 * sum(Graph.words(sizes))
+
+    # ---- single calls
+
+    def lay_out(self) -> None:
+        """Starts a new graph in the memory; an old one is forgotten."""
+        self._answer("tg_lay_out")
+
+    def post_add(self, worker: int, entry: Entry) -> None:
+        """Posts an add, which `step` then carries out. Refused by 1, 2, 9, 3 or 5."""
+        self._answer("tg_post_add", _worker(worker), row(entry))
+
+    def post_finish(self, worker: int, name: int) -> None:
+        """Posts the finish of the held job, which `step` then carries out. Refused by 1, 2, 9, 3 or 11."""
+        self._answer("tg_post_finish", _worker(worker), word(name, "the name"))
+
+    def step(self, worker: int) -> bool:
+        """One step of the worker's call: whether it goes on. Refused by 1, 2, 9, 4, 6, 7 or 8."""
+        return bool(self._answer("tg_step", _worker(worker)).kind == GOING_ON)
+
+    def get(self, worker: int) -> Job | None:
+        """Takes the job longest in the queue, or None where none is ready. Refused by 1, 2, 9, 3 or 10."""
+        answer = self._answer("tg_get", _worker(worker))
+        return Job(answer.job, answer.name) if answer.kind == HANDED_OUT else None
+
+    def held(self, worker: int) -> Holding:
+        """What a worker holds, for a process that takes its number over. Refused by 1, 2 or 9."""
+        holding = self._read("tg_held", _worker(worker))
+        return Holding(Job(holding.job, holding.name) if holding.holds else None, Call(holding.call))
+
+    def drained(self) -> bool:
+        """Whether no job waits, none is held and no call is half done. Refused by 1 or 9."""
+        return bool(self._read("tg_drained").drained)
+
+    def totals(self) -> Totals:
+        """The board of totals over the jobs made. Refused by 1 or 9."""
+        totals = self._called("tg_totals_of_graph", tables=2)
+        if totals.number:
+            raise Refusal(totals.number)
+        return Totals(Labels(*totals.jobs), Labels(*totals.minutes))
+
+    # ---- whole calls
+
+    def add(self, worker: int, entry: Entry) -> None:
+        """Posts an add and steps it to its end. Refused by 1, 2, 9, 3, 5, 6, 7 or 8."""
+        self.post_add(worker, entry)
+        while self.step(worker):
+            pass
+
+    def finish(self, worker: int, name: int) -> None:
+        """Posts the finish of the held job and steps it to its end. Refused by 1, 2, 9, 3 or 11."""
+        self.post_finish(worker, name)
+        while self.step(worker):
+            pass
+
+    # ---- the memory
+
+    def close(self) -> None:
+        """Lets the memory go, so that an mmap or a SharedMemory can be closed."""
+        self._tables = None
+
+    def __enter__(self) -> Graph:
+        return self
+
+    def __exit__(self, *_: object) -> None:
+        self.close()
+
+    def __reduce__(self) -> NoReturn:
+        raise TypeError("a Graph is not sent to a process: send the sizes, the memory's name and the lock")
+
+    # ---- calls of the library
+
+    def _called(self, name: str, *more: object, tables: int | None = None) -> Any:
+        """One call under the lock, over the tables or the first of their arguments."""
+        if self._tables is None:
+            raise ValueError("the graph is closed")
+        function: Callable[..., Any] = getattr(self._library, name)
+        with self._lock:
+            return function(self._sizes, *self._tables[:tables], *more)
+
+    def _answer(self, name: str, *more: object) -> Any:
+        answer = self._called(name, *more)
+        if answer.kind == REFUSED:
+            raise Refusal(answer.number, place=answer.place if answer.number == 6 else None)
+        return answer
+
+    def _read(self, name: str, *more: object) -> Any:
+        """One call of a function that the library may lack."""
+        if not hasattr(self._library, name):
+            raise NotImplementedError(f"this libtaskgraph has no {name}: it is older than the function")
+        answer = self._called(name, *more)
+        if answer.number:
+            raise Refusal(answer.number)
+        return answer
+
+
+def _worker(number: object) -> int:
+    return word(number, "the worker's number")
+
+
+def _tables(needed: Words, memory: bytearray | memoryview | mmap.mmap) -> list[Any]:
+    """The five tables in the memory, one after another, as C takes them: each a pointer and a count."""
+    try:
+        view = memoryview(memory)
+    except TypeError:
+        kind = type(memory).__name__
+        raise TypeError(f"memory must be a bytearray, an mmap or a shared memory's buffer, not {kind}") from None
+    with view:
+        if view.readonly or not view.c_contiguous:
+            raise ValueError("memory must be writable and in one piece")
+        if view.nbytes < 4 * sum(needed):
+            raise ValueError(f"memory must have {4 * sum(needed)} bytes, not {view.nbytes}")
+    tables: list[Any] = []
+    at = 0
+    for words in needed:
+        table = (ctypes.c_uint32 * words).from_buffer(memory, at)
+        if ctypes.addressof(table) % 4:
+            raise ValueError("memory must start at an address that 4 divides")
+        tables += [table, words]
+        at += 4 * words
+    return tables

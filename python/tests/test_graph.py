@@ -1,0 +1,205 @@
+"""The graph: single and whole calls, its memory, its lock."""
+import gc
+import mmap
+import pickle
+import unittest
+from multiprocessing.shared_memory import SharedMemory
+
+from support import SMALL
+from taskgraph import Call, Entry, Graph, Holding, Job, Refusal, Sizes, Words, _library
+
+
+class Counter:
+    """A lock that counts how often it was taken, and that is never taken twice."""
+
+    def __init__(self):
+        self.taken = 0
+        self.held = False
+
+    def __enter__(self):
+        assert not self.held
+        self.held = True
+        self.taken += 1
+
+    def __exit__(self, *_):
+        self.held = False
+
+
+def steps(graph, worker):
+    """Steps the worker's call to its end, and counts."""
+    count = 1
+    while graph.step(worker):
+        count += 1
+    return count
+
+
+class Calls(unittest.TestCase):
+    def test_an_add_takes_twice_its_list_and_two_steps(self):
+        graph = Graph(SMALL)
+        for name, prerequisites in enumerate([(), (0,), (0, 1)]):
+            graph.post_add(0, Entry(name, prerequisites))
+            self.assertEqual(steps(graph, 0), 2 * len(prerequisites) + 2)
+
+    def test_a_finish_takes_one_step_more_than_it_has_arcs(self):
+        graph = Graph(SMALL)
+        for entry in (Entry(5), Entry(6, (5,)), Entry(7, (5,))):
+            graph.add(0, entry)
+        self.assertEqual(graph.get(1), Job(0, 5))
+        graph.post_finish(1, 5)
+        self.assertEqual(steps(graph, 1), 3)
+
+    def test_a_job_waits_for_its_prerequisites(self):
+        graph = Graph(SMALL)
+        graph.add(0, Entry(0))
+        graph.add(0, Entry(4294967295, (0,)))
+        self.assertEqual(graph.get(0), Job(0, 0))
+        self.assertIsNone(graph.get(1))
+        graph.finish(0, 0)
+        self.assertEqual(graph.get(1), Job(1, 4294967295))
+
+    def test_two_workers_that_need_each_other(self):
+        graph = Graph(SMALL)
+        graph.post_add(0, Entry(7, (8,)))
+        graph.post_add(1, Entry(8, (7,)))
+        for worker in (0, 1):
+            with self.assertRaises(Refusal) as caught:
+                graph.step(worker)
+            self.assertEqual((caught.exception.number, caught.exception.place), (6, 0))
+
+    def test_totals(self):
+        graph = Graph(SMALL)
+        for name, class_ in enumerate([15, 1, 3, 0]):
+            graph.add(0, Entry(name, class_=class_))
+        self.assertEqual((graph.get(0), graph.get(1)), (Job(0, 0), Job(1, 1)))
+        graph.finish(0, 0)
+        self.assertEqual(graph.totals(), ((2, 1, 1), (6, 2, 480)))
+        self.assertEqual(graph.totals().minutes.finished, 480)
+
+    def test_held_and_drained(self):
+        graph = Graph(SMALL)
+        if not hasattr(_library.library(), "tg_held"):
+            for call in (lambda: graph.held(0), graph.drained):
+                self.assertRaisesRegex(NotImplementedError, "has no tg_", call)
+            return
+        self.assertTrue(graph.drained())
+        self.assertEqual(graph.held(0), Holding(None, Call.NONE))
+        graph.post_add(0, Entry(0))
+        self.assertEqual(graph.held(0), Holding(None, Call.ADD))
+        self.assertFalse(graph.drained())
+        steps(graph, 0)
+        self.assertFalse(graph.drained())
+        graph.get(1)
+        self.assertEqual(graph.held(1), Holding(Job(0, 0), Call.NONE))
+        self.assertFalse(graph.drained())
+        graph.post_finish(1, 0)
+        self.assertEqual(graph.held(1), Holding(Job(0, 0), Call.FINISH))
+        steps(graph, 1)
+        self.assertEqual(graph.held(1), Holding(None, Call.NONE))
+        self.assertTrue(graph.drained())
+        with self.assertRaises(Refusal) as caught:
+            graph.held(2)
+        self.assertEqual(caught.exception.number, 2)
+
+
+class Memory(unittest.TestCase):
+    def test_room(self):
+        self.assertEqual(Graph.words(SMALL), Words(5 + 8 * 4, 1 + 2 * 4, 4, 2 + 4, 42 * 2))
+        self.assertEqual(Graph.room(SMALL), 4 * sum(Graph.words(SMALL)))
+
+    def each(self):
+        """Memory of each kind, longer than needed and filled, with what closes it."""
+        room = Graph.room(SMALL) + 5
+        shared = SharedMemory(create=True, size=room)
+        self.addCleanup(shared.unlink)
+        mapping = mmap.mmap(-1, room)
+        yield bytearray(room), lambda: None
+        yield mapping, mapping.close
+        yield shared.buf, shared.close
+
+    def test_every_kind(self):
+        room = Graph.room(SMALL)
+        for memory, close in self.each():
+            with self.subTest(type(memory).__name__):
+                memory[:] = b"\xaa" * len(memory)
+                with Graph(SMALL, memory) as graph, Graph(SMALL, memory) as other:
+                    graph.lay_out()
+                    graph.add(0, Entry(5))
+                    self.assertEqual(other.get(1), Job(0, 5))
+                self.assertEqual(bytes(memory[room:]), b"\xaa" * (len(memory) - room))
+                close()  # a BufferError where the graph had not let go
+
+    def test_laying_out_starts_anew(self):
+        graph = Graph(SMALL)
+        graph.add(0, Entry(5))
+        graph.lay_out()
+        self.assertIsNone(graph.get(0))
+        self.assertEqual(sum(graph.totals().jobs), 0)
+
+    def test_wrong_memory(self):
+        room = Graph.room(SMALL)
+        for memory, kind, text in [
+            (bytearray(room - 1), ValueError, f"must have {room} bytes, not {room - 1}"),
+            (bytes(room), ValueError, "writable"),
+            (memoryview(bytearray(2 * room))[::2], ValueError, "in one piece"),
+            (memoryview(bytearray(room + 1))[1:], ValueError, "4 divides"),
+            ("memory", TypeError, "must be a bytearray"),
+            (5, TypeError, "must be a bytearray"),
+        ]:
+            with self.subTest(text), self.assertRaisesRegex(kind, text):
+                Graph(SMALL, memory)
+
+    def test_refused_memory_is_let_go(self):
+        memory = bytearray(3)
+        self.assertRaises(ValueError, Graph, SMALL, memory)
+        gc.collect()
+        memory += b"x"  # a BufferError where it is still lent
+
+    def test_closed(self):
+        graph = Graph(SMALL)
+        graph.close()
+        graph.close()
+        for call in (graph.lay_out, graph.totals, lambda: graph.get(0), lambda: graph.add(0, Entry(1))):
+            self.assertRaisesRegex(ValueError, "closed", call)
+
+    def test_is_not_pickled(self):
+        self.assertRaisesRegex(TypeError, "not sent to a process", pickle.dumps, Graph(SMALL))
+
+
+class Locking(unittest.TestCase):
+    def test_held_during_each_single_call(self):
+        lock = Counter()
+        graph = Graph(SMALL, lock=lock)
+        self.assertEqual(lock.taken, 1)
+        graph.add(0, Entry(1))  # a post and 2 steps
+        self.assertEqual(lock.taken, 4)
+        graph.add(0, Entry(2, (1,)))  # a post and 4 steps
+        self.assertEqual(lock.taken, 9)
+        graph.get(1)
+        graph.totals()
+        self.assertEqual(lock.taken, 11)
+        graph.finish(1, 1)  # a post and 2 steps
+        self.assertEqual(lock.taken, 14)
+
+    def test_free_after_a_refusal(self):
+        lock = Counter()
+        graph = Graph(SMALL, lock=lock)
+        self.assertRaises(Refusal, graph.step, 0)
+        self.assertEqual((lock.taken, lock.held), (2, False))
+
+    def test_no_lock(self):
+        with self.assertRaisesRegex(TypeError, "usable by `with`"):
+            Graph(SMALL, lock=5)
+
+
+class GreatestSizes(unittest.TestCase):
+    def test_a_full_graph(self):
+        graph = Graph(Sizes(4096, 32768, 8, 16))
+        for name in range(4096):
+            graph.add(name % 16, Entry(name, (name - 1,) if name else ()))
+        with self.assertRaises(Refusal) as caught:
+            graph.add(0, Entry(4096))
+        self.assertEqual(caught.exception.number, 8)
+        for name in range(4096):
+            self.assertEqual(graph.get(15), Job(name, name))
+            graph.finish(15, name)
+        self.assertEqual(graph.totals().jobs, (0, 0, 4096))

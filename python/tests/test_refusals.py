@@ -1,0 +1,117 @@
+"""Each number of a refusal, provoked; its place or offset; what it says."""
+import pickle
+import unittest
+
+from support import SMALL, put_word, word_place
+from taskgraph import Entry, Graph, Refusal, Sizes, message, read_sheet, write_sheet
+from taskgraph import _library, day_list, refusal
+
+
+def small(*entries):
+    graph = Graph(SMALL)
+    for entry in entries:
+        graph.add(0, entry)
+    return graph
+
+
+def with_other_sizes():
+    memory = bytearray(Graph.room(SMALL))
+    Graph(SMALL, memory).lay_out()
+    Graph(Sizes(4, 4, 2, 1), memory).get(0)
+
+
+def while_half_done():
+    graph = small()
+    graph.post_add(0, Entry(1))
+    graph.get(0)
+
+
+def with_damaged_words():
+    memory = bytearray(Graph.room(SMALL))
+    graph = Graph(SMALL, memory)
+    graph.lay_out()
+    put_word(memory, word_place(SMALL, "workers", 0), 99)  # the first worker's phase
+    graph.step(0)
+
+
+def while_holding():
+    graph = small(Entry(1), Entry(2))
+    graph.get(0)
+    graph.get(0)
+
+
+def of_another_job():
+    graph = small(Entry(1))
+    graph.get(0)
+    graph.finish(0, 2)
+
+
+# number, place, offset, entry, and what provokes it
+CASES = [
+    (1, None, None, None, lambda: Graph(Sizes(0, 4, 2, 2))),
+    (1, None, None, None, lambda: Graph.words(Sizes(4097, 4, 2, 2))),
+    (1, None, None, None, lambda: Graph(SMALL, bytearray(Graph.room(SMALL))).get(0)),  # not laid out
+    (1, None, None, None, lambda: Graph(SMALL, bytearray(Graph.room(SMALL))).totals()),
+    (1, None, None, None, with_other_sizes),
+    (1, None, None, None, lambda: day_list(b"", workers=17)),
+    (2, None, None, None, lambda: small().get(2)),
+    (3, None, None, None, while_half_done),
+    (4, None, None, None, lambda: small().step(1)),
+    (5, None, None, None, lambda: small().post_add(0, Entry(1, (1,)))),
+    (5, None, None, None, lambda: small().add(0, Entry(1, class_=16))),
+    (5, None, None, None, lambda: small().add(0, Entry(1, grower=65536))),
+    (5, None, None, None, lambda: small().add(0, Entry(99, tuple(range(33))))),
+    (6, 1, None, None, lambda: small(Entry(1)).add(0, Entry(2, (1, 3)))),
+    (7, None, None, None, lambda: small(Entry(1)).add(1, Entry(1))),
+    (8, None, None, None, lambda: small(*map(Entry, range(4))).add(0, Entry(4))),
+    (9, None, None, None, with_damaged_words),
+    (10, None, None, None, while_holding),
+    (11, None, None, None, of_another_job),
+    (12, None, 1, None, lambda: read_sheet(b"\x01")),
+    (13, None, 5, None, lambda: read_sheet(b"\x01\x01\x00\x00\x00\x02")),
+    (14, None, 5, None, lambda: read_sheet(b"\x05\x01\x00\x00\x00\x00")),
+    (14, None, 10, 1, lambda: write_sheet([Entry(1), Entry(2, (1,), 16)])),
+    (14, None, 5, 0, lambda: write_sheet([Entry(99, tuple(range(33)))], most=0)),
+    (15, None, None, None, lambda: write_sheet([Entry(1), Entry(2)], most=9)),
+]
+
+
+class Refusals(unittest.TestCase):
+    def test_each_number(self):
+        for number, place, offset, entry, provoke in CASES:
+            with self.subTest(number=number), self.assertRaises(Refusal) as caught:
+                provoke()
+            found = caught.exception
+            self.assertEqual((found.number, found.place, found.offset, found.entry), (number, place, offset, entry))
+            self.assertEqual(found.message, message(number))
+            self.assertTrue(str(found).startswith(f"refused by {number}: {found.message}"), str(found))
+
+    def test_none_is_left_out(self):
+        self.assertEqual({number for number, *_ in CASES}, set(range(1, 16)))
+
+    def test_text(self):
+        self.assertEqual(str(Refusal(6, place=2)), f"refused by 6: {message(6)} (place 2)")
+        self.assertEqual(str(Refusal(14, offset=5, entry=1)), f"refused by 14: {message(14)} (entry 1, offset 5)")
+        self.assertEqual(str(Refusal(8)), f"refused by 8: {message(8)}")
+
+    def test_goes_between_processes(self):
+        sent = pickle.loads(pickle.dumps(Refusal(14, offset=5, entry=1)))
+        self.assertEqual(sent.args, (14, None, 5, 1))
+        self.assertEqual((sent.number, sent.offset, sent.entry, sent.message), (14, 5, 1, message(14)))
+
+
+class Messages(unittest.TestCase):
+    def test_one_for_each_number(self):
+        self.assertEqual(sorted(refusal.MESSAGES), list(range(1, 16)))
+        self.assertEqual(len(set(refusal.MESSAGES.values())), 15)
+
+    def test_are_those_of_the_library(self):
+        library = _library.library()
+        for number, text in refusal.MESSAGES.items():
+            with self.subTest(number=number):
+                self.assertEqual(message(number), text)
+                if hasattr(library, "tg_message"):
+                    self.assertEqual(library.tg_message(number).decode(), text)
+
+    def test_another_number(self):
+        self.assertEqual(message(16), "unknown number")

@@ -1,0 +1,212 @@
+//! The task graph: its calls over any memory, and a graph in memory of its own.
+
+use crate::{
+    raw::{self, kind, Answer, Sizes, Tables, CALL_ADD, CALL_NONE},
+    Job, Refusal, Totals,
+};
+
+/// A job that a worker has taken.
+#[derive(Clone, Copy, Debug, PartialEq, Eq, Hash)]
+pub struct HandedOut {
+    /// The job's number, in the order of entering.
+    pub job: u32,
+    /// Its name, which the finish brings.
+    pub name: u32,
+}
+
+/// A call that was posted and has not ended.
+#[derive(Clone, Copy, Debug, PartialEq, Eq, Hash)]
+pub enum HalfDone {
+    /// An add.
+    Add,
+    /// A finish.
+    Finish,
+}
+
+/// What a worker has taken on: for a process that acts for it anew.
+#[derive(Clone, Copy, Debug, Default, PartialEq, Eq, Hash)]
+pub struct Holding {
+    /// The job that it holds.
+    pub job: Option<HandedOut>,
+    /// The call that it has half done, which [`run`](TaskGraph::run) takes to its end.
+    pub call: Option<HalfDone>,
+}
+
+impl Holding {
+    fn of(answer: raw::Holding) -> Result<Holding, Refusal> {
+        Refusal::unless_accepted(answer.number, 0)?;
+        let job = (answer.holds == 1).then_some(HandedOut { job: answer.job, name: answer.name });
+        let call = match answer.call {
+            CALL_NONE => None,
+            CALL_ADD => Some(HalfDone::Add),
+            _ => Some(HalfDone::Finish),
+        };
+        Ok(Holding { job, call })
+    }
+}
+
+/// What a step that is not refused answers.
+#[derive(Clone, Copy, Debug, PartialEq, Eq, Hash)]
+pub enum Progress {
+    /// The call has more steps.
+    GoingOn,
+    /// The call has ended.
+    Ended,
+}
+
+/// The calls of a task graph, whatever memory holds it: a [`Graph`], or a [`SharedGraph`](crate::SharedGraph) while
+/// it is locked.
+///
+/// A call by a worker numbered `sizes().workers` or more is [`Refusal::Worker`], and one over damaged words
+/// [`Refusal::Damaged`], which never comes where only these calls write them.
+pub trait TaskGraph {
+    /// The sizes that it was laid out with.
+    fn sizes(&self) -> Sizes;
+
+    /// The words of the five tables, in the order of [`Tables`].
+    fn words(&self) -> [&[u32]; 5];
+
+    /// The tables, lent for a call.
+    fn tables(&mut self) -> Tables<'_>;
+
+    /// Adds a job by a worker, all steps at once.
+    ///
+    /// # Errors
+    /// 5 for wrong arguments, 6 for a prerequisite that no job has, 7 for a name that is there, 8 where it is full;
+    /// 3 where the worker's call is half done.
+    fn add(&mut self, worker: u32, job: &Job) -> Result<(), Refusal> {
+        self.post_add(worker, job)?;
+        self.run(worker)
+    }
+
+    /// Finishes the job that the worker holds, all steps at once.
+    ///
+    /// # Errors
+    /// 11 where the worker holds no job of that name; 3 where its call is half done.
+    fn finish(&mut self, worker: u32, name: u32) -> Result<(), Refusal> {
+        self.post_finish(worker, name)?;
+        self.run(worker)
+    }
+
+    /// Takes the job that waits longest, or none where no job waits.
+    ///
+    /// # Errors
+    /// 10 where the worker holds a job; 3 where its call is half done.
+    fn get(&mut self, worker: u32) -> Result<Option<HandedOut>, Refusal> {
+        let answer = accepted(raw::get(self.sizes(), &mut self.tables(), worker))?;
+        Ok((answer.kind == kind::HANDED_OUT).then_some(HandedOut { job: answer.job, name: answer.name }))
+    }
+
+    /// Posts an add, which [`step`](TaskGraph::step) then takes to its end.
+    ///
+    /// # Errors
+    /// 5 for wrong arguments; 3 where the worker's call is half done.
+    fn post_add(&mut self, worker: u32, job: &Job) -> Result<(), Refusal> {
+        accepted(raw::post_add(self.sizes(), &mut self.tables(), worker, job.to_entry())).map(drop)
+    }
+
+    /// Posts a finish, which [`step`](TaskGraph::step) then takes to its end.
+    ///
+    /// # Errors
+    /// 11 where the worker holds no job of that name; 3 where its call is half done.
+    fn post_finish(&mut self, worker: u32, name: u32) -> Result<(), Refusal> {
+        accepted(raw::post_finish(self.sizes(), &mut self.tables(), worker, name)).map(drop)
+    }
+
+    /// One step of the worker's call.
+    ///
+    /// # Errors
+    /// 6, 7 or 8, which end an add; 4 where the worker is idle.
+    fn step(&mut self, worker: u32) -> Result<Progress, Refusal> {
+        let answer = accepted(raw::step(self.sizes(), &mut self.tables(), worker))?;
+        Ok(if answer.kind == kind::GOING_ON { Progress::GoingOn } else { Progress::Ended })
+    }
+
+    /// Steps the worker's call to its end.
+    ///
+    /// # Errors
+    /// As [`step`](TaskGraph::step).
+    fn run(&mut self, worker: u32) -> Result<(), Refusal> {
+        while self.step(worker)? == Progress::GoingOn {}
+        Ok(())
+    }
+
+    /// What a worker holds, and the call that it has half done.
+    ///
+    /// # Errors
+    /// 2 where there is no such worker.
+    fn held(&self, worker: u32) -> Result<Holding, Refusal> {
+        Holding::of(raw::held(self.sizes(), self.words(), worker))
+    }
+
+    /// Whether nothing is left to do: no job waits, no worker holds one, and no call is half done. Where only these
+    /// calls wrote the words, every job that entered is finished then.
+    ///
+    /// # Errors
+    /// 1 or 9, where the words are not those of a graph of these sizes.
+    fn drained(&self) -> Result<bool, Refusal> {
+        let answer = raw::drained(self.sizes(), self.words());
+        Refusal::unless_accepted(answer.number, 0)?;
+        Ok(answer.drained == 1)
+    }
+
+    /// The jobs and minutes under each label.
+    ///
+    /// # Errors
+    /// 1 or 9, where the words are not those of a graph of these sizes.
+    fn totals(&self) -> Result<Totals, Refusal> {
+        Totals::of(raw::totals_of_graph(self.sizes(), self.words()[0]))
+    }
+}
+
+fn accepted(answer: Answer) -> Result<Answer, Refusal> {
+    Refusal::unless_accepted(answer.number, answer.place as usize).map(|()| answer)
+}
+
+/// The words that each table needs, or [`Refusal::Size`].
+pub(crate) fn words_needed(sizes: Sizes) -> Result<[usize; 5], Refusal> {
+    let need = raw::words_needed(sizes);
+    Refusal::unless_accepted(need.number, 0)?;
+    Ok([need.jobs, need.arcs, need.buckets, need.queue, need.workers])
+}
+
+/// Makes a fresh graph of tables.
+pub(crate) fn lay_out(sizes: Sizes, tables: &mut Tables) -> Result<(), Refusal> {
+    accepted(raw::lay_out(sizes, tables)).map(drop)
+}
+
+/// A task graph in memory of its own.
+#[derive(Clone, Debug)]
+pub struct Graph {
+    sizes: Sizes,
+    words: [Vec<u32>; 5],
+}
+
+impl Graph {
+    /// A fresh graph.
+    ///
+    /// # Errors
+    /// [`Refusal::Size`] where a size is off its limits.
+    pub fn create(sizes: Sizes) -> Result<Graph, Refusal> {
+        let words = words_needed(sizes)?.map(|need| vec![0; need]);
+        let mut graph = Graph { sizes, words };
+        lay_out(sizes, &mut graph.tables())?;
+        Ok(graph)
+    }
+}
+
+impl TaskGraph for Graph {
+    fn sizes(&self) -> Sizes {
+        self.sizes
+    }
+
+    fn words(&self) -> [&[u32]; 5] {
+        let [jobs, arcs, buckets, queue, workers] = &self.words;
+        [jobs, arcs, buckets, queue, workers]
+    }
+
+    fn tables(&mut self) -> Tables<'_> {
+        let [jobs, arcs, buckets, queue, workers] = &mut self.words;
+        Tables { jobs, arcs, buckets, queue, workers }
+    }
+}
