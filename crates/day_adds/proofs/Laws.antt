@@ -9,7 +9,6 @@ use lib.ListN.{length, replicate}
 use Rattle.terms.specs.Base.{prefix}
 use Rattle.terms.specs.Terms.{argumentsWrong}
 use Rattle.terms.specs.declared.Sizes.{Sizes}
-use Rattle.terms.specs.declared.Answer.{Answer}
 use Rattle.words.specs.Layout.{Tables}
 use Rattle.words.specs.Words.{addWords}
 use Rattle.sheet_format.specs.Job.{Job}
@@ -18,13 +17,10 @@ use Rattle.sheet_format.specs.CodeLaws.{entry-bounds}
 use Rattle.sheet_format.specs.declared.Reading.{Reading}
 use Rattle.whole_words.specs.Whole.{wholeAdd}
 use Rattle.day_rounds.specs.Rounds.{Refusal, refusal, argumentsOf, addAll}
-use Rattle.day_format.specs.Text.{decimal, refusedWord, _␣_, line}
 use Rattle.day_format.specs.Day.{refusalLines}
-use Rattle.day_text.specs.Page.{Page, printLine, printLines, no-lines, one-line, lines-append}
-use Rattle.day_told.specs.Told.{toldOf, refusal-told}
-use Rattle.day_told.specs.declared.Told.{Told}
-use Rattle.day_adds.specs.Adding.{following, entriesAt, entries-on, onwardOf, argumentsIn, entered, Printout}
-use Rattle.day_adds.specs.Adding.{printout, wrote}
+use Rattle.day_text.specs.Page.{Page, no-lines, lines-append}
+use Rattle.day_entry.specs.Entered.{argumentsIn, entered, Printout, printout, wrote}
+use Rattle.day_adds.specs.Adding.{following, entriesAt, entries-on, onwardOf}
 use Rattle.day_adds.specs.declared.Onward.{Onward}
 
 -- ---- the names: zeros past a list change nothing that is read up to a count
@@ -72,21 +68,6 @@ refusals-append : (a b : List Refusal) → refusalLines (a ++ b) ≡ refusalLine
 unfolding refusalLines
 refusals-append [] b = refl
 refusals-append (r ∷ a) b = rw (refusals-append a b)
-
-module _ (limit : ℕ) (p : Page) (i : ℕ) (a : Answer) (x : Told) (f : x ≡ toldOf a) where
-  pub refusal-printed : (q : Page) → x .refused ≡ true
-      → q ≡ printLine limit p (line (refusedWord ␣ (decimal i ␣ decimal (x .value))))
-      → q ≡ printLines limit p (refusalLines (refusal i a))
-  unfolding refusalLines
-  refusal-printed q e h =
-      let e′ : toldOf a .refused ≡ true = sym (ap (λ (y : Told). y .refused) f) ∙ e in
-      h ∙ rw (refusal-told i a, e′, ← f, one-line)
-
-  pub nothing-printed : x .refused ≡ false → p ≡ printLines limit p (refusalLines (refusal i a))
-  unfolding refusalLines
-  nothing-printed e =
-      let e′ : toldOf a .refused ≡ false = sym (ap (λ (y : Told). y .refused) f) ∙ e in
-      rw (refusal-told i a, e′, no-lines)
 
 -- ---- the first entry, then the others
 add-first : (limit : ℕ) (s : Sizes) (i : ℕ) (j : Job) (js : List Job) (t : Tables) (p : Page) (x : Printout)

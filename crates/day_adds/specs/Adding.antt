@@ -1,24 +1,16 @@
--- The entries of a sheet, added one after the other, with the lines that they print. Assumes nothing.
+-- The entries of a sheet, one after the other. Assumes nothing.
 use mathlib.Core.Path.{_≡_, refl, _∙_}
 use mathlib.Core.Bool.{true, false}
 use mathlib.Core.List.{List, [], _∷_}
 use Prim.Native.Nat.{ℕ, zero, suc, _+_, _≤_}
 use native.Mathlib.Omega.{arith}
 use lib.ListN.{length}
-use Rattle.terms.specs.Terms.{Arguments}
-use Rattle.terms.specs.declared.Sizes.{Sizes}
-use Rattle.words.specs.Layout.{Tables}
 use Rattle.sheet_format.specs.Job.{Job}
 use Rattle.sheet_format.specs.Decode.{Sheet, jobs, broken, before, onward, Decoded, job, end, refused, decode}
 use Rattle.sheet_format.specs.Decode.{decodeFrom, decodeSheet}
 use Rattle.sheet_format.specs.CodeLaws.{entry-bounds}
 use Rattle.sheet_format.specs.EntryTrip.{end-there}
-use Rattle.sheet_format.specs.declared.Entry.{Entry}
 use Rattle.sheet_format.specs.declared.Read.{Read}
-use Rattle.whole_words.specs.Whole.{wholeAdd}
-use Rattle.day_rounds.specs.Rounds.{Added, added, refusal}
-use Rattle.day_format.specs.Day.{refusalLines}
-use Rattle.day_text.specs.Page.{Page, printLines}
 use Rattle.day_adds.specs.declared.Onward.{Onward}
 
 -- ---- the entries before the first that cannot be read: all of a sheet that is not broken
@@ -40,25 +32,6 @@ abbrev pub onwardOf : Read → Onward
 onwardOf (Read.Job n) = record { more = true; next = n }
 onwardOf Read.End = record { more = false; next = 0 }
 onwardOf (Read.Refused c a) = record { more = false; next = 0 }
-
--- ---- an entry
-abbrev pub argumentsIn : Entry → Arguments
-argumentsIn e = record { name = e .name; count = e .count; names = e .names; class = e .class; grower = e .grower }
-
--- added whole, as entry i
-unfoldable pub entered : Sizes → ℕ → Tables → Arguments → Added
-entered s i t a = added (wholeAdd s t 0 a .state) (refusal i (wholeAdd s t 0 a .answer))
-
--- ---- what adding leaves: the tables, and the page that was printed on
-pub record Printout : Type 0 where
-  pub state : Tables
-  pub paper : Page
-
-abbrev pub printout : Tables → Page → Printout
-printout t p = record { state = t; paper = p }
-
-unfoldable pub wrote : ℕ → Page → Added → Printout
-wrote limit p a = printout (a .state) (printLines limit p (refusalLines (a .refusals)))
 
 -- ---- laws
 any-bound : (k l : ℕ) (s : List ℕ) (at : ℕ) → length s ≤ at + k → length s ≤ at + l

@@ -1,20 +1,16 @@
-// Worker 0 adds the entries of a sheet, each run whole, and prints a line for each that is refused.
+// Worker 0 adds the entries of a sheet.
 // Follows document 01, "The board and the day list". Assumes nothing. A sheet is read up to the first entry that
 // cannot be read; no line is printed from a place past day_text's bound on.
 ghost use mathlib.Core.Path.{_≡_};
 ghost use Rattle.words.specs.Layout.{atEntry, atExit};
-ghost use Rattle.day_rounds.specs.Rounds.{refusal, addAll};
-ghost use Rattle.day_format.specs.Day.{refusalLines};
-ghost use Rattle.day_text.specs.Page.{page, printLines};
-ghost use Rattle.day_adds.specs.Adding.{entriesAt, onwardOf, argumentsIn, entered, printout, wrote};
-use day_text::refused_line;
-use day_told::tell;
-use sheet_format::Entry;
+ghost use Rattle.day_rounds.specs.Rounds.{addAll};
+ghost use Rattle.day_text.specs.Page.{page};
+ghost use Rattle.day_entry.specs.Entered.{printout, wrote};
+ghost use Rattle.day_adds.specs.Adding.{entriesAt, onwardOf};
+use day_entry::add_entry;
 use sheet_format::Read;
 use sheet_reader::read;
-use terms::Answer;
 use terms::Sizes;
-use whole_add::add_whole;
 
 // Whether an entry was read, and where the next one starts.
 struct Onward {
@@ -36,55 +32,6 @@ fn after(answer: Read) -> Onward
             next: 0,
         },
     }
-}
-
-// "A refused entry puts refused I N before the first line."
-fn print_refusal(out: &mut [u8], limit: usize, at: usize, entry: usize, answer: Answer) -> usize
-    ensures { λ r. ⌜ page r (now (out .exit))
-        ≡ printLines limit (page at (now (out .entry))) (refusalLines (refusal entry answer)) ⌝ }
-{
-    let told = tell(answer);
-    let refused = told.refused;
-    if refused {} else {
-        return at;
-    }
-    refused_line(out, limit, at, entry, told.value)
-}
-
-// Worker 0 adds an entry, run whole.
-fn add_entry(
-    sizes: Sizes,
-    jobs: &mut [u32],
-    arcs: &mut [u32],
-    buckets: &mut [u32],
-    queue: &mut [u32],
-    workers: &mut [u32],
-    out: &mut [u8],
-    limit: usize,
-    at: usize,
-    number: usize,
-    entry: Entry,
-) -> usize
-    ensures { λ r. ⌜ printout (atExit jobs arcs buckets queue workers) (page r (now (out .exit)))
-        ≡ wrote limit (page at (now (out .entry)))
-        (entered sizes number (atEntry jobs arcs buckets queue workers) (argumentsIn entry)) ⌝ }
-{
-    let names = entry.names;
-    let answer = add_whole(
-        sizes,
-        jobs,
-        arcs,
-        buckets,
-        queue,
-        workers,
-        0,
-        entry.name,
-        names,
-        entry.count,
-        entry.class,
-        entry.grower,
-    );
-    print_refusal(out, limit, at, number, answer)
 }
 
 // Worker 0 adds every entry. Answers the place printed up to.

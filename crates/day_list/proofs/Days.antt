@@ -4,32 +4,29 @@ use mathlib.Core.Path.{_≡_, refl, sym, ap, _∙_}
 use mathlib.Core.List.{List, [], _∷_, _++_}
 use Prim.Native.Nat.{ℕ, suc, _+_, _*_, _≤_}
 use native.Mathlib.Omega.{arith}
-use native.Mathlib.Nat.{zero-add}
-use lib.ListN.{length, length-append}
+use lib.ListN.{length, length-append, replicate, length-replicate}
 use Rattle.terms.specs.Terms.{mostWorkers}
 use Rattle.terms.specs.declared.Sizes.{Sizes}
 use Rattle.terms.specs.declared.Answer.{Answer}
 use Rattle.terms.specs.declared.Answer.the-variants.{Laid, Posted, Going, Ended, NoneReady, Handed, Refused}
-use Rattle.words.specs.Columns.{columns, header}
-use Rattle.words.specs.Layout.{Tables, jobShape, LABEL, MADE}
-use Rattle.words.specs.Words.{layOut}
+use Rattle.words.specs.Layout.{Tables}
 use Rattle.sheet_format.specs.Job.{Job}
 use Rattle.sheet_format.specs.Decode.{Sheet, jobs, broken, decodeSheet, scanSheet}
 use Rattle.sheet_format.specs.CodeLaws.{sheet-bounds}
 use Rattle.sheet_format.specs.declared.SheetRead.{SheetRead}
 use Rattle.whole_words.specs.Whole.{wholeAdd}
-use Rattle.day_rounds.specs.Rounds.{daySizes, blankTables, freshDay, Refusal, refusal, argumentsOf, addAll, addedDay}
-use Rattle.day_rounds.specs.Rounds.{Holder, runDay, handOuts, unfinished}
-use Rattle.day_rounds.specs.Rows.{inRow, in-stored}
-use Rattle.day_format.specs.Text.{decimal, jobsWord, workersWord, leftWord, _␣_, line}
+use Rattle.day_rounds.specs.Rounds.{daySizes, freshDay, Refusal, refusal, argumentsOf, addAll, addedDay}
+use Rattle.day_rounds.specs.Rounds.{Holder, runDay, handOuts}
+use Rattle.day_rounds.specs.Rows.{in-stored}
 use Rattle.day_format.specs.Day.{refusalLines, jobsLine, handOutLines, leftLine, linesBefore, dayLines, dayOf}
 use Rattle.day_format.specs.Day.{mostBytes}
 use Rattle.day_text.specs.Page.{Page, page, print, printLine, printLines, lines-append, one-line, printed-lines}
 use Rattle.day_text.specs.Page.{short-day}
-use Rattle.day_adds.specs.Adding.{entriesAt, entries-whole, Printout, printout, wrote}
-use Rattle.day_run.specs.Kept.{Kept, runKept}
+use Rattle.day_adds.specs.Adding.{entriesAt, entries-whole}
+use Rattle.day_begin.specs.Begun.{begun}
+use Rattle.day_end.specs.Ended.{ended}
+use Rattle.day_fresh.specs.Pages.{dayPage}
 use Rattle.day_history.specs.Theorem.{day-limits, hand-outs-within}
-use Rattle.day_list.specs.Printout.{begun, ended}
 
 -- ---- few lines
 few-refused : (i : ℕ) (a : Answer) → length (refusal i a) ≤ 1
@@ -63,25 +60,6 @@ length-hand-outs : (i : ℕ) (hs : List Holder) → length (handOutLines i hs) �
 unfolding handOutLines
 length-hand-outs i [] = refl
 length-hand-outs i (h ∷ hs) = ap suc (length-hand-outs (suc i) hs)
-
--- ---- the parts of the two halves
-pub begin-parts : (limit : ℕ) (p : Page) (s : Sizes) (t u : Tables) (js : List Job) (a : Printout) (n : ℕ) (q : Page)
-    → u ≡ layOut s t .state
-    → a ≡ wrote limit p (addAll s 0 js u)
-    → n ≡ header (a .state .jobs) MADE
-    → q ≡ printLine limit (a .paper) (line (jobsWord ␣ (decimal n ␣ (workersWord ␣ decimal (s .workers)))))
-    → printout (a .state) q ≡ begun limit p s t js
-unfolding begun wrote
-begin-parts limit p s t u js a n q eu ea en eq = rw (eq, en, ea, eu)
-
-pub end-parts : (limit : ℕ) (p : Page) (s : Sizes) (t : Tables) (row : List ℕ) (k : Kept) (x : Page) (n : ℕ) (q : Page)
-    → k ≡ runKept 0 row (runDay s t)
-    → x ≡ printLines limit p (handOutLines 0 (inRow (k .handed) (k .row)))
-    → n ≡ unfinished (columns jobShape (k .state .jobs) LABEL) (header (k .state .jobs) MADE)
-    → q ≡ printLine limit x (line (leftWord ␣ decimal n))
-    → q ≡ ended limit p s t row
-unfolding ended runKept
-end-parts limit p s t row k x n q ek ex en eq = eq ∙ rw (en, ex, ek, zero-add)
 
 -- ---- the two halves
 joined : (limit : ℕ) (p : Page) (a b : List (List ℕ)) (l m : List ℕ)
@@ -117,18 +95,20 @@ module _ (workers : ℕ) (some : 1 ≤ workers) (few : workers ≤ mostWorkers) 
         hand-outs-within s (day-limits workers some few) js,
       ))
 
-  pub whole-day : (limit : ℕ) (out sheet row : List ℕ) (js : List Job) (b : Printout) (q : Page)
-      → decodeSheet sheet ≡ jobs js → length sheet ≤ mostBytes → length row ≡ 512
-      → b ≡ begun limit (page 0 out) s (blankTables s) (entriesAt sheet 0)
-      → q ≡ ended limit (b .paper) s (b .state) row
+  pub whole-day : (limit : ℕ) (out sheet : List ℕ) (js : List Job) (q : Page)
+      → decodeSheet sheet ≡ jobs js
+      → length sheet ≤ mostBytes
+      → q ≡ dayPage limit (page 0 out) s (entriesAt sheet 0)
       → q ≡ print limit (page 0 out) (dayOf s js)
-  unfolding begun ended dayLines decodeSheet
-  whole-day limit out sheet row js b q e h l eb eq =
+  unfolding dayPage begun ended dayLines decodeSheet
+  whole-day limit out sheet js q e h eq =
       let entries = sheet-bounds (length sheet) sheet 0 js (omega arith) e .0 in
       let hs = handOuts (runDay s (addedDay s js .state) .rounds) in
       let within = hand-outs-within s (day-limits workers some few) js in
+      let row = replicate {A = ℕ} 512 0 in
+      let l = length-replicate {A = ℕ} 512 0 in
       eq
-      ∙ rw (eb, entries-whole sheet js e, in-stored row hs (omega arith))
+      ∙ rw (entries-whole sheet js e, in-stored row hs (omega arith))
       (joined limit (page 0 out) (refusalLines (addedDay s js .refusals)) (handOutLines 0 hs)
       (jobsLine (addedDay s js .state) workers)
       (leftLine (runDay s (addedDay s js .state) .state))

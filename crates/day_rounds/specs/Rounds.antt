@@ -114,6 +114,10 @@ getRound s t = getAll s (s .workers) 0 t
 abbrev pub finished : Sizes → Gets → Tables
 finished s g = finishAll s (g .holders) (g .state)
 
+-- a whole round
+abbrev pub roundOf : Sizes → Tables → Gets
+roundOf s t = gets (finished s (getRound s t)) (getRound s t .holders)
+
 -- the rounds that handed something out, and the tables left
 pub record Run : Type 0 where
   pub state : Tables

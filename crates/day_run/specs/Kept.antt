@@ -3,8 +3,7 @@ use mathlib.Core.List.{List}
 use Prim.Native.Nat.{ℕ, _+_}
 use lib.ListN.{length}
 use Rattle.words.specs.Layout.{Tables}
-use Rattle.terms.specs.declared.Sizes.{Sizes}
-use Rattle.day_rounds.specs.Rounds.{getRound, finished, Run, handOuts}
+use Rattle.day_rounds.specs.Rounds.{Run, handOuts}
 use Rattle.day_rounds.specs.Rows.{stored}
 
 pub record Kept : Type 0 where
@@ -14,12 +13,6 @@ pub record Kept : Type 0 where
 
 abbrev pub kept : Tables → List ℕ → ℕ → Kept
 kept t row n = record { state = t; row = row; handed = n }
-
--- one round, after so many hand-outs
-unfoldable pub roundKept : Sizes → ℕ → List ℕ → Tables → Kept
-roundKept s at row t =
-    let g = getRound s t in
-    kept (finished s g) (stored row at (g .holders)) (length (g .holders))
 
 -- rounds, after so many hand-outs
 unfoldable pub runKept : ℕ → List ℕ → Run → Kept

@@ -6,9 +6,8 @@ ghost use Rattle.terms.specs.Terms.{mostWorkers};
 ghost use Rattle.words.specs.Layout.{atEntry, atExit};
 ghost use Rattle.day_rounds.specs.Rounds.{runDay};
 ghost use Rattle.day_rounds.specs.Rows.{holding, stored};
-ghost use Rattle.day_run.specs.Kept.{kept, roundKept, runKept};
-use day_finishes::finish_all;
-use day_gets::get_all;
+ghost use Rattle.day_run.specs.Kept.{kept, runKept};
+use day_round::run_round;
 use day_rounds::Holders;
 use graph_words::put_word;
 use graph_words::word;
@@ -33,27 +32,6 @@ fn store(holders: Holders, row: &mut [u32], at: usize)
     }
 }
 
-// A round: every worker gets, and each holder finishes. Answers how many jobs were handed out.
-fn run_round(
-    sizes: Sizes,
-    jobs: &mut [u32],
-    arcs: &mut [u32],
-    buckets: &mut [u32],
-    queue: &mut [u32],
-    workers: &mut [u32],
-    row: &mut [u32],
-    at: usize,
-) -> usize
-    requires { ⌜ at ≤ 2 ^ 48 ⌝ }
-    ensures { λ r. ⌜ (kept (atExit jobs arcs buckets queue workers) (now (row .exit)) r
-        ≡ roundKept sizes at (now (row .entry)) (atEntry jobs arcs buckets queue workers)) × (r ≤ mostWorkers) ⌝ }
-{
-    let holders = get_all(sizes, jobs, arcs, buckets, queue, workers);
-    store(holders, row, at);
-    finish_all(sizes, jobs, arcs, buckets, queue, workers, holders);
-    holders.count
-}
-
 // Rounds, until one hands out nothing. Each before the last hands out a job, so there are at most one more than jobs.
 // Answers how many jobs were handed out.
 pub fn run_rounds(
@@ -72,11 +50,12 @@ pub fn run_rounds(
     let mut handed: usize = 0;
     while 0 < left {
         left -= 1;
-        let count = run_round(sizes, jobs, arcs, buckets, queue, workers, row, handed);
-        if count == 0 {
+        let holders = run_round(sizes, jobs, arcs, buckets, queue, workers);
+        if holders.count == 0 {
             return handed;
         }
-        handed += count;
+        store(holders, row, handed);
+        handed += holders.count;
     }
     handed
 }

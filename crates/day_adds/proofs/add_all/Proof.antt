@@ -9,7 +9,8 @@ use lib.ListN.{length}
 use Rattle.words.specs.Layout.{tables}
 use Rattle.day_rounds.specs.Rounds.{addAll}
 use Rattle.day_text.specs.Page.{page}
-use Rattle.day_adds.specs.Adding.{entriesAt, wrote}
+use Rattle.day_entry.specs.Entered.{wrote}
+use Rattle.day_adds.specs.Adding.{entriesAt}
 use Rattle.day_adds.proofs.Laws.{entry-inside, next-entry, last-entry}
 use Rattle.day_adds.proofs.add_all.Statement.{statement}
 use Rattle.day_adds.proofs.add_all.Tie as tie

@@ -1,13 +1,14 @@
 -- `run_rounds` runs rounds until one hands out nothing. The loop's invariant: the rounds that are left, after those
 -- made, make the whole. Assumes nothing.
 use Prim.Native.Nat.{suc, _+_, _*_, _-_, _≤_}
-use mathlib.Core.Path.{_≡_, refl, _∙_}
+use mathlib.Core.Path.{_≡_, refl, sym, _∙_}
 use native.Mathlib.Omega.{arith}
 use borrow.Author.Needs.{needs}
 use lib.ListN.{length}
 use Rattle.terms.specs.Terms.{mostWorkers}
 use Rattle.words.specs.Layout.{tables}
 use Rattle.day_rounds.specs.Rounds.{rounds, runDay}
+use Rattle.day_rounds.specs.Rows.{length-holders}
 use Rattle.day_run.specs.Kept.{runKept}
 use Rattle.day_run.proofs.Laws.{round-on, round-last, no-round}
 use Rattle.day_run.proofs.run_rounds.Statement.{statement}
@@ -42,7 +43,7 @@ sub-left : tie.Need-sub-left Inv-loop μ-loop
 sub-left c = search needs
 
 run-round-requires : tie.Need-run-round-requires Inv-loop μ-loop
-run-round-requires c κs = omega (arith, c .before .before .before .before .before .before .before .loop .inv .6, c .before .before .before .before .before .before .before .before .struct-known .given)
+run-round-requires c κs = search needs
 
 same-length : tie.Need-same-length Inv-loop μ-loop
 same-length c = search needs
@@ -64,30 +65,36 @@ same-length-6 c = search needs
 
 returns : tie.Need-returns Inv-loop μ-loop
 returns c =
-    let l = c .before .before .before .before .before .before .before .before .before .before .before .before .before .before .before .before .before .before .before .before .before .loop in
-    let k : l .left ≡ suc (l .left - 1) = omega (arith, c .before .before .before .before .before .before .before .before .before .before .before .before .before .before .before .before .before .before .before .before .loop-test .taken) in
-    round-last (l .left - 1) _ _ _ _ _ (c .before .before .before .before .before .before .before .before .before .before .before .before .before .run-round .ensures .0) (c .if1 .taken) ∙ rw k at (l .inv .7)
+    let l = c .before .before .before .before .before .before .before .before .before .before .before .before .before .before .before .before .before .before .before .loop in
+    let k : l .left ≡ suc (l .left - 1) = omega (arith, c .before .before .before .before .before .before .before .before .before .before .before .before .before .before .before .before .before .before .loop-test .taken) in
+    round-last (l .left - 1) _ _ _ _ _ (c .before .before .before .before .before .before .before .before .before .before .before .before .run-round .ensures .0) (length-holders _ _ _ ∙ c .if1 .taken)
+    ∙ rw k at (l .inv .7)
+
+store-requires : tie.Need-store-requires Inv-loop μ-loop
+store-requires c κs = (omega (arith, c .before .before .before .before .before .before .before .before .before .before .before .before .before .before .before .before .before .before .before .before .loop .inv .6, c .before .before .before .before .before .before .before .before .before .before .before .before .before .before .before .before .before .before .before .before .before .struct-known .given), c .before .before .before .before .before .before .before .before .before .before .before .before .before .run-round .ensures .1)
 
 add-handed : tie.Need-add-handed Inv-loop μ-loop
-add-handed c = omega (arith, c .before .before .before .before .before .before .before .before .before .before .before .before .before .before .before .before .before .before .before .before .before .loop .inv .6, c .before .before .before .before .before .before .before .before .before .before .before .before .before .run-round .ensures .1, c .before .before .before .before .before .before .before .before .before .before .before .before .before .before .before .before .before .before .before .before .before .before .struct-known .given)
+add-handed c = omega (arith, c .before .before .before .before .before .before .before .before .before .before .before .before .before .before .before .before .before .before .before .before .before .before .before .before .loop .inv .6, c .before .before .before .before .before .before .before .before .before .before .before .before .before .before .before .before .before .run-round .ensures .1, c .before .before .before .before .before .before .before .before .before .before .before .before .before .before .before .before .before .before .before .before .before .before .before .before .before .struct-known .given)
 
 loop-less : tie.Need-loop-less Inv-loop μ-loop
-loop-less c = omega (arith, c .before .before .before .before .before .before .before .before .before .before .before .before .before .before .before .before .before .before .before .before .loop-test .taken)
+loop-less c = omega (arith, c .before .before .before .before .before .before .before .before .before .before .before .before .before .before .before .before .before .before .before .before .before .before .before .loop-test .taken)
 
 loop-again : tie.Need-loop-again Inv-loop μ-loop
 loop-again c =
-    let l = c .before .before .before .before .before .before .before .before .before .before .before .before .before .before .before .before .before .before .before .before .before .loop in
-    let e = c .before .before .before .before .before .before .before .before .before .before .before .before .before .run-round in
-    let t = c .before .before .before .before .before .before .before .before .before .before .before .before .before .before .before .before .before .before .before .before .loop-test .taken in
+    let l = c .before .before .before .before .before .before .before .before .before .before .before .before .before .before .before .before .before .before .before .before .before .before .before .before .loop in
+    let e = c .before .before .before .before .before .before .before .before .before .before .before .before .before .before .before .before .before .run-round in
+    let t = c .before .before .before .before .before .before .before .before .before .before .before .before .before .before .before .before .before .before .before .before .before .before .before .loop-test .taken in
     let k : l .left ≡ suc (l .left - 1) = omega (arith, t) in (
       e .kept .1 .0 ∙ l .inv .0,
       e .kept .1 .1 .0 ∙ l .inv .1,
       e .kept .1 .1 .1 .0 ∙ l .inv .2,
       e .kept .1 .1 .1 .1 .0 ∙ l .inv .3,
       e .kept .1 .1 .1 .1 .1 .0 ∙ l .inv .4,
-      e .kept .1 .1 .1 .1 .1 .1 .0 ∙ l .inv .5,
+      c .before .before .before .store .kept .1 .0 ∙ l .inv .5,
       omega (arith, t, e .ensures .1, l .inv .6),
-      round-on (l .left - 1) _ _ _ _ _ (e .ensures .0) (omega (arith, c .if1 .left)) ∙ rw k at (l .inv .7),
+      round-on (l .left - 1) _ _ _ _ _ _ _ (e .ensures .0) (sym (length-holders _ _ _)) (omega (arith, c .before .before .before .before .before .if1 .left))
+          (c .before .before .before .store .ensures)
+          ∙ rw k at (l .inv .7),
     )
 
 same-length-7 : tie.Need-same-length-7 Inv-loop μ-loop
@@ -132,6 +139,7 @@ run-rounds-spec =
     same-length-5
     same-length-6
     returns
+    store-requires
     add-handed
     loop-less
     loop-again
