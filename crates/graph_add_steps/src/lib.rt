@@ -1,6 +1,6 @@
-// What the steps of an add plan: the look-ups, the entry, the links and the settling.
-// Follows document 01, "Steps" and "Turned-away calls". Assumes nothing: each definition holds of all tables, and where
-// a table is not read the contract holds with any.
+// What the steps of an add plan: the look-ups, the entry, the links and the settling. Follows docs/RULES.md, "Steps"
+// and "Turned-away calls". Assumes nothing: each definition holds of all tables, and where a table is not read the
+// contract holds with any.
 ghost use mathlib.Core.Path.{_≡_};
 ghost use mathlib.Core.List.{List};
 ghost use Prim.Native.Nat.{ℕ};

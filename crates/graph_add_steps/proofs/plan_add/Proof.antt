@@ -60,14 +60,5 @@ returns-2 c =
 pub plan-add-spec : {M : Type 1} → statement M
 plan-add-spec =
     tie.close
-    (tie.spec
-    worker-word-requires
-    worker-word-requires-2
-    name-word-requires
-    find-requires
-    plan-look-up-requires
-    worker-word-requires-3
-    find-requires-2
-    plan-enter-requires
-    returns
-    returns-2)
+    (tie.spec worker-word-requires worker-word-requires-2 name-word-requires find-requires plan-look-up-requires
+    worker-word-requires-3 find-requires-2 plan-enter-requires returns returns-2)

@@ -80,13 +80,5 @@ returns-3 c =
 pub plan-append-spec : {M : Type 1} → statement M
 plan-append-spec =
     tie.close
-    (tie.spec
-    header-requires
-    header-requires-2
-    job-word-requires
-    place-ok-requires
-    cast-sound
-    cast-arc
-    returns
-    returns-2
-    returns-3)
+    (tie.spec header-requires header-requires-2 job-word-requires place-ok-requires cast-sound cast-arc returns
+    returns-2 returns-3)

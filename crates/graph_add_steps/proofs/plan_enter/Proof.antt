@@ -78,18 +78,5 @@ returns-4 c =
 pub plan-enter-spec : {M : Type 1} → statement M
 plan-enter-spec =
     tie.close
-    (tie.spec
-    enum-told
-    enum-told-2
-    header-requires
-    header-requires-2
-    cast-full
-    cast-full-2
-    add-full
-    bucket-requires
-    bucket-word-requires
-    enum-told-3
-    returns
-    returns-2
-    returns-3
-    returns-4)
+    (tie.spec enum-told enum-told-2 header-requires header-requires-2 cast-full cast-full-2 add-full bucket-requires
+    bucket-word-requires enum-told-3 returns returns-2 returns-3 returns-4)

@@ -72,14 +72,5 @@ returns-5 c =
 pub plan-link-spec : {M : Type 1} → statement M
 plan-link-spec =
     tie.close
-    (tie.spec
-    enum-known-found
-    job-word-requires
-    plan-append-requires
-    enum-told
-    enum-told-2
-    returns
-    returns-2
-    returns-3
-    returns-4
-    returns-5)
+    (tie.spec enum-known-found job-word-requires plan-append-requires enum-told enum-told-2 returns returns-2
+    returns-3 returns-4 returns-5)

@@ -72,18 +72,6 @@ returns-2 c =
 pub plan-links-spec : {M : Type 1} → statement M
 plan-links-spec =
     tie.close
-    (tie.spec
-    worker-word-requires
-    worker-word-requires-2
-    worker-word-requires-3
-    worker-word-requires-4
-    name-word-requires
-    find-requires
-    cast-plan-link
-    cast-plan-link-2
-    add-plan-link
-    plan-link-requires
-    worker-word-requires-5
-    plan-settle-requires
-    returns
-    returns-2)
+    (tie.spec worker-word-requires worker-word-requires-2 worker-word-requires-3 worker-word-requires-4
+    name-word-requires find-requires cast-plan-link cast-plan-link-2 add-plan-link plan-link-requires
+    worker-word-requires-5 plan-settle-requires returns returns-2)

@@ -48,12 +48,5 @@ returns c =
 pub put-arguments-spec : {M : Type 1} → statement M
 put-arguments-spec =
     tie.close
-    (tie.spec
-    put-worker-requires
-    put-worker-requires-2
-    put-worker-requires-3
-    put-worker-requires-4
-    put-worker-requires-5
-    put-worker-requires-6
-    same-length
-    returns)
+    (tie.spec put-worker-requires put-worker-requires-2 put-worker-requires-3 put-worker-requires-4
+    put-worker-requires-5 put-worker-requires-6 same-length returns)

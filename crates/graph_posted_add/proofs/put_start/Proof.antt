@@ -38,10 +38,5 @@ returns c =
 pub put-start-spec : {M : Type 1} → statement M
 put-start-spec =
     tie.close
-    (tie.spec
-    put-worker-requires
-    put-worker-requires-2
-    put-worker-requires-3
-    put-worker-requires-4
-    same-length
+    (tie.spec put-worker-requires put-worker-requires-2 put-worker-requires-3 put-worker-requires-4 same-length
     returns)
