@@ -3,7 +3,7 @@
 ghost use mathlib.Core.Path.{_≡_};
 ghost use mathlib.Core.List.{[], _∷_, _++_};
 ghost use Prim.Native.Nat.{_+_, _≤_, _<_};
-ghost use Rattle.terms.specs.Base.{pick};
+ghost use Rattle.basics.specs.Base.{pick};
 ghost use Rattle.terms.specs.Terms.{mostWorkers};
 ghost use Rattle.words.specs.Layout.{atEntry, atExit};
 ghost use Rattle.day_rounds.specs.Rounds.{holder, gets, getRound};

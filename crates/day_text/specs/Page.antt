@@ -10,7 +10,7 @@ use lib.Dec.{ltb, leb}
 use lib.ListN.{length, set, length-set, length-append}
 use lib.Seq.{sets}
 use borrow.Author.Tests.{lt-ltb, le-ltb, le-leb}
-use Rattle.terms.specs.Base.{pick}
+use Rattle.basics.specs.Base.{pick}
 use Rattle.sheet_format.specs.SheetTrip.{Each}
 use Rattle.day_rounds.specs.Rounds.{Refusal, Holder}
 use Rattle.day_format.specs.Text.{digits, decimal, jobsWord, workersWord, leftWord, refusedWord, _␣_, line}

@@ -11,7 +11,8 @@ use native.Mathlib.Decide.{decLt}
 use lib.Dec.{eqb}
 use lib.ListN.{length}
 use borrow.Author.Tests.{eq-eqb, lt-ltb, le-leb, eqb-true}
-use Rattle.terms.specs.Base.{pick}
+use Rattle.basics.specs.Base.{pick}
+use Rattle.basics.specs.Laws.{never}
 use Rattle.terms.specs.Runs.{Item, after, events}
 use Rattle.terms.specs.Seen.{Seen}
 use Rattle.terms.specs.declared.Sizes.{Sizes}
@@ -41,9 +42,6 @@ use Rattle.worker_state.specs.Held.{callOf, holdingOf, heldWords, holdingJob, h
 use Rattle.worker_state.specs.Drained.{every, queueOk, wordsOk, free, isDrained, drainedWords}
 use Rattle.worker_state.specs.declared.Holding.{Holding}
 use Rattle.state_history.specs.Told.{callRead, holdingSeen}
-
-never : {A : Type 0} → _≡_ {A = ℕ} 0 1 → A
-never e = absurd (omega arith)
 
 -- ---- a test of every number below n
 every-true : (f : ℕ → Bool) (n : ℕ) → ((i : ℕ) → i < n → f i ≡ true) → every f n ≡ true
