@@ -1,5 +1,5 @@
-// The gets of a round: every worker gets, in order.
-// Follows document 01, "The board and the day list". Assumes nothing.
+// The gets of a round: every worker gets, in order. Follows docs/RULES.md, "The board and the day list". Assumes
+// nothing.
 ghost use mathlib.Core.Path.{_≡_};
 ghost use mathlib.Core.List.{[], _∷_, _++_};
 ghost use Prim.Native.Nat.{_+_, _≤_, _<_};

@@ -1,5 +1,5 @@
 -- "each run whole": an add and a finish end within the steps that the day list gives them, and a get is answered at
--- once. Follows document 01, "Steps" and "The board and the day list". Assumes nothing.
+-- once. Follows docs/RULES.md, "Steps" and "The board and the day list". Assumes nothing.
 use mathlib.Core.Path.{_≡_, refl, sym, ap, _∙_}
 use mathlib.Core.Bool.{true≢false}
 use mathlib.Core.List.{[]}

@@ -1,6 +1,5 @@
--- A text printed into a lent output from a place on (document 01, "The board and the day list"): only places below a
--- limit are stored, so that a
--- text can be measured with the limit 0 before it is stored. Assumes nothing.
+-- A text printed into a lent output from a place on (docs/RULES.md, "The board and the day list"): only places below a
+-- limit are stored, so that a text can be measured with the limit 0 before it is stored. Assumes nothing.
 use mathlib.Core.Path.{_≡_, refl, sym, _∙_}
 use mathlib.Core.Bool.{Bool, true, false}
 use mathlib.Core.List.{List, [], _∷_, _++_}
