@@ -69,8 +69,9 @@ use Rattle.graph_board.specs.Accounted.{Accounted}
 use Rattle.board_history.specs.Minutes.{accounted}
 use Rattle.worker_state.specs.Held.{heldWords}
 use Rattle.worker_state.specs.Drained.{drainedWords}
-use Rattle.state_history.specs.Told.{callRead, holdingSeen}
+use Rattle.state_history.specs.Told.{heldRead, told}
 use Rattle.state_history.specs.Numbers as state-numbers
+use Rattle.state_history.specs.Need as state-need
 use Rattle.state_history.specs.Theorem as state
 use Rattle.starred_cases.specs.StarredCases.{Starred, every-row}
 
@@ -202,24 +203,33 @@ module _ (s : Sizes) (t : Tables) (laid : layOut s t .answer ≡ Laid) (items : 
       → Accounted graphTotals table s (at-end .jobs) (acceptedAdds (read .calls))
   the-board-accounts-for-every-job table = accounted table s t laid items
 
-  -- ---- a worker that restarts is told what is seen of its hold, the job and its name or none, and of its call what is
-  -- read off items and answers: none where none is half done, an add where one is, a finish where one is.
-  pub a-worker-is-told-what-it-holds : (w : ℕ) → w < s .workers
-      → heldWords s at-end w ≡ holdingSeen (seen at-end) (seen at-end .held w) (callRead (read .pending w))
+  -- ---- a worker that restarts is told what items and answers alone say: the job that was handed out to it last, under
+  -- the name of that job's add, unless a finish of it was accepted since, and then none; and its call half done, of an
+  -- add the name too. Whatever sizes and worker it asks with: 1 unless the sizes are those laid out, then 2 unless w is
+  -- below P.
+  pub a-worker-is-told-what-it-holds : (q : Sizes) (w : ℕ) → heldWords q at-end w ≡ told q s read w
   a-worker-is-told-what-it-holds = state.held s t laid items
 
-  -- ---- a host that wants to stop is never refused,
-  pub drained-is-never-refused : drainedWords s at-end .number ≡ 0
-  drained-is-never-refused = state.never-refused s t laid items
+  -- What is seen of its hold is the same.
+  pub a-hold-is-read-off-the-calls : (w : ℕ) → w < s .workers → seen at-end .held w ≡ heldRead read w
+  a-hold-is-read-off-the-calls = state.hold s t laid items
 
-  -- is told that the graph is drained exactly if no call is half done, no worker holds a job and nothing waits,
-  pub drained-exactly : (drainedWords s at-end .drained ≡ 1)
-      ↔ (Quiet read × ((w : ℕ) → w < s .workers → seen at-end .held w ≡ none) × (seen at-end .waiting ≡ []))
+  -- ---- a host that wants to stop is refused by 1 where it asks with other sizes, and else never;
+  pub drained-is-refused-for-other-sizes : (q : Sizes)
+      → drainedWords q at-end .number ≡ pick (sameSizes q s) 0 wrongSizes
+  drained-is-refused-for-other-sizes = state.drained-number s t laid items
+
+  -- it is told that the graph is drained exactly if no call is half done, no worker holds a job and nothing waits,
+  pub drained-exactly : (q : Sizes) → (drainedWords q at-end .drained ≡ 1)
+      ↔ ((sameSizes q s ≡ true) × Quiet read
+      × ((w : ℕ) → w < s .workers → seen at-end .held w ≡ none)
+      × (seen at-end .waiting ≡ []))
   drained-exactly = state.drained-exactly s t laid items
 
   -- and then every job that entered is finished.
-  pub what-is-told-drained-is-finished : drainedWords s at-end .drained ≡ 1 → (j : ℕ)
-      → j < length (acceptedAdds (read .calls)) → JobFinished (seen at-end) (read .calls) j
+  pub what-is-told-drained-is-finished : (q : Sizes) → drainedWords q at-end .drained ≡ 1
+      → (j : ℕ) → j < length (acceptedAdds (read .calls))
+      → JobFinished (seen at-end) (read .calls) j
   what-is-told-drained-is-finished = state.drained-finished s t laid items
 
 -- ---- of ALL tables, damaged ones too, and every item
@@ -277,6 +287,11 @@ module _ (s : Sizes) (t : Tables) where
 
   pub drained-is-refused-by-1-or-9 : contains (drainedWords s t .number) (0 ∷ wrongSizes ∷ damaged ∷ []) ≡ true
   drained-is-refused-by-1-or-9 = state-numbers.drained-number s t
+
+  -- Neither looks at a word past the need.
+  pub held-and-drained-read-within-the-need : (u : Tables) (w : ℕ) → needed s t ≡ needed s u
+      → (heldWords s t w ≡ heldWords s u w) × (drainedWords s t ≡ drainedWords s u)
+  held-and-drained-read-within-the-need u = state-need.not-read s t u
 
 -- Laying out succeeds exactly if the sizes lie in their limits and each table is long enough; then the words needed are
 -- a fresh graph, whatever they were, and the rest is as it was. Else it is refused by 1, and nothing is changed.

@@ -1,3 +1,5 @@
 pub mod Told
+pub mod Hold
 pub mod Numbers
+pub mod Need
 pub mod Theorem

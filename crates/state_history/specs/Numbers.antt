@@ -9,8 +9,8 @@ use Rattle.terms.specs.Base.{pick, contains}
 use Rattle.terms.specs.Terms.{wrongSizes, noSuchWorker, damaged}
 use Rattle.terms.specs.declared.Sizes.{Sizes}
 use Rattle.words.specs.Layout.{HELD, Tables, view, sizesFit}
-use Rattle.words.specs.Words.{isPlace, ownOk, admitted}
-use Rattle.worker_state.specs.Held.{refused, holdingOf, heldWords}
+use Rattle.words.specs.Words.{isPlace, countersOk, ownOk, admitted}
+use Rattle.worker_state.specs.Held.{refused, holdingOf, counted, heldWords}
 use Rattle.worker_state.specs.Drained.{wordsOk, isDrained, judged, drainedWords}
 use Rattle.worker_state.specs.Drained as drained
 use Rattle.worker_state.specs.declared.Holding.{Holding}
@@ -24,18 +24,21 @@ served false x y e f = f
 -- served, or turned away by a number of the list
 module _ (s : Sizes) (t : Tables) where
   pub held-number : (w : ℕ) → contains (heldWords s t w .number) (0 ∷ wrongSizes ∷ noSuchWorker ∷ damaged ∷ []) ≡ true
-  unfolding heldWords admitted holdingOf contains
+  unfolding heldWords admitted counted holdingOf contains
   held-number w =
-      go (sizesFit s t) (ltb w (s .workers)) (ownOk s (view t) w) (holdingOf (view t) w)
+      go (sizesFit s t) (ltb w (s .workers)) (ownOk s (view t) w) (countersOk s (view t)) (holdingOf (view t) w)
       (served (isPlace (view t .worker HELD w)) _ _ refl refl)
     where
-      go : (a b c : Bool) (h : Holding) → h .number ≡ 0
-          → contains (pick a (pick b (pick c h (refused damaged)) (refused noSuchWorker)) (refused wrongSizes) .number)
+      go : (a b c d : Bool) (h : Holding) → h .number ≡ 0
+          → contains
+          (pick a (pick b (pick c (pick d h (refused damaged)) (refused damaged)) (refused noSuchWorker))
+          (refused wrongSizes) .number)
           (0 ∷ wrongSizes ∷ noSuchWorker ∷ damaged ∷ []) ≡ true
-      go true true true h e = rw e
-      go true true false h e = refl
-      go true false c h e = refl
-      go false b c h e = refl
+      go true true true true h e = rw e
+      go true true true false h e = refl
+      go true true false d h e = refl
+      go true false c d h e = refl
+      go false b c d h e = refl
 
   pub drained-number : contains (drainedWords s t .number) (0 ∷ wrongSizes ∷ damaged ∷ []) ≡ true
   unfolding drainedWords contains
