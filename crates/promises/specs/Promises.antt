@@ -25,16 +25,16 @@ use lib.Seq.{sets}
 use Rattle.bucket.specs.Bucket.{bucketOf}
 use Rattle.terms.specs.Base.{pick, contains, occurrences}
 use Rattle.terms.specs.Terms.{Arguments, withinLimits, sameSizes, wrongSizes, noSuchWorker, damaged}
-use Rattle.terms.specs.Terms.{mostNames, mostWorkers, Finish}
+use Rattle.terms.specs.Terms.{halfDone, nothingToStep, mostNames, mostWorkers, Finish}
 use Rattle.terms.specs.Runs.{Item, step, get, sizesOf, workerOf, outcome, after, events}
 use Rattle.terms.specs.Seen.{Same, idle, handOut}
 use Rattle.terms.specs.declared.Sizes.{Sizes}
 use Rattle.terms.specs.declared.HandOut.{HandOut}
-use Rattle.terms.specs.declared.Answer.the-variants.{Laid, Ended, NoneReady, Handed, Refused}
+use Rattle.terms.specs.declared.Answer.the-variants.{Laid, Posted, Ended, NoneReady, Handed, Refused}
 use Rattle.words.specs.Layout.{Tables, view, workerShape, NAME, LABEL, HELD, LIST-COUNT, NAMES, IDLE, bareWorker}
 use Rattle.words.specs.Layout.{roomFor}
 use Rattle.words.specs.Layout as words
-use Rattle.words.specs.Words.{putWorker, perform, layOut}
+use Rattle.words.specs.Words.{putWorker, finishWords, stepWords, getWords, perform, layOut}
 use Rattle.words.specs.Observed.{waiting, bucketFrom, newestFirst, seen}
 use Rattle.rules.specs.Rules.{empty}
 use Rattle.rules.specs.Rules as rules
@@ -69,9 +69,10 @@ use Rattle.graph_board.specs.Accounted.{Accounted}
 use Rattle.board_history.specs.Minutes.{accounted}
 use Rattle.worker_state.specs.Held.{heldWords}
 use Rattle.worker_state.specs.Drained.{drainedWords}
-use Rattle.state_history.specs.Told.{heldRead, told}
+use Rattle.state_history.specs.Told.{heldRead, turnedAway, told}
 use Rattle.state_history.specs.Numbers as state-numbers
 use Rattle.state_history.specs.Need as state-need
+use Rattle.state_history.specs.Agrees as state-agrees
 use Rattle.state_history.specs.Theorem as state
 use Rattle.starred_cases.specs.StarredCases.{Starred, every-row}
 
@@ -287,6 +288,38 @@ module _ (s : Sizes) (t : Tables) where
 
   pub drained-is-refused-by-1-or-9 : contains (drainedWords s t .number) (0 ∷ wrongSizes ∷ damaged ∷ []) ≡ true
   drained-is-refused-by-1-or-9 = state-numbers.drained-number s t
+
+  -- A refusal has 0 in all else, and drained is 0 or 1.
+  pub held-refused-tells-nothing : (w : ℕ) → heldWords s t w .number ≢ 0
+      → heldWords s t w ≡ turnedAway (heldWords s t w .number)
+  held-refused-tells-nothing = state-numbers.held-refused s t
+
+  pub drained-is-0-or-1 : (drainedWords s t .drained ≤ 1)
+      × (drainedWords s t .number ≢ 0 → drainedWords s t .drained ≡ 0)
+  drained-is-0-or-1 = state-numbers.drained-refused s t
+
+  -- What is told agrees with what the calls answer: where the number is 0, a call of 0 is one whose step is refused by
+  -- 4, and another one where a get is refused by 3;
+  pub no-call-is-told-where-a-step-is-refused-by-4 : (w : ℕ) → heldWords s t w .number ≡ 0
+      → (heldWords s t w .call ≡ 0) ↔ (stepWords s t w .answer ≡ Refused nothingToStep 0)
+  no-call-is-told-where-a-step-is-refused-by-4 = state-agrees.step-by-4 s t
+
+  pub a-call-is-told-where-a-get-is-refused-by-3 : (w : ℕ) → heldWords s t w .number ≡ 0
+      → (heldWords s t w .call ≢ 0) ↔ (getWords s t w .answer ≡ Refused halfDone 0)
+  a-call-is-told-where-a-get-is-refused-by-3 = state-agrees.get-by-3 s t
+
+  -- a worker told idle with a job of a name is one whose finish of that name is taken;
+  pub the-name-told-is-the-one-that-finishes : (w name : ℕ)
+      → ((heldWords s t w .number ≡ 0) × (heldWords s t w .call ≡ 0)
+      × (heldWords s t w .holds ≡ 1)
+      × (heldWords s t w .name ≡ name))
+      ↔ (finishWords s t w name .answer ≡ Posted)
+  the-name-told-is-the-one-that-finishes = state-agrees.finish-taken s t
+
+  -- and the graph is told drained exactly if a get of every worker says "none ready".
+  pub drained-is-none-ready-for-all : 1 ≤ s .workers
+      → (drainedWords s t .drained ≡ 1) ↔ ((w : ℕ) → w < s .workers → getWords s t w .answer ≡ NoneReady)
+  drained-is-none-ready-for-all = state-agrees.drained-by-gets s t
 
   -- Neither looks at a word past the need.
   pub held-and-drained-read-within-the-need : (u : Tables) (w : ℕ) → needed s t ≡ needed s u

@@ -3,3 +3,5 @@ pub mod Hold
 pub mod Numbers
 pub mod Need
 pub mod Theorem
+pub mod Agrees
+pub mod Wrong

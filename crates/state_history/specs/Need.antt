@@ -4,12 +4,10 @@ use mathlib.Core.Path.{_≡_, refl, sym, ap, ap₂, _∙_}
 use mathlib.Core.Bool.{Bool, true, false, _&&_}
 use Prim.Native.Nat.{ℕ, zero, suc, _<_}
 use native.Mathlib.Omega.{arith}
-use lib.Dec.{ltb, leb, eqb}
+use lib.Dec.{ltb, eqb}
 use borrow.Author.Tests.{lt-ltb}
-use Rattle.terms.specs.Base.{pick}
-use Rattle.terms.specs.Terms.{withinLimits}
 use Rattle.terms.specs.declared.Sizes.{Sizes}
-use Rattle.words.specs.Layout.{none, HELD, Tables, View, view, longEnough}
+use Rattle.words.specs.Layout.{HELD, Tables, View, view, longEnough}
 use Rattle.words.specs.Words.{countersOk, ownOk, admitted}
 use Rattle.locality.specs.Parts.{test, needed, rest, joined, long, clip, clip-joined, whole, long-needed, long-joined}
 use Rattle.locality.specs.Parts.{kept-joined}

@@ -53,12 +53,12 @@ never : {A : Type 0} → _≡_ {A = ℕ} 0 1 → A
 never e = absurd (omega arith)
 
 -- ---- a test of every number below n
-every-true : (f : ℕ → Bool) (n : ℕ) → ((i : ℕ) → i < n → f i ≡ true) → every f n ≡ true
+pub every-true : (f : ℕ → Bool) (n : ℕ) → ((i : ℕ) → i < n → f i ≡ true) → every f n ≡ true
 unfolding every
 every-true f zero h = refl
 every-true f (suc n) h = and-true (every f n) (f n) (every-true f n (λ i l. h i (omega arith))) (h n (omega arith))
 
-every-at : (f : ℕ → Bool) (n : ℕ) → every f n ≡ true → (i : ℕ) → i < n → f i ≡ true
+pub every-at : (f : ℕ → Bool) (n : ℕ) → every f n ≡ true → (i : ℕ) → i < n → f i ≡ true
 unfolding every
 every-at f zero e i h = absurd (omega arith)
 every-at f (suc n) e i h = elim (decLt i n) [
@@ -78,7 +78,7 @@ seen-none p true e = refl
 seen-none p false e = never (cc)
 
 -- ---- a call: a number by its phase, and by what is read
-none-called : (b c : Bool) → pick {A = ℕ} b 0 (pick c 1 2) ≡ 0 → b ≡ true
+pub none-called : (b c : Bool) → pick {A = ℕ} b 0 (pick c 1 2) ≡ 0 → b ≡ true
 none-called true c e = refl
 none-called false true e = absurd (omega (arith, e))
 none-called false false e = absurd (omega (arith, e))
