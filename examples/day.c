@@ -1,4 +1,4 @@
-/* A host in C: reads the job sheet of document 01, adds its jobs, and lets two workers take and finish them in turn.
+/* A host in C: reads the job sheet of docs/RULES.md, adds its jobs, and lets two workers take and finish them in turn.
  * It prints what the day list prints. */
 #include <stdio.h>
 #include <stdlib.h>

@@ -1,4 +1,4 @@
-/* Calls every function of the C interface on the examples of document 01 and on its limits.
+/* Calls every function of the C interface on the examples of docs/RULES.md and on its limits.
  * The last line is `N passed, M failed`; the exit status is 0 only where M is 0. */
 #include "taskgraph.h"
 

@@ -1,4 +1,4 @@
--- The bucket of a name: what the word product and the bucket function answer. Follows document 01, "Tables and their
+-- The bucket of a name: what the word product and the bucket function answer. Follows docs/RULES.md, "Tables and their
 -- measures": "The bucket of a name is the top b bits of its product with 2654435769, kept to 32 bits". Assumes nothing.
 use Prim.Native.Nat.{ℕ, _*_, _-_, _/_, _%_, _^_}
 
@@ -14,7 +14,7 @@ multiplier = 2654435769
 unfoldable pub productOf : ℕ → ℕ → ℕ
 productOf x y = x * y % 2 ^ wordBits
 
--- "the top b bits" of that product. Document 01 has b from 1 to 8; the other numbers have an answer too, because the
+-- "the top b bits" of that product. docs/RULES.md has b from 1 to 8; the other numbers have an answer too, because the
 -- public function takes every word: no bits give 0, and 32 bits or more give the whole product, since 32 - bits is then
 -- 0.
 unfoldable pub bucketOf : ℕ → ℕ → ℕ

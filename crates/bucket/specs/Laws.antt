@@ -1,6 +1,6 @@
 -- The laws of the bucket: it is below the bucket count, for any number of bits; what no bits and all bits give;
--- document 01's five buckets. Follows document 01, "Tables and their measures", and "Checked by hand", case 7. Assumes
--- nothing.
+-- docs/RULES.md's five buckets. Follows docs/RULES.md, "Tables and their measures", and "Checked by hand", case 7.
+-- Assumes nothing.
 use mathlib.Core.List.{[], _∷_, map}
 use mathlib.Core.Path.{_≡_, refl}
 use native.Mathlib.Nat.{lt-of-lt-of-le, mod-lt, div-one}

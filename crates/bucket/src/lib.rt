@@ -1,7 +1,5 @@
-// The bucket of a name.
-// Follows document 01, "Tables and their measures": "The bucket of a name is the top b bits of its product with
-// 2654435769, kept to 32 bits".
-// Assumes nothing.
+// The bucket of a name. Follows docs/RULES.md, "Tables and their measures": "The bucket of a name is the top b bits of
+// its product with 2654435769, kept to 32 bits". Assumes nothing.
 ghost use mathlib.Core.Path.{_≡_};
 ghost use Rattle.bucket.specs.Bucket.{productOf, bucketOf};
 

@@ -1,21 +1,18 @@
--- "Worker 0 adds every entry, each run whole. .. A refused entry puts refused I N before the first line": where that
--- leads, and the bytes of its text. Assumes nothing.
+-- "Worker 0 adds every entry, each run whole": where that leads, and how each entry is answered. Assumes nothing.
 use mathlib.Core.List.{List, [], _∷_, _++_}
 use mathlib.Core.Option.{Option, none}
 use Prim.Native.Nat.{ℕ, suc, _+_, _≤_, _<_}
 use native.Mathlib.Omega.{arith}
 use native.Mathlib.Nat.{add-zero, add-suc, suc-add}
-use lib.ListN.{length, length-append}
+use lib.ListN.{length}
 use Rattle.terms.specs.Runs.{Outcome}
 use Rattle.terms.specs.declared.Sizes.{Sizes}
 use Rattle.words.specs.Layout.{Tables}
 use Rattle.rules.specs.Rules.{idle}
 use Rattle.sheet_format.specs.Job.{Job}
 use Rattle.sheet_format.specs.SheetTrip.{Each, more}
-use Rattle.day_format.specs.Text.{decimal, refusedWord, _␣_, line}
-use Rattle.day_format.specs.Day.{Day, day, refusal, addAll, argumentsOf}
-use Rattle.day_history.specs.Digits.{later-digits}
-use Rattle.day_history.specs.Lines.{refusedBytes, refused-bytes}
+use Rattle.day_rounds.specs.Rounds.{argumentsOf, Refusal, refusal, added, addAll}
+use Rattle.day_rounds.specs.Rounds as day
 use Rattle.day_history.specs.Jobs.{All}
 use Rattle.day_history.specs.Calls.{During, accepted, refused, Added, whole-add}
 
@@ -29,53 +26,65 @@ first (more q e) = q
 others : {Q : Job → Type 0} {j : Job} {js : List Job} → Each Q (j ∷ js) → Each Q js
 others (more q e) = e
 
+-- of the entries from i to before m each is accepted, or refused by one of 5 to 8; the jobs become l from k
+pub data Answers : ℕ → ℕ → List Refusal → ℕ → ℕ → Type 0 where
+  no-entry : {i k : ℕ} → Answers i k [] i k
+  entry-accepted : {i k m l : ℕ} {rs : List Refusal} → Answers (suc i) (suc k) rs m l → Answers i k rs m l
+  entry-refused : {i k m l : ℕ} {rs : List Refusal} (n : ℕ) → 5 ≤ n → n ≤ 8 → Answers (suc i) k rs m l
+      → Answers i k (record { entry = i; number = n } ∷ rs) m l
+
 module _ (s : Sizes) (P : ℕ → Type 0) where
   -- after m entries
-  pub record Entered (m : ℕ) (d : Day) : Type 0 where
+  pub record Entered (m : ℕ) (t : Tables) : Type 0 where
     pub made : ℕ
     pub names : ℕ → ℕ
-    pub now : During s made 0 nobody names 0 idle (d .state)
+    pub now : During s made 0 nobody names 0 idle t
     pub all : All P names
     pub few : made ≤ m
-    pub text : m ≤ 10000 → length (d .text) + refusedBytes made ≤ refusedBytes m
+
+  -- the entries from i on, with k jobs made before them
+  pub record Adds (i k m : ℕ) (a : day.Added) : Type 0 where
+    pub entered : Entered m (a .state)
+    pub answers : Answers i k (a .refusals) m (entered .made)
 
   module _ (some-worker : 0 < s .workers) where
-    one-add : (i : ℕ) (d : Day) (E : Entered i d) (j : Job) → P (j .name) → (o : Outcome Tables)
+    one-add : (i m : ℕ) (t : Tables) (E : Entered i t) (j : Job) (js : List Job) → P (j .name) → (o : Outcome Tables)
         → Added s 0 some-worker 0 nobody (E .made) (E .names) (argumentsOf j) P o
-        → Entered (suc i) (day (o .state) (d .text ++ refusal i (o .answer)))
-    one-add i d E j p o (accepted G) = record {
-      made = suc (E .made);
-      names = G .names;
-      now = G .now;
-      all = G .all (E .all) p;
-      few = omega (arith, E .few);
-      text = λ h. omega (arith, length-append (d .text) [], E .text (omega arith), later-digits (E .made) i (E .few));
-    }
-    one-add i d E j p o (refused n l u D) = record {
-      made = E .made;
-      names = E .names;
-      now = D;
-      all = E .all;
-      few = omega (arith, E .few);
-      text = λ h.
-          omega (
-            arith,
-            length-append (d .text) (line (refusedWord ␣ (decimal i ␣ decimal n))),
-            E .text (omega arith),
-            refused-bytes i n h (omega arith),
-          );
-    }
+        → ((u : Tables) (F : Entered (suc i) u) → Adds (suc i) (F .made) m (addAll s (suc i) js u))
+        → Adds i (E .made) m
+        (added (addAll s (suc i) js (o .state) .state)
+        (refusal i (o .answer) ++ addAll s (suc i) js (o .state) .refusals))
+    one-add i m t E j js p o (accepted G) rest =
+        let F : Entered (suc i) _ = record {
+          made = suc (E .made);
+          names = G .names;
+          now = G .now;
+          all = G .all (E .all) p;
+          few = omega (arith, E .few);
+        } in
+        let R = rest _ F in
+        record { entered = R .entered; answers = entry-accepted (R .answers) }
+    one-add i m t E j js p o (refused n l u D) rest =
+        let F : Entered (suc i) _ = record {
+          made = E .made;
+          names = E .names;
+          now = D;
+          all = E .all;
+          few = omega (arith, E .few);
+        } in
+        let R = rest _ F in
+        record { entered = R .entered; answers = entry-refused n l u (R .answers) }
 
-    one-more : (i : ℕ) (d : Day) (j : Job) (js : List Job) → Entered i d → P (j .name)
-        → ((e : Day) → Entered (suc i) e → Entered (suc i + length js) (addAll s (suc i) js e))
-        → Entered (i + suc (length js)) (addAll s i (j ∷ js) d)
+    one-more : (i : ℕ) (t : Tables) (j : Job) (js : List Job) (E : Entered i t) → P (j .name)
+        → ((u : Tables) (F : Entered (suc i) u) → Adds (suc i) (F .made) (suc i + length js) (addAll s (suc i) js u))
+        → Adds i (E .made) (i + suc (length js)) (addAll s i (j ∷ js) t)
     unfolding addAll
-    one-more i d j js E p rest =
-        let o = whole-add s 0 some-worker 0 nobody (E .made) (E .names) (argumentsOf j) P (d .state) (E .now) in
-        rw (add-suc, ← suc-add) (rest _ (one-add i d E j p _ o))
+    one-more i t j js E p rest =
+        let o = whole-add s 0 some-worker 0 nobody (E .made) (E .names) (argumentsOf j) P t (E .now) in
+        rw (add-suc, ← suc-add) (one-add i (suc i + length js) t E j js p _ o rest)
 
-    pub adds : (js : List Job) (i : ℕ) (d : Day) → Entered i d → Each (λ j. P (j .name)) js
-        → Entered (i + length js) (addAll s i js d)
+    pub adds : (js : List Job) (i : ℕ) (t : Tables) (E : Entered i t) → Each (λ j. P (j .name)) js
+        → Adds i (E .made) (i + length js) (addAll s i js t)
     unfolding addAll
-    adds [] i d E e = rw add-zero E
-    adds (j ∷ js) i d E e = one-more i d j js E (first e) (λ f F. adds js (suc i) f F (others e))
+    adds [] i t E e = rw add-zero (record { entered = E; answers = no-entry })
+    adds (j ∷ js) i t E e = one-more i t j js E (first e) (λ u F. adds js (suc i) u F (others e))

@@ -30,7 +30,7 @@ use Rattle.rules_cases.specs.Deed as by
 use Rattle.rules_cases.specs.Deed.{Stepped, Made}
 use Rattle.rules_cases.specs.Base.{never, kept-field}
 use Rattle.rules_cases.specs.Deeds.{unbroken}
-use Rattle.day_format.specs.Whole.{andThen, stepsOf, wholeAdd, wholeFinish}
+use Rattle.whole_words.specs.Whole.{andThen, stepsOf, wholeAdd, wholeFinish}
 use Rattle.whole_calls.specs.Arcs.{arcs-within}
 use Rattle.rules_cases.specs.Own.{own-sizes, own-step, own-made}
 use Rattle.day_history.specs.Jobs.{Jobs, All, changed, handed, withNew, entered, entered-all}

@@ -21,7 +21,7 @@ use Rattle.representation.specs.Rep.{Stands}
 use Rattle.representation_kept.specs.Stand.{limits-of}
 use Rattle.representation_kept.specs.Fresh.{noGhost, fresh-stands}
 use Rattle.audit.specs.Drained.{drained}
-use Rattle.day_format.specs.Day.{freshDay, blankTables, unfinished}
+use Rattle.day_rounds.specs.Rounds.{freshDay, blankTables, unfinished}
 use Rattle.day_history.specs.At.{sound-at}
 use Rattle.day_history.specs.Team.{all-rest}
 use Rattle.day_history.specs.Calls.{During}

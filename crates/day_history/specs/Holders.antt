@@ -7,7 +7,7 @@ use Prim.Native.Nat.{ℕ, _<_}
 use native.Mathlib.Decide.{ℕ-discrete}
 use Rattle.terms.specs.Base.{update}
 use Rattle.rules_cases.specs.Base.{update-same, update-at, update-other}
-use Rattle.day_format.specs.Day.{Holder}
+use Rattle.day_rounds.specs.Rounds.{Holder}
 
 -- changes at two places, in either order
 swapped : {A : Type 0} (f : ℕ → A) (v w : ℕ) (a b : A) → v ≢ w → update (update f v a) w b ≡ update (update f w b) v a

@@ -1,5 +1,4 @@
 pub mod Digits
-pub mod Lines
 pub mod Jobs
 pub mod Team
 pub mod At
@@ -8,4 +7,5 @@ pub mod Adds
 pub mod Holders
 pub mod Rounds
 pub mod Ends
+pub mod Lines
 pub mod Theorem

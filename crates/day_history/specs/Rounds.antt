@@ -1,25 +1,25 @@
 -- "Then rounds: worker 0 gets, worker 1 gets, then each holder in that order finishes, run whole. A round that hands
--- out nothing ends it": where that leads, that the rounds given suffice, and the bytes of the text. Assumes nothing.
+-- out nothing ends it": where that leads, that the rounds given suffice, and what is handed out. Assumes nothing.
 use mathlib.Core.Path.{_≡_, refl, ap, _∙_}
 use mathlib.Core.Bool.{Bool, true, false}
-use mathlib.Core.List.{List, [], _∷_, _++_}
+use mathlib.Core.List.{List, [], _∷_, _++_, append-nil, append-assoc}
 use mathlib.Core.Option.{Option, none, some}
 use Prim.Native.Nat.{ℕ, zero, suc, _+_, _≤_, _<_}
 use native.Mathlib.Omega.{arith}
 use native.Mathlib.Nat.{zero-add, add-zero, add-suc, suc-add}
-use native.Mathlib.Numerals.{add-one}
 use lib.ListN.{length, length-append}
 use Rattle.terms.specs.Base.{pick, update}
 use Rattle.terms.specs.Runs.{Outcome}
 use Rattle.terms.specs.declared.Sizes.{Sizes}
 use Rattle.terms.specs.declared.Answer.the-variants.{Ended}
 use Rattle.words.specs.Layout.{Tables}
+use Rattle.words.specs.Words.{getWords}
 use Rattle.rules.specs.Rules.{idle}
 use Rattle.rules_cases.specs.Base.{pick-by, update-other}
-use Rattle.day_format.specs.Text.{decimal, _␣_, line}
-use Rattle.day_format.specs.Whole.{wholeFinish}
-use Rattle.day_format.specs.Day.{Day, day, Holder, Round, handOut, getAll, getRound, finishAll, anyHolder, rounds}
-use Rattle.day_history.specs.Lines.{handedBytes, LineWithin, handed-bytes}
+use Rattle.sheet_format.specs.SheetTrip.{Each}
+use Rattle.whole_words.specs.Whole.{wholeFinish}
+use Rattle.day_rounds.specs.Rounds.{Holder, handOut, getAll, getRound, finishAll, finished, anyHolder, handOuts}
+use Rattle.day_rounds.specs.Rounds.{Run, run, rounds}
 use Rattle.day_history.specs.Jobs.{All}
 use Rattle.day_history.specs.Calls.{During, FinishEnds, ended, GetEnds, handed-out, none-ready, Handing}
 use Rattle.day_history.specs.Calls.{Drained, whole-finish, whole-get, moved, few-jobs}
@@ -46,73 +46,77 @@ pick-same false d f = refl
 nobody-left : (workers : ℕ) (names : ℕ → ℕ) {hold : ℕ → Option ℕ} → Hold workers names hold [] → (v : ℕ) → hold v ≡ none
 nobody-left workers names (none-left f) = f
 
-module _ (s : Sizes) (few : s .jobs < 10000) (n : ℕ) (names : ℕ → ℕ) (c : ℕ)
-    (all : All (LineWithin c (s .workers)) names) (before : ℕ) where
-  -- a text of so many bytes at most, with h hand-outs in it
-  abbrev pub Printed : List ℕ → ℕ → Type 0
-  Printed text h = length text ≤ before + handedBytes c h
+each-append : {A : Type 0} {Q : A → Type 0} {a b : List A} → Each Q a → Each Q b → Each Q (a ++ b)
+each-append Each.none e = e
+each-append (Each.more q d) e = Each.more q (each-append d e)
+
+module _ (s : Sizes) (n : ℕ) (names : ℕ → ℕ) (P : ℕ → Type 0) (all : All P names) where
+  -- a hand-out to one of the workers, of a name of this kind
+  abbrev pub Right : Holder → Type 0
+  Right h = (h .worker < s .workers) × P (h .name)
+
+  each-right : (hs : List Holder) {hold : ℕ → Option ℕ} → Hold (s .workers) names hold hs → Each Right hs
+  each-right [] H = Each.none
+  each-right (x ∷ hs) H =
+      let F = first (s .workers) names H in
+      Each.more {x = x} (F .below, rw (F .named) (all (F .job))) (each-right hs (F .others))
 
   -- ---- the gets of a round that began with h handed out, as far as worker w
-  record Getting (h w : ℕ) (r : Round) : Type 0 where
-    hold : ℕ → Option ℕ
-    now : During s n (r .handed) hold names 0 idle (r .state)
-    holds : Hold (s .workers) names hold (r .holders)
-    free : (v : ℕ) → w ≤ v → hold v ≡ none
-    count : r .handed ≡ h + length (r .holders)
-    text : Printed (r .text) (r .handed)
-    empty : anyHolder (r .holders) ≡ false → 0 < w → now .graph .queue ≡ []
+  pub record Getting (h w : ℕ) (hs : List Holder) (t : Tables) : Type 0 where
+    pub hold : ℕ → Option ℕ
+    pub handed : ℕ
+    pub now : During s n handed hold names 0 idle t
+    pub holds : Hold (s .workers) names hold hs
+    pub free : (v : ℕ) → w ≤ v → hold v ≡ none
+    pub count : handed ≡ h + length hs
+    pub empty : anyHolder hs ≡ false → 0 < w → now .graph .queue ≡ []
 
-  one-get : (h w : ℕ) (r : Round) (G : Getting h w r) (hw : w < s .workers) (free : G .hold w ≡ none)
-      (o : Outcome Tables)
-      → GetEnds (Handing s w hw n (r .handed) (G .hold) names free)
-      (Drained s w hw n (r .handed) (G .hold) names free) o
-      → Getting h (suc w) (handOut w r (o .answer) (o .state))
-  one-get h w r G hw free o (handed-out {h = out} H) =
-      let j : ℕ = out .job in
-      let called : ℕ = out .name in
-      let added : List ℕ = line (decimal (r .handed) ␣ (decimal called ␣ decimal w)) in
-      record {
-        hold = update (G .hold) w (some j);
-        now = rw add-one (moved (H .now) 0);
-        holds = holds-more (s .workers) names w hw j called (H .same-name) (G .holds) free;
-        free = λ v l. update-other (G .hold) w (some j) v (λ e. omega arith) ∙ G .free v (omega arith);
-        count = rw length-append (omega (arith, G .count));
-        text =
-            omega (
-              arith,
-              G .text,
-              length-append (r .text) added,
-              ap (handedBytes c) (add-one (r .handed)),
-              handed-bytes c (s .workers) (r .handed) called w (rw (H .same-name) (all j))
-                  (omega (arith, few-jobs (G .now)))
-                  hw,
-            );
-        empty = λ e l. absurd (never (r .holders) _ e);
-      }
-  one-get h w r G hw free o (none-ready D) = record {
+  one-get : (h w : ℕ) (hs : List Holder) (t : Tables) (G : Getting h w hs t) (hw : w < s .workers)
+      (free : G .hold w ≡ none) (o : Outcome Tables)
+      → GetEnds (Handing s w hw n (G .handed) (G .hold) names free)
+      (Drained s w hw n (G .handed) (G .hold) names free) o
+      → Getting h (suc w) (hs ++ handOut w (o .answer)) (o .state)
+  one-get h w hs t G hw free o (handed-out {h = out} H) = record {
+    hold = update (G .hold) w (some (out .job));
+    handed = suc (G .handed);
+    now = moved (H .now) 0;
+    holds = holds-more (s .workers) names w hw (out .job) (out .name) (H .same-name) (G .holds) free;
+    free = λ v l. update-other (G .hold) w (some (out .job)) v (λ e. omega arith) ∙ G .free v (omega arith);
+    count = rw length-append (omega (arith, G .count));
+    empty = λ e l. absurd (never hs _ e);
+  }
+  one-get h w hs t G hw free o (none-ready D) = rw append-nil (record {
     hold = G .hold;
+    handed = G .handed;
     now = moved (D .now) 0;
     holds = G .holds;
     free = λ v l. G .free v (omega arith);
     count = G .count;
-    text = G .text;
     empty = λ e l. D .empty;
-  }
+  })
 
-  one-worker : (h m w : ℕ) (r : Round) → w + suc m ≡ s .workers → Getting h w r
-      → ((x : Round) → Getting h (suc w) x → Getting h (suc w + m) (getAll s m (suc w) x))
-      → Getting h (w + suc m) (getAll s (suc m) w r)
+  one-worker : (h m w : ℕ) (hs : List Holder) (t : Tables) → w + suc m ≡ s .workers → Getting h w hs t
+      → ((ks : List Holder) (u : Tables) → Getting h (suc w) ks u
+      → Getting h (suc w + m) (ks ++ getAll s m (suc w) u .holders) (getAll s m (suc w) u .state))
+      → Getting h (w + suc m) (hs ++ getAll s (suc m) w t .holders) (getAll s (suc m) w t .state)
   unfolding getAll
-  one-worker h m w r e G rest =
+  one-worker h m w hs t e G rest =
       let hw : w < s .workers = omega arith in
       let free : G .hold w ≡ none = G .free w (omega arith) in
-      let o = whole-get s w hw n (r .handed) (G .hold) names free (r .state) (moved (G .now) w) in
-      rw (add-suc, ← suc-add) (rest _ (one-get h w r G hw free _ o))
+      let o = whole-get s w hw n (G .handed) (G .hold) names free t (moved (G .now) w) in
+      let u = getWords s t w .state in
+      rw (
+        add-suc,
+        ← suc-add,
+        ← append-assoc hs (handOut w (getWords s t w .answer)) (getAll s m (suc w) u .holders),
+      )
+      (rest _ u (one-get h w hs t G hw free _ o))
 
-  gets : (h m w : ℕ) (r : Round) → w + m ≡ s .workers → Getting h w r → Getting h (w + m) (getAll s m w r)
+  gets : (h m w : ℕ) (hs : List Holder) (t : Tables) → w + m ≡ s .workers → Getting h w hs t
+      → Getting h (w + m) (hs ++ getAll s m w t .holders) (getAll s m w t .state)
   unfolding getAll
-  gets h zero w r e G = rw add-zero G
-  gets h (suc m) w r e G = one-worker h m w r e G (λ x F. gets h m (suc w) x (omega arith) F)
+  gets h zero w hs t e G = rw (add-zero, append-nil) G
+  gets h (suc m) w hs t e G = one-worker h m w hs t e G (λ ks u F. gets h m (suc w) ks u (omega arith) F)
 
   -- ---- the finishes of a round: nobody holds a job then
   module _ (h : ℕ) where
@@ -165,78 +169,85 @@ module _ (s : Sizes) (few : s .jobs < 10000) (n : ℕ) (names : ℕ → ℕ) (c 
 
   -- ---- the rounds
   -- the day is over: nobody holds a job, and none waits
-  pub record Over (d : Day) : Type 0 where
+  pub record Over (h : ℕ) (r : Run) : Type 0 where
     pub handed : ℕ
-    pub now : During s n handed nobody names 0 idle (d .state)
+    pub now : During s n handed nobody names 0 idle (r .state)
     pub empty : now .graph .queue ≡ []
-    pub text : length (d .text) ≤ before + handedBytes c handed
+    pub count : handed ≡ h + length (handOuts (r .rounds))
+    pub right : Each Right (handOuts (r .rounds))
 
   module _ (some-worker : 0 < s .workers) where
     -- a round that begins with nobody holding a job
-    module _ (h : ℕ) (t : Tables) (text : List ℕ) (F : Free h t) (T : Printed text h) where
-      round : Getting h (s .workers) (getRound s t text h)
+    module _ (h : ℕ) (t : Tables) (F : Free h t) where
+      pub round : Getting h (s .workers) (getRound s t .holders) (getRound s t .state)
       round =
-          let r : Round = record { state = t; text = text; handed = h; holders = [] } in
-          let G : Getting h 0 r = record {
+          let G : Getting h 0 [] t = record {
             hold = nobody;
+            handed = h;
             now = F;
             holds = none-left (λ v. refl);
             free = λ v l. refl;
             count = omega arith;
-            text = T;
             empty = λ e l. absurd (omega arith);
           } in
-          rw zero-add at (gets h (s .workers) 0 r (omega arith) G)
+          rw zero-add at (gets h (s .workers) 0 [] t (omega arith) G)
+
+      abbrev pub after : ℕ
+      after = round .handed
 
       -- it hands out nothing
-      round-over : anyHolder (getRound s t text h .holders) ≡ false
-          → Over (day (getRound s t text h .state) (getRound s t text h .text))
+      round-over : anyHolder (getRound s t .holders) ≡ false → Over h (run (getRound s t .state) [])
+      unfolding handOuts
       round-over e =
-          let D = round .now in
-          let H = rw (no-holder (getRound s t text h .holders) e) at (round .holds) in
+          let none-holding = no-holder (getRound s t .holders) e in
+          let H = rw none-holding at (round .holds) in
           record {
-            handed = getRound s t text h .handed;
-            now = none-holds _ (round .hold) _ (nobody-left (s .workers) names H) D;
+            handed = after;
+            now = none-holds _ (round .hold) _ (nobody-left (s .workers) names H) (round .now);
             empty = round .empty e some-worker;
-            text = round .text;
+            count = rw none-holding at (round .count);
+            right = Each.none;
           }
 
       -- it hands out something
-      pub round-finished : Free (getRound s t text h .handed)
-          (finishAll s (getRound s t text h .holders) (getRound s t text h .state))
+      pub round-finished : Free after (finished s (getRound s t))
       round-finished = finishes _ _ (round .holds) _ (round .now)
 
-      pub round-printed : Printed (getRound s t text h .text) (getRound s t text h .handed)
-      round-printed = round .text
-
-      pub round-ends : (hs : List Holder) (x : Holder) (rest : List Holder)
-          → getRound s t text h .holders ≡ hs ++ (x ∷ rest)
-          → wholeFinish s (finishAll s hs (getRound s t text h .state)) (x .worker) (x .name) .answer ≡ Ended
+      pub round-ends : (hs : List Holder) (x : Holder) (rest : List Holder) → getRound s t .holders ≡ hs ++ (x ∷ rest)
+          → wholeFinish s (finishAll s hs (getRound s t .state)) (x .worker) (x .name) .answer ≡ Ended
       round-ends hs x rest e = finish-ends _ hs x rest (round .hold) _ (rw e at (round .holds)) (round .now)
 
-      round-more : anyHolder (getRound s t text h .holders) ≡ true → h < getRound s t text h .handed
-      round-more e = omega (arith, round .count, some-holder (getRound s t text h .holders) e)
+      round-more : anyHolder (getRound s t .holders) ≡ true → h < after
+      round-more e = omega (arith, round .count, some-holder (getRound s t .holders) e)
+
+      round-then : (r : Run) → Over after r → Over h (run (r .state) (getRound s t .holders ∷ r .rounds))
+      unfolding handOuts
+      round-then r O = record {
+        handed = O .handed;
+        now = O .now;
+        empty = O .empty;
+        count =
+            omega (arith, O .count, round .count, length-append (getRound s t .holders) (handOuts (r .rounds)));
+        right = each-append (each-right (getRound s t .holders) (round .holds)) (O .right);
+      }
 
     -- R + 1 rounds suffice
-    pub rounds-over : (k h : ℕ) (t : Tables) (text : List ℕ) → Free h t → Printed text h → s .jobs < k + h
-        → Over (rounds k s t text h)
+    pub rounds-over : (k h : ℕ) (t : Tables) → Free h t → s .jobs < k + h → Over h (rounds k s t)
     unfolding rounds
-    rounds-over zero h t text F T l = absurd (omega (arith, few-jobs F))
-    rounds-over (suc k) h t text F T l =
-        pick-by Over (anyHolder (getRound s t text h .holders))
-        (λ e. rounds-over k _ _ _ (round-finished h t text F T) (round-printed h t text F T)
-        (omega (arith, round-more h t text F T e)))
-        (λ e. round-over h t text F T e)
+    rounds-over zero h t F l = absurd (omega (arith, few-jobs F))
+    rounds-over (suc k) h t F l =
+        pick-by (Over h) (anyHolder (getRound s t .holders))
+        (λ e. round-then h t F _ (rounds-over k _ _ (round-finished h t F) (omega (arith, round-more h t F e))))
+        (λ e. round-over h t F e)
 
     -- and more of them change nothing
-    pub rounds-same : (k l h : ℕ) (t : Tables) (text : List ℕ) → Free h t → Printed text h
-        → s .jobs < k + h
-        → s .jobs < l + h
-        → rounds k s t text h ≡ rounds l s t text h
+    pub rounds-same : (k l h : ℕ) (t : Tables) → Free h t → s .jobs < k + h → s .jobs < l + h
+        → rounds k s t ≡ rounds l s t
     unfolding rounds
-    rounds-same zero l h t text F T y z = absurd (omega (arith, few-jobs F))
-    rounds-same (suc k) zero h t text F T y z = absurd (omega (arith, few-jobs F))
-    rounds-same (suc k) (suc l) h t text F T y z =
-        pick-same (anyHolder (getRound s t text h .holders)) _ λ e.
-        let m = round-more h t text F T e in
-        rounds-same k l _ _ _ (round-finished h t text F T) (round-printed h t text F T) (omega arith) (omega arith)
+    rounds-same zero l h t F y z = absurd (omega (arith, few-jobs F))
+    rounds-same (suc k) zero h t F y z = absurd (omega (arith, few-jobs F))
+    rounds-same (suc k) (suc l) h t F y z =
+        pick-same (anyHolder (getRound s t .holders)) _ λ e.
+        let m = round-more h t F e in
+        ap (λ (r : Run). run (r .state) (getRound s t .holders ∷ r .rounds))
+        (rounds-same k l _ _ (round-finished h t F) (omega arith) (omega arith))

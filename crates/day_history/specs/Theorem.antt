@@ -8,7 +8,7 @@ use Prim.Native.Nat.{ℕ, _+_, _*_, _≤_, _<_}
 use native.Mathlib.Omega.{arith}
 use native.Mathlib.Nat.{zero-add}
 use lib.Dec.{leb}
-use lib.ListN.{length, length-append}
+use lib.ListN.{length}
 use lib.Seq.{sets}
 use borrow.Author.Tests.{leb-true, le-leb}
 use Rattle.terms.specs.Terms.{mostWorkers, withinLimits}
@@ -25,19 +25,21 @@ use Rattle.sheet_format.specs.NumberLaws.{Bytes}
 use Rattle.sheet_format.specs.SheetTrip.{Each, none, more, sheet-back}
 use Rattle.sheet_format.specs.CodeLaws.{sheet-bounds}
 use Rattle.sheet_format.specs.Decode.{Sheet, jobs, broken, decodeSheet, cut}
+use Rattle.whole_words.specs.Whole.{wholeAdd, wholeFinish}
+use Rattle.day_rounds.specs.Rounds.{daySizes, freshDay, argumentsOf, addedDay, Holder, getRound, finishAll, finished}
+use Rattle.day_rounds.specs.Rounds.{rounds, runDay, handOuts, unfinished}
 use Rattle.day_format.specs.Text.{digits, decimal, leftWord, _␣_, line}
-use Rattle.day_format.specs.Whole.{wholeAdd, wholeFinish}
-use Rattle.day_format.specs.Day.{Day, day, freshDay, argumentsOf, addAll, Holder, getRound, finishAll, rounds, jobsLine}
-use Rattle.day_format.specs.Day.{dayOf, daySizes, daySheet, dayText, mostBytes, printing, dayList, unfinished}
+use Rattle.day_format.specs.Day.{refusalLines, jobsLine, handOutLines, linesBefore, dayLines, dayOf, daySheet}
+use Rattle.day_format.specs.Day.{dayText, mostBytes, printing, dayList}
 use Rattle.representation_kept.specs.Queue.{waiting-queue}
 use Rattle.words.specs.Observed.{waiting}
 use Rattle.day_format.specs.declared.DayAnswer.the-variants.{Printed}
 use Rattle.day_history.specs.Digits.{digitsBelow, more-digits}
-use Rattle.day_history.specs.Lines.{refusedBytes, handedBytes, LineWithin, any-within, word-within}
-use Rattle.day_history.specs.Lines.{jobs-bytes, broken-bytes}
+use Rattle.day_history.specs.Lines.{refusedBytes, LineWithin, word-within, jobs-bytes, broken-bytes}
+use Rattle.day_history.specs.Lines.{length-lines, refusals-bytes, hand-outs-bytes}
 use Rattle.day_history.specs.Calls.{During, AddEnds, accepted, refused, whole-add, few-jobs}
-use Rattle.day_history.specs.Adds.{nobody, Entered, adds}
-use Rattle.day_history.specs.Rounds.{Over, round-finished, round-printed, round-ends, rounds-over, rounds-same}
+use Rattle.day_history.specs.Adds.{nobody, Entered, Adds, adds}
+use Rattle.day_history.specs.Rounds.{Over, round-finished, round-ends, rounds-over, rounds-same}
 use Rattle.day_history.specs.Ends.{fresh-day, all-finished}
 
 -- how an add may be answered in the end
@@ -50,25 +52,17 @@ answer-of P Q o (accepted D) = accepts
 answer-of P Q o (refused n {p = p} l u D) = refuses n p l u
 
 module _ (s : Sizes) (limits : withinLimits s ≡ true) where
-  -- ---- the adds
-  -- after these entries, and then with the first line
-  abbrev pub afterAdds : List Job → Day
-  afterAdds js = addAll s 0 js (day (freshDay s) [])
+  -- the tables after the adds, and after all rounds
+  abbrev pub afterAdds : List Job → Tables
+  afterAdds js = addedDay s js .state
 
-  abbrev pub withFirst : List Job → List ℕ
-  withFirst js = afterAdds js .text ++ jobsLine (afterAdds js .state) (s .workers)
+  abbrev pub afterRounds : List Job → Tables
+  afterRounds js = runDay s (afterAdds js) .state
 
-  -- the tables, the text and the number of hand-outs with which a round begins
-  pub data Begins (js : List Job) : Tables → List ℕ → ℕ → Type 0 where
-    first : Begins js (afterAdds js .state) (withFirst js) 0
-    next : {t : Tables} {text : List ℕ} {h : ℕ} → Begins js t text h
-        → Begins js (finishAll s (getRound s t text h .holders) (getRound s t text h .state))
-        (getRound s t text h .text)
-        (getRound s t text h .handed)
-
-  -- after all rounds
-  abbrev pub afterRounds : List Job → Day
-  afterRounds js = rounds (s .jobs + 1) s (afterAdds js .state) (withFirst js) 0
+  -- the tables with which a round begins
+  pub data Begins (js : List Job) : Tables → Type 0 where
+    first : Begins js (afterAdds js)
+    next : {t : Tables} → Begins js t → Begins js (finished s (getRound s t))
 
   some-worker : 0 < s .workers
   some-worker = limits-of s limits .some-workers
@@ -76,109 +70,106 @@ module _ (s : Sizes) (limits : withinLimits s ≡ true) where
   few : s .jobs < 10000
   few = omega (arith, limits-of s limits)
 
-  module _ (c : ℕ) (nameless : LineWithin c (s .workers) 0) (js : List Job)
-      (named : Each (λ j. LineWithin c (s .workers) (j .name)) js) where
-    entered : Entered s (LineWithin c (s .workers)) (length js) (afterAdds js)
-    entered = rw zero-add at (adds s (LineWithin c (s .workers)) some-worker js 0 (day (freshDay s) [])
-        (record {
-          made = 0;
-          names = λ j. 0;
-          now = fresh-day s limits;
-          all = λ j. nameless;
-          few = omega arith;
-          text = λ h. omega arith;
-        })
-        named)
+  module _ (P : ℕ → Type 0) (nameless : P 0) (js : List Job) (named : Each (λ j. P (j .name)) js) where
+    abbrev fresh : Entered s P 0 (freshDay s)
+    fresh = record {
+      made = 0;
+      names = λ j. 0;
+      now = fresh-day s limits;
+      all = λ j. nameless;
+      few = omega arith;
+    }
 
-    abbrev n : ℕ
-    n = entered .made
+    added : Adds s P 0 (fresh .made) (length js) (addedDay s js)
+    added = rw zero-add at (adds s P some-worker js 0 (freshDay s) fresh named)
 
-    abbrev names : ℕ → ℕ
-    names = entered .names
-
-    abbrev before : ℕ
-    before = length (withFirst js)
+    abbrev entered : Entered s P (length js) (afterAdds js)
+    entered = added .entered
 
     -- ---- the rounds
-    over : Over s few n names c (entered .all) before (afterRounds js)
-    over = rounds-over s few n names c (entered .all) before some-worker (s .jobs + 1) 0 (afterAdds js .state)
-        (withFirst js) (entered .now) (omega arith) (omega arith)
+    over : Over s (entered .made) (entered .names) P (entered .all) 0 (runDay s (afterAdds js))
+    over = rounds-over s (entered .made) (entered .names) P (entered .all) some-worker (s .jobs + 1) 0 (afterAdds js)
+        (entered .now) (omega arith)
 
-    enough : (k : ℕ) → rounds (k + (s .jobs + 1)) s (afterAdds js .state) (withFirst js) 0 ≡ afterRounds js
-    enough k = rounds-same s few n names c (entered .all) before some-worker (k + (s .jobs + 1)) (s .jobs + 1) 0
-        (afterAdds js .state) (withFirst js) (entered .now) (omega arith) (omega arith) (omega arith)
-
-    -- ---- the last line
-    last : dayOf s js ≡ afterRounds js .text ++ line (leftWord ␣ decimal 0)
-    unfolding dayOf
-    last = rw (all-finished (over .now) (over .empty))
+    enough : (k : ℕ) → rounds (k + (s .jobs + 1)) s (afterAdds js) ≡ runDay s (afterAdds js)
+    enough k = rounds-same s (entered .made) (entered .names) P (entered .all) some-worker (k + (s .jobs + 1))
+        (s .jobs + 1) 0 (afterAdds js) (entered .now) (omega arith) (omega arith)
 
     -- ---- the rounds, one by one
-    begun : {t : Tables} {text : List ℕ} {h : ℕ} → Begins js t text h
-        → During s n h nobody names 0 idle t × (length text ≤ before + handedBytes c h)
-    begun first = (entered .now, omega arith)
-    begun (next {t} {text} {h} b) =
-        let k = begun b in
-        let F = round-finished s few n names c (entered .all) before some-worker h t text (k .0) (k .1) in
-        (F, round-printed s few n names c (entered .all) before some-worker h t text (k .0) (k .1))
+    record Begun (t : Tables) : Type 0 where
+      handed : ℕ
+      now : During s (entered .made) handed nobody (entered .names) 0 idle t
 
-    finish-ended : {t : Tables} {text : List ℕ} {h : ℕ} → Begins js t text h
-        → (hs : List Holder) (x : Holder) (rest : List Holder)
-        → getRound s t text h .holders ≡ hs ++ (x ∷ rest)
-        → wholeFinish s (finishAll s hs (getRound s t text h .state)) (x .worker) (x .name) .answer ≡ Ended
-    finish-ended {t} {text} {h} b =
+    begun : {t : Tables} → Begins js t → Begun t
+    begun first = record { handed = 0; now = entered .now }
+    begun (next {t} b) =
         let k = begun b in
-        round-ends s few n names c (entered .all) before some-worker h t text (k .0) (k .1)
+        record {
+          handed = _;
+          now = round-finished s (entered .made) (entered .names) P (entered .all) some-worker (k .handed) t (k .now);
+        }
+
+    finish-ended : {t : Tables} → Begins js t
+        → (hs : List Holder) (x : Holder) (rest : List Holder)
+        → getRound s t .holders ≡ hs ++ (x ∷ rest)
+        → wholeFinish s (finishAll s hs (getRound s t .state)) (x .worker) (x .name) .answer ≡ Ended
+    finish-ended {t} b =
+        let k = begun b in
+        round-ends s (entered .made) (entered .names) P (entered .all) some-worker (k .handed) t (k .now)
 
   -- ---- in general
-  any-names : (js : List Job) → Each (λ j. LineWithin 43 (s .workers) (j .name)) js
+  abbrev Any : ℕ → Type 0
+  Any name = Unit {0}
+
+  any-names : (js : List Job) → Each (λ j. Any (j .name)) js
   any-names [] = none
-  any-names (j ∷ js) = more (any-within (s .workers) (j .name)) (any-names js)
+  any-names (j ∷ js) = more tt (any-names js)
 
-  nameless : LineWithin 43 (s .workers) 0
-  nameless = any-within (s .workers) 0
+  module _ (js : List Job) where
+    abbrev E : Entered s Any (length js) (afterAdds js)
+    E = entered Any tt js (any-names js)
 
-  -- "Worker 0 adds every entry, each run whole": after any entries the next one's add ends, accepted or refused by one
-  -- of 5 to 8
-  pub no-add-is-cut-short : (js : List Job) (j : Job)
-      → AddAnswer (wholeAdd s (afterAdds js .state) 0 (argumentsOf j) .answer)
-  no-add-is-cut-short js j =
-      let E = entered 43 nameless js (any-names js) in
-      answer-of _ _ _
-      (whole-add s 0 some-worker 0 nobody (E .made) (E .names) (argumentsOf j) (λ n. Unit {0}) _ (E .now))
+    O : Over s (E .made) (E .names) Any (E .all) 0 (runDay s (afterAdds js))
+    O = over Any tt js (any-names js)
 
-  -- "then each holder in that order finishes, run whole": in every round the finish of each holder ends
-  pub no-finish-is-cut-short : (js : List Job) {t : Tables} {text : List ℕ} {h : ℕ} → Begins js t text h
-      → (hs : List Holder) (x : Holder) (rest : List Holder)
-      → getRound s t text h .holders ≡ hs ++ (x ∷ rest)
-      → wholeFinish s (finishAll s hs (getRound s t text h .state)) (x .worker) (x .name) .answer ≡ Ended
-  no-finish-is-cut-short js b = finish-ended 43 nameless js (any-names js) b
+    -- "Worker 0 adds every entry, each run whole": after any entries the next one's add ends, accepted or refused by
+    -- one of 5 to 8
+    pub no-add-is-cut-short : (j : Job) → AddAnswer (wholeAdd s (afterAdds js) 0 (argumentsOf j) .answer)
+    no-add-is-cut-short j =
+        answer-of _ _ _ (whole-add s 0 some-worker 0 nobody (E .made) (E .names) (argumentsOf j) Any _ (E .now))
 
-  -- "A round that hands out nothing ends it": more rounds than R + 1 change nothing
-  pub the-rounds-suffice : (js : List Job) (k : ℕ)
-      → rounds (k + (s .jobs + 1)) s (afterAdds js .state) (withFirst js) 0 ≡ afterRounds js
-  the-rounds-suffice js k = enough 43 nameless js (any-names js) k
+    -- "then each holder in that order finishes, run whole": in every round the finish of each holder ends
+    pub no-finish-is-cut-short : {t : Tables} → Begins js t
+        → (hs : List Holder) (x : Holder) (rest : List Holder)
+        → getRound s t .holders ≡ hs ++ (x ∷ rest)
+        → wholeFinish s (finishAll s hs (getRound s t .state)) (x .worker) (x .name) .answer ≡ Ended
+    no-finish-is-cut-short b = finish-ended Any tt js (any-names js) b
 
-  -- because then nothing waits,
-  pub nothing-waits : (js : List Job) → waiting (afterRounds js .state) ≡ []
-  nothing-waits js =
-      let O = over 43 nameless js (any-names js) in waiting-queue (O .now .at .stands) ∙ O .empty
+    -- "A round that hands out nothing ends it": more rounds than R + 1 change nothing
+    pub the-rounds-suffice : (k : ℕ) → rounds (k + (s .jobs + 1)) s (afterAdds js) ≡ runDay s (afterAdds js)
+    the-rounds-suffice k = enough Any tt js (any-names js) k
 
-  -- the jobs are as many as after the adds,
-  pub no-job-is-lost : (js : List Job) → view (afterRounds js .state) .made ≡ view (afterAdds js .state) .made
-  no-job-is-lost js =
-      let E = entered 43 nameless js (any-names js) in
-      let O = over 43 nameless js (any-names js) in
-      O .now .at .stands .rep .made ∙ O .now .jobs .made ∙ sym (E .now .at .stands .rep .made ∙ E .now .jobs .made)
+    -- because then nothing waits,
+    pub nothing-waits : waiting (afterRounds js) ≡ []
+    nothing-waits = waiting-queue (O .now .at .stands) ∙ O .empty
 
-  -- and every one is finished
-  pub none-is-unfinished : (js : List Job)
-      → unfinished (view (afterRounds js .state) .job LABEL) (view (afterRounds js .state) .made) ≡ 0
-  none-is-unfinished js = let O = over 43 nameless js (any-names js) in all-finished (O .now) (O .empty)
+    -- the jobs are as many as after the adds,
+    pub no-job-is-lost : view (afterRounds js) .made ≡ view (afterAdds js) .made
+    no-job-is-lost =
+        O .now .at .stands .rep .made ∙ O .now .jobs .made ∙ sym (E .now .at .stands .rep .made ∙ E .now .jobs .made)
 
-  -- "The last gives jobs not finished": it is left 0
-  pub nothing-is-left : (js : List Job) → dayOf s js ≡ afterRounds js .text ++ line (leftWord ␣ decimal 0)
-  nothing-is-left js = last 43 nameless js (any-names js)
+    -- and every one is finished
+    pub none-is-unfinished : unfinished (view (afterRounds js) .job LABEL) (view (afterRounds js) .made) ≡ 0
+    none-is-unfinished = all-finished (O .now) (O .empty)
+
+    -- no more is handed out than there are jobs, and so at most R
+    pub hand-outs-within : length (handOuts (runDay s (afterAdds js) .rounds)) ≤ s .jobs
+    hand-outs-within = let F = few-jobs (O .now) in omega (arith, O .count, F .given, F .made)
+
+    -- "The last gives jobs not finished": it is left 0
+    pub nothing-is-left : dayLines s js ≡ linesBefore s js ++ (line (leftWord ␣ decimal 0) ∷ [])
+    unfolding dayLines
+    nothing-is-left = rw none-is-unfinished
 
   left-bytes : length (line (leftWord ␣ decimal 0)) ≡ 7
   unfolding digits
@@ -190,20 +181,27 @@ module _ (s : Sizes) (limits : withinLimits s ≡ true) where
     pub day-bytes : length (dayOf s js) ≤ refusedBytes (length js) + 3 * s .jobs + 26
     day-bytes =
         let zeroed : LineWithin 14 (s .workers) 0 = word-within (s .workers) 0 (omega arith) (omega arith) in
-        let E = entered 14 zeroed js named in
-        let O = over 14 zeroed js named in
+        let A = added (LineWithin 14 (s .workers)) zeroed js named in
+        let E = A .entered in
+        let O = over (LineWithin 14 (s .workers)) zeroed js named in
         let F = few-jobs (O .now) in
-        let made : view (afterAdds js .state) .made ≡ E .made = E .now .at .stands .rep .made ∙ E .now .jobs .made in
-        rw (last 14 zeroed js named)
+        let made : view (afterAdds js) .made ≡ E .made = E .now .at .stands .rep .made ∙ E .now .jobs .made in
+        let hs = handOuts (runDay s (afterAdds js) .rounds) in
+        let refusals = refusals-bytes (A .answers) (omega arith) short in
+        let handed = rw (← O .count) at
+        (hand-outs-bytes 14 (s .workers) 0 hs (O .right) (omega (arith, O .count, F, few))) in
+        let last = nothing-is-left js in
+        rw last
         (omega (
           arith,
-          length-append (afterRounds js .text) (line (leftWord ␣ decimal 0)),
+          length-lines (refusalLines (addedDay s js .refusals)) (handOutLines 0 hs)
+              (jobsLine (afterAdds js) (s .workers)) (line (leftWord ␣ decimal 0)),
           left-bytes,
-          O .text,
-          length-append (afterAdds js .text) (jobsLine (afterAdds js .state) (s .workers)),
-          jobs-bytes (view (afterAdds js .state) .made) (s .workers) (omega (arith, F)) workers,
-          E .text (omega arith),
+          refusals,
+          handed,
+          jobs-bytes (view (afterAdds js) .made) (s .workers) (omega (arith, F)) workers,
           more-digits (O .handed) (E .made) (F .given),
+          O .count,
           F,
         ))
 

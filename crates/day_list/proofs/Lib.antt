@@ -1,5 +1,2 @@
-pub mod Telling
-pub mod Entries
-pub mod Rounds
-pub mod Counts
+pub mod Days
 pub mod Measure

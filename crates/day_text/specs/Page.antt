@@ -1,17 +1,20 @@
 -- A text printed into a lent output from a place on (document 01, "The board and the day list"): only places below a
 -- limit are stored, so that a
 -- text can be measured with the limit 0 before it is stored. Assumes nothing.
-use mathlib.Core.Path.{_≡_, refl, _∙_}
+use mathlib.Core.Path.{_≡_, refl, sym, _∙_}
 use mathlib.Core.Bool.{Bool, true, false}
 use mathlib.Core.List.{List, [], _∷_, _++_}
-use Prim.Native.Nat.{ℕ, zero, suc, _+_, _≤_, _/_, _%_}
+use Prim.Native.Nat.{ℕ, zero, suc, _+_, _*_, _≤_, _/_, _%_}
 use native.Mathlib.Omega.{arith}
 use lib.Dec.{ltb, leb}
 use lib.ListN.{length, set, length-set, length-append}
 use lib.Seq.{sets}
-use borrow.Author.Tests.{lt-ltb, le-ltb}
+use borrow.Author.Tests.{lt-ltb, le-ltb, le-leb}
 use Rattle.terms.specs.Base.{pick}
-use Rattle.day_format.specs.Text.{digits, decimal}
+use Rattle.sheet_format.specs.SheetTrip.{Each}
+use Rattle.day_rounds.specs.Rounds.{Refusal, Holder}
+use Rattle.day_format.specs.Text.{digits, decimal, jobsWord, workersWord, leftWord, refusedWord, _␣_, line}
+use Rattle.day_format.specs.Day.{refusalLine, refusalLines, handOutLine, handOutLines, text}
 
 -- the output after a text: each byte whose place is below the limit is stored
 unfoldable pub emitted : ℕ → List ℕ → ℕ → List ℕ → List ℕ
@@ -43,6 +46,15 @@ Roomy at bytes = at + bytes ≤ mostPlace + lineRoom
 
 abbrev pub printLine : ℕ → Page → List ℕ → Page
 printLine limit p text = pick (leb (p .place) mostPlace) (print limit p text) p
+
+-- one line after the other
+unfoldable pub printLines : ℕ → Page → List (List ℕ) → Page
+printLines limit p [] = p
+printLines limit p (l ∷ ls) = printLines limit (printLine limit p l) ls
+
+-- the most bytes of a line of the day list
+abbrev pub lineBytes : ℕ
+lineBytes = 64
 
 -- ---- laws
 -- a text after a text
@@ -105,3 +117,82 @@ digits-length (suc k) n rest = go (ltb n 10) (digits-length k (n / 10) ((48 + n 
 
 pub decimal-length : (n : ℕ) → length (decimal n) ≤ 20
 decimal-length n = omega (arith, digits-length 20 n [])
+
+-- ---- lines
+pub no-lines : (limit : ℕ) (p : Page) → printLines limit p [] ≡ p
+unfolding printLines
+no-lines limit p = refl
+
+pub one-line : (limit : ℕ) (p : Page) (l : List ℕ) → printLines limit p (l ∷ []) ≡ printLine limit p l
+unfolding printLines
+one-line limit p l = refl
+
+pub lines-append : (limit : ℕ) (p : Page) (a b : List (List ℕ))
+    → printLines limit (printLines limit p a) b ≡ printLines limit p (a ++ b)
+unfolding printLines
+lines-append limit p [] b = refl
+lines-append limit p (l ∷ a) b = lines-append limit (printLine limit p l) a b
+
+-- lines that are short, and few enough for the page, are printed as one text
+pub Short : List ℕ → Type 0
+Short l = length l ≤ lineBytes
+
+pub printed-lines : (limit : ℕ) (ls : List (List ℕ)) (p : Page) → Each Short ls
+    → p .place + lineBytes * length ls ≤ mostPlace
+    → printLines limit p ls ≡ print limit p (text ls)
+unfolding printLines text Short
+printed-lines limit [] p e h = sym (print-nothing limit p)
+printed-lines limit (l ∷ ls) p (Each.more q e) h =
+    let z = print-place limit p l in
+    rw (le-leb (p .place) mostPlace (omega arith))
+    (printed-lines limit ls (print limit p l) e (omega arith) ∙ print-append limit p l (text ls))
+
+-- every line of the day list is short
+numbers-length : (a b : ℕ) → length (decimal a ␣ decimal b) ≤ 41
+numbers-length a b =
+    rw (length-append (decimal a) (32 ∷ decimal b)) (omega (arith, decimal-length a, decimal-length b))
+
+short-refusals : (rs : List Refusal) → Each Short (refusalLines rs)
+unfolding refusalLines Short
+short-refusals [] = Each.none
+short-refusals (r ∷ rs) =
+    Each.more {x = refusalLine r}
+    (rw (length-append (refusedWord ␣ (decimal (r .entry) ␣ decimal (r .number))) (10 ∷ []))
+    (omega (arith, numbers-length (r .entry) (r .number))))
+    (short-refusals rs)
+
+short-hand-outs : (i : ℕ) (hs : List Holder) → Each Short (handOutLines i hs)
+unfolding handOutLines Short
+short-hand-outs i [] = Each.none
+short-hand-outs i (h ∷ hs) =
+    Each.more {x = handOutLine i h}
+    (rw (
+      length-append (decimal i ␣ (decimal (h .name) ␣ decimal (h .worker))) (10 ∷ []),
+      length-append (decimal i) (32 ∷ (decimal (h .name) ␣ decimal (h .worker))),
+    )
+    (omega (arith, decimal-length i, numbers-length (h .name) (h .worker))))
+    (short-hand-outs (suc i) hs)
+
+short-jobs : (n w : ℕ) → Short (line (jobsWord ␣ (decimal n ␣ (workersWord ␣ decimal w))))
+unfolding Short
+short-jobs n w =
+    rw (
+      length-append (jobsWord ␣ (decimal n ␣ (workersWord ␣ decimal w))) (10 ∷ []),
+      length-append (decimal n) (32 ∷ (workersWord ␣ decimal w)),
+    )
+    (omega (arith, decimal-length n, decimal-length w))
+
+short-left : (n : ℕ) → Short (line (leftWord ␣ decimal n))
+unfolding Short
+short-left n = rw (length-append (leftWord ␣ decimal n) (10 ∷ [])) (omega (arith, decimal-length n))
+
+each-append : {A : Type 0} {Q : A → Type 0} {a b : List A} → Each Q a → Each Q b → Each Q (a ++ b)
+each-append Each.none e = e
+each-append (Each.more q d) e = Each.more q (each-append d e)
+
+pub short-day : (rs : List Refusal) (n w : ℕ) (hs : List Holder) (left : ℕ)
+    → Each Short ((refusalLines rs ++ (line (jobsWord ␣ (decimal n ␣ (workersWord ␣ decimal w))) ∷ handOutLines 0 hs))
+    ++ (line (leftWord ␣ decimal left) ∷ []))
+short-day rs n w hs left =
+    each-append (each-append (short-refusals rs) (Each.more (short-jobs n w) (short-hand-outs 0 hs)))
+    (Each.more (short-left left) Each.none)

@@ -124,7 +124,7 @@ pub fn handed_line(
     out: &mut [u8],
     limit: usize,
     at: usize,
-    handed: u32,
+    handed: usize,
     name: u32,
     worker: u32,
 ) -> usize
@@ -152,7 +152,7 @@ pub fn left_line(out: &mut [u8], limit: usize, at: usize, left: u32) -> usize
 }
 
 // "A refused entry puts refused I N before the first line."
-pub fn refused_line(out: &mut [u8], limit: usize, at: usize, entry: u32, number: u32) -> usize
+pub fn refused_line(out: &mut [u8], limit: usize, at: usize, entry: usize, number: u32) -> usize
     ensures { λ r. ⌜ page r (now (out .exit))
         ≡ printLine limit (page at (now (out .entry))) (line (refusedWord ␣ (decimal entry ␣ decimal number))) ⌝ }
 {

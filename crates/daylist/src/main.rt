@@ -2,7 +2,7 @@
 // said on standard error; after a failed read nothing is printed.
 // Follows document 01, "The board and the day list" (R 256, A 1,024, b 4, P 2). What it prints is the library's:
 // day_of_two says it.
-ghost use Rattle.io.specs.Counts.{Counts};
+use day_input::read_whole;
 use day_of_two::OUT_BYTES;
 use day_of_two::day_list_of_two;
 use libc::STDERR_FILENO;
@@ -11,50 +11,6 @@ use libc::STDOUT_FILENO;
 
 // One byte more than the longest sheet, so that a longer one is seen.
 const SHEET_BYTES: usize = 32769;
-
-// How many bytes were put at the start of a buffer, and whether a read failed.
-struct Input {
-    failed: bool,
-    bytes: usize,
-}
-
-// One read.
-fn read_some(fd: i32, buf: &mut [u8]) -> Input
-    ensures { λ r. ⌜ Counts (r .bytes) (now (buf .exit)) ⌝ }
-{
-    let got = libc::read(fd, buf);
-    Input {
-        failed: got < 0,
-        bytes: io::count(got, buf),
-    }
-}
-
-// Reads until the buffer is full, the input ends or a read fails. `io::read_full` does not tell the last two apart.
-fn read_whole(fd: i32, buf: &mut [u8]) -> Input
-    ensures { λ r. ⌜ Counts (r .bytes) (now (buf .exit)) ⌝ }
-{
-    let mut bytes = 0;
-    while bytes < buf.len() {
-        let more = read_some(fd, &mut buf[bytes..]);
-        if more.failed {
-            return Input {
-                failed: true,
-                bytes,
-            };
-        }
-        if more.bytes == 0 {
-            return Input {
-                failed: false,
-                bytes,
-            };
-        }
-        bytes += more.bytes;
-    }
-    Input {
-        failed: false,
-        bytes,
-    }
-}
 
 // Writes the bytes that were printed.
 fn show(out: &[u8], bytes: usize) {

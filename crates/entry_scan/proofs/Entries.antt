@@ -1,5 +1,5 @@
 -- Laws of a whole entry: where an entry that was read ends and where its names stand, and what a scan says of the entry
--- (document 01, "Job sheets"). Assumes nothing.
+-- (docs/SHEETS.md). Assumes nothing.
 use Prim.Native.Nat.{ℕ, zero, suc, _+_, _*_, _-_, _/_, _%_, _≤_, _<_}
 use mathlib.Core.Path.{_≡_, refl, sym, ap, _∙_}
 use mathlib.Core.Bool.{Bool, true, false}

@@ -1,5 +1,5 @@
 -- Laws of single fields: what a field that was read says, and that judging a number once it is read comes to the same
--- (document 01, "Job sheets"). Assumes nothing.
+-- (docs/SHEETS.md). Assumes nothing.
 use Prim.Native.Nat.{ℕ, zero, suc, _+_, _*_, _-_, _/_, _%_, _≤_}
 use mathlib.Core.Path.{_≡_, refl, ap}
 use mathlib.Core.Bool.{Bool, true, false, _&&_}

@@ -1,4 +1,4 @@
--- The last fields of an entry as the code reads them, a number first and its limits next (document 01, "Job sheets"):
+-- The last fields of an entry as the code reads them, a number first and its limits next (docs/SHEETS.md):
 -- what the private functions answer. That `decode` of sheet_format comes to the same is shown in proofs/Fields.antt.
 -- Assumes nothing.
 use Prim.Native.Nat.{ℕ, _/_, _%_}

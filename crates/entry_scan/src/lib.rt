@@ -1,6 +1,6 @@
-// The entry at an offset of a job sheet, its fields read one after the other and judged (document 01, "Job sheets" and
-// numbers 12 to 14): each answer is the one that the definitions of sheet_format give. Assumes nothing of the bytes,
-// and nothing of the offset.
+// The entry at an offset of a job sheet, its fields read one after the other and judged (docs/SHEETS.md and numbers 12
+// to 14): each answer is the one that the definitions of sheet_format give. Assumes nothing of the bytes, and nothing
+// of the offset.
 use sheet_format::Field;
 use sheet_format::Scan;
 ghost use mathlib.Core.Path.{_≡_};

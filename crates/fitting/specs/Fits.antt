@@ -1,6 +1,5 @@
 -- Every plan of a step and of a get is a fitting one: the sizes' limits and the worker's own words bound what is
--- counted. Follows document 01,
--- "Tables and their measures" and "Turned-away calls". Assumes nothing.
+-- counted. Follows docs/RULES.md, "Tables and their measures" and "Turned-away calls". Assumes nothing.
 use mathlib.Core.Path.{_≡_, refl}
 use mathlib.Core.Bool.{Bool, true, false, _&&_, _||_}
 use Prim.Native.Nat.{ℕ, _+_, _-_, _<_, _≤_}

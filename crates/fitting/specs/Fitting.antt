@@ -1,6 +1,6 @@
--- The plans whose stores are words: every counter that a plan raises stays at most the largest word. Follows document
--- 01, "Tables and their measures";
--- specs/Fits shows that every plan of a step and of a get is one. Assumes nothing.
+-- The plans whose stores are words: every counter that a plan raises stays at most the largest word. Follows
+-- docs/RULES.md, "Tables and their measures"; specs/Fits shows that every plan of a step and of a get is one. Assumes
+-- nothing.
 use Prim.Native.Nat.{ℕ, _+_, _<_, _≤_}
 use Rattle.words.specs.Layout.{none, PLACE, TALLY, LIST-COUNT, View}
 use Rattle.words.specs.declared.Plan.{Plan}

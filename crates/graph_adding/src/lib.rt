@@ -1,4 +1,4 @@
-// What the links and the settling of an add store in the tables. Follows document 01, "Steps" and "Tables and their
+// What the links and the settling of an add store in the tables. Follows docs/RULES.md, "Steps" and "Tables and their
 // measures". Nothing is required of a table, a worker or a plan; tables that a function is not lent stay, whatever they
 // are. Assumes nothing.
 ghost use mathlib.Core.Path.{_≡_};

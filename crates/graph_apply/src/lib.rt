@@ -1,7 +1,6 @@
-// The stores of a plan, by its kind. Follows document 01, "Steps" and "Tables and their measures". Nothing is required
-// of a table, a worker or a plan; where a counter would pass the largest word, which no plan of sound sizes asks,
-// nothing
-// is promised.
+// The stores of a plan, by its kind. Follows docs/RULES.md, "Steps" and "Tables and their measures". Nothing is
+// required of a table, a worker or a plan; where a counter would pass the largest word, which no plan of sound sizes
+// asks, nothing is promised.
 ghost use mathlib.Core.Path.{_≡_};
 ghost use mathlib.Core.List.{List};
 ghost use Prim.Native.Nat.{ℕ};

@@ -1,5 +1,5 @@
-// The arguments of an add: whether they are turned away with number 5.
-// Follows document 01, "Turned-away calls". Assumes nothing.
+// The arguments of an add: whether they are turned away with number 5. Follows docs/RULES.md, "Turned-away calls".
+// Assumes nothing.
 ghost use mathlib.Core.Path.{_≡_};
 ghost use Prim.Native.Nat.{_≤_};
 ghost use lib.ListN.{drop};

@@ -1,4 +1,4 @@
--- The board over the graph's own row: the label and class of each job that was made (document 01, "The board and the
+-- The board over the graph's own row: the label and class of each job that was made (docs/RULES.md, "The board and the
 -- day list"). Assumes nothing.
 use mathlib.Core.Bool.{Bool, _&&_}
 use mathlib.Core.List.{List, [], _∷_}

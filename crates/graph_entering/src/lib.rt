@@ -1,5 +1,6 @@
-// What the entry of an add stores in the tables. Follows document 01, "Steps" and "Tables and their measures". Nothing
-// is required of a table or a worker; the queue, which the function is not lent, stays, whatever it is. Assumes nothing.
+// What the entry of an add stores in the tables. Follows docs/RULES.md, "Steps" and "Tables and their measures".
+// Nothing is required of a table or a worker; the queue, which the function is not lent, stays, whatever it is. Assumes
+// nothing.
 ghost use mathlib.Core.Path.{_≡_};
 ghost use mathlib.Core.List.{List, [], _∷_};
 ghost use Prim.Native.Nat.{ℕ, _+_, _<_, _≤_};

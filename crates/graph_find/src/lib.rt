@@ -1,7 +1,6 @@
-// The job of a name: the walk along the name's bucket.
-// Follows document 01, "Tables and their measures" and, for number 9, "Turned-away calls". Nothing is required of a
-// table: the walk
-// passes at most as many jobs as were made, and says where it met a damaged word.
+// The job of a name: the walk along the name's bucket. Follows docs/RULES.md, "Tables and their measures" and, for
+// number 9, "Turned-away calls". Nothing is required of a table: the walk passes at most as many jobs as were made, and
+// says where it met a damaged word.
 ghost use mathlib.Core.Path.{_≡_};
 ghost use mathlib.Core.List.{List};
 ghost use Prim.Native.Nat.{ℕ};

@@ -1,6 +1,6 @@
-// What the steps of a finish plan: the mark, and the notice along each arc.
-// Follows document 01, "Steps" and "Turned-away calls". Assumes nothing: each definition holds of all tables, and where
-// a table is not read the contract holds with any.
+// What the steps of a finish plan: the mark, and the notice along each arc. Follows docs/RULES.md, "Steps" and
+// "Turned-away calls". Assumes nothing: each definition holds of all tables, and where a table is not read the contract
+// holds with any.
 ghost use mathlib.Core.Path.{_≡_};
 ghost use mathlib.Core.List.{List};
 ghost use Prim.Native.Nat.{ℕ};

@@ -1,4 +1,4 @@
-// The stores of laying out. Follows document 01, "Tables and their measures": no jobs, all workers idle and holding
+// The stores of laying out. Follows docs/RULES.md, "Tables and their measures": no jobs, all workers idle and holding
 // nothing, unused words 0, every place none. Assumes nothing.
 ghost use mathlib.Core.Path.{_≡_};
 ghost use Prim.Native.Nat.{_+_, _*_, _^_, _≤_};
@@ -69,7 +69,8 @@ pub fn buckets_of(bits: u32) -> usize
 }
 
 fn fresh_buckets(sizes: Sizes, buckets: &mut [u32])
-    ensures { λ _. ⌜ (sizes .bits ≤ mostBits → now (buckets .exit) ≡ sets (now (buckets .entry)) 0 (freshBuckets sizes)) ⌝ }
+    ensures { λ _. ⌜ (sizes .bits ≤ mostBits
+        → now (buckets .exit) ≡ sets (now (buckets .entry)) 0 (freshBuckets sizes)) ⌝ }
 {
     let count = buckets_of(sizes.bits);
     fill(buckets, BUCKET_HEAD as usize, count, NONE);

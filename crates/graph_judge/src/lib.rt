@@ -1,6 +1,6 @@
-// What turns the posts of an add and of a finish away: it reads and judges, and stores nothing.
-// Follows document 01, "Turned-away calls". Assumes nothing: each definition holds of all tables and arguments. The
-// tests that come first stand in both as in a step: docs/DECISIONS.md, 43.
+// What turns the posts of an add and of a finish away: it reads and judges, and stores nothing. Follows docs/RULES.md,
+// "Turned-away calls". Assumes nothing: each definition holds of all tables and arguments. The tests that come first
+// stand in both as in a step: docs/DECISIONS.md, 43.
 ghost use mathlib.Core.Path.{_≡_};
 ghost use mathlib.Core.List.{List};
 ghost use Prim.Native.Nat.{ℕ};

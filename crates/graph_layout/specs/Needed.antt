@@ -1,6 +1,5 @@
 -- How long the five tables must be for given sizes, so that a host can lend them, and that tables so long are long
--- enough. Follows document 01,
--- "Tables and their measures": the counters and the records of each. Assumes nothing.
+-- enough. Follows docs/RULES.md, "Tables and their measures": the counters and the records of each. Assumes nothing.
 use mathlib.Core.Path.{_≡_, refl}
 use mathlib.Core.Bool.{Bool, true, false}
 use Prim.Native.Nat.{ℕ, _≤_, _^_}

@@ -1,6 +1,5 @@
-// How long the five tables must be for given sizes, and laying them out for a fresh graph.
-// Follows document 01, "Tables and their measures" and "Turned-away calls".
-// Nothing is required: both answer for all sizes and tables.
+// How long the five tables must be for given sizes, and laying them out for a fresh graph. Follows docs/RULES.md,
+// "Tables and their measures" and "Turned-away calls". Nothing is required: both answer for all sizes and tables.
 ghost use mathlib.Core.Path.{_≡_};
 ghost use Rattle.terms.specs.Runs.{outcome};
 ghost use Rattle.words.specs.Layout.{atEntry, atExit};

@@ -1,6 +1,5 @@
-// The stores of the lists that run through the tables: a job's list of arcs, and the queue. Follows document 01,
-// "Steps"
-// and "Tables and their measures". Assumes nothing.
+// The stores of the lists that run through the tables: a job's list of arcs, and the queue. Follows docs/RULES.md,
+// "Steps" and "Tables and their measures". Assumes nothing.
 ghost use mathlib.Core.Path.{_≡_};
 ghost use Prim.Native.Nat.{_+_, _<_};
 ghost use Rattle.words.specs.Columns.{put, putHeader};

@@ -1,6 +1,5 @@
 // The counters of a graph, the places below them, and the words that a worker keeps: the tests of them that a call
-// makes before it does anything.
-// Follows document 01, "Turned-away calls", number 9. Assumes nothing.
+// makes before it does anything. Follows docs/RULES.md, "Turned-away calls", number 9. Assumes nothing.
 ghost use mathlib.Core.Path.{_≡_};
 ghost use mathlib.Core.Bool.{_&&_};
 ghost use mathlib.Core.List.{List};

@@ -1,5 +1,5 @@
-// What a get is to do with the tables: it reads and judges, and stores nothing.
-// Follows document 01, "Steps" and "Turned-away calls". Assumes nothing: each definition holds of all tables.
+// What a get is to do with the tables: it reads and judges, and stores nothing. Follows docs/RULES.md, "Steps" and
+// "Turned-away calls". Assumes nothing: each definition holds of all tables.
 ghost use mathlib.Core.Path.{_≡_};
 ghost use mathlib.Core.List.{List};
 ghost use Prim.Native.Nat.{ℕ};

@@ -1,12 +1,12 @@
-// What a step is to do with the tables: it reads and judges, and stores nothing.
-// Follows document 01, "Steps" and "Turned-away calls". Assumes nothing: each definition holds of all tables.
+// What a step is to do with the tables: it reads and judges, and stores nothing. Follows docs/RULES.md, "Steps" and
+// "Turned-away calls". Assumes nothing: each definition holds of all tables.
 ghost use mathlib.Core.Path.{_≡_};
 ghost use Rattle.words.specs.Layout.{atEntry, view};
 ghost use Rattle.words.specs.Words.{planPhase, planStep};
-use graph_add_steps::plan_add;
-use graph_add_steps::plan_links;
+use graph_enter_steps::plan_add;
 use graph_finish_steps::plan_mark;
 use graph_finish_steps::plan_notify;
+use graph_link_steps::plan_links;
 use graph_own::counters_ok;
 use graph_own::own_ok;
 use graph_sizes::sizes_fit;

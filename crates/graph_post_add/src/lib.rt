@@ -1,5 +1,5 @@
-// The post of an add over five lent tables: a number refuses the call, or it is kept in its worker's record.
-// Follows document 01, "Steps" and "Turned-away calls". Nothing is required: it answers for all tables and arguments.
+// The post of an add over five lent tables: a number refuses the call, or it is kept in its worker's record. Follows
+// docs/RULES.md, "Steps" and "Turned-away calls". Nothing is required: it answers for all tables and arguments.
 ghost use mathlib.Core.Path.{_≡_};
 ghost use Rattle.terms.specs.Runs.{outcome};
 ghost use Rattle.words.specs.Layout.{atEntry, atExit};

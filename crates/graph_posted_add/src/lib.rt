@@ -1,5 +1,5 @@
-// The store of a posted add: its worker's record with the arguments and the list of names. Follows document 01, "Tables
-// and their measures". A store past the table's end changes nothing. Assumes nothing.
+// The store of a posted add: its worker's record with the arguments and the list of names. Follows docs/RULES.md,
+// "Tables and their measures". A store past the table's end changes nothing. Assumes nothing.
 ghost use mathlib.Core.Path.{_≡_};
 ghost use mathlib.Core.List.{[], _∷_};
 ghost use Prim.Native.Nat.{_≤_, _<_};

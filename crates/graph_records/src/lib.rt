@@ -1,5 +1,5 @@
-// The stores of whole records: a job's, and that of a worker whose call has no arguments. Follows document 01, "Tables
-// and their measures". A store past a table's end changes nothing. Assumes nothing.
+// The stores of whole records: a job's, and that of a worker whose call has no arguments. Follows docs/RULES.md,
+// "Tables and their measures". A store past a table's end changes nothing. Assumes nothing.
 ghost use mathlib.Core.Path.{_≡_};
 ghost use mathlib.Core.List.{[], _∷_};
 ghost use Prim.Native.Nat.{_-_, _≤_};

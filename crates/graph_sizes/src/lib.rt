@@ -1,5 +1,5 @@
 // The sizes of a graph: their limits, the words that the tables need for them, and whether they are those laid out.
-// Follows document 01, "Tables and their measures" and "Turned-away calls", number 1. Assumes nothing.
+// Follows docs/RULES.md, "Tables and their measures" and "Turned-away calls", number 1. Assumes nothing.
 ghost use mathlib.Core.Path.{_≡_};
 ghost use mathlib.Core.Bool.{true};
 ghost use Prim.Native.Nat.{_^_, _≤_};

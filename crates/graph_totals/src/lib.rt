@@ -1,5 +1,5 @@
-// The board of totals over the graph's own jobs: the label and class of each job that was made.
-// Follows document 01, "The board and the day list" and "Turned-away calls". Assumes nothing.
+// The board of totals over the graph's own jobs: the label and class of each job that was made. Follows docs/RULES.md,
+// "The board and the day list" and "Turned-away calls". Assumes nothing.
 ghost use mathlib.Core.Path.{_≡_};
 ghost use Rattle.minutes.specs.Minutes.{fixedMinutes};
 ghost use Rattle.graph_board.specs.Board.{jobsFit, graphTotals};

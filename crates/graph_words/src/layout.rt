@@ -1,5 +1,5 @@
-// The numbers of the tables' layout, with the values that specs/Layout of `words` gives them.
-// Follows document 01, "Tables and their measures". Assumes nothing.
+// The numbers of the tables' layout, with the values that specs/Layout of `words` gives them. Follows docs/RULES.md,
+// "Tables and their measures". Assumes nothing.
 
 // No place.
 pub const NONE: u32 = 4294967295;

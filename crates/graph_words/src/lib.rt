@@ -1,6 +1,5 @@
-// The words of the five tables, each read and stored by its table, record and field.
-// Follows document 01, "Tables and their measures". Nothing is required of a table: past its end a read answers 0 and a
-// store does nothing.
+// The words of the five tables, each read and stored by its table, record and field. Follows docs/RULES.md, "Tables and
+// their measures". Nothing is required of a table: past its end a read answers 0 and a store does nothing.
 ghost use mathlib.Core.Path.{_≡_};
 ghost use Prim.Native.Nat.{_+_, _-_};
 ghost use lib.ListN.{getD, set};

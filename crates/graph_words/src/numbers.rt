@@ -1,5 +1,5 @@
-// The limits and the refusals, with the values that specs/Terms of `terms` gives them.
-// Follows document 01, "Tables and their measures" and "Turned-away calls". Assumes nothing.
+// The limits and the refusals, with the values that specs/Terms of `terms` gives them. Follows docs/RULES.md, "Tables
+// and their measures" and "Turned-away calls". Assumes nothing.
 
 pub const MOST_JOBS: u32 = 4096;
 

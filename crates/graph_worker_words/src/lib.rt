@@ -1,5 +1,5 @@
-// What a step stores in its worker's record: the call goes on, or ends and leaves the worker idle. Follows document 01,
-// "Steps". Assumes nothing.
+// What a step stores in its worker's record: the call goes on, or ends and leaves the worker idle. Follows
+// docs/RULES.md, "Steps". Assumes nothing.
 ghost use mathlib.Core.Path.{_≡_};
 ghost use Prim.Native.Nat.{_+_, _<_, _≤_};
 ghost use lib.Dec.{eqb};

@@ -1,5 +1,5 @@
--- The idle systems of document 01, "How narrow each promise is", clause c, and others that do next to nothing.
--- (The board is in graph_board, Wrong.antt.) Assumes nothing.
+-- The idle systems of docs/RULES.md, "How narrow each promise is", clause c, and others that do next to nothing. (The
+-- board is in graph_board, Wrong.antt.) Assumes nothing.
 use mathlib.Core.Path.{_≡_, refl}
 use mathlib.Core.Logic.{_↔_}
 use mathlib.Core.List.{List, [], _∷_, _++_}

@@ -1,5 +1,5 @@
--- The errors of the published text (document 01, "Where the published text misleads"), each as a system.
--- Assumes nothing.
+-- The errors of the published text (docs/RULES.md, "Where the published text misleads"), each as a system. Assumes
+-- nothing.
 use mathlib.Core.Path.{_≡_, refl}
 use mathlib.Core.Bool.{Bool, _&&_}
 use mathlib.Core.List.{List, [], _∷_, _++_}

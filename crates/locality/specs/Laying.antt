@@ -1,5 +1,5 @@
 -- When tables are laid out, and what laying out leaves: a fresh graph in the words needed, whatever they were, and the
--- rest as it was. For all tables. Follows document 01, "Tables and their measures" ("Laying out makes a fresh graph")
+-- rest as it was. For all tables. Follows docs/RULES.md, "Tables and their measures" ("Laying out makes a fresh graph")
 -- and "Turned-away calls" (number 1). Assumes nothing.
 use mathlib.Core.Path.{_≡_, ap, _∙_}
 use mathlib.Core.Logic.{_↔_}

@@ -1,6 +1,6 @@
 -- Every item, over all tables, damaged ones too, is served or turned away by a number of the paper's list that its kind
--- can meet; laying out has its own theorem, `laid-out` of Laying. Follows document 01, "Turned-away calls" and "Steps".
--- Assumes nothing.
+-- can meet; laying out has its own theorem, `laid-out` of Laying. Follows docs/RULES.md, "Turned-away calls" and
+-- "Steps". Assumes nothing.
 use mathlib.Core.Path.{_≡_, refl, subst}
 use mathlib.Core.Bool.{Bool, true, false}
 use mathlib.Core.List.{List, [], _∷_}

@@ -1,5 +1,5 @@
 -- Tables cut in two: the words that given sizes need, and the words past them; and what is read of tables so joined.
--- Follows document 01, "Tables and their measures": "words past a table's need are never touched". Assumes nothing.
+-- Follows docs/RULES.md, "Tables and their measures": "words past a table's need are never touched". Assumes nothing.
 use mathlib.Core.Path.{_≡_, refl, ap, _∙_, fun-ext}
 use mathlib.Core.Bool.{Bool, true, false, _&&_}
 use mathlib.Core.List.{List, [], _∷_, _++_, append-nil}

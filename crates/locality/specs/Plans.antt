@@ -1,6 +1,5 @@
 -- What the calls plan is read within the sizes, and names only places within the sizes; and which numbers a plan can
--- refuse with.
--- Follows document 01, "Tables and their measures" and "Turned-away calls". Assumes nothing.
+-- refuse with. Follows docs/RULES.md, "Tables and their measures" and "Turned-away calls". Assumes nothing.
 use mathlib.Core.Path.{_≡_, refl}
 use mathlib.Core.Bool.{Bool, true, false, _&&_, _||_}
 use Prim.Native.Nat.{ℕ, zero, suc, _+_, _-_, _^_}

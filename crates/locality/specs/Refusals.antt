@@ -1,4 +1,4 @@
--- What each answer leaves behind, for all tables, damaged ones too. Follows document 01: the last column of the table
+-- What each answer leaves behind, for all tables, damaged ones too. Follows docs/RULES.md: the last column of the table
 -- in "Turned-away calls", "none ready" in "Steps", and "A call that ends puts the words of its call back" in "Tables
 -- and their measures". Assumes nothing.
 use mathlib.Core.Path.{_≡_, refl, ap, subst, _∙_}

@@ -1,5 +1,5 @@
 -- What a plan within the sizes stores: the words past the need stay, and no table's length changes, nor the sizes that
--- the tables keep. Follows document 01, "Tables and their measures": "words past a table's need are never touched".
+-- the tables keep. Follows docs/RULES.md, "Tables and their measures": "words past a table's need are never touched".
 -- Assumes nothing.
 use mathlib.Core.Path.{_≡_, refl, _∙_}
 use mathlib.Core.Bool.{Bool, true, false}

@@ -1,6 +1,6 @@
 -- No call looks at a word past the need of the sizes that it brings, and none changes one; the same of a whole list of
--- items. For all tables, damaged ones too. Follows document 01, "Tables and their measures": "words past a table's need
--- are never touched". Assumes nothing.
+-- items. For all tables, damaged ones too. Follows docs/RULES.md, "Tables and their measures": "words past a table's
+-- need are never touched". Assumes nothing.
 use mathlib.Core.Path.{_≡_, refl, sym, ap, ap₂, subst, _∙_}
 use mathlib.Core.Bool.{true, false, _&&_, and-false}
 use mathlib.Core.List.{List, [], _∷_}

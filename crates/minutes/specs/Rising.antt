@@ -1,5 +1,5 @@
 -- The rising rule of a minutes table: one test over the whole table, which carries the rule to each entry of any table
--- that passes it. Follows document 01, "What shape each place takes": "rising rule computed once over the table and
+-- that passes it. Follows docs/RULES.md, "What shape each place takes": "rising rule computed once over the table and
 -- carried to each entry". Assumes nothing.
 use mathlib.Core.Bool.{Bool, true, _&&_, and-eq-true-iff}
 use mathlib.Core.List.{List, [], _∷_}

@@ -1,6 +1,5 @@
-// The minutes of a job by its class.
-// Follows document 01, "Tables and their measures": "Minutes by class, 0 to 15, are fixed".
-// Assumes nothing.
+// The minutes of a job by its class. Follows docs/RULES.md, "Tables and their measures": "Minutes by class, 0 to 15,
+// are fixed". Assumes nothing.
 ghost use mathlib.Core.Path.{_≡_};
 ghost use Rattle.minutes.specs.Minutes.{minutesIn, fixedMinutes};
 

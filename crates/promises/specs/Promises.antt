@@ -56,13 +56,13 @@ use Rattle.locality.specs.Laying.{fresh}
 use Rattle.locality.specs.Laying as laying
 use Rattle.sheet_format.specs.Job.{Job}
 use Rattle.sheet_format.specs.NumberLaws.{Bytes}
+use Rattle.whole_words.specs.Whole.{wholeAdd, wholeFinish}
+use Rattle.day_rounds.specs.Rounds.{daySizes, argumentsOf, Holder, getRound, finishAll, rounds, runDay}
+use Rattle.day_rounds.specs.Rounds.{handOuts, unfinished}
 use Rattle.day_format.specs.Text.{decimal, leftWord, line, _␣_}
-use Rattle.day_format.specs.Whole.{wholeAdd, wholeFinish}
-use Rattle.day_format.specs.Day.{daySizes, argumentsOf, Holder, getRound, finishAll, rounds, dayOf, dayText, dayList}
-use Rattle.day_format.specs.Day.{unfinished}
-use Rattle.day_format.specs.Day.{printing}
+use Rattle.day_format.specs.Day.{linesBefore, dayLines, dayText, dayList, printing}
 use Rattle.day_format.specs.declared.DayAnswer.the-variants.{Printed}
-use Rattle.day_history.specs.Theorem.{AddAnswer, Begins, afterAdds, withFirst, afterRounds, mostPrinted}
+use Rattle.day_history.specs.Theorem.{AddAnswer, Begins, afterAdds, afterRounds, mostPrinted}
 use Rattle.day_history.specs.Theorem as ends-of-day
 use Rattle.graph_board.specs.Board.{graphTotals}
 use Rattle.graph_board.specs.Accounted.{Accounted}
@@ -342,31 +342,35 @@ module _ (workers : ℕ) (some : 1 ≤ workers) (few : workers ≤ mostWorkers) 
   pub limits : withinLimits (daySizes workers) ≡ true
   limits = ends-of-day.day-limits workers some few
 
-  pub no-add-is-cut-short : (j : Job) → AddAnswer (wholeAdd s (afterAdds s limits js .state) 0 (argumentsOf j) .answer)
+  pub no-add-is-cut-short : (j : Job) → AddAnswer (wholeAdd s (afterAdds s limits js) 0 (argumentsOf j) .answer)
   no-add-is-cut-short = ends-of-day.no-add-is-cut-short s limits js
 
-  pub no-finish-is-cut-short : {t : Tables} {text : List ℕ} {h : ℕ} → Begins s limits js t text h
-      → (hs : List Holder) (x : Holder) (rest : List Holder) → getRound s t text h .holders ≡ hs ++ (x ∷ rest)
-      → wholeFinish s (finishAll s hs (getRound s t text h .state)) (x .worker) (x .name) .answer ≡ Ended
+  pub no-finish-is-cut-short : {t : Tables} → Begins s limits js t
+      → (hs : List Holder) (x : Holder) (rest : List Holder) → getRound s t .holders ≡ hs ++ (x ∷ rest)
+      → wholeFinish s (finishAll s hs (getRound s t .state)) (x .worker) (x .name) .answer ≡ Ended
   no-finish-is-cut-short = ends-of-day.no-finish-is-cut-short s limits js
 
   pub the-rounds-suffice : (k : ℕ)
-      → rounds (k + (s .jobs + 1)) s (afterAdds s limits js .state) (withFirst s limits js) 0 ≡ afterRounds s limits js
+      → rounds (k + (s .jobs + 1)) s (afterAdds s limits js) ≡ runDay s (afterAdds s limits js)
   the-rounds-suffice = ends-of-day.the-rounds-suffice s limits js
 
+  -- no more is handed out than there is room for jobs;
+  pub the-hand-outs-are-within : length (handOuts (runDay s (afterAdds s limits js) .rounds)) ≤ s .jobs
+  the-hand-outs-are-within = ends-of-day.hand-outs-within s limits js
+
   -- at the end nothing waits, the jobs are as many as after the adds, and every one is finished;
-  pub nothing-waits-at-the-end : waiting (afterRounds s limits js .state) ≡ []
+  pub nothing-waits-at-the-end : waiting (afterRounds s limits js) ≡ []
   nothing-waits-at-the-end = ends-of-day.nothing-waits s limits js
 
-  pub no-job-is-lost : view (afterRounds s limits js .state) .made ≡ view (afterAdds s limits js .state) .made
+  pub no-job-is-lost : view (afterRounds s limits js) .made ≡ view (afterAdds s limits js) .made
   no-job-is-lost = ends-of-day.no-job-is-lost s limits js
 
   pub none-is-unfinished-at-the-end :
-      unfinished (view (afterRounds s limits js .state) .job LABEL) (view (afterRounds s limits js .state) .made) ≡ 0
+      unfinished (view (afterRounds s limits js) .job LABEL) (view (afterRounds s limits js) .made) ≡ 0
   none-is-unfinished-at-the-end = ends-of-day.none-is-unfinished s limits js
 
   -- so the last line is left 0
-  pub the-day-list-leaves-nothing : dayOf s js ≡ afterRounds s limits js .text ++ line (leftWord ␣ decimal 0)
+  pub the-day-list-leaves-nothing : dayLines s js ≡ linesBefore s js ++ (line (leftWord ␣ decimal 0) ∷ [])
   the-day-list-leaves-nothing = ends-of-day.nothing-is-left s limits js
 
 -- With two workers no sheet prints more than 97,979 bytes, so an output of so many is never refused.

@@ -1,5 +1,5 @@
 -- A link that appends an arc, over the words: the plan is one of the two that append, and its stores stand for the
--- graph with the new dependent. Follows document 01, "Steps": "any other gets the arc appended to its list". Assumes
+-- graph with the new dependent. Follows docs/RULES.md, "Steps": "any other gets the arc appended to its list". Assumes
 -- nothing.
 use mathlib.Core.Path.{_≡_, refl, _∙_}
 use mathlib.Core.Bool.{Bool, true, false}

@@ -1,5 +1,5 @@
 -- The arcs of a job's list, as words: each is in use, holds its dependent and the next arc; past the end there is none.
--- They are no more than the arcs reserved, so that as many steps along the list come to its end. Follows document 01,
+-- They are no more than the arcs reserved, so that as many steps along the list come to its end. Follows docs/RULES.md,
 -- "Tables and their measures" (the arcs table) and "Turned-away calls" (number 9: a place neither none nor in use).
 -- Assumes nothing.
 use mathlib.Core.Path.{_≡_, sym, ap, _∙_}

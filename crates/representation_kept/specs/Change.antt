@@ -1,6 +1,6 @@
 -- One job changed, but not its name, its list and its dependents: the tables stand for the graph after, whatever
 -- happens to the queue. Also the number of jobs that were started, and the stores of the jobs table that keep the sizes
--- laid out. Follows document 01, "Tables and their measures". Assumes nothing.
+-- laid out. Follows docs/RULES.md, "Tables and their measures". Assumes nothing.
 use mathlib.Core.Path.{_≡_, refl, sym, ap, _∙_}
 use mathlib.Core.Logic.{_≢_}
 use mathlib.Core.List.{List, [], _∷_, _++_}

@@ -1,5 +1,5 @@
--- Settling and notifying: a remaining count stored, and the job put in the queue where the rules put it there.
--- Follows document 01, "Steps": settling, and the step for one arc. Assumes nothing.
+-- Settling and notifying: a remaining count stored, and the job put in the queue where the rules put it there. Follows
+-- docs/RULES.md, "Steps": settling, and the step for one arc. Assumes nothing.
 use mathlib.Core.Path.{_≡_, refl, _∙_}
 use mathlib.Core.Logic.{_≢_}
 use mathlib.Core.Bool.{true, false}

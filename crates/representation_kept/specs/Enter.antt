@@ -1,6 +1,6 @@
 -- Entering: the new job's words stand for the new job, it is the newest of its bucket, and its arcs are reserved.
--- Follows document 01, "Steps": entering "makes the job with remaining count d, and reserves the next d arcs". Assumes
--- nothing.
+-- Follows docs/RULES.md, "Steps": entering "makes the job with remaining count d, and reserves the next d arcs".
+-- Assumes nothing.
 use mathlib.Core.Path.{_≡_, refl, sym, ap, _∙_}
 use mathlib.Core.Logic.{_≢_}
 use mathlib.Core.Bool.{Bool, true, false}

@@ -1,5 +1,5 @@
 -- The job of a name: the walk along a bucket finds what the search of the rules finds, and is never damaged. Follows
--- document 01, "Tables and their measures" (a job stands at the head of its bucket) and "Steps". Assumes nothing.
+-- docs/RULES.md, "Tables and their measures" (a job stands at the head of its bucket) and "Steps". Assumes nothing.
 use mathlib.Core.Path.{_≡_, refl, sym, ap, _∙_}
 use mathlib.Core.Logic.{_≢_}
 use mathlib.Core.Bool.{Bool, true, false}

@@ -1,5 +1,5 @@
 -- Laying out: the fresh tables stand for the graph with no jobs, for every content that the tables had before. Follows
--- document 01: "no jobs, all workers idle and holding nothing, unused words 0, every place none". Assumes nothing.
+-- docs/RULES.md: "no jobs, all workers idle and holding nothing, unused words 0, every place none". Assumes nothing.
 use mathlib.Core.Path.{_≡_, refl, _∙_}
 use mathlib.Core.Bool.{Bool, true, _&&_}
 use mathlib.Core.List.{List, [], _∷_}
@@ -108,7 +108,8 @@ module _ (s : Sizes) (t : Tables) (L : Long s t) where
   counter q h = rw (repeated-one (s .jobs) words.none)
       (laid-header queueShape (s .jobs) (t .queue) (0 ∷ 0 ∷ []) (words.none ∷ []) refl refl (L .queue) q h)
 
-  worker-word : (w q : ℕ) → w < s .workers → q < workerShape .width → columns workerShape W q w ≡ getD (bareWorker IDLE words.none) q 0
+  worker-word : (w q : ℕ) → w < s .workers → q < workerShape .width
+      → columns workerShape W q w ≡ getD (bareWorker IDLE words.none) q 0
   worker-word w q = laid-at workerShape (s .workers) (t .workers) [] (bareWorker IDLE words.none) refl refl
       (L .workers) w q
 

@@ -1,5 +1,5 @@
 -- The plans that store in the workers' table alone: a call that quits, a name looked up, a finished prerequisite
--- tallied. Follows document 01, "Steps": look-up and link. Assumes nothing.
+-- tallied. Follows docs/RULES.md, "Steps": look-up and link. Assumes nothing.
 use mathlib.Core.Path.{ap}
 use Prim.Native.Nat.{ℕ, _+_, _<_}
 use native.Mathlib.Omega.{arith}

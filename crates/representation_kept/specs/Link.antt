@@ -1,5 +1,5 @@
 -- A link that appends an arc, over the maps: the arc goes to the end of the prerequisite's list, which was empty or had
--- a last arc. Follows document 01, "Steps": "any other gets the arc appended to its list". Assumes nothing.
+-- a last arc. Follows docs/RULES.md, "Steps": "any other gets the arc appended to its list". Assumes nothing.
 use mathlib.Core.Path.{_≡_, refl, sym, ap, _∙_}
 use mathlib.Core.Logic.{_≢_}
 use mathlib.Core.List.{List, [], _∷_, _++_}

@@ -1,5 +1,5 @@
--- Lists changed at one place, at their end, or by a run of stores: what stands at each place after.
--- Follows document 01, "Tables and their measures", for tables as lists of words. Assumes nothing.
+-- Lists changed at one place, at their end, or by a run of stores: what stands at each place after. Follows
+-- docs/RULES.md, "Tables and their measures", for tables as lists of words. Assumes nothing.
 use mathlib.Core.Path.{_≡_, refl, sym, ap, _∙_}
 use mathlib.Core.Logic.{_≢_}
 use mathlib.Core.List.{List, [], _∷_, _++_}

@@ -1,5 +1,5 @@
 -- The queue's cells: a job put at the end, the first job taken. The queue never passes its end, since a job enters it
--- once. Follows document 01, "Tables and their measures" and "Turned-away calls" (number 9: the queue would pass its
+-- once. Follows docs/RULES.md, "Tables and their measures" and "Turned-away calls" (number 9: the queue would pass its
 -- end). Assumes nothing.
 use mathlib.Core.Path.{_≡_, refl, sym, ap, _∙_}
 use mathlib.Core.Bool.{true}

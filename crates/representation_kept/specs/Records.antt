@@ -1,5 +1,5 @@
--- A whole record stored at once, and a whole table laid out: what the columns and the header are after.
--- Follows document 01, "Tables and their measures". Assumes nothing.
+-- A whole record stored at once, and a whole table laid out: what the columns and the header are after. Follows
+-- docs/RULES.md, "Tables and their measures". Assumes nothing.
 use mathlib.Core.Path.{_≡_, refl, ap, _∙_}
 use mathlib.Core.Logic.{_≢_}
 use mathlib.Core.Bool.{Bool, true, false}

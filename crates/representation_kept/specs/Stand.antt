@@ -1,5 +1,5 @@
 -- The part of `Stands` that reads no workers: jobs, arcs, buckets and queue. It stays when only the workers change.
--- Follows document 01, "Tables and their measures". Assumes nothing.
+-- Follows docs/RULES.md, "Tables and their measures". Assumes nothing.
 use mathlib.Core.Path.{_≡_, refl}
 use mathlib.Core.Bool.{Bool, true, false, _&&_}
 use mathlib.Core.List.{List}

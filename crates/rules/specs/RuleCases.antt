@@ -1,4 +1,4 @@
--- The rules tell what document 01's rows say ("Checked by hand", cases 1 to 6), and hold a job back while one of its
+-- The rules tell what docs/RULES.md's rows say ("Checked by hand", cases 1 to 6), and hold a job back while one of its
 -- two prerequisites is not finished. Assumes nothing.
 use mathlib.Core.Path.{_≡_, refl}
 use mathlib.Core.List.{List, map}

@@ -1,4 +1,4 @@
--- The rules of Johnson's dynamic task graph, as corrected in document 01 ("Steps", "Turned-away calls"): jobs with
+-- The rules of Johnson's dynamic task graph, as corrected in docs/RULES.md ("Steps", "Turned-away calls"): jobs with
 -- their dependents, a queue, and workers with the call that each is in. No words, no damage. Assumes nothing.
 use mathlib.Core.Bool.{Bool, true, false, _&&_, _||_}
 use mathlib.Core.List.{List, [], _∷_, _++_}

@@ -1,4 +1,4 @@
--- The ways in which an item can end by the rules: one case for each answer and change of document 01 ("Steps",
+-- The ways in which an item can end by the rules: one case for each answer and change of docs/RULES.md ("Steps",
 -- "Turned-away calls"), with what holds where it happens. Assumes nothing.
 use mathlib.Core.Path.{_≡_}
 use mathlib.Core.Logic.{_≢_}

@@ -1,6 +1,6 @@
 -- The entries of every history: at most one for each job, only after all its prerequisites are finished, and one once
--- its
--- add and the finishes of its prerequisites have ended (document 01, demand 3, "count of entries"). Assumes nothing.
+-- its add and the finishes of its prerequisites have ended (docs/RULES.md, demand 3, "count of entries"). Assumes
+-- nothing.
 use mathlib.Core.Path.{_≡_, sym, ap, _∙_}
 use mathlib.Core.Bool.{true}
 use mathlib.Core.Option.{none}

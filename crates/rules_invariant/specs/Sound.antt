@@ -1,6 +1,5 @@
--- Every graph that a history reaches is sound: rooms, names, dependents, the queue, the holds and the calls (document
--- 01,
--- "Steps"). Assumes nothing.
+-- Every graph that a history reaches is sound: rooms, names, dependents, the queue, the holds and the calls
+-- (docs/RULES.md, "Steps"). Assumes nothing.
 use mathlib.Core.Path.{_≡_, refl, sym, ap, _∙_}
 use mathlib.Core.Option.{Option, none, some, Option·some-injective}
 use mathlib.Core.List.{List, [], _∷_}

@@ -1,6 +1,6 @@
 -- The graph as total maps, with what the rules do not keep: the prerequisites by number, how far each call has come,
--- and who works on what. Only one call at a time works on a job, so that its registers stand with the job (document 01,
--- "Steps"). Assumes nothing.
+-- and who works on what. Only one call at a time works on a job, so that its registers stand with the job
+-- (docs/RULES.md, "Steps"). Assumes nothing.
 use mathlib.Core.Bool.{Bool, true, false}
 use mathlib.Core.Option.{Option, none, some}
 use mathlib.Core.List.{List, [], _∷_, _++_}

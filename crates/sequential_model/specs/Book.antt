@@ -1,4 +1,4 @@
--- The reference model: document 01's plain book, which is fed whole calls, one after another. It keeps the jobs in
+-- The reference model: docs/RULES.md's plain book, which is fed whole calls, one after another. It keeps the jobs in
 -- order of entry and each worker's hold; counts and readiness are worked out from the labels. Assumes nothing.
 use mathlib.Core.Path.{_≡_}
 use mathlib.Core.Bool.{Bool, true, false, _&&_, _||_, not}

@@ -1,6 +1,5 @@
--- Laws that proofs about code cite (document 01, "Job sheets"): the bounds of what was read from any input, a sheet
--- from an
--- offset on, names one after the other, and stores one after the other. Assumes nothing.
+-- Laws that proofs about code cite (docs/SHEETS.md): the bounds of what was read from any input, a sheet from an offset
+-- on, names one after the other, and stores one after the other. Assumes nothing.
 use Prim.Native.Nat.{ℕ, zero, suc, _+_, _*_, _-_, _≤_, _<_}
 use mathlib.Core.Path.{_≡_, refl, sym, ap, _∙_}
 use mathlib.Core.List.{List, [], _∷_, _++_, append-assoc, append-nil}

@@ -1,5 +1,4 @@
--- What reading answers at every offset of every input (document 01, "Job sheets" and numbers 12 to 14). Assumes
--- nothing.
+-- What reading answers at every offset of every input (docs/SHEETS.md and numbers 12 to 14). Assumes nothing.
 use Prim.Native.Nat.{ℕ, zero, suc, _+_, _*_, _-_, _/_, _%_}
 use mathlib.Core.List.{List, [], _∷_, _++_}
 use mathlib.Core.Bool.{Bool, true, false, _&&_}
@@ -115,7 +114,7 @@ decodeFrom (suc k) s at = onward (decode s at) (decodeFrom k s)
 unfoldable pub decodeSheet : List ℕ → Sheet
 decodeSheet s = decodeFrom (length s) s 0
 
--- THE ANSWERS OF THE CODE: the number and values of document 01 for each case
+-- THE ANSWERS OF THE CODE: the number and values of docs/RULES.md for each case
 
 -- "names past the count are kept as 0"
 abbrev pub padded : List ℕ → List ℕ

@@ -1,5 +1,5 @@
--- An entry, there and back: a job that is spelt is read, and what is read is spelt so and in no other way (document 01,
--- "Job sheets"). Assumes nothing.
+-- An entry, there and back: a job that is spelt is read, and what is read is spelt so and in no other way
+-- (docs/RULES.md, "Job sheets"). Assumes nothing.
 use Prim.Native.Nat.{ℕ, zero, suc, _+_, _*_, _/_, _%_, _≤_, _<_}
 use mathlib.Core.Path.{_≡_, refl, _∙_}
 use mathlib.Core.List.{List, [], _∷_, _++_, append-assoc}

@@ -1,6 +1,5 @@
 -- Each field of an entry, there and back: what is spelt is read, and a field that was read is spelt so and in no other
--- way
--- (document 01, "Job sheets"). Assumes nothing.
+-- way (docs/SHEETS.md). Assumes nothing.
 use Prim.Native.Nat.{ℕ, zero, suc, _+_, _*_, _%_, _≤_, _<_, _^_}
 use mathlib.Core.Path.{_≡_, refl, ap, _∙_}
 use mathlib.Core.List.{List, [], _∷_, _++_, append-assoc}

@@ -1,10 +1,10 @@
--- A job of a sheet, and how it is spelt (document 01, "Job sheets"). Assumes nothing.
+-- A job of a sheet, and how it is spelt (docs/SHEETS.md). Assumes nothing.
 use Prim.Native.Nat.{ℕ, zero, suc, _+_, _*_, _≤_, _<_, _^_}
 use mathlib.Core.List.{List, [], _∷_, _++_}
 use lib.ListN.{length}
 use Rattle.sheet_format.specs.Number.{spelt}
 
--- the limits of document 01, and the widths of the fields in bytes
+-- the limits of docs/RULES.md, and the widths of the fields in bytes
 abbrev pub mostNames : ℕ
 mostNames = 32
 

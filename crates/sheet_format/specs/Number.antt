@@ -1,4 +1,4 @@
--- Numbers of several bytes, least byte first (document 01, "Job sheets"), at every width. Assumes nothing.
+-- Numbers of several bytes, least byte first (docs/SHEETS.md), at every width. Assumes nothing.
 use Prim.Native.Nat.{ℕ, zero, suc, _+_, _*_, _/_, _%_}
 use mathlib.Core.List.{List, [], _∷_}
 use lib.ListN.{getD}

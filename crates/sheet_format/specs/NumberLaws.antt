@@ -1,6 +1,5 @@
 -- Numbers of several bytes, there and back, at every width: what is spelt is read, and what is read is spelt so and in
--- no
--- other way (document 01, "Job sheets"). Assumes nothing.
+-- no other way (docs/SHEETS.md). Assumes nothing.
 use Prim.Native.Nat.{ℕ, zero, suc, _+_, _*_, _/_, _%_, _≤_, _<_, _^_}
 use mathlib.Core.Path.{_≡_, refl, sym, ap, _∙_}
 use mathlib.Core.List.{List, [], _∷_, _++_, append-assoc}

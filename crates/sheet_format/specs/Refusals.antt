@@ -1,6 +1,5 @@
 -- A refusal changes nothing: the output of a refused writing and the rows of a refused reading are as they were
--- (document 01,
--- "Turned-away calls", numbers 1 and 12 to 15). Assumes nothing.
+-- (docs/RULES.md, "Turned-away calls", numbers 1 and 12 to 15). Assumes nothing.
 use Prim.Native.Nat.{ℕ, _+_, _*_, _%_}
 use mathlib.Core.Path.{_≡_, refl}
 use mathlib.Core.List.{List, map}

@@ -1,6 +1,6 @@
--- Cases of job sheets as rows, from document 01: case 8 of "Checked by hand" (starred), the 29 bytes of "The board and
--- the day
--- list", and rules that "Job sheets" states. One theorem shows all rows from the definitions. Assumes nothing.
+-- Cases of job sheets as rows, from docs/RULES.md: case 8 of "Checked by hand" (starred), the 29 bytes of "The board
+-- and the day list", and rules that "Job sheets" states. One theorem shows all rows from the definitions. Assumes
+-- nothing.
 use Prim.Native.Nat.{ℕ}
 use mathlib.Core.Path.{_≡_, refl}
 use mathlib.Core.List.{List, [], _∷_, map}
@@ -41,8 +41,7 @@ whole-sheets =
     ∷ []
 
 -- bits 4 to 7 of the map, "a count byte 1 to 32", "a byte 1 to 15", "2 bytes, least first"; a list's count is judged
--- before its
--- names are looked for, and a cut is noticed before a wrong value
+-- before its names are looked for, and a cut is noticed before a wrong value
 abbrev pub rules : List Case
 rules =
     row (17 ∷ 1 ∷ 0 ∷ 0 ∷ 0 ∷ []) (broken wrongMap 0)
@@ -67,8 +66,7 @@ an-entry count class grower fault =
     }
 
 -- "on writing, a list over 32, a class over 15, a grower over 65,535", "its offset that of the first such field, from
--- the entry's
--- start"
+-- the entry's start"
 abbrev pub faults : List WriteCase
 faults =
     an-entry 32 15 65535 Fault.none

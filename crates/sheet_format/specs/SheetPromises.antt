@@ -1,6 +1,6 @@
 -- What is promised of job sheets: "A job sheet written and read back gives the same jobs, and one accepted sheet has
 -- one
--- spelling" (demand 2; document 01, "Job sheets"), and document 01's cases of sheets. Each proof names where it was
+-- spelling" (demand 2; docs/SHEETS.md), and docs/RULES.md's cases of sheets. Each proof names where it was
 -- shown.
 -- `Bytes s` says that s is a list of bytes; `Words e` and `Below (2 ^ 32) rows` say that the numbers are 32-bit words,
 -- as those
@@ -129,6 +129,6 @@ a-refused-reading-changes-nothing = rows-refused
 
 -- CASES
 
--- Document 01's case 8, its sheet of 29 bytes, and rows for its rules of reading and writing are as it says.
+-- docs/RULES.md's case 8, its sheet of 29 bytes, and rows for its rules of reading and writing are as it says.
 pub the-cases-hold : Hold case-8 × Hold whole-sheets × Hold rules × FaultsHold faults
 the-cases-hold = cases-hold

@@ -1,5 +1,5 @@
 -- Whole sheets, there and back: "A job sheet written and read back gives the same jobs, and one accepted sheet has one
--- spelling" (demand 2, in the definitions of document 01's "Job sheets"). Assumes nothing.
+-- spelling" (demand 2, in the definitions of docs/RULES.md's "Job sheets"). Assumes nothing.
 use Prim.Native.Nat.{ℕ, zero, suc, _+_, _≤_}
 use mathlib.Core.Path.{_≡_, refl, sym, ap, _∙_}
 use mathlib.Core.List.{List, [], _∷_, _++_}

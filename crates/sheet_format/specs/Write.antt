@@ -1,5 +1,5 @@
--- What writing answers and leaves in the output, for every entry and every output (document 01, numbers 14 and 15).
--- Assumes nothing.
+-- What writing answers and leaves in the output, for every entry and every output (docs/NUMBERS.md, 14 and 15). Assumes
+-- nothing.
 use Prim.Native.Nat.{ℕ, zero, suc, _+_, _*_, _/_, _%_}
 use mathlib.Core.List.{List, [], _∷_, map}
 use lib.ListN.{length, getD, take, drop}

@@ -1,4 +1,4 @@
--- What the writer leaves is read back, one entry and whole sheets (demand 2, in the definitions of document 01's "Job
+-- What the writer leaves is read back, one entry and whole sheets (demand 2, in the definitions of docs/RULES.md's "Job
 -- sheets"). Assumes nothing.
 use Prim.Native.Nat.{ℕ, zero, suc, _+_, _*_, _-_, _/_, _%_, _≤_, _<_, _^_}
 use mathlib.Core.Path.{_≡_, refl}

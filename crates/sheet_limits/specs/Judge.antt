@@ -1,4 +1,4 @@
--- What judging answers before a byte is written (document 01, numbers 14 and 15): where the first field off its limits
+-- What judging answers before a byte is written (docs/NUMBERS.md, 14 and 15): where the first field off its limits
 -- stands, or the bytes that are needed. Assumes nothing.
 use Prim.Native.Nat.{ℕ}
 use mathlib.Core.List.{List, map}

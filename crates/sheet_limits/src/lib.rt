@@ -1,5 +1,5 @@
-// Entries and whole sheets of jobs, judged before a byte is written (document 01, "Job sheets", numbers 14 and 15): the
-// first field off its limits, or the bytes that are needed, and whether there is room for them. Assumes nothing.
+// Entries and whole sheets of jobs, judged before a byte is written (docs/SHEETS.md, numbers 14 and 15): the first
+// field off its limits, or the bytes that are needed, and whether there is room for them. Assumes nothing.
 ghost use mathlib.Core.Path.{_≡_};
 ghost use mathlib.Core.List.{List};
 ghost use Prim.Native.Nat.{ℕ, _+_, _*_, _≤_};

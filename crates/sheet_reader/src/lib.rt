@@ -1,6 +1,6 @@
-// The reader of job sheets: an entry with its names, and a whole sheet as rows of words (document 01, "Job sheets" and
-// numbers 12 to 15). Each answer is the one that the definitions of sheet_format give. Assumes nothing of the bytes,
-// and nothing of the offset.
+// The reader of job sheets: an entry with its names, and a whole sheet as rows of words (docs/SHEETS.md and numbers 12
+// to 15). Each answer is the one that the definitions of sheet_format give. Assumes nothing of the bytes, and nothing
+// of the offset.
 use entry_scan::MOST_NAMES;
 use entry_scan::NAME_BYTES;
 use entry_scan::NAMES_FROM;

@@ -1,6 +1,6 @@
 -- Laws of an entry whose fields are multiplied by their bits: where the longest entry would fit, this comes to what
 -- `decode` says
--- (document 01, "Job sheets"). Assumes nothing.
+-- (docs/SHEETS.md). Assumes nothing.
 use Prim.Native.Nat.{ℕ, zero, suc, _+_, _*_, _/_, _%_, _≤_, _<_}
 use mathlib.Core.Path.{_≡_, refl, ap}
 use mathlib.Core.Bool.{Bool, true, _&&_, _||_}

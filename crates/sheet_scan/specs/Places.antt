@@ -1,4 +1,4 @@
--- How long an entry can be, and where its last fields stand (document 01, "Job sheets"). Assumes nothing.
+-- How long an entry can be, and where its last fields stand (docs/SHEETS.md). Assumes nothing.
 use Prim.Native.Nat.{ℕ, _+_, _*_, _/_, _%_}
 use Rattle.sheet_format.specs.Job.{mostNames, nameBytes, countBytes, classBytes, growerBytes}
 

@@ -1,5 +1,5 @@
-// The scan of a whole job sheet, which counts its entries (document 01, "Job sheets" and numbers 12 to 14). Where the
-// longest entry would fit, the fields are read with no test of their ends. Assumes nothing of the bytes.
+// The scan of a whole job sheet, which counts its entries (docs/SHEETS.md and numbers 12 to 14). Where the longest
+// entry would fit, the fields are read with no test of their ends. Assumes nothing of the bytes.
 use entry_scan::LIST_PLACE;
 use entry_scan::MOST_CLASS;
 use entry_scan::MOST_GROWER;

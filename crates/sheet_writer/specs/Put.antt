@@ -1,5 +1,5 @@
--- What storing a field at the running place leaves (document 01, "Job sheets": fields follow each other in order).
--- Assumes nothing.
+-- What storing a field at the running place leaves (docs/SHEETS.md: fields follow each other in order). Assumes
+-- nothing.
 use Prim.Native.Nat.{ℕ, _+_}
 use mathlib.Core.Path.{_≡_}
 use mathlib.Core.List.{List}

@@ -1,5 +1,5 @@
-// Writes entries and whole sheets of jobs (document 01, "Job sheets", numbers 14 and 15): judged first, then stored
-// field after field at a running place. A refusal leaves the output as it was. Assumes nothing.
+// Writes entries and whole sheets of jobs (docs/SHEETS.md, numbers 14 and 15): judged first, then stored field after
+// field at a running place. A refusal leaves the output as it was. Assumes nothing.
 use sheet_format::Entry;
 use sheet_format::SheetWrote;
 use sheet_format::Wrote;

@@ -1,4 +1,4 @@
--- The starred cases of document 01, "Checked by hand", together: cases 1 to 6 by the words of the tables, 7 by the
+-- The starred cases of docs/RULES.md, "Checked by hand", together: cases 1 to 6 by the words of the tables, 7 by the
 -- bucket function, 8 by the reader of sheets; one theorem shows them all from the definitions that the code's contracts
 -- cite. Assumes nothing.
 use mathlib.Core.Path.{_≡_}

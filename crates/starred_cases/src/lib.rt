@@ -1,1 +1,1 @@
-// The starred cases of document 01 as rows stand in specs/.
+// The starred cases of docs/RULES.md as rows stand in specs/.

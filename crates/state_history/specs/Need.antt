@@ -1,5 +1,5 @@
 -- Neither question looks at a word past the need of the sizes that it brings: for all tables, damaged ones too. Follows
--- document 01, "Tables and their measures". Assumes nothing.
+-- docs/RULES.md, "Tables and their measures". Assumes nothing.
 use mathlib.Core.Path.{_≡_, refl, sym, ap, ap₂, _∙_}
 use mathlib.Core.Bool.{Bool, true, false, _&&_}
 use Prim.Native.Nat.{ℕ, zero, suc, _<_}

@@ -1,5 +1,5 @@
 -- What a worker is to be told, by items and their answers alone: the job that it holds, by the calls decided so far,
--- and its call half done. The numbers are those of document 01 and of include/taskgraph.h. Assumes nothing.
+-- and its call half done. The numbers are those of docs/RULES.md and of include/taskgraph.h. Assumes nothing.
 use mathlib.Core.List.{List, [], _∷_}
 use mathlib.Core.Option.{Option, none, some}
 use mathlib.Core.Bool.{Bool}

@@ -1,6 +1,5 @@
 -- The struct of the C interface for the calls of the graph: for each case of an answer the number and the values that
--- document 01, "Turned-away calls" and "Steps", has for it. What does not belong to a case is 0.
--- Assumes nothing.
+-- docs/RULES.md, "Turned-away calls" and "Steps", has for it. What does not belong to a case is 0. Assumes nothing.
 use mathlib.Core.Path.{_≡_}
 use Prim.Native.Nat.{ℕ}
 use Rattle.terms.specs.Runs.{Outcome}

@@ -1,5 +1,5 @@
-// What a call or a step of the graph answers, as C has it: a struct by value. include/taskgraph.h declares it.
-// Follows document 01, "Steps" and "Turned-away calls". Assumes nothing.
+// What a call or a step of the graph answers, as C has it: a struct by value. include/taskgraph.h declares it. Follows
+// docs/RULES.md, "Steps" and "Turned-away calls". Assumes nothing.
 ghost use mathlib.Core.Path.{_≡_};
 ghost use Rattle.taskgraph_answer.specs.Answers.{plain, graphAnswer};
 use terms::Answer;
@@ -19,8 +19,8 @@ const NONE_READY: u32 = 5;
 
 const HANDED_OUT: u32 = 6;
 
-// What a call or a step answers. A refusal has its number, 6 also the place in the list; a job handed out has its
-// place and its name. What does not belong to a kind is 0.
+// What a call or a step answers. A refusal has its number, 6 also the place in the list; a job handed out has its place
+// and its name. What does not belong to a kind is 0.
 #[repr(C)]
 pub struct GraphAnswer {
     pub kind: u32,

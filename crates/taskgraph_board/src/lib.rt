@@ -1,7 +1,6 @@
-// The board over the graph's own jobs, as C has it: the sizes, then the lent jobs table.
-// A slice is a pointer and a count of elements in C. include/taskgraph.h declares all of this.
-// Follows document 01, "The board and the day list".
-// Assumes nothing but that a pointer with a count points to that many elements.
+// The board over the graph's own jobs, as C has it: the sizes, then the lent jobs table. A slice is a pointer and a
+// count of elements in C. include/taskgraph.h declares all of this. Follows docs/RULES.md, "The board and the day
+// list". Assumes nothing but that a pointer with a count points to that many elements.
 ghost use mathlib.Core.Path.{_≡_};
 ghost use Rattle.minutes.specs.Minutes.{fixedMinutes};
 ghost use Rattle.graph_board.specs.Board.{graphTotals};

@@ -1,7 +1,7 @@
-// The words that the five tables need, and laying them out, as C has them: the sizes, then the lent tables.
-// A slice is a pointer and a count of elements in C; answers are structs by value. include/taskgraph.h declares them.
-// Follows document 01, "Tables and their measures" and "Turned-away calls".
-// Assumes nothing but that a pointer with a count points to that many elements.
+// The words that the five tables need, and laying them out, as C has them: the sizes, then the lent tables. A slice is
+// a pointer and a count of elements in C; answers are structs by value. include/taskgraph.h declares them. Follows
+// docs/RULES.md, "Tables and their measures" and "Turned-away calls". Assumes nothing but that a pointer with a count
+// points to that many elements.
 ghost use mathlib.Core.Path.{_≡_};
 ghost use Rattle.words.specs.Layout.{atEntry, atExit};
 ghost use Rattle.words.specs.Words.{layOut};

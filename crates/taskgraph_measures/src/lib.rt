@@ -1,5 +1,5 @@
-// Buckets and minutes as C has them. include/taskgraph.h declares both.
-// Follows document 01, "Tables and their measures". Assumes nothing.
+// Buckets and minutes as C has them. include/taskgraph.h declares both. Follows docs/RULES.md, "Tables and their
+// measures". Assumes nothing.
 ghost use mathlib.Core.Path.{_≡_};
 ghost use Rattle.bucket.specs.Bucket.{bucketOf};
 ghost use Rattle.minutes.specs.Minutes.{minutesIn, fixedMinutes};

@@ -1,6 +1,6 @@
 -- The structs of the C interface for reading job sheets: for each case of an answer the number and the values that
--- document 01, "Turned-away calls" and "Job sheets", has for it. What does not belong to a case is 0.
--- Assumes nothing.
+-- docs/RULES.md, "Turned-away calls" and "Job sheets", has for it. What does not belong to a case is 0. Assumes
+-- nothing.
 use Prim.Native.Nat.{ℕ}
 use Rattle.sheet_format.specs.Decode.{Decoded, job, end, refused, entryOf, blank, Sheet, scanSheet}
 use Rattle.sheet_format.specs.declared.SheetRead.{SheetRead}

@@ -1,7 +1,6 @@
 // Reading job sheets as C has it. A slice is a pointer and a count of elements in C; answers are structs by value.
-// Numbers are those of document 01, "Turned-away calls", and 0 where nothing was refused. include/taskgraph.h
-// declares all of this.
-// Assumes nothing but that a pointer with a count points to that many elements.
+// Numbers are those of docs/RULES.md, "Turned-away calls", and 0 where nothing was refused. include/taskgraph.h
+// declares all of this. Assumes nothing but that a pointer with a count points to that many elements.
 ghost use mathlib.Core.Path.{_≡_};
 ghost use Rattle.sheet_format.specs.Decode.{decode, decodeSheet, readSheet};
 ghost use Rattle.taskgraph_reader.specs.Answers.{entryRead, sheetScanned, sheetRead};

@@ -1,6 +1,6 @@
 // What a worker holds and whether the graph is drained, as C has it: the sizes, the five lent tables, then the worker.
 // A slice is a pointer and a count of elements in C; an answer is a struct by value. include/taskgraph.h declares it.
-// Follows document 01, "Tables and their measures" and "Turned-away calls".
+// Follows docs/RULES.md, "Tables and their measures" and "Turned-away calls".
 // Assumes nothing but that a pointer with a count points to that many elements.
 ghost use mathlib.Core.Path.{_≡_};
 ghost use Rattle.words.specs.Layout.{atEntry};
@@ -23,7 +23,7 @@ pub extern "C" fn tg_held(
 ) -> Holding
     ensures { λ r. ⌜ r ≡ heldWords sizes (atEntry jobs arcs buckets queue workers) worker ⌝ }
 {
-    graph_state::held(sizes, jobs, arcs, buckets, queue, workers, worker)
+    graph_held::held(sizes, jobs, arcs, buckets, queue, workers, worker)
 }
 
 // Whether the queue is empty and every worker is idle and holds nothing.
@@ -38,5 +38,5 @@ pub extern "C" fn tg_drained(
 ) -> Drained
     ensures { λ r. ⌜ r ≡ drainedWords sizes (atEntry jobs arcs buckets queue workers) ⌝ }
 {
-    graph_state::drained(sizes, jobs, arcs, buckets, queue, workers)
+    graph_drained::drained(sizes, jobs, arcs, buckets, queue, workers)
 }

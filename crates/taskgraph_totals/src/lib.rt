@@ -1,7 +1,6 @@
-// The board over words and over a lent row of records, as C has it: totals are a struct by value.
-// A slice is a pointer and a count of elements in C. include/taskgraph.h declares all of this.
-// Follows document 01, "The board and the day list".
-// Assumes nothing but that a pointer with a count points to that many elements.
+// The board over words and over a lent row of records, as C has it: totals are a struct by value. A slice is a pointer
+// and a count of elements in C. include/taskgraph.h declares all of this. Follows docs/RULES.md, "The board and the day
+// list". Assumes nothing but that a pointer with a count points to that many elements.
 ghost use mathlib.Core.Path.{_≡_};
 ghost use Rattle.minutes.specs.Minutes.{fixedMinutes};
 ghost use Rattle.totals.specs.Board.{totalsOf, totalsOfWords};

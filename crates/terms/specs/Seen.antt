@@ -1,6 +1,6 @@
 -- What is looked at in the state of a machine that answers items: the jobs, the queue, the holds and the calls half
--- done, with no word of how a machine keeps them. Follows document 01, "Tables and their measures" and "Steps". Assumes
--- nothing.
+-- done, with no word of how a machine keeps them. Follows docs/RULES.md, "Tables and their measures" and "Steps".
+-- Assumes nothing.
 use mathlib.Core.Path.{_≡_}
 use mathlib.Core.List.{List}
 use mathlib.Core.Option.{Option}

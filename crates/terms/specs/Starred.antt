@@ -1,4 +1,4 @@
--- The cases of document 01, "Checked by hand", that concern the graph, as rows: a list of items from a fresh graph,
+-- The cases of docs/RULES.md, "Checked by hand", that concern the graph, as rows: a list of items from a fresh graph,
 -- with the answers, the jobs that wait at the end, and the entries of jobs 0 to 3 into the queue. Any machine that
 -- answers items can be held to them. Assumes nothing.
 use mathlib.Core.List.{List, [], _∷_, _++_}

@@ -1,4 +1,4 @@
--- The terms of document 01 that every level shares: limits, refusals, labels, and the arguments of an add. Assumes
+-- The terms of docs/RULES.md that every level shares: limits, refusals, labels, and the arguments of an add. Assumes
 -- nothing.
 use mathlib.Core.Bool.{Bool, true, false, _&&_, _||_}
 use mathlib.Core.List.{List, [], _∷_}

@@ -1,6 +1,6 @@
 // The vocabulary of the task graph: sizes and answers. What a call's arguments mean stands in specs/.
 
-// R jobs, A arcs, b bucket bits and P workers of document 01.
+// R jobs, A arcs, b bucket bits and P workers of docs/RULES.md.
 #[repr(C)]
 pub struct Sizes {
     pub jobs: u32,
@@ -29,6 +29,7 @@ pub enum Answer {
     NoneReady,
     // A get handed a job out.
     Handed { out: HandOut },
-    // A number of document 01's list; 6 comes with a place in the list, and for every other number the place is 0.
+    // A number of the list of docs/NUMBERS.md; 6 comes with a place in the list, and for every other number the place
+    // is 0.
     Refused { number: u32, place: u32 },
 }

@@ -1,5 +1,5 @@
--- The totals under the three labels leave nothing out: together they are those of all jobs of the row.
--- Document 01, "The board and the day list": "the three sums together equal the minutes of all jobs". Assumes nothing.
+-- The totals under the three labels leave nothing out: together they are those of all jobs of the row. docs/RULES.md,
+-- "The board and the day list": "the three sums together equal the minutes of all jobs". Assumes nothing.
 use mathlib.Core.Path.{_≡_, refl}
 use mathlib.Core.Bool.{Bool, true, false, and-eq-true-iff}
 use mathlib.Core.List.{List, [], _∷_}

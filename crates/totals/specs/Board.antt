@@ -1,5 +1,5 @@
--- The board of totals: how many jobs stand under each label, and the sum of their minutes. Document 01, "The board and
--- the day list", with numbers 1 and 9 of "Turned-away calls". The minutes by class are a table that the definitions
+-- The board of totals: how many jobs stand under each label, and the sum of their minutes. docs/RULES.md, "The board
+-- and the day list", with numbers 1 and 9 of "Turned-away calls". The minutes by class are a table that the definitions
 -- take. Assumes nothing.
 use mathlib.Core.Bool.{Bool, true, false, _&&_}
 use mathlib.Core.List.{List, [], _∷_}
@@ -104,8 +104,8 @@ unfoldable pub recordsFrom : (ℕ → JobRecord) → ℕ → ℕ → List JobRec
 recordsFrom f i zero = []
 recordsFrom f i (suc n) = f i ∷ recordsFrom f (suc i) n
 
--- record i of a table of words whose records of `width` words follow the first `head`: its label and class stand at
--- the same places of every record. The 0 past the table's end is never met: `totalsOfTable` looks at the length first.
+-- record i of a table of words whose records of `width` words follow the first `head`: its label and class stand at the
+-- same places of every record. The 0 past the table's end is never met: `totalsOfTable` looks at the length first.
 abbrev pub recordAt : (head width label class : ℕ) → List ℕ → ℕ → JobRecord
 recordAt head width label class words i =
     record { label = getD words (head + width * i + label) 0; class = getD words (head + width * i + class) 0 }

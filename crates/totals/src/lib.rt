@@ -1,9 +1,9 @@
 // The board of totals, and a row of records: how many jobs stand under each label, and the sum of their minutes.
-// Document 01, "The board and the day list"; specs/Board.antt has the definitions. Assumes nothing.
+// docs/RULES.md, "The board and the day list"; specs/Board.antt has the definitions. Assumes nothing.
 ghost use mathlib.Core.Path.{_≡_};
 ghost use Rattle.totals.specs.Board.{refused};
 
-// The numbers of a board: a row is served, or refused as document 01, "Turned-away calls", has it.
+// The numbers of a board: a row is served, or refused as docs/RULES.md, "Turned-away calls", has it.
 pub const SERVED: u32 = 0;
 
 pub const OFF_LIMITS: u32 = 1;

@@ -1,5 +1,5 @@
-// The board over a lent row of records. Document 01, "The board and the day list"; specs/Board.antt of `totals` has the
-// definitions. Assumes nothing.
+// The board over a lent row of records. docs/RULES.md, "The board and the day list"; specs/Board.antt of `totals` has
+// the definitions. Assumes nothing.
 ghost use mathlib.Core.Path.{_≡_};
 ghost use Rattle.minutes.specs.Minutes.{fixedMinutes};
 ghost use Rattle.totals.specs.Board.{totalsOf};

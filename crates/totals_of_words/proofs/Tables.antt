@@ -1,5 +1,5 @@
 -- The records that stand in a table of words: how many, which, and what one more does to the running totals; and a row
--- of words as such a table. Document 01, "The board and the day list". Assumes nothing.
+-- of words as such a table. docs/RULES.md, "The board and the day list". Assumes nothing.
 use mathlib.Core.Path.{_≡_, refl, sym, _∙_}
 use mathlib.Core.Bool.{Bool, true, false, _&&_, and-eq-true-iff}
 use mathlib.Core.List.{List, [], _∷_}

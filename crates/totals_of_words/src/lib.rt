@@ -1,4 +1,4 @@
-// The board over a table of words. Document 01, "The board and the day list"; specs/Board.antt of `totals` has the
+// The board over a table of words. docs/RULES.md, "The board and the day list"; specs/Board.antt of `totals` has the
 // definitions. Assumes nothing.
 ghost use mathlib.Core.Path.{_≡_};
 ghost use Rattle.minutes.specs.Minutes.{fixedMinutes};

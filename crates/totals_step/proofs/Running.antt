@@ -1,5 +1,5 @@
 -- The invariant of a loop over a row of records: its running totals are those of the records that it has passed.
--- Document 01, "The board and the day list". Assumes nothing.
+-- docs/RULES.md, "The board and the day list". Assumes nothing.
 use mathlib.Core.Path.{_≡_}
 use mathlib.Core.List.{List}
 use Prim.Native.Nat.{ℕ, _+_, _<_, _≤_, zero-le}

@@ -1,5 +1,5 @@
--- What one record more does to the totals of a row, and how large the totals of a row can be.
--- Document 01, "The board and the day list". Assumes nothing.
+-- What one record more does to the totals of a row, and how large the totals of a row can be. docs/RULES.md, "The board
+-- and the day list". Assumes nothing.
 use mathlib.Core.Path.{_≡_, refl, sym, ap, _∙_}
 use mathlib.Core.Bool.{Bool, true, false, _&&_, and-true, and-assoc}
 use mathlib.Core.List.{List, [], _∷_, _++_}

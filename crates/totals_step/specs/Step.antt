@@ -1,5 +1,5 @@
--- One job record more on running totals: what the loops over a row of records do at each turn.
--- Document 01, "The board and the day list". Assumes nothing.
+-- One job record more on running totals: what the loops over a row of records do at each turn. docs/RULES.md, "The
+-- board and the day list". Assumes nothing.
 use mathlib.Core.List.{List}
 use Prim.Native.Nat.{ℕ, _+_, _*_, _%_, _^_, _<_}
 use lib.Dec.{eqb}

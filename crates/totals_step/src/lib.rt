@@ -1,4 +1,4 @@
-// One record more on running totals. Document 01, "The board and the day list"; specs/Step.antt has the definition.
+// One record more on running totals. docs/RULES.md, "The board and the day list"; specs/Step.antt has the definition.
 // Assumes nothing: the sums wrap at 32 bits, which those of a row of at most 4,096 records never reach.
 ghost use mathlib.Core.Path.{_≡_};
 ghost use Rattle.minutes.specs.Minutes.{fixedMinutes};

@@ -3,7 +3,7 @@
 ghost use mathlib.Core.Path.{_≡_};
 ghost use Rattle.terms.specs.Runs.{outcome};
 ghost use Rattle.words.specs.Layout.{atEntry, atExit};
-ghost use Rattle.day_format.specs.Whole.{wholeAdd};
+ghost use Rattle.whole_words.specs.Whole.{wholeAdd};
 use graph_post_add::post_add;
 use terms::Answer;
 use terms::Sizes;

@@ -3,7 +3,7 @@
 ghost use mathlib.Core.Path.{_≡_};
 ghost use Rattle.terms.specs.Runs.{outcome};
 ghost use Rattle.words.specs.Layout.{atEntry, atExit};
-ghost use Rattle.day_format.specs.Whole.{wholeFinish};
+ghost use Rattle.whole_words.specs.Whole.{wholeFinish};
 use graph_post_finish::post_finish;
 use terms::Answer;
 use terms::Sizes;

@@ -9,7 +9,7 @@ use Rattle.terms.specs.declared.Answer.{Answer}
 use Rattle.terms.specs.declared.Answer.the-variants.{Laid, Posted, Going, Ended, NoneReady, Handed, Refused}
 use Rattle.words.specs.Layout.{Tables}
 use Rattle.words.specs.Words.{stepWords}
-use Rattle.day_format.specs.Whole.{andThen, stepsOf}
+use Rattle.whole_words.specs.Whole.{andThen, stepsOf}
 
 abbrev pub goesOn : Answer → Bool
 goesOn Going = true

@@ -3,7 +3,7 @@
 ghost use mathlib.Core.Path.{_≡_};
 ghost use Rattle.terms.specs.Runs.{outcome};
 ghost use Rattle.words.specs.Layout.{atEntry, atExit};
-ghost use Rattle.day_format.specs.Whole.{andThen, stepsOf};
+ghost use Rattle.whole_words.specs.Whole.{andThen, stepsOf};
 ghost use Rattle.whole_steps.specs.Going.{goesOn};
 use graph_step::step;
 use terms::Answer;

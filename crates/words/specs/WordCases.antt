@@ -1,5 +1,5 @@
--- The words tell what document 01's rows say ("Checked by hand", cases 1 to 6), from tables that just suffice and were
--- laid out over old words. Assumes nothing.
+-- The words tell what docs/RULES.md's rows say ("Checked by hand", cases 1 to 6), from tables that just suffice and
+-- were laid out over old words. Assumes nothing.
 use mathlib.Core.Path.{_≡_, refl}
 use mathlib.Core.List.{List, map}
 use Prim.Native.Nat.{_^_}

@@ -1,6 +1,6 @@
 -- What it is for the words to do what the rules do, in one item; and the tests that come first: sizes, worker, own
--- words, a call half done. Follows document 01, "Turned-away calls" (numbers 1, 2, 3, 9). Assumes of the graph what the
--- rules keep (`Sound`).
+-- words, a call half done. Follows docs/RULES.md, "Turned-away calls" (numbers 1, 2, 3, 9). Assumes of the graph what
+-- the rules keep (`Sound`).
 use mathlib.Core.Path.{_≡_, refl, _∙_}
 use mathlib.Core.Logic.{_≢_}
 use mathlib.Core.Bool.{Bool, true, false}

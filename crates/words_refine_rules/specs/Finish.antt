@@ -1,5 +1,5 @@
 -- The steps of a finish: the mark, and the step for one arc. The plan that the words make is the step of the rules.
--- Follows document 01, "Steps": mark and notify. Assumes of the graph what the rules keep (`Sound`).
+-- Follows docs/RULES.md, "Steps": mark and notify. Assumes of the graph what the rules keep (`Sound`).
 use mathlib.Core.Path.{_≡_, refl, ap, _∙_}
 use mathlib.Core.Bool.{Bool, true, false, not}
 use mathlib.Core.List.{List, [], _∷_}

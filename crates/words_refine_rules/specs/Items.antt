@@ -1,5 +1,5 @@
 -- The words do what the rules do, in one item: the answers are the same, and the tables left stand for the graph left.
--- Follows document 01, "Steps" and "Turned-away calls". Assumes of the graph what the rules keep (`Sound`).
+-- Follows docs/RULES.md, "Steps" and "Turned-away calls". Assumes of the graph what the rules keep (`Sound`).
 use mathlib.Core.Path.{_≡_, refl}
 use Prim.Native.Nat.{ℕ, _<_}
 use lib.Dec.{eqb}

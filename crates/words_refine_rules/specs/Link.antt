@@ -1,5 +1,5 @@
 -- The steps of an add whose job is there: linking a listed name, and settling. The plan that the words make is the step
--- of the rules. Follows document 01, "Steps": link and settle. Assumes of the graph what the rules keep (`Sound`).
+-- of the rules. Follows docs/RULES.md, "Steps": link and settle. Assumes of the graph what the rules keep (`Sound`).
 use mathlib.Core.Path.{_≡_, refl, sym, ap, _∙_}
 use mathlib.Core.Logic.{_≢_}
 use mathlib.Core.Bool.{Bool, true, false}

@@ -1,5 +1,5 @@
--- Number 9 never comes: no item of a graph that the rules keep is refused as damaged. Follows document 01, "Turned-away
--- calls" (number 9). Assumes of every graph that the rules reach what they keep (`Sound`).
+-- Number 9 never comes: no item of a graph that the rules keep is refused as damaged. Follows docs/RULES.md,
+-- "Turned-away calls" (number 9). Assumes of every graph that the rules reach what they keep (`Sound`).
 use mathlib.Core.Path.{_≡_, refl}
 use mathlib.Core.Bool.{true, false}
 use mathlib.Core.List.{List, [], _∷_}

@@ -1,5 +1,5 @@
 -- The tests that come before a call's own: the sizes are the ones laid out exactly if the rules say so, and neither a
--- worker's own words nor the counters are ever damaged. Follows document 01, "Turned-away calls" (order: 1, 2, 9 for
+-- worker's own words nor the counters are ever damaged. Follows docs/RULES.md, "Turned-away calls" (order: 1, 2, 9 for
 -- the worker's own words). Assumes of the graph what the rules keep (`Sound`).
 use mathlib.Core.Path.{_≡_, refl, sym, ap, _∙_}
 use mathlib.Core.Bool.{Bool, true, false, _&&_, _||_}

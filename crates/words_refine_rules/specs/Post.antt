@@ -1,4 +1,5 @@
--- The posts and the get of an idle worker: the words judge and store what the rules say. Follows document 01, "Steps":
+-- The posts and the get of an idle worker: the words judge and store what the rules say. Follows docs/RULES.md,
+-- "Steps":
 -- post, get; "Turned-away calls" (numbers 5, 10, 11). Assumes of the graph what the rules keep (`Sound`).
 use mathlib.Core.Path.{_≡_, refl, sym, ap, _∙_}
 use mathlib.Core.Bool.{Bool, true, false}

@@ -1,6 +1,6 @@
 -- The words of a worker that no call fills: all of its call's words while it is idle, and the names past its list's
--- count. Follows document 01, "Tables and their measures": "names past the count are kept as 0", "A call that ends puts
--- the words of its call back to these values". Assumes nothing.
+-- count. Follows docs/RULES.md, "Tables and their measures": "names past the count are kept as 0", "A call that ends
+-- puts the words of its call back to these values". Assumes nothing.
 use mathlib.Core.Path.{_≡_, refl, sym, ap, _∙_}
 use mathlib.Core.Logic.{_≢_}
 use Prim.Native.Nat.{ℕ, zero, suc, _+_, _≤_, _<_}

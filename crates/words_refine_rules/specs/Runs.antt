@@ -1,5 +1,5 @@
 -- Any list of items, from tables laid out: the words give the rules' events, and stand for the graph that the rules
--- reach. Follows document 01, demand 3. Assumes of every graph that the rules reach what they keep (`Sound`).
+-- reach. Follows docs/RULES.md, demand 3. Assumes of every graph that the rules reach what they keep (`Sound`).
 use mathlib.Core.Path.{_≡_, refl}
 use mathlib.Core.Bool.{true}
 use mathlib.Core.List.{List, [], _∷_}

@@ -1,6 +1,6 @@
 -- What is seen in the words is what is seen in the graph that they stand for: jobs with their arcs, the queue, holds,
--- calls half done. Follows document 01, "Tables and their measures" and "Steps".
--- Assumes of the graph what the rules keep (`Sound`).
+-- calls half done. Follows docs/RULES.md, "Tables and their measures" and "Steps". Assumes of the graph what the rules
+-- keep (`Sound`).
 use mathlib.Core.Path.{_≡_, refl, sym, _∙_}
 use mathlib.Core.Bool.{false}
 use mathlib.Core.Option.{Option, none, some}

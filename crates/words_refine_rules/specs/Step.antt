@@ -1,4 +1,4 @@
--- What the steps share: what a plan does, the worker that steps, and a call that quits. Follows document 01, "Steps"
+-- What the steps share: what a plan does, the worker that steps, and a call that quits. Follows docs/RULES.md, "Steps"
 -- and "Turned-away calls" (numbers 6, 7, 8). Assumes of the graph what the rules keep (`Sound`).
 use mathlib.Core.Path.{_≡_, refl}
 use mathlib.Core.Logic.{_≢_}

@@ -1,5 +1,5 @@
 -- The workers' words: what the stores of a call leave of the words of its own worker, and that they leave those of
--- every other worker. Follows document 01, "Tables and their measures". Assumes nothing.
+-- every other worker. Follows docs/RULES.md, "Tables and their measures". Assumes nothing.
 use mathlib.Core.Path.{_≡_, refl, sym, ap, _∙_}
 use mathlib.Core.Logic.{_≢_}
 use mathlib.Core.Bool.{true}

@@ -1,4 +1,4 @@
-//! The rules of document 01 over the same tables of words with the same tests, in plain unproved Rust:
+//! The rules of docs/RULES.md over the same tables of words with the same tests, in plain unproved Rust:
 //! what the proved library is timed beside. The five calls are never inlined, as those of the library cannot be.
 
 use compare_graph::layout::{

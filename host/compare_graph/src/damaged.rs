@@ -1,5 +1,5 @@
 //! Histories over damaged tables: words altered at random, tables cut short, sizes swapped. Every answer is
-//! the one that document 01's list and `docs/TABLES.md` settle, and the tables hold afterwards what the list
+//! the one that the list of docs/NUMBERS.md and `docs/TABLES.md` settle, and the tables hold afterwards what the list
 //! says.
 
 mod answer;

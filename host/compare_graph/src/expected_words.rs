@@ -111,7 +111,7 @@ fn wrong_workers(graph: &Graph, words: &[u32]) -> Option<String> {
 }
 
 /// The words of a worker. The name and the job of a finish half done, and its arc before the mark, are the
-/// library's own affair: document 01 says nothing of them, so they are taken from `library`.
+/// library's own affair: docs/RULES.md says nothing of them, so they are taken from `library`.
 fn worker_words(graph: &Graph, worker: &Worker, library: &[u32]) -> [u32; WORKER_WORDS] {
     let mut words = idle_worker(place(worker.held));
     match &worker.call {

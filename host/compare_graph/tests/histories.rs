@@ -30,7 +30,7 @@ fn histories_of_4096_jobs() {
     comparison.finish();
 }
 
-/// Document 01's cases and some damaged tables, as files that `replay` reads too.
+/// docs/RULES.md's cases and some damaged tables, as files that `replay` reads too.
 #[test]
 fn kept_histories() {
     let (mut comparison, _) = Comparison::new("graph, kept histories");

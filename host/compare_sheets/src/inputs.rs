@@ -8,7 +8,7 @@ use crate::{random::Random, writing::to_second};
 /// The most bytes of an entry: map, name, count, 32 names, class and grower.
 pub const MOST_ENTRY: usize = 137;
 
-/// Document 01's sheet of 29 bytes: jobs 1, 2, 3 and 4 needing 1 and 2.
+/// docs/RULES.md's sheet of 29 bytes: jobs 1, 2, 3 and 4 needing 1 and 2.
 pub const FOUR_JOBS: [u8; 29] = [1, 1, 0, 0, 0, 1, 2, 0, 0, 0, 1, 3, 0, 0, 0, 3, 4, 0, 0, 0, 2, 1, 0, 0, 0, 2, 0, 0, 0];
 
 /// Offsets that no memory reaches, and at which a careless sum wraps.

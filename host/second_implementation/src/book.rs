@@ -1,4 +1,4 @@
-//! The plain book (document 01, "The plain book"): the same jobs with whole calls, one after another.
+//! The plain book (docs/RULES.md, "The plain book"): the same jobs with whole calls, one after another.
 
 use std::collections::HashMap;
 

@@ -1,4 +1,4 @@
-//! The bucket of a name (document 01, "Tables and their measures").
+//! The bucket of a name (docs/RULES.md, "Tables and their measures").
 
 /// The factor that spreads names over the buckets.
 const FACTOR: u32 = 2_654_435_769;

@@ -1,4 +1,4 @@
-//! The day list (document 01, "The board and the day list"): from the bytes of a sheet to the lines
+//! The day list (docs/RULES.md, "The board and the day list"): from the bytes of a sheet to the lines
 //! that are printed.
 
 use std::fmt::Write;

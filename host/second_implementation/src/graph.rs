@@ -1,4 +1,4 @@
-//! The task graph (document 01, "Tables and their measures", "Steps" and "Turned-away calls"): posts,
+//! The task graph (docs/RULES.md, "Tables and their measures", "Steps" and "Turned-away calls"): posts,
 //! steps and gets over jobs, arcs, buckets, a queue and workers.
 //!
 //! The shapes are Rust's own, not tables of words, so nothing here can be damaged (number 9) or too
@@ -17,7 +17,7 @@ pub const MAX_ARCS: u32 = 32_768;
 pub const MAX_BITS: u32 = 8;
 pub const MAX_WORKERS: u32 = 16;
 
-/// R, A, b and P of document 01.
+/// R, A, b and P of docs/RULES.md.
 #[derive(Clone, Copy, Debug, PartialEq, Eq)]
 pub struct Sizes {
     pub jobs: u32,

@@ -1,4 +1,4 @@
-//! The history of calls (document 01, "Steps", "The plain book" and demand 3), read off the items of a
+//! The history of calls (docs/RULES.md, "Steps", "The plain book" and demand 3), read off the items of a
 //! list and their answers alone: whole calls in the order of their deciding steps, and the entries of
 //! each job into the queue.
 

@@ -1,4 +1,4 @@
-//! A second implementation of the rules of document 01, one module for each of its concerns.
+//! A second implementation of the rules of docs/RULES.md, one module for each of its concerns.
 //!
 //! It is written from that document alone and shares no code with the proved library, so that a
 //! mistake in one of the two shows as a difference between them. It proves nothing.

@@ -1,4 +1,4 @@
-//! The minutes of a job by its class (document 01, "Tables and their measures").
+//! The minutes of a job by its class (docs/RULES.md, "Tables and their measures").
 
 const BY_CLASS: [u32; 16] = [1, 2, 3, 5, 8, 10, 15, 20, 30, 45, 60, 90, 120, 180, 240, 480];
 

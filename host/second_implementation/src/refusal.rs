@@ -1,4 +1,4 @@
-//! The numbers of the refusals (document 01, "Turned-away calls").
+//! The numbers of the refusals (docs/RULES.md, "Turned-away calls").
 
 /// A size off its limits, or not the one laid out.
 pub const SIZE: u32 = 1;

@@ -1,4 +1,4 @@
-//! Job sheets (document 01, "Job sheets"): entries that follow each other with nothing between.
+//! Job sheets (docs/SHEETS.md): entries that follow each other with nothing between.
 //!
 //! An entry opens with a map byte that says which fields follow: name, prerequisites, class, grower,
 //! in that order. A field left out means an empty list, class 0 or grower 0.

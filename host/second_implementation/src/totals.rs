@@ -1,4 +1,4 @@
-//! The board of totals (document 01, "The board and the day list"): how many jobs stand under each
+//! The board of totals (docs/RULES.md, "The board and the day list"): how many jobs stand under each
 //! label, and the sum of their minutes.
 
 use std::fmt;

@@ -38,12 +38,4 @@ returns-2 c = c .before .product .ensures ∙ sym (all-bits _ _ (c .if1 .left))
 pub bucket-spec : {M : Type 1} → statement M
 bucket-spec =
     tie.close
-    (tie.spec
-    product-requires
-    cast-result
-    sub-result
-    cast-result-2
-    shr-result
-    cast-result-3
-    returns
-    returns-2)
+    (tie.spec product-requires cast-result sub-result cast-result-2 shr-result cast-result-3 returns returns-2)

@@ -6,7 +6,7 @@ use borrow.Author.Tests.{le-leb, lt-leb}
 use lib.ListN.{length}
 use Rattle.sheet_format.specs.Decode.{decodeSheet}
 use Rattle.day_format.specs.Day.{mostBytes, dayText}
-use Rattle.day_list.proofs.Entries.{whole-scanned, broken-scanned}
+use Rattle.day_list.proofs.Days.{whole-day, whole-scanned, broken-scanned}
 use Rattle.day_list.proofs.print_list.Statement.{statement}
 use Rattle.day_list.proofs.print_list.Tie as tie
 
@@ -29,12 +29,8 @@ scan-sheet-requires c κs = search needs
 enum-told : tie.Need-enum-told
 enum-told c = search needs
 
-print-fresh-day-requires : tie.Need-print-fresh-day-requires
-print-fresh-day-requires c κs =
-    let a = c .before .before .before .before .before .before .before .args in
-    let w = whole-scanned (decodeSheet (now (a .sheet))) _
-    (sym (c .before .before .before .scan-sheet .ensures) ∙ c .before .enum-told .given .1) in
-    (w .0, c .before .before .before .before .if1 .left, c .before .before .before .before .before .before .before .pre)
+print-day-requires : tie.Need-print-day-requires
+print-day-requires c κs = search needs
 
 enum-known-number : tie.Need-enum-known-number
 enum-known-number c = search needs
@@ -49,15 +45,14 @@ returns-2 : tie.Need-returns-2
 unfolding dayText
 returns-2 c =
     let a = c .before .before .before .before .before .before .before .before .before .before .args in
+    let q = c .before .before .before .before .before .before .before .before .before .before .pre in
     let w = whole-scanned (decodeSheet (now (a .sheet))) _
     (sym (c .before .before .before .before .before .before .scan-sheet .ensures)
     ∙ c .before .before .before .before .enum-told .given .1) in
-    rw (
-      le-leb (length (now (a .sheet))) mostBytes
-          (c .before .before .before .before .before .before .before .if1 .left),
-      w .1,
-    )
-    (c .before .before .print-fresh-day .ensures)
+    let h = c .before .before .before .before .before .before .before .if1 .left in
+    rw (le-leb (length (now (a .sheet))) mostBytes h, w)
+    (whole-day (a .workers) (q .0) (q .1) (a .limit) (now (a .out)) (now (a .sheet)) _ _ w h
+    (c .before .before .print-day .ensures))
 
 same-length-3 : tie.Need-same-length-3
 same-length-3 c = search needs
@@ -85,7 +80,7 @@ print-list-spec =
     returns
     scan-sheet-requires
     enum-told
-    print-fresh-day-requires
+    print-day-requires
     enum-known-number
     broken-line-requires-2
     same-length-2

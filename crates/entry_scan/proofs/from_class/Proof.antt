@@ -57,12 +57,5 @@ returns-3 c =
 pub from-class-spec : {M : Type 1} → statement M
 from-class-spec =
     tie.close
-    (tie.spec
-    number1-if-requires
-    enum-known-number
-    enum-known-class
-    within-if-requires
-    from-grower-requires
-    returns
-    returns-2
-    returns-3)
+    (tie.spec number1-if-requires enum-known-number enum-known-class within-if-requires from-grower-requires returns
+    returns-2 returns-3)

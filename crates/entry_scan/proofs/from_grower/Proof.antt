@@ -46,11 +46,4 @@ returns-3 c =
 pub from-grower-spec : {M : Type 1} → statement M
 from-grower-spec =
     tie.close
-    (tie.spec
-    number2-if-requires
-    enum-known-number
-    enum-known-grower
-    within-if-requires
-    returns
-    returns-2
-    returns-3)
+    (tie.spec number2-if-requires enum-known-number enum-known-grower within-if-requires returns returns-2 returns-3)

@@ -53,15 +53,5 @@ returns-4 c =
 pub list-spec : {M : Type 1} → statement M
 list-spec =
     tie.close
-    (tie.spec
-    add-if1
-    returns
-    shared-slice-read-wide
-    wide-requires
-    cast-names
-    add-end
-    mul-end
-    add-end-2
-    returns-2
-    returns-3
-    returns-4)
+    (tie.spec add-if1 returns shared-slice-read-wide wide-requires cast-names add-end mul-end add-end-2 returns-2
+    returns-3 returns-4)

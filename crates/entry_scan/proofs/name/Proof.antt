@@ -49,16 +49,5 @@ returns-2 c = rw (lt-leb _ _ (c .if1 .left))
 pub name-spec : {M : Type 1} → statement M
 name-spec =
     tie.close
-    (tie.spec
-    add-if1
-    shared-slice-read-spelt4
-    add-spelt4
-    shared-slice-read-spelt4-2
-    add-spelt4-2
-    shared-slice-read-spelt4-3
-    add-spelt4-3
-    shared-slice-read-spelt4-4
-    spelt4-requires
-    add-t19
-    returns
-    returns-2)
+    (tie.spec add-if1 shared-slice-read-spelt4 add-spelt4 shared-slice-read-spelt4-2 add-spelt4-2
+    shared-slice-read-spelt4-3 add-spelt4-3 shared-slice-read-spelt4-4 spelt4-requires add-t19 returns returns-2)

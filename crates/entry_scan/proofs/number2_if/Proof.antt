@@ -41,13 +41,5 @@ returns-3 c = rw (ne-eqb _ _ (c .before .if1 .left), lt-leb _ _ (c .if2 .left))
 pub number2-if-spec : {M : Type 1} → statement M
 number2-if-spec =
     tie.close
-    (tie.spec
-    returns
-    add-if2
-    shared-slice-read-spelt2
-    add-spelt2
-    shared-slice-read-spelt2-2
-    spelt2-requires
-    add-t14
-    returns-2
-    returns-3)
+    (tie.spec returns add-if2 shared-slice-read-spelt2 add-spelt2 shared-slice-read-spelt2-2 spelt2-requires add-t14
+    returns-2 returns-3)

@@ -104,19 +104,5 @@ returns-5 c = rw (lt-ltb _ _ (c .before .before .before .if1 .left), ← c .befo
 pub scan-spec : {M : Type 1} → statement M
 scan-spec =
     tie.close
-    (tie.spec
-    returns
-    shared-slice-read-wide
-    wide-requires
-    add-name
-    name-requires
-    enum-known-number
-    enum-known-name
-    list-if-requires
-    enum-known-number-2
-    enum-known-count
-    from-class-requires
-    returns-2
-    returns-3
-    returns-4
-    returns-5)
+    (tie.spec returns shared-slice-read-wide wide-requires add-name name-requires enum-known-number enum-known-name
+    list-if-requires enum-known-number-2 enum-known-count from-class-requires returns-2 returns-3 returns-4 returns-5)

@@ -66,17 +66,5 @@ returns-3 c =
 pub apply-link-spec : {M : Type 1} → statement M
 apply-link-spec =
     tie.close
-    (tie.spec
-    enum-known-plan
-    link-first-requires
-    enum-known-plan-2
-    link-after-requires
-    same-length
-    same-length-2
-    same-length-3
-    returns
-    same-length-4
-    same-length-5
-    same-length-6
-    returns-2
-    returns-3)
+    (tie.spec enum-known-plan link-first-requires enum-known-plan-2 link-after-requires same-length same-length-2
+    same-length-3 returns same-length-4 same-length-5 same-length-6 returns-2 returns-3)

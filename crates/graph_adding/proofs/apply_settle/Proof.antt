@@ -61,16 +61,5 @@ returns-3 c =
 pub apply-settle-spec : {M : Type 1} → statement M
 apply-settle-spec =
     tie.close
-    (tie.spec
-    enum-known-plan
-    settle-requires
-    enum-known-plan-2
-    settle-queue-requires
-    same-length
-    same-length-2
-    returns
-    same-length-3
-    same-length-4
-    same-length-5
-    returns-2
-    returns-3)
+    (tie.spec enum-known-plan settle-requires enum-known-plan-2 settle-queue-requires same-length same-length-2
+    returns same-length-3 same-length-4 same-length-5 returns-2 returns-3)

@@ -38,11 +38,5 @@ returns c =
 pub link-after-spec : {M : Type 1} → statement M
 link-after-spec =
     tie.close
-    (tie.spec
-    put-job-requires
-    append-arc-requires
-    count-place-requires
-    same-length
-    same-length-2
-    same-length-3
+    (tie.spec put-job-requires append-arc-requires count-place-requires same-length same-length-2 same-length-3
     returns)

@@ -38,11 +38,5 @@ returns c =
 pub link-first-spec : {M : Type 1} → statement M
 link-first-spec =
     tie.close
-    (tie.spec
-    put-only-arc-requires
-    new-arc-requires
-    count-place-requires
-    same-length
-    same-length-2
-    same-length-3
+    (tie.spec put-only-arc-requires new-arc-requires count-place-requires same-length same-length-2 same-length-3
     returns)

@@ -38,11 +38,5 @@ returns c =
 pub settle-queue-spec : {M : Type 1} → statement M
 settle-queue-spec =
     tie.close
-    (tie.spec
-    put-job-requires
-    queue-job-requires
-    idle-worker-requires
-    same-length
-    same-length-2
-    same-length-3
+    (tie.spec put-job-requires queue-job-requires idle-worker-requires same-length same-length-2 same-length-3
     returns)

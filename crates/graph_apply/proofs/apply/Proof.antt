@@ -117,31 +117,7 @@ returns-6 c =
 pub apply-spec : {M : Type 1} → statement M
 apply-spec =
     tie.close
-    (tie.spec
-    enum-told
-    enum-known-plan
-    enter-requires
-    apply-own-requires
-    apply-link-requires
-    apply-settle-requires
-    apply-finish-requires
-    returns
-    same-length
-    same-length-2
-    same-length-3
-    same-length-4
-    returns-2
-    same-length-5
-    returns-3
-    same-length-6
-    same-length-7
-    same-length-8
-    returns-4
-    same-length-9
-    same-length-10
-    same-length-11
-    returns-5
-    same-length-12
-    same-length-13
-    same-length-14
-    returns-6)
+    (tie.spec enum-told enum-known-plan enter-requires apply-own-requires apply-link-requires apply-settle-requires
+    apply-finish-requires returns same-length same-length-2 same-length-3 same-length-4 returns-2 same-length-5
+    returns-3 same-length-6 same-length-7 same-length-8 returns-4 same-length-9 same-length-10 same-length-11
+    returns-5 same-length-12 same-length-13 same-length-14 returns-6)

@@ -47,14 +47,5 @@ returns-3 c =
 pub apply-get-spec : {M : Type 1} → statement M
 apply-get-spec =
     tie.close
-    (tie.spec
-    enum-told
-    enum-told-2
-    enum-known-plan
-    take-requires
-    returns
-    returns-2
-    same-length
-    same-length-2
-    same-length-3
-    returns-3)
+    (tie.spec enum-told enum-told-2 enum-known-plan take-requires returns returns-2 same-length same-length-2
+    same-length-3 returns-3)

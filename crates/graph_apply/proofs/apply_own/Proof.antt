@@ -67,17 +67,5 @@ returns-4 c =
 pub apply-own-spec : {M : Type 1} → statement M
 apply-own-spec =
     tie.close
-    (tie.spec
-    enum-told
-    idle-worker-requires
-    enum-told-2
-    count-place-requires
-    enum-told-3
-    count-tally-requires
-    same-length
-    returns
-    same-length-2
-    returns-2
-    same-length-3
-    returns-3
-    returns-4)
+    (tie.spec enum-told idle-worker-requires enum-told-2 count-place-requires enum-told-3 count-tally-requires
+    same-length returns same-length-2 returns-2 same-length-3 returns-3 returns-4)

@@ -57,16 +57,5 @@ returns-2 c = not-again _ _ _ (c .loop-test .left) (c .before .loop .inv .0) ∙
 pub any-repeats-spec : {M : Type 1} → statement M
 any-repeats-spec =
     tie.close
-    (tie.spec
-    Inv-loop
-    μ-loop
-    loop-holds
-    add-listed-from
-    mul-listed-from
-    element-copy-out-listed-from
-    listed-from-requires
-    returns
-    add-i
-    loop-less
-    loop-again
-    returns-2)
+    (tie.spec Inv-loop μ-loop loop-holds add-listed-from mul-listed-from element-copy-out-listed-from
+    listed-from-requires returns add-i loop-less loop-again returns-2)

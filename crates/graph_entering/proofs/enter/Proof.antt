@@ -46,13 +46,5 @@ returns c =
 pub enter-spec : {M : Type 1} → statement M
 enter-spec =
     tie.close
-    (tie.spec
-    enter-job-requires
-    reserve-requires
-    put-bucket-requires
-    enter-worker-requires
-    same-length
-    same-length-2
-    same-length-3
-    same-length-4
-    returns)
+    (tie.spec enter-job-requires reserve-requires put-bucket-requires enter-worker-requires same-length same-length-2
+    same-length-3 same-length-4 returns)

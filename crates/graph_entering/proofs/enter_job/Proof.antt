@@ -49,13 +49,5 @@ returns c =
 pub enter-job-spec : {M : Type 1} → statement M
 enter-job-spec =
     tie.close
-    (tie.spec
-    worker-word-requires
-    worker-word-requires-2
-    worker-word-requires-3
-    worker-word-requires-4
-    put-job-record-requires
-    sum-requires
-    put-header-requires
-    same-length
-    returns)
+    (tie.spec worker-word-requires worker-word-requires-2 worker-word-requires-3 worker-word-requires-4
+    put-job-record-requires sum-requires put-header-requires same-length returns)

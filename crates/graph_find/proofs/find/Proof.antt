@@ -31,9 +31,4 @@ returns c =
 pub find-spec : {M : Type 1} → statement M
 find-spec =
     tie.close
-    (tie.spec
-    header-requires
-    bucket-requires
-    bucket-word-requires
-    walk-from-requires
-    returns)
+    (tie.spec header-requires bucket-requires bucket-word-requires walk-from-requires returns)

@@ -64,17 +64,5 @@ returns-5 c = spent _ _ _ _ _ (c .before .loop-test .left) (c .if4 .left) ∙ c 
 pub walk-from-spec : {M : Type 1} → statement M
 walk-from-spec =
     tie.close
-    (tie.spec
-    Inv-loop
-    μ-loop
-    loop-holds
-    returns
-    returns-2
-    job-word-requires
-    returns-3
-    job-word-requires-2
-    sub-left
-    loop-less
-    loop-again
-    returns-4
-    returns-5)
+    (tie.spec Inv-loop μ-loop loop-holds returns returns-2 job-word-requires returns-3 job-word-requires-2 sub-left
+    loop-less loop-again returns-4 returns-5)

@@ -55,11 +55,4 @@ returns-3 c =
 pub plan-mark-spec : {M : Type 1} → statement M
 plan-mark-spec =
     tie.close
-    (tie.spec
-    returns
-    job-word-requires
-    job-word-requires-2
-    header-requires
-    place-ok-requires
-    returns-2
-    returns-3)
+    (tie.spec returns job-word-requires job-word-requires-2 header-requires place-ok-requires returns-2 returns-3)

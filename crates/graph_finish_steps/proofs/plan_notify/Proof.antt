@@ -114,17 +114,5 @@ returns-5 c =
 pub plan-notify-spec : {M : Type 1} → statement M
 plan-notify-spec =
     tie.close
-    (tie.spec
-    returns
-    arc-word-requires
-    arc-word-requires-2
-    header-requires
-    returns-2
-    job-word-requires
-    header-requires-2
-    place-ok-requires
-    less-requires
-    notify-queue-requires
-    returns-3
-    returns-4
-    returns-5)
+    (tie.spec returns arc-word-requires arc-word-requires-2 header-requires returns-2 job-word-requires
+    header-requires-2 place-ok-requires less-requires notify-queue-requires returns-3 returns-4 returns-5)

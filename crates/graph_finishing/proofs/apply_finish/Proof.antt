@@ -81,21 +81,6 @@ returns-4 c =
 pub apply-finish-spec : {M : Type 1} → statement M
 apply-finish-spec =
     tie.close
-    (tie.spec
-    enum-known-plan
-    mark-requires
-    enum-known-plan-2
-    notify-requires
-    enum-known-plan-3
-    notify-queue-requires
-    same-length
-    same-length-2
-    returns
-    same-length-3
-    same-length-4
-    returns-2
-    same-length-5
-    same-length-6
-    same-length-7
-    returns-3
-    returns-4)
+    (tie.spec enum-known-plan mark-requires enum-known-plan-2 notify-requires enum-known-plan-3 notify-queue-requires
+    same-length same-length-2 returns same-length-3 same-length-4 returns-2 same-length-5 same-length-6 same-length-7
+    returns-3 returns-4)

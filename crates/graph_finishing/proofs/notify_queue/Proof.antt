@@ -38,11 +38,4 @@ returns c =
 pub notify-queue-spec : {M : Type 1} → statement M
 notify-queue-spec =
     tie.close
-    (tie.spec
-    put-job-requires
-    queue-job-requires
-    arcs-from-requires
-    same-length
-    same-length-2
-    same-length-3
-    returns)
+    (tie.spec put-job-requires queue-job-requires arcs-from-requires same-length same-length-2 same-length-3 returns)

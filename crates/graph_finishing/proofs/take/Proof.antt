@@ -38,11 +38,4 @@ returns c =
 pub take-spec : {M : Type 1} → statement M
 take-spec =
     tie.close
-    (tie.spec
-    put-job-requires
-    take-job-requires
-    put-worker-requires
-    same-length
-    same-length-2
-    same-length-3
-    returns)
+    (tie.spec put-job-requires take-job-requires put-worker-requires same-length same-length-2 same-length-3 returns)

@@ -43,12 +43,4 @@ returns c =
 pub fresh-arcs-spec : {M : Type 1} → statement M
 fresh-arcs-spec =
     tie.close
-    (tie.spec
-    put-header-requires
-    cast-fill
-    cast-fill-2
-    cast-fill-3
-    mul-fill
-    fill-requires
-    same-length
-    returns)
+    (tie.spec put-header-requires cast-fill cast-fill-2 cast-fill-3 mul-fill fill-requires same-length returns)

@@ -54,13 +54,4 @@ returns c = record-none jobShape freshJob refl _ _ _ (c .loop-test .left) ∙ c 
 pub fresh-job-records-spec : {M : Type 1} → statement M
 fresh-job-records-spec =
     tie.close
-    (tie.spec
-    Inv-loop
-    μ-loop
-    loop-holds
-    put-job-record-requires
-    add-i
-    loop-less
-    loop-again
-    same-length
-    returns)
+    (tie.spec Inv-loop μ-loop loop-holds put-job-record-requires add-i loop-less loop-again same-length returns)

@@ -46,12 +46,5 @@ returns c =
 pub fresh-jobs-spec : {M : Type 1} → statement M
 fresh-jobs-spec =
     tie.close
-    (tie.spec
-    put-header-requires
-    put-header-requires-2
-    put-header-requires-3
-    put-header-requires-4
-    put-header-requires-5
-    fresh-job-records-requires
-    same-length
-    returns)
+    (tie.spec put-header-requires put-header-requires-2 put-header-requires-3 put-header-requires-4
+    put-header-requires-5 fresh-job-records-requires same-length returns)

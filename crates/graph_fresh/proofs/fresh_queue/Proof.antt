@@ -37,11 +37,4 @@ returns c =
 pub fresh-queue-spec : {M : Type 1} → statement M
 fresh-queue-spec =
     tie.close
-    (tie.spec
-    put-header-requires
-    put-header-requires-2
-    cast-fill
-    cast-fill-2
-    fill-requires
-    same-length
-    returns)
+    (tie.spec put-header-requires put-header-requires-2 cast-fill cast-fill-2 fill-requires same-length returns)

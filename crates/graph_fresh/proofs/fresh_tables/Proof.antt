@@ -54,15 +54,5 @@ returns c =
 pub fresh-tables-spec : {M : Type 1} → statement M
 fresh-tables-spec =
     tie.close
-    (tie.spec
-    fresh-jobs-requires
-    fresh-arcs-requires
-    fresh-buckets-requires
-    fresh-queue-requires
-    fresh-workers-requires
-    same-length
-    same-length-2
-    same-length-3
-    same-length-4
-    same-length-5
-    returns)
+    (tie.spec fresh-jobs-requires fresh-arcs-requires fresh-buckets-requires fresh-queue-requires
+    fresh-workers-requires same-length same-length-2 same-length-3 same-length-4 same-length-5 returns)

@@ -55,13 +55,4 @@ returns c = record-none workerShape (bareWorker IDLE none) refl _ _ _ (c .loop-t
 pub fresh-workers-spec : {M : Type 1} → statement M
 fresh-workers-spec =
     tie.close
-    (tie.spec
-    Inv-loop
-    μ-loop
-    loop-holds
-    put-bare-worker-requires
-    add-i
-    loop-less
-    loop-again
-    same-length
-    returns)
+    (tie.spec Inv-loop μ-loop loop-holds put-bare-worker-requires add-i loop-less loop-again same-length returns)

@@ -46,13 +46,5 @@ returns c =
 pub get-spec : {M : Type 1} → statement M
 get-spec =
     tie.close
-    (tie.spec
-    plan-get-requires
-    apply-get-requires
-    answer-get-requires
-    same-length
-    same-length-2
-    same-length-3
-    same-length-4
-    same-length-5
-    returns)
+    (tie.spec plan-get-requires apply-get-requires answer-get-requires same-length same-length-2 same-length-3
+    same-length-4 same-length-5 returns)

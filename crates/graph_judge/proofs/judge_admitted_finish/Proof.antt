@@ -75,12 +75,5 @@ returns-5 c =
 pub judge-admitted-finish-spec : {M : Type 1} → statement M
 judge-admitted-finish-spec =
     tie.close
-    (tie.spec
-    worker-word-requires
-    worker-word-requires-2
-    returns
-    job-word-requires
-    returns-2
-    returns-3
-    returns-4
+    (tie.spec worker-word-requires worker-word-requires-2 returns job-word-requires returns-2 returns-3 returns-4
     returns-5)

@@ -66,18 +66,5 @@ returns-2 c = rw (← c .before .room-for .ensures, c .if1 .left)
 pub lay-out-spec : {M : Type 1} → statement M
 lay-out-spec =
     tie.close
-    (tie.spec
-    room-for-requires
-    fresh-tables-requires
-    same-length
-    same-length-2
-    same-length-3
-    same-length-4
-    same-length-5
-    returns
-    same-length-6
-    same-length-7
-    same-length-8
-    same-length-9
-    same-length-10
-    returns-2)
+    (tie.spec room-for-requires fresh-tables-requires same-length same-length-2 same-length-3 same-length-4
+    same-length-5 returns same-length-6 same-length-7 same-length-8 same-length-9 same-length-10 returns-2)

@@ -46,12 +46,5 @@ returns-2 c = rw (← c .before .within-limits .ensures, c .if1 .left)
 pub words-needed-spec : {M : Type 1} → statement M
 words-needed-spec =
     tie.close
-    (tie.spec
-    within-limits-requires
-    need-requires
-    need-requires-2
-    buckets-of-requires
-    need-requires-3
-    need-requires-4
-    returns
-    returns-2)
+    (tie.spec within-limits-requires need-requires need-requires-2 buckets-of-requires need-requires-3 need-requires-4
+    returns returns-2)

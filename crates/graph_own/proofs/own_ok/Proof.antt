@@ -42,13 +42,5 @@ returns-2 c =
 pub own-ok-spec : {M : Type 1} → statement M
 own-ok-spec =
     tie.close
-    (tie.spec
-    cast-within
-    cast-within-2
-    mul-within
-    add-within
-    cast-within-3
-    add-within-2
-    own-sound-requires
-    returns
+    (tie.spec cast-within cast-within-2 mul-within add-within cast-within-3 add-within-2 own-sound-requires returns
     returns-2)

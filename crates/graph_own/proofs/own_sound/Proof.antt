@@ -151,23 +151,7 @@ returns-5 c =
 pub own-sound-spec : {M : Type 1} → statement M
 own-sound-spec =
     tie.close
-    (tie.spec
-    header-requires
-    worker-word-requires
-    worker-word-requires-2
-    worker-word-requires-3
-    place-ok-requires
-    worker-word-requires-4
-    worker-word-requires-5
-    worker-word-requires-6
-    worker-word-requires-7
-    worker-word-requires-8
-    place-ok-requires-2
-    worker-word-requires-9
-    header-requires-2
-    place-ok-requires-3
-    returns
-    returns-2
-    returns-3
-    returns-4
-    returns-5)
+    (tie.spec header-requires worker-word-requires worker-word-requires-2 worker-word-requires-3 place-ok-requires
+    worker-word-requires-4 worker-word-requires-5 worker-word-requires-6 worker-word-requires-7 worker-word-requires-8
+    place-ok-requires-2 worker-word-requires-9 header-requires-2 place-ok-requires-3 returns returns-2 returns-3
+    returns-4 returns-5)

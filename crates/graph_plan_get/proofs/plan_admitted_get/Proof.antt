@@ -50,10 +50,4 @@ returns-3 c =
 pub plan-admitted-get-spec : {M : Type 1} → statement M
 plan-admitted-get-spec =
     tie.close
-    (tie.spec
-    worker-word-requires
-    worker-word-requires-2
-    plan-queue-requires
-    returns
-    returns-2
-    returns-3)
+    (tie.spec worker-word-requires worker-word-requires-2 plan-queue-requires returns returns-2 returns-3)

@@ -110,16 +110,5 @@ returns-5 c =
 pub plan-queue-spec : {M : Type 1} → statement M
 plan-queue-spec =
     tie.close
-    (tie.spec
-    header-requires
-    header-requires-2
-    counters-ok-requires
-    returns
-    returns-2
-    cell-requires
-    header-requires-3
-    returns-3
-    job-word-requires
-    job-word-requires-2
-    returns-4
-    returns-5)
+    (tie.spec header-requires header-requires-2 counters-ok-requires returns returns-2 cell-requires header-requires-3
+    returns-3 job-word-requires job-word-requires-2 returns-4 returns-5)

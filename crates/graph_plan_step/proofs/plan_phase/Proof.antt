@@ -111,18 +111,6 @@ returns-6 c =
 pub plan-phase-spec : {M : Type 1} → statement M
 plan-phase-spec =
     tie.close
-    (tie.spec
-    worker-word-requires
-    returns
-    counters-ok-requires
-    returns-2
-    plan-add-requires
-    returns-3
-    plan-links-requires
-    returns-4
-    worker-word-requires-2
-    plan-mark-requires
-    worker-word-requires-3
-    plan-notify-requires
-    returns-5
-    returns-6)
+    (tie.spec worker-word-requires returns counters-ok-requires returns-2 plan-add-requires returns-3
+    plan-links-requires returns-4 worker-word-requires-2 plan-mark-requires worker-word-requires-3
+    plan-notify-requires returns-5 returns-6)

@@ -39,11 +39,4 @@ returns-4 c = wrong-sizes _ _ _ _ _ (c .before .sizes-fit .ensures) (c .if1 .lef
 pub plan-step-spec : {M : Type 1} → statement M
 plan-step-spec =
     tie.close
-    (tie.spec
-    sizes-fit-requires
-    own-ok-requires
-    plan-phase-requires
-    returns
-    returns-2
-    returns-3
-    returns-4)
+    (tie.spec sizes-fit-requires own-ok-requires plan-phase-requires returns returns-2 returns-3 returns-4)

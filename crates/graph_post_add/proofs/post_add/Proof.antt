@@ -1,4 +1,5 @@
--- `graph_post_add::post_add` meets its contract: the number that refuses is the definition's, and so is the stored record.
+-- `graph_post_add::post_add` meets its contract: the number that refuses is the definition's, and so is the stored
+-- record.
 -- Assumes nothing.
 use Rattle.words.specs.Words.{addWords, posted}
 use Rattle.graph_judge.proofs.Posted.{posted-not}
@@ -63,19 +64,6 @@ returns-2 c = let h = c .if1 .left in rw (← c .before .judge-add .ensures, pos
 pub post-add-spec : {M : Type 1} → statement M
 post-add-spec =
     tie.close
-    (tie.spec
-    judge-add-requires
-    worker-word-requires
-    put-adding-worker-requires
-    same-length
-    same-length-2
-    same-length-3
-    same-length-4
-    same-length-5
-    returns
-    same-length-6
-    same-length-7
-    same-length-8
-    same-length-9
-    same-length-10
-    returns-2)
+    (tie.spec judge-add-requires worker-word-requires put-adding-worker-requires same-length same-length-2
+    same-length-3 same-length-4 same-length-5 returns same-length-6 same-length-7 same-length-8 same-length-9
+    same-length-10 returns-2)

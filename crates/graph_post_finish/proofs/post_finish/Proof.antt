@@ -1,4 +1,5 @@
--- `graph_post_finish::post_finish` meets its contract: the number that refuses is the definition's, and so is the stored
+-- `graph_post_finish::post_finish` meets its contract: the number that refuses is the definition's, and so is the
+-- stored
 -- record.
 -- Assumes nothing.
 use Rattle.words.specs.Words.{finishWords, posted}
@@ -64,19 +65,6 @@ returns-2 c = let h = c .if1 .left in rw (← c .before .judge-finish .ensures, 
 pub post-finish-spec : {M : Type 1} → statement M
 post-finish-spec =
     tie.close
-    (tie.spec
-    judge-finish-requires
-    worker-word-requires
-    put-bare-worker-requires
-    same-length
-    same-length-2
-    same-length-3
-    same-length-4
-    same-length-5
-    returns
-    same-length-6
-    same-length-7
-    same-length-8
-    same-length-9
-    same-length-10
-    returns-2)
+    (tie.spec judge-finish-requires worker-word-requires put-bare-worker-requires same-length same-length-2
+    same-length-3 same-length-4 same-length-5 returns same-length-6 same-length-7 same-length-8 same-length-9
+    same-length-10 returns-2)

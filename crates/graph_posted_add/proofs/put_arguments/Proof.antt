@@ -1,7 +1,7 @@
 -- `graph_posted_add::put_arguments` meets its contract: stores field by field are one run.
 -- Assumes nothing.
 use mathlib.Core.List.{[], _∷_}
-use Rattle.words.specs.Layout.{workerShape}
+use Rattle.words.specs.Layout.{workerShape, PHASE}
 use Rattle.graph_records.proofs.Laws.{puts-sets}
 use borrow.Author.Needs.{needs}
 use Rattle.graph_posted_add.proofs.put_arguments.Statement.{statement}
@@ -43,17 +43,10 @@ returns c =
       c16 .before .before .put-worker2 .ensures,
       c20 .before .before .put-worker .ensures,
     )
-    (puts-sets workerShape _ _ 0 (_ ∷ _ ∷ _ ∷ _ ∷ _ ∷ _ ∷ []))
+    (puts-sets workerShape _ _ PHASE (_ ∷ _ ∷ _ ∷ _ ∷ _ ∷ _ ∷ []))
 
 pub put-arguments-spec : {M : Type 1} → statement M
 put-arguments-spec =
     tie.close
-    (tie.spec
-    put-worker-requires
-    put-worker-requires-2
-    put-worker-requires-3
-    put-worker-requires-4
-    put-worker-requires-5
-    put-worker-requires-6
-    same-length
-    returns)
+    (tie.spec put-worker-requires put-worker-requires-2 put-worker-requires-3 put-worker-requires-4
+    put-worker-requires-5 put-worker-requires-6 same-length returns)

@@ -100,22 +100,6 @@ returns c =
 pub put-names-spec : {M : Type 1} → statement M
 put-names-spec =
     tie.close
-    (tie.spec
-    Inv-loop
-    μ-loop
-    names-at-requires
-    listed-of-requires
-    loop-holds
-    add-put-word
-    mul-put-word
-    array-read-put-word
-    put-word-requires
-    add-i
-    loop-less
-    loop-again
-    add-fill
-    cast-fill
-    sub-fill
-    fill-requires
-    same-length
-    returns)
+    (tie.spec Inv-loop μ-loop names-at-requires listed-of-requires loop-holds add-put-word mul-put-word
+    array-read-put-word put-word-requires add-i loop-less loop-again add-fill cast-fill sub-fill fill-requires
+    same-length returns)

@@ -1,7 +1,7 @@
 -- `graph_posted_add::put_start` meets its contract: stores field by field are one run.
 -- Assumes nothing.
 use mathlib.Core.List.{[], _∷_}
-use Rattle.words.specs.Layout.{workerShape}
+use Rattle.words.specs.Layout.{workerShape, TALLY}
 use Rattle.graph_records.proofs.Laws.{puts-sets}
 use borrow.Author.Needs.{needs}
 use Rattle.graph_posted_add.proofs.put_start.Statement.{statement}
@@ -33,15 +33,10 @@ returns c =
       c8 .before .before .put-worker2 .ensures,
       c12 .before .before .put-worker .ensures,
     )
-    (puts-sets workerShape _ _ 6 (_ ∷ _ ∷ _ ∷ _ ∷ []))
+    (puts-sets workerShape _ _ TALLY (_ ∷ _ ∷ _ ∷ _ ∷ []))
 
 pub put-start-spec : {M : Type 1} → statement M
 put-start-spec =
     tie.close
-    (tie.spec
-    put-worker-requires
-    put-worker-requires-2
-    put-worker-requires-3
-    put-worker-requires-4
-    same-length
+    (tie.spec put-worker-requires put-worker-requires-2 put-worker-requires-3 put-worker-requires-4 same-length
     returns)

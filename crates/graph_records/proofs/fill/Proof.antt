@@ -50,13 +50,5 @@ returns-3 c =
 pub fill-spec : {M : Type 1} → statement M
 fill-spec =
     tie.close
-    (tie.spec
-    returns
-    sub-if2
-    add-fill-to
-    fill-to-requires
-    fill-to-requires-2
-    same-length
-    returns-2
-    same-length-2
+    (tie.spec returns sub-if2 add-fill-to fill-to-requires fill-to-requires-2 same-length returns-2 same-length-2
     returns-3)

@@ -51,14 +51,4 @@ returns c = fill-none _ _ _ _ (c .loop-test .left) ∙ c .before .loop .inv .0
 pub fill-to-spec : {M : Type 1} → statement M
 fill-to-spec =
     tie.close
-    (tie.spec
-    Inv-loop
-    μ-loop
-    loop-holds
-    mul-s
-    slice-write-s
-    add-i
-    loop-less
-    loop-again
-    same-length
-    returns)
+    (tie.spec Inv-loop μ-loop loop-holds mul-s slice-write-s add-i loop-less loop-again same-length returns)

@@ -50,13 +50,5 @@ returns c =
 pub put-bare-worker-spec : {M : Type 1} → statement M
 put-bare-worker-spec =
     tie.close
-    (tie.spec
-    record-at-requires
-    cast-fill
-    fill-requires
-    put-worker-requires
-    put-worker-requires-2
-    put-worker-requires-3
-    put-worker-requires-4
-    same-length
-    returns)
+    (tie.spec record-at-requires cast-fill fill-requires put-worker-requires put-worker-requires-2
+    put-worker-requires-3 put-worker-requires-4 same-length returns)

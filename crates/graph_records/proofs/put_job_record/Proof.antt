@@ -58,14 +58,5 @@ returns c =
 pub put-job-record-spec : {M : Type 1} → statement M
 put-job-record-spec =
     tie.close
-    (tie.spec
-    put-job-requires
-    put-job-requires-2
-    put-job-requires-3
-    put-job-requires-4
-    put-job-requires-5
-    put-job-requires-6
-    put-job-requires-7
-    put-job-requires-8
-    same-length
-    returns)
+    (tie.spec put-job-requires put-job-requires-2 put-job-requires-3 put-job-requires-4 put-job-requires-5
+    put-job-requires-6 put-job-requires-7 put-job-requires-8 same-length returns)

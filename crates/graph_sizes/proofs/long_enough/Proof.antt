@@ -42,11 +42,4 @@ returns c =
 pub long-enough-spec : {M : Type 1} → statement M
 long-enough-spec =
     tie.close
-    (tie.spec
-    need-requires
-    need-requires-2
-    two-to-requires
-    need-requires-3
-    need-requires-4
-    need-requires-5
-    returns)
+    (tie.spec need-requires need-requires-2 two-to-requires need-requires-3 need-requires-4 need-requires-5 returns)

@@ -88,31 +88,7 @@ returns-12 c = rw (c .before .before .plan5 .given .1, c .going-unless3 .ensures
 pub answer-of-spec : {M : Type 1} → statement M
 answer-of-spec =
     tie.close
-    (tie.spec
-    enum-known-plan
-    enum-known-plan-2
-    enum-told
-    enum-told-2
-    enum-told-3
-    enum-told-4
-    enum-told-5
-    enum-told-6
-    enum-told-7
-    enum-known-plan-3
-    going-unless-requires
-    enum-known-plan-4
-    going-unless-requires-2
-    enum-known-plan-5
-    going-unless-requires-3
-    returns
-    returns-2
-    returns-3
-    returns-4
-    returns-5
-    returns-6
-    returns-7
-    returns-8
-    returns-9
-    returns-10
-    returns-11
-    returns-12)
+    (tie.spec enum-known-plan enum-known-plan-2 enum-told enum-told-2 enum-told-3 enum-told-4 enum-told-5 enum-told-6
+    enum-told-7 enum-known-plan-3 going-unless-requires enum-known-plan-4 going-unless-requires-2 enum-known-plan-5
+    going-unless-requires-3 returns returns-2 returns-3 returns-4 returns-5 returns-6 returns-7 returns-8 returns-9
+    returns-10 returns-11 returns-12)

@@ -48,13 +48,5 @@ returns c =
 pub step-spec : {M : Type 1} → statement M
 step-spec =
     tie.close
-    (tie.spec
-    plan-step-requires
-    apply-requires
-    answer-of-requires
-    same-length
-    same-length-2
-    same-length-3
-    same-length-4
-    same-length-5
-    returns)
+    (tie.spec plan-step-requires apply-requires answer-of-requires same-length same-length-2 same-length-3
+    same-length-4 same-length-5 returns)

@@ -41,11 +41,5 @@ returns c =
 pub jobs-fit-spec : {M : Type 1} → statement M
 jobs-fit-spec =
     tie.close
-    (tie.spec
-    within-limits-requires
-    need-requires
-    header-requires
-    header-requires-2
-    header-requires-3
-    header-requires-4
-    returns)
+    (tie.spec within-limits-requires need-requires header-requires header-requires-2 header-requires-3
+    header-requires-4 returns)

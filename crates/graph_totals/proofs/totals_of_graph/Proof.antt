@@ -93,13 +93,5 @@ returns-3 c = rw (← c .before .before .jobs-fit .ensures, c .before .if1 .left
 pub totals-of-graph-spec : {M : Type 1} → statement M
 totals-of-graph-spec =
     tie.close
-    (tie.spec
-    jobs-fit-requires
-    header-requires
-    cast-of-table
-    of-table-requires
-    blank-requires
-    blank-requires-2
-    returns
-    returns-2
-    returns-3)
+    (tie.spec jobs-fit-requires header-requires cast-of-table of-table-requires blank-requires blank-requires-2
+    returns returns-2 returns-3)

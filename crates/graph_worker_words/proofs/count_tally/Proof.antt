@@ -38,10 +38,4 @@ returns c =
 pub count-tally-spec : {M : Type 1} → statement M
 count-tally-spec =
     tie.close
-    (tie.spec
-    worker-word-requires
-    count-place-requires
-    sum-requires
-    put-worker-requires
-    same-length
-    returns)
+    (tie.spec worker-word-requires count-place-requires sum-requires put-worker-requires same-length returns)

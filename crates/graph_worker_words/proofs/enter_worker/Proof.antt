@@ -43,12 +43,5 @@ returns c =
 pub enter-worker-spec : {M : Type 1} → statement M
 enter-worker-spec =
     tie.close
-    (tie.spec
-    worker-word-requires
-    first-arc-requires
-    put-worker-requires
-    put-worker-requires-2
-    put-worker-requires-3
-    put-worker-requires-4
-    same-length
-    returns)
+    (tie.spec worker-word-requires first-arc-requires put-worker-requires put-worker-requires-2 put-worker-requires-3
+    put-worker-requires-4 same-length returns)

@@ -42,12 +42,5 @@ returns-2 c =
 pub mark-worker-spec : {M : Type 1} → statement M
 mark-worker-spec =
     tie.close
-    (tie.spec
-    put-bare-worker-requires
-    put-worker-requires
-    put-worker-requires-2
-    put-worker-requires-3
-    same-length
-    returns
-    same-length-2
-    returns-2)
+    (tie.spec put-bare-worker-requires put-worker-requires put-worker-requires-2 put-worker-requires-3 same-length
+    returns same-length-2 returns-2)

@@ -1,6 +1,6 @@
--- `judge` finds the first field off its limits, or the bytes of the entry (document 01, number 14). Assumes nothing.
+-- `judge` finds the first field off its limits, or the bytes of the entry (docs/NUMBERS.md, 14). Assumes nothing.
 use Rattle.sheet_format.specs.Job.{mostNames, mostClass, mostGrower}
--- `judge` finds the first field off its limits, or the bytes of the entry (document 01, number 14). Assumes nothing.
+-- `judge` finds the first field off its limits, or the bytes of the entry (docs/NUMBERS.md, 14). Assumes nothing.
 use native.Mathlib.Omega.{arith}
 use borrow.Author.Tests.{le-leb, lt-leb}
 use borrow.Author.Needs.{needs}
@@ -81,16 +81,5 @@ returns-4 c =
 pub judge-spec : {M : Type 1} → statement M
 judge-spec =
     tie.close
-    (tie.spec
-    returns
-    list-bytes-requires
-    add-class-place
-    returns-2
-    bit-requires
-    mul-grower-place
-    add-grower-place
-    returns-3
-    bit-requires-2
-    mul-bytes
-    add-bytes
-    returns-4)
+    (tie.spec returns list-bytes-requires add-class-place returns-2 bit-requires mul-grower-place add-grower-place
+    returns-3 bit-requires-2 mul-bytes add-bytes returns-4)

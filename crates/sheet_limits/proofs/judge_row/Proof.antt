@@ -47,16 +47,5 @@ returns c =
 pub judge-row-spec : {M : Type 1} → statement M
 judge-row-spec =
     tie.close
-    (tie.spec
-    mul-row
-    add-judge
-    mul-judge
-    shared-slice-read-judge
-    add-judge-2
-    mul-judge-2
-    shared-slice-read-judge-2
-    add-judge-3
-    mul-judge-3
-    shared-slice-read-judge-3
-    judge-requires
-    returns)
+    (tie.spec mul-row add-judge mul-judge shared-slice-read-judge add-judge-2 mul-judge-2 shared-slice-read-judge-2
+    add-judge-3 mul-judge-3 shared-slice-read-judge-3 judge-requires returns)

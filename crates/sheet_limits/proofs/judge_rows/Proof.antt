@@ -105,16 +105,5 @@ returns-2 c =
 pub judge-rows-spec : {M : Type 1} → statement M
 judge-rows-spec =
     tie.close
-    (tie.spec
-    Inv-loop
-    μ-loop
-    loop-holds
-    judge-row-requires
-    enum-known-at
-    returns
-    enum-known-bytes
-    add-sum
-    add-i
-    loop-less
-    loop-again
-    returns-2)
+    (tie.spec Inv-loop μ-loop loop-holds judge-row-requires enum-known-at returns enum-known-bytes add-sum add-i
+    loop-less loop-again returns-2)

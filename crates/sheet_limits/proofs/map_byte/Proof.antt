@@ -42,15 +42,5 @@ returns c = λ name list many.
 pub map-byte-spec : {M : Type 1} → statement M
 map-byte-spec =
     tie.close
-    (tie.spec
-    bit-requires
-    mul-result
-    add-result
-    bit-requires-2
-    mul-result-2
-    add-result-2
-    bit-requires-3
-    mul-result-3
-    add-result-3
-    cast-result
-    returns)
+    (tie.spec bit-requires mul-result add-result bit-requires-2 mul-result-2 add-result-2 bit-requires-3 mul-result-3
+    add-result-3 cast-result returns)

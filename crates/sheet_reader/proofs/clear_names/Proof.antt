@@ -55,15 +55,5 @@ returns c =
 pub clear-names-spec : {M : Type 1} → statement M
 clear-names-spec =
     tie.close
-    (tie.spec
-    Inv-loop
-    μ-loop
-    loop-holds
-    add-words
-    mul-words
-    slice-write-words
-    add-i
-    loop-less
-    loop-again
-    same-length
+    (tie.spec Inv-loop μ-loop loop-holds add-words mul-words slice-write-words add-i loop-less loop-again same-length
     returns)

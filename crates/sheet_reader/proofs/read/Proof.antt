@@ -55,16 +55,5 @@ returns-3 c =
 pub read-spec : {M : Type 1} → statement M
 read-spec =
     tie.close
-    (tie.spec
-    scan-requires
-    enum-known-name
-    add-names
-    cast-names
-    names-requires
-    enum-told
-    without-entry-requires
-    enum-known-number
-    without-entry-requires-2
-    returns
-    returns-2
-    returns-3)
+    (tie.spec scan-requires enum-known-name add-names cast-names names-requires enum-told without-entry-requires
+    enum-known-number without-entry-requires-2 returns returns-2 returns-3)

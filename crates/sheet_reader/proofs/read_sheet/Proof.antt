@@ -43,12 +43,5 @@ returns-3 c =
 pub read-sheet-spec : {M : Type 1} → statement M
 read-sheet-spec =
     tie.close
-    (tie.spec
-    scan-sheet-requires
-    enum-known-number
-    enum-known-entries
-    store-sheet-requires
-    returns
-    same-length
-    returns-2
-    returns-3)
+    (tie.spec scan-sheet-requires enum-known-number enum-known-entries store-sheet-requires returns same-length
+    returns-2 returns-3)

@@ -91,25 +91,6 @@ returns c =
 pub store-names-spec : {M : Type 1} → statement M
 store-names-spec =
     tie.close
-    (tie.spec
-    Inv-loop
-    μ-loop
-    loop-holds
-    mul-place
-    add-place
-    shared-slice-read-spelt4
-    add-spelt4
-    shared-slice-read-spelt4-2
-    add-spelt4-2
-    shared-slice-read-spelt4-3
-    add-spelt4-3
-    shared-slice-read-spelt4-4
-    spelt4-requires
-    add-words
-    mul-words
-    slice-write-words
-    add-i
-    loop-less
-    loop-again
-    same-length
-    returns)
+    (tie.spec Inv-loop μ-loop loop-holds mul-place add-place shared-slice-read-spelt4 add-spelt4
+    shared-slice-read-spelt4-2 add-spelt4-2 shared-slice-read-spelt4-3 add-spelt4-3 shared-slice-read-spelt4-4
+    spelt4-requires add-words mul-words slice-write-words add-i loop-less loop-again same-length returns)

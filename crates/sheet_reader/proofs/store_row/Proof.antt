@@ -77,21 +77,6 @@ returns c =
 pub store-row-spec : {M : Type 1} → statement M
 store-row-spec =
     tie.close
-    (tie.spec
-    mul-rows
-    slice-write-rows
-    add-rows
-    mul-rows-2
-    slice-write-rows-2
-    add-rows-2
-    mul-rows-3
-    slice-write-rows-3
-    add-rows-3
-    mul-rows-4
-    slice-write-rows-4
-    add-clear-names
-    clear-names-requires
-    add-store-names
-    store-names-requires
-    same-length
-    returns)
+    (tie.spec mul-rows slice-write-rows add-rows mul-rows-2 slice-write-rows-2 add-rows-2 mul-rows-3
+    slice-write-rows-3 add-rows-3 mul-rows-4 slice-write-rows-4 add-clear-names clear-names-requires add-store-names
+    store-names-requires same-length returns)

@@ -95,20 +95,5 @@ returns-2 c =
 pub store-sheet-spec : {M : Type 1} → statement M
 store-sheet-spec =
     tie.close
-    (tie.spec
-    Inv-loop
-    μ-loop
-    loop-holds
-    scan-again-requires
-    enum-known-name
-    add-store-row
-    store-row-requires
-    add-from
-    loop-less
-    loop-again
-    enum-told
-    same-length
-    returns
-    enum-told-2
-    same-length-2
-    returns-2)
+    (tie.spec Inv-loop μ-loop loop-holds scan-again-requires enum-known-name add-store-row store-row-requires add-from
+    loop-less loop-again enum-told same-length returns enum-told-2 same-length-2 returns-2)

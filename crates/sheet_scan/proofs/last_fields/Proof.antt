@@ -66,19 +66,5 @@ returns c =
 pub last-fields-spec : {M : Type 1} → statement M
 last-fields-spec =
     tie.close
-    (tie.spec
-    add-class-at
-    cast-class-at
-    add-class-at-2
-    mul-class-at
-    add-class-at-3
-    number1-requires
-    mul-class
-    cast-grower-at
-    add-grower-at
-    number2-requires
-    mul-grower
-    cast-t17
-    mul-t13
-    add-t16
-    returns)
+    (tie.spec add-class-at cast-class-at add-class-at-2 mul-class-at add-class-at-3 number1-requires mul-class
+    cast-grower-at add-grower-at number2-requires mul-grower cast-t17 mul-t13 add-t16 returns)

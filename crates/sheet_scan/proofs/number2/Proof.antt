@@ -24,9 +24,4 @@ returns c = omega arith
 pub number2-spec : {M : Type 1} → statement M
 number2-spec =
     tie.close
-    (tie.spec
-    shared-slice-read-spelt2
-    add-spelt2
-    shared-slice-read-spelt2-2
-    spelt2-requires
-    returns)
+    (tie.spec shared-slice-read-spelt2 add-spelt2 shared-slice-read-spelt2-2 spelt2-requires returns)

@@ -34,13 +34,5 @@ returns c = rw number4-at (c .spelt4 .ensures)
 pub number4-spec : {M : Type 1} → statement M
 number4-spec =
     tie.close
-    (tie.spec
-    shared-slice-read-spelt4
-    add-spelt4
-    shared-slice-read-spelt4-2
-    add-spelt4-2
-    shared-slice-read-spelt4-3
-    add-spelt4-3
-    shared-slice-read-spelt4-4
-    spelt4-requires
-    returns)
+    (tie.spec shared-slice-read-spelt4 add-spelt4 shared-slice-read-spelt4-2 add-spelt4-2 shared-slice-read-spelt4-3
+    add-spelt4-3 shared-slice-read-spelt4-4 spelt4-requires returns)

@@ -57,17 +57,5 @@ returns-2 c = search needs
 pub scan-again-spec : {M : Type 1} → statement M
 scan-again-spec =
     tie.close
-    (tie.spec
-    sub-if2
-    shared-slice-read-wide
-    wide-requires
-    add-number1
-    number1-requires
-    mul-count
-    cast-if3
-    last-fields-requires
-    add-number4
-    number4-requires
-    returns
-    scan-requires
-    returns-2)
+    (tie.spec sub-if2 shared-slice-read-wide wide-requires add-number1 number1-requires mul-count cast-if3
+    last-fields-requires add-number4 number4-requires returns scan-requires returns-2)

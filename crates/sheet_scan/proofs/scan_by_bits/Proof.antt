@@ -78,17 +78,5 @@ returns-2 c = search needs
 pub scan-by-bits-spec : {M : Type 1} → statement M
 scan-by-bits-spec =
     tie.close
-    (tie.spec
-    add-number1
-    number1-requires
-    mul-count
-    cast-within-if
-    within-if-requires
-    last-fields-requires
-    within-if-requires-2
-    within-if-requires-3
-    add-number4
-    number4-requires
-    returns
-    scan-requires
-    returns-2)
+    (tie.spec add-number1 number1-requires mul-count cast-within-if within-if-requires last-fields-requires
+    within-if-requires-2 within-if-requires-3 add-number4 number4-requires returns scan-requires returns-2)

@@ -91,25 +91,6 @@ returns-4 c = search needs
 pub scan-next-spec : {M : Type 1} → statement M
 scan-next-spec =
     tie.close
-    (tie.spec
-    add-if1
-    scan-requires
-    returns
-    shared-slice-read-wide
-    wide-requires
-    add-number4
-    number4-requires
-    add-t13
-    returns-2
-    add-number1
-    number1-requires
-    cast-listed
-    add-number4-2
-    number4-requires-2
-    add-t18
-    cast-t19
-    mul-t20
-    add-t21
-    returns-3
-    scan-by-bits-requires
-    returns-4)
+    (tie.spec add-if1 scan-requires returns shared-slice-read-wide wide-requires add-number4 number4-requires add-t13
+    returns-2 add-number1 number1-requires cast-listed add-number4-2 number4-requires-2 add-t18 cast-t19 mul-t20
+    add-t21 returns-3 scan-by-bits-requires returns-4)

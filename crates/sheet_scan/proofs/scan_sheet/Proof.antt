@@ -61,16 +61,5 @@ returns-2 c =
 pub scan-sheet-spec : {M : Type 1} → statement M
 scan-sheet-spec =
     tie.close
-    (tie.spec
-    Inv-loop
-    μ-loop
-    loop-holds
-    scan-next-requires
-    enum-known-next
-    add-entries
-    loop-less
-    loop-again
-    enum-told
-    returns
-    enum-known-number
-    returns-2)
+    (tie.spec Inv-loop μ-loop loop-holds scan-next-requires enum-known-next add-entries loop-less loop-again enum-told
+    returns enum-known-number returns-2)

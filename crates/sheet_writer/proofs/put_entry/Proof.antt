@@ -118,13 +118,5 @@ returns c =
 pub put-entry-spec : {M : Type 1} → statement M
 put-entry-spec =
     tie.close
-    (tie.spec
-    map-byte-requires
-    slice-write-out
-    add-put-name
-    put-name-requires
-    put-list-requires
-    put-class-requires
-    put-grower-requires
-    same-length
-    returns)
+    (tie.spec map-byte-requires slice-write-out add-put-name put-name-requires put-list-requires put-class-requires
+    put-grower-requires same-length returns)

@@ -41,13 +41,4 @@ returns-2 c = rw (spelt-some _ (c .if1 .left)) record { stored = simp towards-su
 pub put-grower-spec : {M : Type 1} → statement M
 put-grower-spec =
     tie.close
-    (tie.spec
-    returns
-    cast-out
-    slice-write-out
-    cast-out-2
-    add-out
-    slice-write-out-2
-    add-result
-    same-length
-    returns-2)
+    (tie.spec returns cast-out slice-write-out cast-out-2 add-out slice-write-out-2 add-result same-length returns-2)

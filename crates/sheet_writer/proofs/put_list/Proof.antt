@@ -41,11 +41,4 @@ returns-2 c =
 pub put-list-spec : {M : Type 1} → statement M
 put-list-spec =
     tie.close
-    (tie.spec
-    returns
-    cast-out
-    slice-write-out
-    add-put-names
-    put-names-requires
-    same-length
-    returns-2)
+    (tie.spec returns cast-out slice-write-out add-put-names put-names-requires same-length returns-2)

@@ -54,18 +54,5 @@ returns c = record { stored = simp towards-suc; past = refl }
 pub put-name-spec : {M : Type 1} → statement M
 put-name-spec =
     tie.close
-    (tie.spec
-    cast-out
-    slice-write-out
-    cast-out-2
-    add-out
-    slice-write-out-2
-    cast-out-3
-    add-out-2
-    slice-write-out-3
-    cast-out-4
-    add-out-3
-    slice-write-out-4
-    add-result
-    same-length
-    returns)
+    (tie.spec cast-out slice-write-out cast-out-2 add-out slice-write-out-2 cast-out-3 add-out-2 slice-write-out-3
+    cast-out-4 add-out-3 slice-write-out-4 add-result same-length returns)

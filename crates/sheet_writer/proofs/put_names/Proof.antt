@@ -81,16 +81,5 @@ returns c =
 pub put-names-spec : {M : Type 1} → statement M
 put-names-spec =
     tie.close
-    (tie.spec
-    Inv-loop
-    μ-loop
-    loop-holds
-    add-put-name
-    mul-put-name
-    shared-slice-read-put-name
-    put-name-requires
-    add-i
-    loop-less
-    loop-again
-    same-length
-    returns)
+    (tie.spec Inv-loop μ-loop loop-holds add-put-name mul-put-name shared-slice-read-put-name put-name-requires add-i
+    loop-less loop-again same-length returns)

@@ -70,20 +70,6 @@ returns c =
 pub put-row-spec : {M : Type 1} → statement M
 put-row-spec =
     tie.close
-    (tie.spec
-    mul-row
-    mul-name
-    shared-slice-read-name
-    add-count
-    mul-count
-    shared-slice-read-count
-    add-class
-    mul-class
-    shared-slice-read-class
-    add-grower
-    mul-grower
-    shared-slice-read-grower
-    add-put-entry
-    put-entry-requires
-    same-length
-    returns)
+    (tie.spec mul-row mul-name shared-slice-read-name add-count mul-count shared-slice-read-count add-class mul-class
+    shared-slice-read-class add-grower mul-grower shared-slice-read-grower add-put-entry put-entry-requires
+    same-length returns)

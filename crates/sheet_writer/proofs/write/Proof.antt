@@ -72,13 +72,5 @@ returns-3 c =
 pub write-spec : {M : Type 1} → statement M
 write-spec =
     tie.close
-    (tie.spec
-    judge-requires
-    enum-known-place
-    enum-known-bytes
-    has-room-requires
-    put-whole-requires
-    returns
-    same-length
-    returns-2
-    returns-3)
+    (tie.spec judge-requires enum-known-place enum-known-bytes has-room-requires put-whole-requires returns
+    same-length returns-2 returns-3)

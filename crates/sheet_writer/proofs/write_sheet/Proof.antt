@@ -90,13 +90,5 @@ returns-4 c =
 pub write-sheet-spec : {M : Type 1} → statement M
 write-sheet-spec =
     tie.close
-    (tie.spec
-    returns
-    judge-sheet-requires
-    enum-known-entry
-    enum-known-bytes
-    put-rows-requires
-    returns-2
-    same-length
-    returns-3
-    returns-4)
+    (tie.spec returns judge-sheet-requires enum-known-entry enum-known-bytes put-rows-requires returns-2 same-length
+    returns-3 returns-4)

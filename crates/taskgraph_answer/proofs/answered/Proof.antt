@@ -66,23 +66,6 @@ returns-7 c = ap graphAnswer (sym (c .before .answer2 .given .1))
 pub answered-spec : {M : Type 1} → statement M
 answered-spec =
     tie.close
-    (tie.spec
-    enum-told
-    plain-requires
-    enum-told-2
-    plain-requires-2
-    enum-told-3
-    plain-requires-3
-    enum-told-4
-    plain-requires-4
-    enum-told-5
-    plain-requires-5
-    enum-known-answer
-    enum-known-answer-2
-    returns
-    returns-2
-    returns-3
-    returns-4
-    returns-5
-    returns-6
-    returns-7)
+    (tie.spec enum-told plain-requires enum-told-2 plain-requires-2 enum-told-3 plain-requires-3 enum-told-4
+    plain-requires-4 enum-told-5 plain-requires-5 enum-known-answer enum-known-answer-2 returns returns-2 returns-3
+    returns-4 returns-5 returns-6 returns-7)

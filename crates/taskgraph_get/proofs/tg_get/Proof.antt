@@ -36,12 +36,5 @@ returns c =
 pub tg-get-spec : {M : Type 1} → statement M
 tg-get-spec =
     tie.close
-    (tie.spec
-    get-requires
-    answered-requires
-    same-length
-    same-length-2
-    same-length-3
-    same-length-4
-    same-length-5
+    (tie.spec get-requires answered-requires same-length same-length-2 same-length-3 same-length-4 same-length-5
     returns)

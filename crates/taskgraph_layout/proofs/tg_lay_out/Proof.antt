@@ -37,12 +37,5 @@ returns c =
 pub tg-lay-out-spec : {M : Type 1} → statement M
 tg-lay-out-spec =
     tie.close
-    (tie.spec
-    lay-out-requires
-    answered-requires
-    same-length
-    same-length-2
-    same-length-3
-    same-length-4
-    same-length-5
+    (tie.spec lay-out-requires answered-requires same-length same-length-2 same-length-3 same-length-4 same-length-5
     returns)

@@ -37,12 +37,5 @@ returns c =
 pub tg-post-add-spec : {M : Type 1} → statement M
 tg-post-add-spec =
     tie.close
-    (tie.spec
-    post-add-requires
-    answered-requires
-    same-length
-    same-length-2
-    same-length-3
-    same-length-4
-    same-length-5
+    (tie.spec post-add-requires answered-requires same-length same-length-2 same-length-3 same-length-4 same-length-5
     returns)

@@ -1,4 +1,5 @@
--- `taskgraph_post_finish::tg_post_finish` meets its contract: what `post_finish` answers, as C has it, and the tables that it
+-- `taskgraph_post_finish::tg_post_finish` meets its contract: what `post_finish` answers, as C has it, and the tables
+-- that it
 -- leaves.
 -- Assumes nothing.
 use borrow.Author.Needs.{needs}
@@ -36,12 +37,5 @@ returns c =
 pub tg-post-finish-spec : {M : Type 1} → statement M
 tg-post-finish-spec =
     tie.close
-    (tie.spec
-    post-finish-requires
-    answered-requires
-    same-length
-    same-length-2
-    same-length-3
-    same-length-4
-    same-length-5
-    returns)
+    (tie.spec post-finish-requires answered-requires same-length same-length-2 same-length-3 same-length-4
+    same-length-5 returns)

@@ -62,11 +62,4 @@ returns-3 c =
 pub tg-read-entry-spec : {M : Type 1} → statement M
 tg-read-entry-spec =
     tie.close
-    (tie.spec
-    read-requires
-    enum-known-answer
-    enum-told
-    enum-known-answer-2
-    returns
-    returns-2
-    returns-3)
+    (tie.spec read-requires enum-known-answer enum-told enum-known-answer-2 returns returns-2 returns-3)

@@ -36,12 +36,5 @@ returns c =
 pub tg-step-spec : {M : Type 1} → statement M
 tg-step-spec =
     tie.close
-    (tie.spec
-    step-requires
-    answered-requires
-    same-length
-    same-length-2
-    same-length-3
-    same-length-4
-    same-length-5
+    (tie.spec step-requires answered-requires same-length same-length-2 same-length-3 same-length-4 same-length-5
     returns)

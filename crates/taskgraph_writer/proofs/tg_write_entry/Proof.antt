@@ -42,11 +42,4 @@ returns-2 c =
 pub tg-write-entry-spec : {M : Type 1} → statement M
 tg-write-entry-spec =
     tie.close
-    (tie.spec
-    write-requires
-    enum-known-next
-    enum-known-number
-    same-length
-    returns
-    same-length-2
-    returns-2)
+    (tie.spec write-requires enum-known-next enum-known-number same-length returns same-length-2 returns-2)

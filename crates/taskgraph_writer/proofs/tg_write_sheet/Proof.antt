@@ -42,11 +42,4 @@ returns-2 c =
 pub tg-write-sheet-spec : {M : Type 1} → statement M
 tg-write-sheet-spec =
     tie.close
-    (tie.spec
-    write-sheet-requires
-    enum-known-entries
-    enum-known-number
-    same-length
-    returns
-    same-length-2
-    returns-2)
+    (tie.spec write-sheet-requires enum-known-entries enum-known-number same-length returns same-length-2 returns-2)

@@ -87,24 +87,6 @@ returns-2 c = last-table (c .before .loop .inv) (omega arith)
 pub of-table-spec : {M : Type 1} → statement M
 of-table-spec =
     tie.close
-    (tie.spec
-    Inv-loop
-    μ-loop
-    stands-requires
-    blank-requires
-    returns
-    blank-requires-2
-    loop-holds
-    mul-at
-    add-at
-    add-with-record
-    mul-with-record
-    shared-slice-read-with-record
-    add-with-record-2
-    mul-with-record-2
-    shared-slice-read-with-record-2
-    with-record-requires
-    add-i
-    loop-less
-    loop-again
-    returns-2)
+    (tie.spec Inv-loop μ-loop stands-requires blank-requires returns blank-requires-2 loop-holds mul-at add-at
+    add-with-record mul-with-record shared-slice-read-with-record add-with-record-2 mul-with-record-2
+    shared-slice-read-with-record-2 with-record-requires add-i loop-less loop-again returns-2)

@@ -83,21 +83,7 @@ returns-4 c =
 pub with-record-spec : {M : Type 1} → statement M
 with-record-spec =
     tie.close
-    (tie.spec
-    returns
-    blank-requires
-    returns-2
-    blank-requires-2
-    returns-3
-    mul-wrapping-add-u32
-    element-copy-out-wrapping-add-u32
-    wrapping-add-u32-requires
-    mul-next
-    element-write-next
-    mul-wrapping-add-u32-2
-    element-copy-out-wrapping-add-u32-2
-    minutes-requires
-    wrapping-add-u32-requires-2
-    mul-next-2
-    element-write-next-2
+    (tie.spec returns blank-requires returns-2 blank-requires-2 returns-3 mul-wrapping-add-u32
+    element-copy-out-wrapping-add-u32 wrapping-add-u32-requires mul-next element-write-next mul-wrapping-add-u32-2
+    element-copy-out-wrapping-add-u32-2 minutes-requires wrapping-add-u32-requires-2 mul-next-2 element-write-next-2
     returns-4)

@@ -1,7 +1,7 @@
 -- `add_whole` runs an add whole. Assumes nothing.
 use Prim.Native.Nat.{_+_, _*_}
 use borrow.Author.Needs.{needs}
-use Rattle.day_format.specs.Whole.{stepsOf, wholeAdd}
+use Rattle.whole_words.specs.Whole.{stepsOf, wholeAdd}
 use Rattle.whole_steps.specs.Going.{after-post}
 use Rattle.whole_add.proofs.add_whole.Statement.{statement}
 use Rattle.whole_add.proofs.add_whole.Tie as tie

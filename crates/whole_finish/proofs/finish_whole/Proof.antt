@@ -1,7 +1,7 @@
 -- `finish_whole` runs a finish whole. Assumes nothing.
 use Prim.Native.Nat.{_+_}
 use borrow.Author.Needs.{needs}
-use Rattle.day_format.specs.Whole.{stepsOf, wholeFinish}
+use Rattle.whole_words.specs.Whole.{stepsOf, wholeFinish}
 use Rattle.whole_steps.specs.Going.{after-post}
 use Rattle.whole_finish.proofs.finish_whole.Statement.{statement}
 use Rattle.whole_finish.proofs.finish_whole.Tie as tie

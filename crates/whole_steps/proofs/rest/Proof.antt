@@ -1,7 +1,7 @@
 -- `rest` goes on by steps, or leaves what the post left. Assumes nothing.
 use mathlib.Core.Path.{sym, _∙_}
 use borrow.Author.Needs.{needs}
-use Rattle.day_format.specs.Whole.{stepsOf}
+use Rattle.whole_words.specs.Whole.{stepsOf}
 use Rattle.whole_steps.specs.Going.{on, ended}
 use Rattle.whole_steps.proofs.rest.Statement.{statement}
 use Rattle.whole_steps.proofs.rest.Tie as tie

@@ -6,7 +6,7 @@ use native.Mathlib.Omega.{arith}
 use lib.ListN.{length}
 use borrow.Author.Needs.{needs}
 use Rattle.words.specs.Layout.{tables}
-use Rattle.day_format.specs.Whole.{stepsOf}
+use Rattle.whole_words.specs.Whole.{stepsOf}
 use Rattle.whole_steps.specs.Going.{step-on, step-ended, no-step}
 use Rattle.whole_steps.proofs.steps.Statement.{statement}
 use Rattle.whole_steps.proofs.steps.Tie as tie

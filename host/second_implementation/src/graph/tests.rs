@@ -1,4 +1,4 @@
-//! Document 01's cases, and the order of its refusals.
+//! docs/RULES.md's cases, and the order of its refusals.
 
 use super::*;
 use crate::sheet::{Names, MAX_NAMES};

@@ -1,8 +1,8 @@
-//! Document 01's examples and the order of its refusals.
+//! docs/RULES.md's examples and the order of its refusals.
 
 use super::*;
 
-/// Jobs 1, 2, 3 and 4 needing 1 and 2 (document 01, "The board and the day list").
+/// Jobs 1, 2, 3 and 4 needing 1 and 2 (docs/RULES.md, "The board and the day list").
 const FOUR_JOBS: [u8; 29] = [
     1, 1, 0, 0, 0, //
     1, 2, 0, 0, 0, //

@@ -1,0 +1,17 @@
+-- The second half of a day on lent tables, with its lines: what is left, and the page. Assumes nothing.
+use mathlib.Core.List.{List}
+use Prim.Native.Nat.{ℕ}
+use lib.ListN.{length}
+use Rattle.terms.specs.declared.Sizes.{Sizes}
+use Rattle.words.specs.Layout.{Tables}
+use Rattle.day_rounds.specs.Rounds.{runDay, handOuts}
+use Rattle.day_rounds.specs.Rows.{stored, inRow}
+use Rattle.day_format.specs.Day.{handOutLines, leftLine}
+use Rattle.day_text.specs.Page.{Page, printLine, printLines}
+
+-- the hand-outs are printed from the row in which they were stored
+unfoldable pub ended : ℕ → Page → Sizes → Tables → List ℕ → Page
+ended limit p s t row =
+    let r = runDay s t in
+    let hs = handOuts (r .rounds) in
+    printLine limit (printLines limit p (handOutLines 0 (inRow (length hs) (stored row 0 hs)))) (leftLine (r .state))

@@ -1,0 +1,35 @@
+// The second half of a day: the rounds, their lines and the last line. The hand-outs go into a lent row.
+// Follows document 01, "The board and the day list". Assumes nothing. No line is printed from a place past day_text's
+// bound on, and none of the hand-outs where the row does not hold all of them.
+ghost use mathlib.Core.Path.{_≡_};
+ghost use Rattle.words.specs.Layout.{atEntry};
+ghost use Rattle.day_text.specs.Page.{page};
+ghost use Rattle.day_end.specs.Ended.{ended};
+use day_print::count_unfinished;
+use day_print::print_hand_outs;
+use day_run::run_rounds;
+use day_text::left_line;
+use terms::Sizes;
+
+// Answers the place printed up to.
+pub fn end_day(
+    sizes: Sizes,
+    jobs: &mut [u32],
+    arcs: &mut [u32],
+    buckets: &mut [u32],
+    queue: &mut [u32],
+    workers: &mut [u32],
+    row: &mut [u32],
+    out: &mut [u8],
+    limit: usize,
+    at: usize,
+) -> usize
+    ensures { λ r. ⌜ page r (now (out .exit))
+        ≡ ended limit (page at (now (out .entry))) sizes (atEntry jobs arcs buckets queue workers)
+        (now (row .entry)) ⌝ }
+{
+    let handed = run_rounds(sizes, jobs, arcs, buckets, queue, workers, row);
+    let listed = print_hand_outs(out, limit, at, row, handed);
+    let left = count_unfinished(jobs);
+    left_line(out, limit, listed, left)
+}

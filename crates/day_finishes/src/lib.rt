@@ -1,0 +1,35 @@
+// The finishes of a round: each holder finishes, run whole, in the order of the gets.
+// Follows document 01, "The board and the day list". Assumes nothing.
+ghost use mathlib.Core.Path.{_≡_};
+ghost use Rattle.words.specs.Layout.{atEntry, atExit};
+ghost use Rattle.day_rounds.specs.Rounds.{finishAll};
+ghost use Rattle.day_rounds.specs.Rows.{holding};
+use day_rounds::Holders;
+use graph_words::word;
+use terms::Sizes;
+use whole_finish::finish_whole;
+
+// Each holder finishes.
+pub fn finish_all(
+    sizes: Sizes,
+    jobs: &mut [u32],
+    arcs: &mut [u32],
+    buckets: &mut [u32],
+    queue: &mut [u32],
+    workers: &mut [u32],
+    holders: Holders,
+)
+    ensures { λ _. ⌜ (atExit jobs arcs buckets queue workers)
+        ≡ finishAll sizes (holding holders) (atEntry jobs arcs buckets queue workers) ⌝ }
+{
+    let by = holders.workers;
+    let names = holders.names;
+    let count = holders.count;
+    let mut left = count;
+    while 0 < left {
+        let worker = word(&by, count - left);
+        let name = word(&names, count - left);
+        finish_whole(sizes, jobs, arcs, buckets, queue, workers, worker, name);
+        left -= 1;
+    }
+}

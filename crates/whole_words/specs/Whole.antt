@@ -1,0 +1,34 @@
+-- A call run whole: posted, and stepped until it does not go on ("each run whole"). Assumes nothing.
+use Prim.Native.Nat.{ℕ, zero, suc, _+_, _*_}
+use Rattle.terms.specs.Terms.{Arguments}
+use Rattle.terms.specs.Runs.{Outcome, outcome}
+use Rattle.terms.specs.declared.Sizes.{Sizes}
+use Rattle.terms.specs.declared.Answer.{Answer}
+use Rattle.terms.specs.declared.Answer.the-variants.{Laid, Posted, Going, Ended, NoneReady, Handed, Refused}
+use Rattle.words.specs.Layout.{Tables}
+use Rattle.words.specs.Words.{stepWords, addWords, finishWords}
+
+-- where a step or a post goes on, what follows; otherwise how it ended
+abbrev pub andThen : Answer → Tables → (Tables → Outcome Tables) → Outcome Tables
+andThen Going t next = next t
+andThen Posted t next = next t
+andThen Laid t next = outcome Laid t
+andThen Ended t next = outcome Ended t
+andThen NoneReady t next = outcome NoneReady t
+andThen (Handed h) t next = outcome (Handed h) t
+andThen (Refused n i) t next = outcome (Refused n i) t
+
+-- at most k steps of worker w
+unfoldable pub stepsOf : ℕ → Sizes → ℕ → Tables → Outcome Tables
+stepsOf zero s w t = outcome Going t
+stepsOf (suc k) s w t = andThen (stepWords s t w .answer) (stepWords s t w .state) (stepsOf k s w)
+
+-- "An accepted add takes exactly 2d + 2 steps", and a finish "1 step more than it has arcs", of which there are at most
+-- A
+unfoldable pub wholeAdd : Sizes → Tables → ℕ → Arguments → Outcome Tables
+wholeAdd s t w a =
+    andThen (addWords s t w a .answer) (addWords s t w a .state) (stepsOf (2 * a .count + 2) s w)
+
+unfoldable pub wholeFinish : Sizes → Tables → ℕ → ℕ → Outcome Tables
+wholeFinish s t w name =
+    andThen (finishWords s t w name .answer) (finishWords s t w name .state) (stepsOf (s .arcs + 1) s w)
