@@ -8,7 +8,8 @@ use Prim.Native.Nat.{ℕ, _≤_, _<_}
 use native.Mathlib.Omega.{arith}
 use lib.ListN.{length, getD, set, length-set, length-append, List·getD-append, List·getD-eq-default}
 use lib.Seq.{getD-set-same, getD-set-other, getD-append-seam}
-use Rattle.terms.specs.Base.{occurrences}
+use Rattle.basics.specs.Base.{occurrences}
+use Rattle.basics.specs.Laws.{update-same, update-other}
 use Rattle.terms.specs.Terms.{Label, executing, finished, Arguments, listed, finishOf}
 use Rattle.terms.specs.Order.{without}
 use Rattle.terms.specs.OrderLaws.{first-occurs}
@@ -30,7 +31,7 @@ use Rattle.rules_history.specs.Noted.{reads}
 use Rattle.linearizability.specs.Demand.{orHanded}
 use Rattle.rules_invariant.specs.Relation.{snoc-all}
 use Rattle.rules_invariant.specs.Sound.{sound}
-use Rattle.rules_cases.specs.Base.{update-same, update-other, kept-field}
+use Rattle.rules_cases.specs.Base.{kept-field}
 use Rattle.rules_follow_model.specs.Paced.{paced, read}
 use Rattle.rules_follow_model.specs.Booked.{held-kept}
 use Rattle.rules_follow_model.specs.Entries.{listed-length}

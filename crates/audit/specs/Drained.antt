@@ -5,7 +5,8 @@ use mathlib.Core.Option.{none}
 use Prim.Native.Nat.{ℕ, zero, suc, _<_}
 use native.Mathlib.Omega.{arith}
 use lib.ListN.{length, getD}
-use Rattle.terms.specs.Base.{occurrences}
+use Rattle.basics.specs.Base.{occurrences}
+use Rattle.basics.specs.Laws.{never}
 use Rattle.terms.specs.Terms.{Label, unexecuted, executing, finished}
 use Rattle.terms.specs.declared.Sizes.{Sizes}
 use Rattle.rules.specs.Rules.{Graph, job}
@@ -16,7 +17,6 @@ use Rattle.rules_invariant.specs.Start.{reached}
 use Rattle.rules_invariant.specs.Sound.{sound}
 use Rattle.rules_invariant.specs.Balanced.{balanced}
 use Rattle.rules_follow_model.specs.Entries.{none-awaited, finished-not-awaited}
-use Rattle.rules_cases.specs.Base.{never}
 use Rattle.audit.specs.Held.{holders}
 use Rattle.audit.specs.Earlier.{earlier}
 

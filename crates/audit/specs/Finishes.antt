@@ -9,7 +9,7 @@ use native.Mathlib.Omega.{arith}
 use native.Mathlib.Decide.{ℕ-discrete, decLt}
 use lib.ListN.{length, List·getD-eq-default}
 use lib.Dec.{eqb}
-use Rattle.terms.specs.Base.{pick, contains, occurrences}
+use Rattle.basics.specs.Base.{pick, contains, occurrences}
 use Rattle.terms.specs.Terms.{Label, unexecuted, executing, finished}
 use Rattle.terms.specs.Runs.{Item, events}
 use Rattle.terms.specs.declared.Sizes.{Sizes}

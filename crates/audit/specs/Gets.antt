@@ -8,7 +8,8 @@ use mathlib.Core.Option.{none}
 use Prim.Native.Nat.{ℕ, _<_}
 use native.Mathlib.Omega.{arith}
 use lib.ListN.{length, getD}
-use Rattle.terms.specs.Base.{occurrences}
+use Rattle.basics.specs.Base.{occurrences}
+use Rattle.basics.specs.Laws.{never}
 use Rattle.terms.specs.Terms.{unexecuted, sameSizes}
 use Rattle.terms.specs.Runs.{get}
 use Rattle.terms.specs.OrderLaws.{first-occurs}
@@ -20,7 +21,6 @@ use Rattle.rules.specs.Rules.{idle, Graph, job, perform, handOut, order}
 use Rattle.rules.specs.Sound.{Sound, Finished}
 use Rattle.rules_cases.specs.Deed as by
 use Rattle.rules_cases.specs.Deed.{Made, Deed}
-use Rattle.rules_cases.specs.Base.{never}
 use Rattle.rules_cases.specs.Deeds.{deed}
 use Rattle.linearization.specs.Calls.{Reading}
 use Rattle.rules_history.specs.History.{History}

@@ -4,7 +4,7 @@ use mathlib.Core.List.{List, [], _∷_}
 use Prim.Native.Nat.{ℕ, _+_, _≤_}
 use native.Mathlib.Omega.{arith}
 use native.Mathlib.Decide.{ℕ-discrete}
-use Rattle.terms.specs.Base.{occurrences}
+use Rattle.basics.specs.Base.{occurrences}
 use Rattle.terms.specs.Terms.{Label, unexecuted, executing, finished}
 use Rattle.terms.specs.Runs.{Item, events}
 use Rattle.terms.specs.declared.Sizes.{Sizes}

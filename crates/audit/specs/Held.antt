@@ -4,13 +4,13 @@ use mathlib.Core.List.{List}
 use mathlib.Core.Option.{some}
 use Prim.Native.Nat.{ℕ, _<_}
 use native.Mathlib.Decide.{ℕ-discrete}
+use Rattle.basics.specs.Laws.{never}
 use Rattle.terms.specs.Terms.{executing}
 use Rattle.terms.specs.declared.Sizes.{Sizes}
 use Rattle.terms.specs.declared.Answer.{Answer}
 use Rattle.rules.specs.Rules.{Graph, empty, job}
 use Rattle.linearization.specs.Calls.{Reading}
 use Rattle.rules_history.specs.History.{History, start, then}
-use Rattle.rules_cases.specs.Base.{never}
 use Rattle.audit.specs.Deeds.{Effect, plain, marks, hands, deeds}
 
 pub record Holder (s : Sizes) (g : Graph) (j : ℕ) : Type 0 where

@@ -6,7 +6,7 @@ use mathlib.Core.Bool.{true, false, true≢false}
 use mathlib.Core.Option.{Option, none, some}
 use Prim.Native.Nat.{ℕ}
 use borrow.Author.Tests.{lt-ltb, le-ltb}
-use Rattle.terms.specs.Base.{pick}
+use Rattle.basics.specs.Base.{pick}
 use Rattle.terms.specs.Terms.{halfDone, nothingToStep}
 use Rattle.terms.specs.Runs.{Item, postAdd, postFinish, step, get, workerOf}
 use Rattle.terms.specs.declared.Sizes.{Sizes}

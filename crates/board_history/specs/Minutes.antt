@@ -1,44 +1,36 @@
 -- After any items from a fresh graph, the board over the graph's own row accounts for every job (graph_board,
 -- Accounted.antt), by any table of minutes. Assumes nothing.
 use mathlib.Core.Path.{_≡_, refl, sym, ap, _∙_}
-use mathlib.Core.Bool.{Bool, true, false, _&&_, _||_}
+use mathlib.Core.Bool.{Bool, true, false, _||_}
 use mathlib.Core.List.{List, [], _∷_}
 use Prim.Native.Nat.{ℕ, zero, suc, _+_, _≤_, _<_}
 use native.Mathlib.Omega.{arith}
-use lib.Dec.{ltb, leb, eqb}
 use lib.ListN.{length, getD}
-use borrow.Author.Tests.{le-leb, le-ltb, lt-ltb, ltb-false, leb-true}
-use Rattle.minutes.specs.Minutes.{minutesIn}
-use Rattle.terms.specs.Base.{pick}
-use Rattle.terms.specs.Terms.{Label, unexecuted, executing, finished, labelNumber, Arguments, argumentsWrong, mostJobs}
+use borrow.Author.Tests.{le-leb, le-ltb, lt-ltb, ltb-false}
+use Rattle.basics.specs.Base.{pick}
+use Rattle.basics.specs.Laws.{never}
+use Rattle.terms.specs.Terms.{noArguments, Label, unexecuted, executing, finished, labelNumber, Arguments}
+use Rattle.terms.specs.Terms.{argumentsWrong}
 use Rattle.terms.specs.Runs.{Item, after, events}
 use Rattle.terms.specs.declared.Sizes.{Sizes}
 use Rattle.terms.specs.declared.Answer.the-variants.{Laid}
 use Rattle.words.specs.Columns.{columns, header, rows}
-use Rattle.words.specs.Layout.{Tables, view, jobShape, LABEL, CLASS}
+use Rattle.words.specs.Layout.{Tables, jobShape, LABEL, CLASS}
 use Rattle.words.specs.Words.{perform, layOut}
 use Rattle.rules.specs.Rules.{Graph, empty, job}
 use Rattle.rules.specs.Rules as rules
-use Rattle.rules.specs.Sound.{Sound}
-use Rattle.sequential_model.specs.Book.{Book, blank, Call, add, get, finish, End, accepted, noneReady, handed, refused}
+use Rattle.sequential_model.specs.Book.{Book, Call, add, get, finish, End, accepted, noneReady, handed, refused}
 use Rattle.sequential_model.specs.Book.{addEnd}
 use Rattle.sequential_model.specs.Book.{addKnown, firstUnknown, Follows, done, feed}
 use Rattle.sequential_model.specs.Book as book
 use Rattle.linearization.specs.Calls.{reading, acceptedAdds}
-use Rattle.rules_history.specs.History.{noArguments, Added, Booked}
-use Rattle.representation.specs.Rep.{Ghost, Stands}
 use Rattle.representation_kept.specs.Stand.{limits-of}
-use Rattle.totals.specs.Board.{sumOver, itsMinutes, minutesOfAll, wellFormed, allWellFormed, mostRecords, served}
+use Rattle.totals.specs.Board.{sumOver, minutesOfAll, allWellFormed, mostRecords, served}
 use Rattle.totals.specs.Board.{totalsOf, counted}
 use Rattle.totals.specs.AllJobs.{all-jobs}
-use Rattle.totals.specs.declared.JobRecord.{JobRecord}
-use Rattle.graph_board.specs.Board.{rowsFrom, graphRows, jobsFit, graphTotals, minutesEntered}
+use Rattle.graph_board.specs.Board.{rowsFrom, jobsFit, graphTotals, minutesEntered}
 use Rattle.graph_board.specs.Accounted.{Accounted, graph-counts}
 use Rattle.words_history.specs.Theorem.{Reached, after-items}
-
--- ---- an accepted add had right arguments
-never : {A : Type 0} → _≡_ {A = ℕ} 0 1 → A
-never e = absurd (omega arith)
 
 add-right : (s : Sizes) (b : Book) (a : Arguments) → accepted ≡ addEnd s b a → argumentsWrong a ≡ false
 unfolding addEnd

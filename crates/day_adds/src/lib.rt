@@ -1,6 +1,5 @@
-// Worker 0 adds the entries of a sheet.
-// Follows document 01, "The board and the day list". Assumes nothing. A sheet is read up to the first entry that
-// cannot be read; no line is printed from a place past day_text's bound on.
+// Worker 0 adds the entries of a sheet. Follows docs/RULES.md, "The board and the day list". Assumes nothing. A sheet
+// is read up to the first entry that cannot be read; no line is printed from a place past day_text's bound on.
 ghost use mathlib.Core.Path.{_≡_};
 ghost use Rattle.words.specs.Layout.{atEntry, atExit};
 ghost use Rattle.day_rounds.specs.Rounds.{addAll};

@@ -1,6 +1,6 @@
-// The first half of a day: the entries are added on a fresh graph, and the first line is printed.
-// Follows document 01, "The board and the day list". Assumes nothing. No line is printed from a place past day_text's
-// bound on.
+// The first half of a day: the entries are added on a fresh graph, and the first line is printed. Follows
+// docs/RULES.md, "The board and the day list". Assumes nothing. No line is printed from a place past day_text's bound
+// on.
 ghost use mathlib.Core.Path.{_≡_};
 ghost use Rattle.words.specs.Layout.{atEntry, atExit};
 ghost use Rattle.day_text.specs.Page.{page};

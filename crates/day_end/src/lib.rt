@@ -1,6 +1,6 @@
-// The second half of a day: the rounds, their lines and the last line. The hand-outs go into a lent row.
-// Follows document 01, "The board and the day list". Assumes nothing. No line is printed from a place past day_text's
-// bound on, and none of the hand-outs where the row does not hold all of them.
+// The second half of a day: the rounds, their lines and the last line. The hand-outs go into a lent row. Follows
+// docs/RULES.md, "The board and the day list". Assumes nothing. No line is printed from a place past day_text's bound
+// on, and none of the hand-outs where the row does not hold all of them.
 ghost use mathlib.Core.Path.{_≡_};
 ghost use Rattle.words.specs.Layout.{atEntry};
 ghost use Rattle.day_text.specs.Page.{page};

@@ -1,6 +1,5 @@
-// Worker 0 adds an entry of a sheet, run whole, and prints a line if it is refused.
-// Follows document 01, "The board and the day list". Assumes nothing. No line is printed from a place past day_text's
-// bound on.
+// Worker 0 adds an entry of a sheet, run whole, and prints a line if it is refused. Follows docs/RULES.md, "The board
+// and the day list". Assumes nothing. No line is printed from a place past day_text's bound on.
 ghost use mathlib.Core.Path.{_≡_};
 ghost use Rattle.words.specs.Layout.{atEntry, atExit};
 ghost use Rattle.day_rounds.specs.Rounds.{refusal};

@@ -1,5 +1,5 @@
-// The finishes of a round: each holder finishes, run whole, in the order of the gets.
-// Follows document 01, "The board and the day list". Assumes nothing.
+// The finishes of a round: each holder finishes, run whole, in the order of the gets. Follows docs/RULES.md, "The board
+// and the day list". Assumes nothing.
 ghost use mathlib.Core.Path.{_≡_};
 ghost use Rattle.words.specs.Layout.{atEntry, atExit};
 ghost use Rattle.day_rounds.specs.Rounds.{finishAll};

@@ -1,12 +1,12 @@
--- What the day list prints for a sheet, with a number of workers (document 01, "The board and the day list"): the lines
--- of the adds and the rounds, which stand in day_rounds. Assumes nothing.
+-- What the day list prints for a sheet, with a number of workers (docs/RULES.md, "The board and the day list"): the
+-- lines of the adds and the rounds, which stand in day_rounds. Assumes nothing.
 use mathlib.Core.Bool.{_&&_}
 use mathlib.Core.List.{List, [], _∷_, _++_}
 use Prim.Native.Nat.{ℕ, suc}
 use lib.Dec.{leb}
 use lib.ListN.{length}
 use lib.Seq.{sets}
-use Rattle.terms.specs.Base.{pick}
+use Rattle.basics.specs.Base.{pick}
 use Rattle.terms.specs.Terms.{mostWorkers, wrongSizes}
 use Rattle.terms.specs.declared.Sizes.{Sizes}
 use Rattle.words.specs.Layout.{Tables, view, LABEL}

@@ -1,9 +1,8 @@
 -- Lines of text: numbers in decimal, single spaces between words, a newline at the end. Assumes nothing.
 use mathlib.Core.List.{List, [], _∷_, _++_}
 use Prim.Native.Nat.{ℕ, zero, suc, _+_, _/_, _%_}
-use mathlib.Core.Bool.{Bool, true, false}
 use lib.Dec.{ltb}
-use Rattle.terms.specs.Base.{pick}
+use Rattle.basics.specs.Base.{pick}
 
 abbrev pub space : ℕ
 space = 32

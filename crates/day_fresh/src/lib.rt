@@ -1,6 +1,6 @@
-// The day of a sheet, on tables of its own that just suffice for the most workers.
-// Follows document 01, "The board and the day list". Assumes nothing. What it prints of any sheet and any number of
-// workers is said in specs/; day_list shows when that is the day list.
+// The day of a sheet, on tables of its own that just suffice for the most workers. Follows docs/RULES.md, "The board
+// and the day list". Assumes nothing. What it prints of any sheet and any number of workers is said in specs/; day_list
+// shows when that is the day list.
 ghost use mathlib.Core.Path.{_≡_};
 ghost use Rattle.day_rounds.specs.Rounds.{daySizes};
 ghost use Rattle.day_text.specs.Page.{page};

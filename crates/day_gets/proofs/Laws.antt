@@ -6,7 +6,7 @@ use Prim.Native.Nat.{ℕ, zero, suc, _-_, _<_}
 use native.Mathlib.Omega.{arith}
 use lib.Dec.{ltb, leb}
 use borrow.Author.Tests.{ltb-true, ltb-false, lt-leb}
-use Rattle.terms.specs.Base.{pick}
+use Rattle.basics.specs.Base.{pick}
 use Rattle.terms.specs.Terms.{mostJobs, mostArcs, mostBits, mostWorkers, withinLimits, wrongSizes}
 use Rattle.terms.specs.Runs.{outcome}
 use Rattle.terms.specs.declared.Sizes.{Sizes}
@@ -30,9 +30,6 @@ got-told s w t u hs ks a x e f k = rw (← e, hand-out-told w a, ← f, k)
 -- ---- gets after others
 abbrev pub onto : List Holder → Gets → Gets
 onto hs g = gets (g .state) (hs ++ g .holders)
-
-pub onto-none : (g : Gets) → onto [] g ≡ g
-onto-none g = refl
 
 pub get-first : (s : Sizes) (n w : ℕ) (t : Tables) (hs : List Holder) (x : Gets) → x ≡ gotten s w t hs
     → onto (x .holders) (getAll s n (suc w) (x .state)) ≡ onto hs (getAll s (suc n) w t)

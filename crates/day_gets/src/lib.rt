@@ -1,9 +1,9 @@
-// The gets of a round: every worker gets, in order.
-// Follows document 01, "The board and the day list". Assumes nothing.
+// The gets of a round: every worker gets, in order. Follows docs/RULES.md, "The board and the day list". Assumes
+// nothing.
 ghost use mathlib.Core.Path.{_≡_};
 ghost use mathlib.Core.List.{[], _∷_, _++_};
 ghost use Prim.Native.Nat.{_+_, _≤_, _<_};
-ghost use Rattle.terms.specs.Base.{pick};
+ghost use Rattle.basics.specs.Base.{pick};
 ghost use Rattle.terms.specs.Terms.{mostWorkers};
 ghost use Rattle.words.specs.Layout.{atEntry, atExit};
 ghost use Rattle.day_rounds.specs.Rounds.{holder, gets, getRound};

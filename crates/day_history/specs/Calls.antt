@@ -1,5 +1,5 @@
 -- "each run whole": an add and a finish end within the steps that the day list gives them, and a get is answered at
--- once. Follows document 01, "Steps" and "The board and the day list". Assumes nothing.
+-- once. Follows docs/RULES.md, "Steps" and "The board and the day list". Assumes nothing.
 use mathlib.Core.Path.{_≡_, refl, sym, ap, _∙_}
 use mathlib.Core.Bool.{true≢false}
 use mathlib.Core.List.{[]}
@@ -9,8 +9,9 @@ use native.Mathlib.Omega.{arith}
 use native.Mathlib.Numerals.{add-one}
 use lib.ListN.{length, getD}
 use borrow.Author.Tests.{eq-eqb}
-use Rattle.terms.specs.Base.{update, occurrences}
-use Rattle.terms.specs.Terms.{executing, finished, Arguments, wrongArguments, unknownName, namePresent, noRoom}
+use Rattle.basics.specs.Base.{update, occurrences}
+use Rattle.basics.specs.Laws.{never}
+use Rattle.terms.specs.Terms.{executing, finished, Arguments, wrongArguments, unknownName, namePresent, tablesFull}
 use Rattle.terms.specs.Terms.{finishOf}
 use Rattle.terms.specs.Order.{without}
 use Rattle.terms.specs.OrderLaws.{first-occurs}
@@ -28,7 +29,7 @@ use Rattle.rules.specs.Rules as rules
 use Rattle.rules.specs.Sound.{startedBy, Linking, Notifying}
 use Rattle.rules_cases.specs.Deed as by
 use Rattle.rules_cases.specs.Deed.{Stepped, Made}
-use Rattle.rules_cases.specs.Base.{never, kept-field}
+use Rattle.rules_cases.specs.Base.{kept-field}
 use Rattle.rules_cases.specs.Deeds.{unbroken}
 use Rattle.whole_words.specs.Whole.{andThen, stepsOf, wholeAdd, wholeFinish}
 use Rattle.whole_calls.specs.Arcs.{arcs-within}
@@ -145,7 +146,7 @@ module _ (s : Sizes) (w : ℕ) (hw : w < s .workers) where
       one-look k i t D few rest l (by.nameThere j m e) v A =
           refused namePresent (omega arith) (omega arith) (still i t D idle v A)
       one-look k i t D few rest l (by.roomLacking m e f) v A =
-          refused noRoom (omega arith) (omega arith) (still i t D idle v A)
+          refused tablesFull (omega arith) (omega arith) (still i t D idle v A)
       one-look k i t D few rest l (by.jobEntered m e f) v A =
           let q = D .graph .jobs in
           let names = withNew q n h name (D .jobs) a in

@@ -5,8 +5,8 @@ use mathlib.Core.List.{List, [], _∷_, _++_}
 use mathlib.Core.Option.{Option, none, some, Option·none-ne-some}
 use Prim.Native.Nat.{ℕ, _<_}
 use native.Mathlib.Decide.{ℕ-discrete}
-use Rattle.terms.specs.Base.{update}
-use Rattle.rules_cases.specs.Base.{update-same, update-at, update-other}
+use Rattle.basics.specs.Base.{update}
+use Rattle.basics.specs.Laws.{update-same, update-at, update-other}
 use Rattle.day_rounds.specs.Rounds.{Holder}
 
 -- changes at two places, in either order

@@ -35,10 +35,6 @@ word-within workers name h l i w z =
     simp length-append
     (let few = few-digits 0 w (omega arith) in let most = few-digits 9 name (omega arith) in omega arith)
 
-pub any-within : (workers name : ℕ) → LineWithin 43 workers name
-any-within workers name i w z =
-    simp length-append (let few = most-digits w in let most = most-digits name in omega arith)
-
 pub handed-bytes : (c workers i name w : ℕ) → LineWithin c workers name → i < 10000 → w < workers
     → length (line (decimal i ␣ (decimal name ␣ decimal w))) + handedBytes c i ≤ handedBytes c (suc i)
 handed-bytes c workers i name w L h z = omega (arith, L i w z, next-digits i h)

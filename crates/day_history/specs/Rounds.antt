@@ -8,14 +8,14 @@ use Prim.Native.Nat.{ℕ, zero, suc, _+_, _≤_, _<_}
 use native.Mathlib.Omega.{arith}
 use native.Mathlib.Nat.{zero-add, add-zero, add-suc, suc-add}
 use lib.ListN.{length, length-append}
-use Rattle.terms.specs.Base.{pick, update}
+use Rattle.basics.specs.Base.{pick, update}
+use Rattle.basics.specs.Laws.{update-other, pick-by}
 use Rattle.terms.specs.Runs.{Outcome}
 use Rattle.terms.specs.declared.Sizes.{Sizes}
 use Rattle.terms.specs.declared.Answer.the-variants.{Ended}
 use Rattle.words.specs.Layout.{Tables}
 use Rattle.words.specs.Words.{getWords}
 use Rattle.rules.specs.Rules.{idle}
-use Rattle.rules_cases.specs.Base.{pick-by, update-other}
 use Rattle.sheet_format.specs.SheetTrip.{Each}
 use Rattle.whole_words.specs.Whole.{wholeFinish}
 use Rattle.day_rounds.specs.Rounds.{Holder, handOut, getAll, getRound, finishAll, finished, anyHolder, handOuts}

@@ -6,9 +6,9 @@ use mathlib.Core.Option.{Option}
 use Prim.Native.Nat.{ℕ}
 use native.Mathlib.Decide.{ℕ-discrete}
 use lib.Dec.{eqb}
-use Rattle.terms.specs.Base.{pick, update}
+use Rattle.basics.specs.Base.{pick, update}
+use Rattle.basics.specs.Laws.{update-same, update-other}
 use Rattle.rules.specs.Rules.{Call, idle, Worker}
-use Rattle.rules_cases.specs.Base.{update-same, update-other}
 use Rattle.rules_follow_model.specs.Booked.{held-kept}
 
 -- worker w is in the call c, and every other in none

@@ -11,6 +11,7 @@ use lib.Dec.{leb}
 use lib.ListN.{length}
 use lib.Seq.{sets}
 use borrow.Author.Tests.{leb-true, le-leb}
+use Rattle.basics.specs.Laws.{pick-by}
 use Rattle.terms.specs.Terms.{mostWorkers, withinLimits}
 use Rattle.terms.specs.Runs.{Outcome}
 use Rattle.terms.specs.declared.Sizes.{Sizes}
@@ -19,7 +20,6 @@ use Rattle.terms.specs.declared.Answer.the-variants.{Ended, Refused}
 use Rattle.words.specs.Layout.{Tables, LABEL, view}
 use Rattle.rules.specs.Rules.{idle}
 use Rattle.representation_kept.specs.Stand.{limits-of}
-use Rattle.rules_cases.specs.Base.{pick-by}
 use Rattle.sheet_format.specs.Job.{Job, Valid}
 use Rattle.sheet_format.specs.NumberLaws.{Bytes}
 use Rattle.sheet_format.specs.SheetTrip.{Each, none, more, sheet-back}

@@ -5,6 +5,7 @@ use mathlib.Core.List.{List, [], _∷_, _++_}
 use Prim.Native.Nat.{ℕ, suc, _+_, _*_, _≤_}
 use native.Mathlib.Omega.{arith}
 use lib.ListN.{length, length-append, replicate, length-replicate}
+use Rattle.basics.specs.Laws.{never}
 use Rattle.terms.specs.Terms.{mostWorkers}
 use Rattle.terms.specs.declared.Sizes.{Sizes}
 use Rattle.terms.specs.declared.Answer.{Answer}
@@ -113,10 +114,6 @@ module _ (workers : ℕ) (some : 1 ≤ workers) (few : workers ≤ mostWorkers) 
       (jobsLine (addedDay s js .state) workers)
       (leftLine (runDay s (addedDay s js .state) .state))
       ∙ day-printed limit out js (omega arith))
-
--- ---- what a scan says of the sheet
-never : {A : Type 0} → _≡_ {A = ℕ} 0 1 → A
-never e = absurd (omega arith)
 
 abbrev pub jobsOf : Sheet → List Job
 jobsOf (jobs js) = js

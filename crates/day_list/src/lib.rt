@@ -1,5 +1,5 @@
-// The day list: from the bytes of a sheet to the bytes printed.
-// Follows document 01, "The board and the day list". Assumes nothing.
+// The day list: from the bytes of a sheet to the bytes printed. Follows docs/RULES.md, "The board and the day list".
+// Assumes nothing.
 ghost use mathlib.Core.Path.{_≡_};
 ghost use Prim.Native.Nat.{_≤_};
 ghost use Rattle.terms.specs.Terms.{mostWorkers};

@@ -1,5 +1,5 @@
-// The day list of two workers, in an output that suffices for every sheet: nothing is refused.
-// Follows document 01, "The board and the day list" (R 256, A 1,024, b 4, P 2). Assumes nothing.
+// The day list of two workers, in an output that suffices for every sheet: nothing is refused. Follows docs/RULES.md,
+// "The board and the day list" (R 256, A 1,024, b 4, P 2). Assumes nothing.
 ghost use mathlib.Core.Path.{_≡_};
 ghost use lib.ListN.{length};
 ghost use lib.Seq.{sets};

@@ -1,5 +1,5 @@
-// The middle lines of the day list, from a lent row of hand-outs, and the count that its last line gives.
-// Follows document 01, "The board and the day list". Assumes nothing.
+// The middle lines of the day list, from a lent row of hand-outs, and the count that its last line gives. Follows
+// docs/RULES.md, "The board and the day list". Assumes nothing.
 ghost use mathlib.Core.Path.{_≡_};
 ghost use Rattle.words.specs.Columns.{columns, header};
 ghost use Rattle.words.specs.Layout.{jobShape, LABEL, MADE};

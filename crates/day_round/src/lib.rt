@@ -1,5 +1,5 @@
-// A round of the day list: every worker gets, then each holder finishes, run whole.
-// Follows document 01, "The board and the day list". Assumes nothing.
+// A round of the day list: every worker gets, then each holder finishes, run whole. Follows docs/RULES.md, "The board
+// and the day list". Assumes nothing.
 ghost use mathlib.Core.Path.{_≡_};
 ghost use Prim.Native.Nat.{_≤_};
 ghost use Rattle.terms.specs.Terms.{mostWorkers};

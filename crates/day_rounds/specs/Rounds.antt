@@ -1,4 +1,4 @@
--- The adds and the rounds of a day list (document 01, "The board and the day list"), over the words of the tables, by
+-- The adds and the rounds of a day list (docs/RULES.md, "The board and the day list"), over the words of the tables, by
 -- the definitions that the calls' contracts cite: the refusals, the hand-outs of each round, and the tables left.
 -- Nothing here is text. Assumes nothing.
 use mathlib.Core.Bool.{Bool, true, false}
@@ -6,7 +6,7 @@ use mathlib.Core.List.{List, [], _∷_, _++_}
 use Prim.Native.Nat.{ℕ, zero, suc, _+_, _^_}
 use lib.Dec.{eqb}
 use lib.ListN.{length, replicate}
-use Rattle.terms.specs.Base.{pick}
+use Rattle.basics.specs.Base.{pick}
 use Rattle.terms.specs.Terms.{Arguments, mostWorkers}
 use Rattle.terms.specs.declared.Sizes.{Sizes}
 use Rattle.terms.specs.declared.Answer.{Answer}

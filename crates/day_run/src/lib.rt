@@ -1,5 +1,5 @@
-// The rounds of a day: the hand-outs are stored in a lent row, two words for each, its name and its worker.
-// Follows document 01, "The board and the day list". Assumes nothing. A hand-out past the row's end is not stored.
+// The rounds of a day: the hand-outs are stored in a lent row, two words for each, its name and its worker. Follows
+// docs/RULES.md, "The board and the day list". Assumes nothing. A hand-out past the row's end is not stored.
 ghost use mathlib.Core.Path.{_≡_};
 ghost use Prim.Native.Nat.{_+_, _^_, _≤_};
 ghost use Rattle.terms.specs.Terms.{mostWorkers};

@@ -1,6 +1,5 @@
--- A text printed into a lent output from a place on (document 01, "The board and the day list"): only places below a
--- limit are stored, so that a
--- text can be measured with the limit 0 before it is stored. Assumes nothing.
+-- A text printed into a lent output from a place on (docs/RULES.md, "The board and the day list"): only places below a
+-- limit are stored, so that a text can be measured with the limit 0 before it is stored. Assumes nothing.
 use mathlib.Core.Path.{_≡_, refl, sym, _∙_}
 use mathlib.Core.Bool.{Bool, true, false}
 use mathlib.Core.List.{List, [], _∷_, _++_}
@@ -10,7 +9,7 @@ use lib.Dec.{ltb, leb}
 use lib.ListN.{length, set, length-set, length-append}
 use lib.Seq.{sets}
 use borrow.Author.Tests.{lt-ltb, le-ltb, le-leb}
-use Rattle.terms.specs.Base.{pick}
+use Rattle.basics.specs.Base.{pick}
 use Rattle.sheet_format.specs.SheetTrip.{Each}
 use Rattle.day_rounds.specs.Rounds.{Refusal, Holder}
 use Rattle.day_format.specs.Text.{digits, decimal, jobsWord, workersWord, leftWord, refusedWord, _␣_, line}

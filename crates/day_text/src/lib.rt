@@ -1,5 +1,5 @@
-// The lines of the day list, printed into a lent output from a place on.
-// Follows document 01, "The board and the day list". Assumes nothing.
+// The lines of the day list, printed into a lent output from a place on. Follows docs/RULES.md, "The board and the day
+// list". Assumes nothing.
 ghost use mathlib.Core.Path.{_≡_};
 ghost use mathlib.Core.List.{[], _∷_};
 ghost use Prim.Native.Nat.{_+_, _≤_, _%_};

@@ -3,7 +3,7 @@ use mathlib.Core.Path.{_≡_, refl}
 use mathlib.Core.Bool.{Bool, true, false}
 use mathlib.Core.List.{[], _∷_}
 use Prim.Native.Nat.{ℕ}
-use Rattle.terms.specs.Base.{pick}
+use Rattle.basics.specs.Base.{pick}
 use Rattle.terms.specs.declared.Answer.{Answer}
 use Rattle.terms.specs.declared.Answer.the-variants.{Laid, Posted, Going, Ended, NoneReady, Handed, Refused}
 use Rattle.day_rounds.specs.Rounds.{refusal, holder, handOut}

@@ -1,5 +1,5 @@
-// What an answer tells the day list: the name of a job that was handed out, or the number of a refusal.
-// Follows document 01, "The board and the day list". Assumes nothing.
+// What an answer tells the day list: the name of a job that was handed out, or the number of a refusal. Follows
+// docs/RULES.md, "The board and the day list". Assumes nothing.
 ghost use mathlib.Core.Path.{_≡_};
 ghost use Rattle.day_told.specs.Told.{toldOf};
 use terms::Answer;

@@ -1,7 +1,6 @@
 // The day list as a program: a sheet from standard input, the list to standard output. A read or a write that fails is
-// said on standard error; after a failed read nothing is printed.
-// Follows document 01, "The board and the day list" (R 256, A 1,024, b 4, P 2). What it prints is the library's:
-// day_of_two says it.
+// said on standard error; after a failed read nothing is printed. Follows docs/RULES.md, "The board and the day list"
+// (R 256, A 1,024, b 4, P 2). What it prints is the library's: day_of_two says it.
 use day_input::read_whole;
 use day_of_two::OUT_BYTES;
 use day_of_two::day_list_of_two;

@@ -8,14 +8,17 @@ use native.Mathlib.Omega.{arith}
 use lib.ListN.{length}
 use lib.Dec.{ltb}
 use borrow.Author.Tests.{ltb-true}
-use Rattle.sheet_format.specs.Job.{Job, mostNames, mostClass, mostGrower, nameBytes, countBytes, classBytes}
+use Rattle.basics.specs.Limits.{mostNames, mostClass, mostGrower}
+use Rattle.basics.specs.Base.{pick}
+use Rattle.basics.specs.Laws.{never}
+use Rattle.sheet_format.specs.Job.{Job, nameBytes, countBytes, classBytes}
 use Rattle.sheet_format.specs.Job.{growerBytes}
-use Rattle.sheet_format.specs.Decode.{pick, mapAt, nameAt, limitedAt, listAt, ifBit, namesAt, Decoded, job, end}
+use Rattle.sheet_format.specs.Decode.{mapAt, nameAt, limitedAt, listAt, ifBit, namesAt, Decoded, job, end}
 use Rattle.sheet_format.specs.Decode.{refused, thenDecoded, decode, scanOf}
 use Rattle.sheet_format.specs.declared.Field.{Field}
 use Rattle.sheet_format.specs.declared.Field.the-variants.{Got, Refused}
 use Rattle.sheet_format.specs.declared.Scan.{Scan}
-use Rattle.entry_scan.proofs.Fields.{never, map-next, number-passed, limited-got, number-behind, listed}
+use Rattle.entry_scan.proofs.Fields.{map-next, number-passed, limited-got, number-behind, listed}
 
 pub names-length : (w : ℕ) (s : List ℕ) (at n : ℕ) → length (namesAt w s at n) ≡ n
 unfolding namesAt

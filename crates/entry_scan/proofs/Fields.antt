@@ -8,17 +8,16 @@ use native.Mathlib.Omega.{arith}
 use lib.ListN.{length, getD}
 use lib.Dec.{ltb, leb, eqb, eqb·suc-zero}
 use borrow.Author.Tests.{leb-true}
+use Rattle.basics.specs.Limits.{mostNames, mostClass, mostGrower}
+use Rattle.basics.specs.Base.{pick}
+use Rattle.basics.specs.Laws.{never}
 use Rattle.sheet_format.specs.Number.{numberAt}
-use Rattle.sheet_format.specs.Job.{mostNames, mostClass, mostGrower, countBytes, classBytes, growerBytes}
-use Rattle.sheet_format.specs.Decode.{pick, cut, offLimits, mapAt, nameAt, limitedAt, listAt, then, ifBit, Decoded, job}
+use Rattle.sheet_format.specs.Job.{countBytes, classBytes, growerBytes}
+use Rattle.sheet_format.specs.Decode.{cut, offLimits, mapAt, nameAt, limitedAt, listAt, then, ifBit, Decoded, job}
 use Rattle.sheet_format.specs.Decode.{refused, thenDecoded}
 use Rattle.sheet_format.specs.declared.Field.{Field}
 use Rattle.sheet_format.specs.declared.Field.the-variants.{Got, Refused}
 use Rattle.entry_scan.specs.Stages.{judgedThen, fromGrower, fromClass}
-
--- what no input can bring about
-pub never : {P : Type 0} → _≡_ {A = ℕ} 0 1 → P
-never z = absurd (omega arith)
 
 -- one, two and four bytes, by their offsets from the first
 pub number1-at : (s : List ℕ) (at : ℕ) → numberAt 1 s at ≡ getD s at 0

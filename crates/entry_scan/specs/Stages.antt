@@ -5,8 +5,10 @@ use Prim.Native.Nat.{ℕ, _/_, _%_}
 use mathlib.Core.List.{List}
 use mathlib.Core.Bool.{_&&_, _||_}
 use lib.Dec.{leb, eqb}
-use Rattle.sheet_format.specs.Job.{Job, mostClass, mostGrower, classBytes, growerBytes}
-use Rattle.sheet_format.specs.Decode.{pick, offLimits, nameAt, ifBit, Decoded, job, refused, thenDecoded}
+use Rattle.basics.specs.Limits.{mostClass, mostGrower}
+use Rattle.basics.specs.Base.{pick}
+use Rattle.sheet_format.specs.Job.{classBytes, growerBytes}
+use Rattle.sheet_format.specs.Decode.{offLimits, nameAt, ifBit, Decoded, job, refused, thenDecoded}
 
 -- a number of w bytes that its bit lets stand: a cut is noticed before a value off its limits
 unfoldable pub judgedThen : ℕ → ℕ → ℕ → List ℕ → ℕ → (ℕ → ℕ → Decoded) → Decoded

@@ -6,14 +6,16 @@ use Prim.Native.Nat.{ℕ, _+_, _-_, _<_, _≤_}
 use native.Mathlib.Omega.{arith}
 use lib.Dec.{ltb, leb, eqb}
 use borrow.Author.Tests.{ltb-true, ltb-false, leb-true, leb-false}
-use Rattle.terms.specs.Base.{pick}
-use Rattle.terms.specs.Terms.{mostJobs, mostArcs, mostBits, mostWorkers, mostNames, mostClass, mostGrower, withinLimits}
+use Rattle.basics.specs.Limits.{mostNames, mostClass, mostGrower}
+use Rattle.basics.specs.Base.{pick}
+use Rattle.basics.specs.Laws.{and-left, and-right, or-left, or-right}
+use Rattle.terms.specs.Terms.{settles, mostJobs, mostArcs, mostBits, mostWorkers, withinLimits}
 use Rattle.terms.specs.declared.Sizes.{Sizes}
 use Rattle.terms.specs.declared.HandOut.{HandOut}
 use Rattle.words.specs.Layout.{none, LABEL, COUNT, FIRST, LAST, DEPENDENT, AFTER, PHASE, HELD, LIST-COUNT, OWN-CLASS}
 use Rattle.words.specs.Layout.{OWN-GROWER, TALLY, PLACE, OWN-JOB, OWN-ARC, IDLE, LOOKING, LINKING, MARKING, NOTIFYING}
 use Rattle.words.specs.Layout.{Tables, View, view, longEnough, sizesKept, roomFor, sizesFit}
-use Rattle.words.specs.Words.{placeOk, isPlace, settles, countersOk, ownOk, planLookUp, planEnter, planAppend, planLink}
+use Rattle.words.specs.Words.{placeOk, isPlace, countersOk, ownOk, planLookUp, planEnter, planAppend, planLink}
 use Rattle.words.specs.Words.{withCell, planSettle, planMark, planNotify, planAdd, planLinks, planCall, planPhase}
 use Rattle.words.specs.Words.{admitted, planStep, planTake, planQueue, planGet, planGetOf}
 use Rattle.words.specs.declared.Found.{Found}
@@ -23,23 +25,6 @@ use Rattle.words.specs.declared.Plan.the-variants.{Refuse, Quit, Pass, Enter, T
 use Rattle.words.specs.declared.Plan.the-variants.{SettleQueue, Mark, Notify, NotifyQueue}
 use Rattle.words.specs.declared.GetPlan.the-variants.{RefuseGet, Wait, Take}
 use Rattle.fitting.specs.Fitting.{Fitting, FittingGet}
-
--- ---- tests
-and-left : (a b : Bool) → (a && b) ≡ true → a ≡ true
-and-left true b e = refl
-and-left false b e = e
-
-and-right : (a b : Bool) → (a && b) ≡ true → b ≡ true
-and-right true b e = e
-and-right false b e = cc
-
-or-left : (a b : Bool) → (a || b) ≡ false → a ≡ false
-or-left true b e = e
-or-left false b e = refl
-
-or-right : (a b : Bool) → (a || b) ≡ false → b ≡ false
-or-right true b e = cc
-or-right false b e = e
 
 -- what holds of both plans of a choice holds of the chosen
 choice : {A : Type 0} (P : A → Type 0) (b : Bool) (x y : A) → (b ≡ true → P x) → (b ≡ false → P y) → P (pick b x y)

@@ -1,21 +1,15 @@
 -- The first names of a list, one at a time: whether a name is among them, and whether one comes again. Assumes nothing.
 use mathlib.Core.Path.{_≡_, refl, ap, sym, _∙_}
-use mathlib.Core.Bool.{Bool, true, false, _||_}
+use mathlib.Core.Bool.{true, false}
 use mathlib.Core.List.{List, [], _∷_}
 use Prim.Native.Nat.{ℕ, zero, suc, _+_, _≤_, _<_}
 use native.Mathlib.Omega.{arith}
 use native.Mathlib.Numerals.{add-one}
-use lib.Dec.{eqb}
 use lib.ListN.{length, getD, drop}
 use lib.Seq.{drop-cons, drop-length}
 use borrow.Author.Tests.{eq-eqb, ne-eqb}
-use Rattle.terms.specs.Base.{contains, repeats, prefix}
-
-length-prefix : (n : ℕ) (l : List ℕ) → length (prefix n l) ≡ n
-unfolding prefix
-length-prefix zero l = refl
-length-prefix (suc n) [] = ap suc (length-prefix n [])
-length-prefix (suc n) (x ∷ l) = ap suc (length-prefix n l)
+use Rattle.basics.specs.Base.{contains, repeats, prefix}
+use Rattle.basics.specs.Laws.{length-prefix}
 
 getD-prefix : (n : ℕ) (l : List ℕ) (i : ℕ) → i < n → getD (prefix n l) i 0 ≡ getD l i 0
 unfolding prefix
@@ -62,7 +56,3 @@ module _ (count : ℕ) (names : List ℕ) (i : ℕ) where
   pub not-again : count ≤ i → i ≤ count → false ≡ repeats (drop i (prefix count names))
   unfolding repeats
   not-again h k = rw (none-left h k)
-
-pub or-right : (a b : Bool) → (a || b) ≡ false → b ≡ false
-or-right true b e = cc
-or-right false b e = e

@@ -3,8 +3,9 @@
 ghost use mathlib.Core.Path.{_≡_};
 ghost use Prim.Native.Nat.{_≤_};
 ghost use lib.ListN.{drop};
-ghost use Rattle.terms.specs.Base.{contains, repeats, prefix};
-ghost use Rattle.terms.specs.Terms.{mostNames, argumentsWrong};
+ghost use Rattle.basics.specs.Limits.{mostNames};
+ghost use Rattle.basics.specs.Base.{contains, repeats, prefix};
+ghost use Rattle.terms.specs.Terms.{argumentsWrong};
 use graph_words::numbers::MOST_CLASS;
 use graph_words::numbers::MOST_GROWER;
 use graph_words::numbers::MOST_NAMES;

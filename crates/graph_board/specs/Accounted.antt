@@ -8,13 +8,13 @@ use Prim.Native.Nat.{ℕ, zero, suc, _+_}
 use native.Mathlib.Omega.{arith}
 use lib.Dec.{eqb, leb, ltb}
 use lib.ListN.{length}
+use Rattle.basics.specs.Base.{pick}
 use Rattle.minutes.specs.Minutes.{minutesIn}
-use Rattle.terms.specs.Base.{pick}
-use Rattle.terms.specs.Terms.{Label, unexecuted, executing, finished, labelNumber, Arguments}
+use Rattle.terms.specs.Terms.{damaged, wrongSizes, Label, unexecuted, executing, finished, labelNumber, Arguments}
 use Rattle.terms.specs.declared.Sizes.{Sizes}
 use Rattle.words.specs.Columns.{columns, header}
 use Rattle.words.specs.Layout.{jobShape, MADE, LABEL, CLASS}
-use Rattle.totals.specs.Board.{served, offLimits, damaged, refused, sumOver, under, oneJob, itsMinutes}
+use Rattle.totals.specs.Board.{served, refused, sumOver, under, oneJob, itsMinutes}
 use Rattle.totals.specs.Board.{mostRecords, allWellFormed, counted, totalsOf}
 use Rattle.totals.specs.AllJobs.{together}
 use Rattle.totals.specs.declared.JobRecord.{JobRecord}
@@ -85,8 +85,8 @@ graph-counts table s words =
 
     given : Bool → Bool → Bool → Bool → Totals
     given fit made many formed =
-        let row = pick many (refused offLimits) (pick formed (counted table rows) (refused damaged)) in
-        pick fit (pick made row (refused damaged)) (refused offLimits)
+        let row = pick many (refused wrongSizes) (pick formed (counted table rows) (refused damaged)) in
+        pick fit (pick made row (refused damaged)) (refused wrongSizes)
 
     never : {A : Type 0} → _≡_ {A = ℕ} 0 1 → A
     never e = absurd (omega arith)

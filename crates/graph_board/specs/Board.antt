@@ -5,13 +5,13 @@ use mathlib.Core.List.{List, [], _∷_}
 use Prim.Native.Nat.{ℕ, zero, suc, _+_}
 use lib.Dec.{leb}
 use lib.ListN.{length}
+use Rattle.basics.specs.Base.{pick}
 use Rattle.minutes.specs.Minutes.{minutesIn}
-use Rattle.terms.specs.Base.{pick}
-use Rattle.terms.specs.Terms.{Arguments, withinLimits}
+use Rattle.terms.specs.Terms.{damaged, wrongSizes, Arguments, withinLimits}
 use Rattle.terms.specs.declared.Sizes.{Sizes}
 use Rattle.words.specs.Columns.{columns, header}
 use Rattle.words.specs.Layout.{jobShape, need, sizesKept, MADE, LABEL, CLASS}
-use Rattle.totals.specs.Board.{totalsOf, refused, offLimits, damaged}
+use Rattle.totals.specs.Board.{totalsOf, refused}
 use Rattle.totals.specs.declared.JobRecord.{JobRecord}
 use Rattle.totals.specs.declared.Totals.{Totals}
 
@@ -32,7 +32,7 @@ unfoldable pub graphTotals : List ℕ → Sizes → List ℕ → Totals
 graphTotals table s jobs =
     pick (jobsFit s jobs)
     (pick (leb (header jobs MADE) (s .jobs)) (totalsOf table (graphRows jobs)) (refused damaged))
-    (refused offLimits)
+    (refused wrongSizes)
 
 -- the minutes of the jobs that ever entered, by their adds
 unfoldable pub minutesEntered : List ℕ → List Arguments → ℕ

@@ -5,7 +5,7 @@ ghost use mathlib.Core.Path.{_≡_};
 ghost use mathlib.Core.List.{List};
 ghost use Prim.Native.Nat.{ℕ};
 ghost use lib.Dec.{eqb};
-ghost use Rattle.terms.specs.Base.{pick};
+ghost use Rattle.basics.specs.Base.{pick};
 ghost use Rattle.terms.specs.Terms.{argumentsWrong, halfDone, wrongArguments, damaged, notHeld};
 ghost use Rattle.words.specs.Columns.{columns};
 ghost use Rattle.words.specs.Layout.{workerShape, PHASE, IDLE, tables, atEntry, view};

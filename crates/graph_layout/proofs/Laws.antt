@@ -3,10 +3,11 @@ use mathlib.Core.Path.{_≡_}
 use mathlib.Core.Bool.{Bool, true, _&&_}
 use Prim.Native.Nat.{ℕ, _≤_}
 use native.Mathlib.Omega.{arith}
+use Rattle.basics.specs.Laws.{and-left}
 use Rattle.terms.specs.Terms.{mostBits, withinLimits}
 use Rattle.terms.specs.declared.Sizes.{Sizes}
 use Rattle.words.specs.Layout.{bucketShape, need}
-use Rattle.graph_sizes.proofs.Laws.{and-left, bits-within}
+use Rattle.graph_sizes.proofs.Laws.{bits-within}
 
 pub room-bits : (s : Sizes) (long : Bool) → (withinLimits s && long) ≡ true → s .bits ≤ mostBits
 room-bits s long h = bits-within s (and-left (withinLimits s) long h)

@@ -6,7 +6,7 @@ use Prim.Native.Nat.{ℕ, _≤_, _^_}
 use native.Mathlib.Omega.{arith}
 use lib.ListN.{length}
 use borrow.Author.Tests.{le-leb}
-use Rattle.terms.specs.Base.{pick}
+use Rattle.basics.specs.Base.{pick}
 use Rattle.terms.specs.Terms.{withinLimits, wrongSizes}
 use Rattle.terms.specs.declared.Sizes.{Sizes}
 use Rattle.terms.specs.declared.Answer.the-variants.{Laid}

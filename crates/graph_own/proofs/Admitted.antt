@@ -1,27 +1,20 @@
 -- The tests that come first, for a worker that is known: the code looks at its own words only within the table, where
 -- they always are.
 -- Assumes nothing.
-use mathlib.Core.Path.{_≡_, refl, sym, _∙_}
+use mathlib.Core.Path.{_≡_, sym, _∙_}
 use mathlib.Core.Bool.{Bool, true, false, _&&_}
 use Prim.Native.Nat.{ℕ, _^_}
 use native.Mathlib.Omega.{arith}
 use lib.Dec.{ltb, leb}
 use lib.ListN.{length}
 use borrow.Author.Tests.{ltb-true, leb-true, le-leb}
+use Rattle.basics.specs.Laws.{and-left, and-right}
 use Rattle.terms.specs.Terms.{wrongSizes, noSuchWorker, damaged, withinLimits}
 use Rattle.terms.specs.declared.Sizes.{Sizes}
 use Rattle.words.specs.Columns.{place}
 use Rattle.words.specs.Layout.{jobShape, arcShape, bucketShape, queueShape, workerShape, NAMES, need, longEnough}
 use Rattle.words.specs.Layout.{sizesKept, Tables, view, sizesFit}
 use Rattle.words.specs.Words.{ownOk, admitted}
-
-and-left : (a b : Bool) → (a && b) ≡ true → a ≡ true
-and-left true b e = refl
-and-left false b e = e
-
-and-right : (a b : Bool) → (a && b) ≡ true → b ≡ true
-and-right true b e = e
-and-right false b e = cc
 
 -- a known worker's words before its list are within a table that is long enough
 own-within : (s : Sizes) (t : Tables) (w : ℕ) → sizesFit s t ≡ true → ltb w (s .workers) ≡ true

@@ -6,7 +6,8 @@ use native.Mathlib.Omega.{arith}
 use native.Mathlib.Numerals.{add-one}
 use lib.ListN.{length, getD, set, drop, replicate}
 use lib.Seq.{sets, drop-cons}
-use Rattle.terms.specs.Base.{prefix}
+use Rattle.basics.specs.Base.{prefix}
+use Rattle.basics.specs.Laws.{length-prefix}
 use Rattle.words.specs.Columns.{place}
 use Rattle.words.specs.Layout.{workerShape, PHASE, TALLY, NAMES}
 use Rattle.graph_records.proofs.Laws.{sets-append}
@@ -16,12 +17,6 @@ prefix-none : (n : ℕ) → prefix n [] ≡ replicate n 0
 unfolding prefix
 prefix-none zero = refl
 prefix-none (suc n) = ap (λ (l : List ℕ). 0 ∷ l) (prefix-none n)
-
-prefix-length : (n : ℕ) (l : List ℕ) → length (prefix n l) ≡ n
-unfolding prefix
-prefix-length zero l = refl
-prefix-length (suc n) [] = ap suc (prefix-length n [])
-prefix-length (suc n) (x ∷ l) = ap suc (prefix-length n l)
 
 prefix-at : (n : ℕ) (l : List ℕ) (i : ℕ) → i < n → getD (prefix n l) i 0 ≡ getD l i 0
 unfolding prefix
@@ -36,7 +31,7 @@ pub names-one : (n d : ℕ) (names l : List ℕ) (at i : ℕ) → i < n → i < 
     ≡ sets l (at + i) (drop i (prefix n (prefix d names)))
 names-one n d names l at i a b =
     let z : at + (i + 1) ≡ suc (at + i) = omega arith in
-    let q : i < length (prefix n (prefix d names)) = rw (prefix-length n (prefix d names)) a in
+    let q : i < length (prefix n (prefix d names)) = rw (length-prefix n (prefix d names)) a in
     rw (
       drop-cons (prefix n (prefix d names)) i 0 q,
       prefix-at n (prefix d names) i a,

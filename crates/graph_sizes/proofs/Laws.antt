@@ -1,19 +1,12 @@
 -- What the limits say of the bucket bits. Assumes nothing.
-use mathlib.Core.Path.{_≡_, refl}
-use mathlib.Core.Bool.{Bool, true, false, _&&_}
+use mathlib.Core.Path.{_≡_}
+use mathlib.Core.Bool.{Bool, true, _&&_}
 use Prim.Native.Nat.{_≤_}
 use lib.Dec.{leb}
 use borrow.Author.Tests.{leb-true}
+use Rattle.basics.specs.Laws.{and-left, and-right}
 use Rattle.terms.specs.Terms.{mostJobs, mostArcs, mostBits, mostWorkers, withinLimits}
 use Rattle.terms.specs.declared.Sizes.{Sizes}
-
-pub and-left : (a b : Bool) → (a && b) ≡ true → a ≡ true
-and-left true b e = refl
-and-left false b e = e
-
-pub and-right : (a b : Bool) → (a && b) ≡ true → b ≡ true
-and-right true b e = e
-and-right false b e = cc
 
 -- the fourth of five tests
 within : (a b c d e : Bool) → (a && b && c && d && e) ≡ true → d ≡ true

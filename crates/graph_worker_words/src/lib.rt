@@ -3,7 +3,7 @@
 ghost use mathlib.Core.Path.{_≡_};
 ghost use Prim.Native.Nat.{_+_, _<_, _≤_};
 ghost use lib.Dec.{eqb};
-ghost use Rattle.terms.specs.Base.{pick};
+ghost use Rattle.basics.specs.Base.{pick};
 ghost use Rattle.words.specs.Columns.{columns, put};
 ghost use Rattle.words.specs.Layout.{none, workerShape, PHASE, HELD, LIST-COUNT, TALLY, PLACE, OWN-JOB, OWN-ARC, IDLE};
 ghost use Rattle.words.specs.Layout.{LINKING, NOTIFYING, bareWorker};

@@ -4,14 +4,14 @@
 use mathlib.Core.Path.{_≡_}
 use mathlib.Core.Logic.{_↔_}
 use mathlib.Core.Bool.{Bool, true, false, _||_}
-use mathlib.Core.List.{List, [], _∷_, _++_}
+use mathlib.Core.List.{List, [], _∷_}
 use mathlib.Core.Option.{none}
-use Prim.Native.Nat.{ℕ, zero, suc, _+_, _-_, _≤_, _<_}
+use Prim.Native.Nat.{ℕ, _-_, _≤_, _<_}
 use lib.Dec.{ltb, leb, eqb}
 use lib.ListN.{length, getD}
-use Rattle.terms.specs.Base.{pick, contains, occurrences}
-use Rattle.terms.specs.Terms.{Arguments, listed, labelNumber, unexecuted, finished, sameSizes, wrongSizes, noSuchWorker}
-use Rattle.terms.specs.Terms.{halfDone, nothingToStep}
+use Rattle.basics.specs.Base.{pick, contains, occurrences}
+use Rattle.terms.specs.Terms.{noArguments, Arguments, listed, labelNumber, unexecuted, finished, sameSizes, wrongSizes}
+use Rattle.terms.specs.Terms.{noSuchWorker, halfDone, nothingToStep}
 use Rattle.terms.specs.Runs.{Item, postAdd, postFinish, step, get, Event, Outcome, after, events, entries}
 use Rattle.terms.specs.Runs.{sizesOf, workerOf}
 use Rattle.terms.specs.Seen.{Seen, Same}
@@ -28,9 +28,6 @@ use Rattle.linearization.specs.Calls.{Pending, idle, adding, finishing, Reading
 use Rattle.linearization.specs.Calls.{acceptedFinishes}
 
 -- ---- the prerequisites of a job: "the jobs of the listed names", among the accepted adds
-abbrev pub noArguments : Arguments
-noArguments = record { name = 0; count = 0; names = []; class = 0; grower = 0 }
-
 abbrev pub addOf : List Arguments → ℕ → Arguments
 addOf adds j = getD adds j noArguments
 

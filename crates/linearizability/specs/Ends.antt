@@ -2,7 +2,7 @@
 use mathlib.Core.Path.{_≡_}
 use Prim.Native.Nat.{ℕ, _+_, _*_, _<_}
 use lib.ListN.{length}
-use Rattle.terms.specs.Terms.{Arguments, unknownName, namePresent, noRoom}
+use Rattle.terms.specs.Terms.{Arguments, unknownName, namePresent, tablesFull}
 use Rattle.terms.specs.Seen.{Seen}
 use Rattle.terms.specs.declared.Answer.{Answer}
 use Rattle.terms.specs.declared.Answer.the-variants.{Going, Ended, Refused}
@@ -15,7 +15,7 @@ pub data AddStep (a : Arguments) : ℕ → Answer → Type 0 where
   unknown : {k : ℕ} → k < a .count → AddStep a k (Refused unknownName k)
   entered : AddStep a (a .count) Going
   present : AddStep a (a .count) (Refused namePresent 0)
-  no-room : AddStep a (a .count) (Refused noRoom 0)
+  no-room : AddStep a (a .count) (Refused tablesFull 0)
   linked : {k : ℕ} → a .count < k → k < 2 * a .count + 1 → AddStep a k Going
   settled : AddStep a (2 * a .count + 1) Ended
 

@@ -1,19 +1,17 @@
 -- How a system is shown to be wrong: the clauses of the claim one by one, and the rules with one part put otherwise.
 -- The systems stand in WrongIdle.antt, WrongTexts.antt and WrongOthers.antt. Assumes nothing.
 use mathlib.Core.Path.{_≡_, refl, sym, ap, subst}
-use mathlib.Core.Logic.{_↔_}
-use mathlib.Core.Bool.{true, false}
+use mathlib.Core.Bool.{false}
 use mathlib.Core.List.{List, [], _∷_}
 use mathlib.Core.Option.{Option, none, some}
-use Prim.Native.Nat.{ℕ, zero, suc, _+_, _*_, _≤_, _<_}
+use Prim.Native.Nat.{ℕ, zero, suc, _+_, _*_, _<_}
 use native.Mathlib.Omega.{arith}
 use lib.Dec.{eqb}
 use lib.ListN.{length, getD, take}
 use borrow.Author.Tests.{eqb-false}
-use Rattle.terms.specs.Base.{update, contains, repeats, occurrences, prefix}
-use Rattle.terms.specs.Terms.{Arguments, listed, argumentsWrong, sameSizes, alreadyHolding}
+use Rattle.basics.specs.Base.{update, contains, repeats, occurrences, prefix}
+use Rattle.terms.specs.Terms.{Arguments, argumentsWrong, sameSizes, alreadyHolding}
 use Rattle.terms.specs.Runs.{Item, postAdd, postFinish, step, get, Outcome, outcome, Event, after, events, entries}
-use Rattle.terms.specs.Seen.{Same}
 use Rattle.terms.specs.Order.{earliest, firstBy, without}
 use Rattle.terms.specs.Starred.{S, steps}
 use Rattle.terms.specs.declared.Sizes.{Sizes}
@@ -32,7 +30,7 @@ use Rattle.sequential_model.specs.Book.{finishedBy, next}
 use Rattle.sequential_model.specs.Book as book
 use Rattle.linearization.specs.Calls.{unread, anyCallOf, withoutLast, noteStep, noteAdd, noteFinish, noteGet, note}
 use Rattle.linearization.specs.Calls.{readOn}
-use Rattle.linearization.specs.Calls.{Quiet, acceptedAdds}
+use Rattle.linearization.specs.Calls.{acceptedAdds}
 use Rattle.linearizability.specs.Demand.{Answers, Does, Once, AfterPrerequisites, WhenEnded, FollowedBy, ShownBy}
 use Rattle.linearizability.specs.Demand.{NoneReadyBy, TurnsAway, Demand}
 

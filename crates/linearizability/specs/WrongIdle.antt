@@ -8,8 +8,8 @@ use Prim.Native.Nat.{ℕ, zero, suc, _<_}
 use native.Mathlib.Omega.{arith}
 use lib.Dec.{ltb, eqb, eqb·suc-zero}
 use lib.ListN.{length}
-use Rattle.terms.specs.Base.{pick}
-use Rattle.terms.specs.Terms.{halfDone, namePresent, noRoom, notHeld, finishOf}
+use Rattle.basics.specs.Base.{pick}
+use Rattle.terms.specs.Terms.{halfDone, namePresent, tablesFull, notHeld, finishOf}
 use Rattle.terms.specs.Runs.{Item, postAdd, postFinish, step, get, Outcome, outcome, after}
 use Rattle.terms.specs.Starred.{S, job, steps, add}
 use Rattle.terms.specs.declared.Answer.{Answer}
@@ -66,7 +66,7 @@ ends-by-seven b f = apart endCode refl (ends-at 0 (omega arith) f)
 -- ---- an add that refuses every job by 8
 abbrev pub refusesAll : System
 refusesAll = system posts
-    (λ g w a i. pick (ltb i (a .count)) (looks g w a i) (outcome (Refused noRoom 0) (withCall g w idle)))
+    (λ g w a i. pick (ltb i (a .count)) (looks g w a i) (outcome (Refused tablesFull 0) (withCall g w idle)))
     links marks notifies takes
 
 -- `follows`: the book has room for the first add

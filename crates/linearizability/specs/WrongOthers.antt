@@ -7,14 +7,14 @@ use Prim.Native.Nat.{ℕ, zero, suc, _-_, _<_}
 use native.Mathlib.Omega.{arith}
 use lib.Dec.{ltb, eqb, eqb·suc-zero}
 use lib.ListN.{length, getD, set, take}
-use Rattle.terms.specs.Base.{pick, update, contains}
-use Rattle.terms.specs.Terms.{labelNumber, Arguments, listed, unknownName, noRoom, finishOf}
+use Rattle.basics.specs.Base.{pick, update, contains}
+use Rattle.terms.specs.Terms.{labelNumber, Arguments, listed, unknownName, tablesFull, finishOf}
 use Rattle.terms.specs.Runs.{Item, postAdd, postFinish, step, get, Outcome, outcome, events}
 use Rattle.terms.specs.Starred.{S, sizes, job, steps, add, added, answersOf, hands}
 use Rattle.terms.specs.declared.Answer.{Answer}
 use Rattle.terms.specs.declared.Answer.the-variants.{Posted, Going, Ended, NoneReady, Handed, Refused}
 use Rattle.rules.specs.Rules.{Graph, Job, empty, Call, idle, looking, linking, marking, notifying, Found, at, missing}
-use Rattle.rules.specs.Rules.{find, withCall, turn, handedOut, perform, handOut, withWorkers, withJobs}
+use Rattle.rules.specs.Rules.{find, withCall, handedOut, perform, handOut, withWorkers, withJobs}
 use Rattle.rules.specs.Rules as rules
 use Rattle.rules.specs.Observed.{seen}
 use Rattle.sequential_model.specs.Book.{entry}
@@ -76,7 +76,7 @@ tells-place-nought b f = apart endCode refl (ends-at 1 (omega arith) f)
 abbrev pub seeksRoomFirst : System
 seeksRoomFirst = system posts
     (λ g w a i. pick (ltb i (a .count) || ltb (length (g .jobs)) (S .jobs)) (looks g w a i)
-    (outcome (Refused noRoom 0) (withCall g w idle)))
+    (outcome (Refused tablesFull 0) (withCall g w idle)))
     links marks notifies takes
 
 -- `follows`: with 4 of 4 jobs made, a name that is there is refused by 8, and the book says 7

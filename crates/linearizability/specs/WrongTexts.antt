@@ -7,12 +7,12 @@ use Prim.Native.Nat.{ℕ, zero, suc, _-_, _*_, _≤_, _<_}
 use native.Mathlib.Omega.{arith}
 use lib.Dec.{ltb, eqb}
 use lib.ListN.{length, getD, set}
-use Rattle.terms.specs.Base.{pick}
+use Rattle.basics.specs.Base.{pick}
 use Rattle.terms.specs.Terms.{Arguments, listed, unknownName, finishOf}
 use Rattle.terms.specs.Runs.{Item, postAdd, postFinish, step, get, Outcome, outcome, after}
 use Rattle.terms.specs.Starred.{S, job, steps, add, prepared}
 use Rattle.terms.specs.declared.Answer.the-variants.{Going, Ended, Refused}
-use Rattle.rules.specs.Rules.{Graph, empty, idle, looking, linking, Found, at, missing, find, withCall, withCount, turn}
+use Rattle.rules.specs.Rules.{Graph, empty, idle, looking, linking, Found, at, missing, find, withCall, withCount}
 use Rattle.rules.specs.Rules.{enqueue, enter, link, settled, withJobs, withQueue}
 use Rattle.rules.specs.Rules as rules
 use Rattle.rules.specs.Observed.{seen}

@@ -3,9 +3,9 @@
 use mathlib.Core.Path.{_≡_}
 use mathlib.Core.Bool.{Bool, true, false, _&&_, _||_, not}
 use mathlib.Core.List.{List, [], _∷_, _++_}
-use Prim.Native.Nat.{ℕ, zero, suc, _+_}
+use Prim.Native.Nat.{ℕ, suc, _+_}
 use lib.Dec.{ltb, leb, eqb}
-use Rattle.terms.specs.Base.{pick, update}
+use Rattle.basics.specs.Base.{pick, update}
 use Rattle.terms.specs.Terms.{Arguments, Finish, damaged}
 use Rattle.terms.specs.Runs.{Item, postAdd, postFinish, step, get, Event}
 use Rattle.terms.specs.declared.Answer.{Answer}

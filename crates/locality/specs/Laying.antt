@@ -2,7 +2,6 @@
 -- rest as it was. For all tables. Follows docs/RULES.md, "Tables and their measures" ("Laying out makes a fresh graph")
 -- and "Turned-away calls" (number 1). Assumes nothing.
 use mathlib.Core.Path.{_≡_, ap, _∙_}
-use mathlib.Core.Logic.{_↔_}
 use mathlib.Core.Bool.{true}
 use mathlib.Core.List.{List, _++_}
 use Prim.Native.Nat.{ℕ, zero, suc, _*_, _^_}
@@ -12,7 +11,7 @@ use lib.Dec.{leb}
 use lib.ListN.{length, drop, length-append, length-replicate}
 use lib.Seq.{sets, sets-eq}
 use borrow.Author.Tests.{leb-true}
-use Rattle.terms.specs.Base.{pick}
+use Rattle.basics.specs.Base.{pick}
 use Rattle.terms.specs.Terms.{wrongSizes}
 use Rattle.terms.specs.Runs.{outcome}
 use Rattle.terms.specs.declared.Sizes.{Sizes}
@@ -58,8 +57,3 @@ unfolding layOut
 laid-out s t = test (roomFor s t)
     (λ e. let h : longEnough s t ≡ true = search parts in rw (e, lay-fresh s t (long h)))
     (λ e. rw e)
-
--- tables are laid out exactly if the sizes lie in their limits and each table is long enough
-pub laid-if-room : (s : Sizes) (t : Tables) → (layOut s t .answer ≡ Laid) ↔ (roomFor s t ≡ true)
-unfolding layOut
-laid-if-room s t = (λ a. test (roomFor s t) (λ e. e) (λ e. let never = rw e at a in cc), λ e. rw e)

@@ -8,9 +8,10 @@ use Prim.Native.Nat.{ℕ, _<_}
 use native.Mathlib.Omega.{arith}
 use lib.Dec.{ltb, leb}
 use borrow.Author.Tests.{ltb-true, leb-true}
-use Rattle.terms.specs.Base.{pick, contains}
-use Rattle.terms.specs.Terms.{mostNames, Arguments, wrongSizes, noSuchWorker, halfDone, nothingToStep, wrongArguments}
-use Rattle.terms.specs.Terms.{unknownName, namePresent, noRoom, damaged, alreadyHolding, notHeld, Finish}
+use Rattle.basics.specs.Limits.{mostNames}
+use Rattle.basics.specs.Base.{pick, contains}
+use Rattle.terms.specs.Terms.{Arguments, wrongSizes, noSuchWorker, halfDone, nothingToStep, wrongArguments}
+use Rattle.terms.specs.Terms.{unknownName, namePresent, tablesFull, damaged, alreadyHolding, notHeld, Finish}
 use Rattle.terms.specs.Runs.{Item, postAdd, postFinish, step, get}
 use Rattle.terms.specs.declared.Sizes.{Sizes}
 use Rattle.terms.specs.declared.HandOut.{HandOut}
@@ -32,7 +33,7 @@ use Rattle.locality.specs.Parts.{parts}
 abbrev pub kindNumbers : Item → List ℕ
 kindNumbers (postAdd s w a) = halfDone ∷ wrongArguments ∷ []
 kindNumbers (postFinish s w f) = halfDone ∷ notHeld ∷ []
-kindNumbers (step s w) = nothingToStep ∷ namePresent ∷ noRoom ∷ []
+kindNumbers (step s w) = nothingToStep ∷ namePresent ∷ tablesFull ∷ []
 kindNumbers (get s w) = halfDone ∷ alreadyHolding ∷ []
 
 -- "Order: 1, 2, 9 for the worker's own words": those turn every kind away

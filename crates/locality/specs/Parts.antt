@@ -11,7 +11,7 @@ use lib.Dec.{ltb, leb}
 use lib.ListN.{length, getD, take, drop, take-append-drop, drop-of-length-le, length-append, List·getD-append}
 use lib.Seq.{getD-take, length-take-le, take-all, take-at, drop-at}
 use borrow.Author.Tests.{ltb-true, leb-true, le-leb}
-use Rattle.terms.specs.Base.{pick}
+use Rattle.basics.specs.Base.{pick}
 use Rattle.terms.specs.declared.Sizes.{Sizes}
 use Rattle.words.specs.Columns.{Shape, place, Rows, rows, columns, header, put, inside}
 use Rattle.words.specs.Layout.{jobShape, JOBS, ARCS, BITS, WORKERS, MADE, arcShape, RESERVED, bucketShape, queueShape}

@@ -6,17 +6,18 @@ use Prim.Native.Nat.{ℕ, zero, suc, _+_, _-_, _^_}
 use native.Mathlib.Omega.{arith}
 use lib.Dec.{ltb, leb, eqb}
 use borrow.Author.Tests.{ltb-true, leb-true, leb-false, eqb-true, eqb-false, lt-ltb}
+use Rattle.basics.specs.Limits.{mostNames}
+use Rattle.basics.specs.Base.{pick}
 use Rattle.bucket.specs.Bucket.{bucketOf}
 use Rattle.bucket.specs.Laws.{below}
-use Rattle.terms.specs.Base.{pick}
-use Rattle.terms.specs.Terms.{mostNames, wrongSizes, noSuchWorker, unknownName, namePresent, noRoom, damaged, Arguments}
-use Rattle.terms.specs.Terms.{argumentsWrong}
+use Rattle.terms.specs.Terms.{settles, wrongSizes, noSuchWorker, unknownName, namePresent, tablesFull, damaged}
+use Rattle.terms.specs.Terms.{Arguments, argumentsWrong}
 use Rattle.terms.specs.declared.Sizes.{Sizes}
 use Rattle.words.specs.Layout.{none, NAME, LABEL, COUNT, FIRST, LAST, NEXT, DEPENDENT, AFTER, PHASE, HELD, OWN-NAME}
 use Rattle.words.specs.Layout.{LIST-COUNT, PLACE, OWN-JOB, OWN-ARC, IDLE, LOOKING, LINKING, MARKING, Tables, View, view}
 use Rattle.words.specs.Layout.{sizesFit}
 use Rattle.words.specs.Words.{placeOk, isPlace, countersOk, ownOk, walk, findOf, planLookUp, planEnter, planAppend}
-use Rattle.words.specs.Words.{planLink, withCell, settles, planSettle, planMark, planNotify, nameAt, planAdd, planLinks}
+use Rattle.words.specs.Words.{planLink, withCell, planSettle, planMark, planNotify, nameAt, planAdd, planLinks}
 use Rattle.words.specs.Words.{planCall, planPhase, admitted, planTake, planQueue, planGet, judgedCounters, judgedAdd}
 use Rattle.words.specs.Words.{judgedFinish}
 use Rattle.words.specs.declared.Found.{Found}
@@ -31,7 +32,7 @@ use Rattle.locality.specs.Parts.{test, right, parts, clip}
 -- ---- what every plan keeps to
 -- 6, 7 and 8 end an add that was accepted by its post
 abbrev pub quitsBy : ℕ → Bool
-quitsBy n = eqb n unknownName || eqb n namePresent || eqb n noRoom
+quitsBy n = eqb n unknownName || eqb n namePresent || eqb n tablesFull
 
 -- the places that a plan stores at lie within the sizes; only `Quit` has a number that ends a call; m says that the
 -- step is a mark

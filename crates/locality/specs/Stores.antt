@@ -10,7 +10,7 @@ use lib.Dec.{ltb, eqb, lit≤, lit<}
 use lib.ListN.{length, set, length-set}
 use lib.Seq.{sets, set-append-left, getD-set-other}
 use borrow.Author.Tests.{ltb-true, leb-true}
-use Rattle.terms.specs.Base.{pick}
+use Rattle.basics.specs.Base.{pick}
 use Rattle.terms.specs.declared.Sizes.{Sizes}
 use Rattle.words.specs.Columns.{Shape, place, Rows, rows, columns, header, put, putHeader, inside}
 use Rattle.words.specs.Layout.{none, jobShape, JOBS, ARCS, BITS, WORKERS, MADE, LABEL, COUNT, FIRST, LAST, arcShape}

@@ -8,8 +8,10 @@ use Prim.Native.Nat.{ℕ, zero, suc}
 use lib.Dec.{ltb}
 use lib.ListN.{length}
 use borrow.Author.Tests.{eqb-true}
-use Rattle.terms.specs.Base.{pick, prefix}
-use Rattle.terms.specs.Terms.{mostNames, Arguments, listed, withinLimits, wrongSizes}
+use Rattle.basics.specs.Limits.{mostNames}
+use Rattle.basics.specs.Base.{pick}
+use Rattle.basics.specs.Laws.{length-prefix}
+use Rattle.terms.specs.Terms.{Arguments, listed, withinLimits, wrongSizes}
 use Rattle.terms.specs.Runs.{Item, postAdd, postFinish, step, get, Outcome, outcome, Event, after, events, sizesOf}
 use Rattle.terms.specs.declared.Sizes.{Sizes}
 use Rattle.terms.specs.declared.Answer.{Answer}
@@ -27,13 +29,6 @@ use Rattle.locality.specs.Parts.{test, needed, rest, joined, lengths, la
 use Rattle.locality.specs.Parts.{whole, needed-again, long-needed, kept-needed, long-joined, kept-joined}
 use Rattle.locality.specs.Plans.{own-alike, phase-alike, get-alike, add-alike, finish-alike, admit}
 use Rattle.locality.specs.Stores.{Kept, Carried, unchanged, own, post-carried, step-carried, get-carried}
-
--- the words of a posted add are as many as a worker has
-length-prefix : (n : ℕ) (l : List ℕ) → length (prefix n l) ≡ n
-unfolding prefix
-length-prefix zero l = refl
-length-prefix (suc n) [] = ap suc (length-prefix n [])
-length-prefix (suc n) (x ∷ l) = ap suc (length-prefix n l)
 
 length-adding : (held : ℕ) (a : Arguments) → length (addingWorker held a) ≡ workerShape .width
 length-adding held a = rw (length-prefix mostNames (listed a))

@@ -22,10 +22,11 @@ use mathlib.Core.Option.{none}
 use Prim.Native.Nat.{ℕ, _+_, _^_, _≤_, _<_}
 use lib.ListN.{length, getD}
 use lib.Seq.{sets}
+use Rattle.basics.specs.Limits.{mostNames}
+use Rattle.basics.specs.Base.{pick, contains, occurrences}
 use Rattle.bucket.specs.Bucket.{bucketOf}
-use Rattle.terms.specs.Base.{pick, contains, occurrences}
 use Rattle.terms.specs.Terms.{Arguments, withinLimits, sameSizes, wrongSizes, noSuchWorker, damaged}
-use Rattle.terms.specs.Terms.{halfDone, nothingToStep, mostNames, mostWorkers, Finish}
+use Rattle.terms.specs.Terms.{halfDone, nothingToStep, mostWorkers, Finish}
 use Rattle.terms.specs.Runs.{Item, step, get, sizesOf, workerOf, outcome, after, events}
 use Rattle.terms.specs.Seen.{Same, idle, handOut}
 use Rattle.terms.specs.declared.Sizes.{Sizes}

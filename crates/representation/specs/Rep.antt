@@ -1,21 +1,21 @@
 -- The relation between the words of the tables and the graph of the rules. Assumes nothing.
 use mathlib.Core.Path.{_≡_}
-use mathlib.Core.Logic.{_≢_}
-use mathlib.Core.Bool.{Bool, true, false}
+use mathlib.Core.Bool.{true}
 use mathlib.Core.List.{List, [], _∷_, _++_}
 use mathlib.Core.Option.{Option, none, some}
-use Prim.Native.Nat.{ℕ, zero, suc, _+_, _*_, _-_, _^_, _≤_, _<_}
+use Prim.Native.Nat.{ℕ, zero, suc, _+_, _-_, _^_, _<_}
 use lib.Dec.{ltb, eqb}
 use lib.ListN.{length, getD}
+use Rattle.basics.specs.Limits.{mostNames}
+use Rattle.basics.specs.Base.{pick, update}
 use Rattle.bucket.specs.Bucket.{bucketOf}
-use Rattle.terms.specs.Base.{pick, update}
-use Rattle.terms.specs.Terms.{labelNumber, mostNames, Arguments, listed, withinLimits}
+use Rattle.terms.specs.Terms.{labelNumber, Arguments, listed, withinLimits}
 use Rattle.terms.specs.declared.Sizes.{Sizes}
 use Rattle.words.specs.Columns.{Rows}
 use Rattle.words.specs.Layout.{jobShape, NAME, LABEL, COUNT, CLASS, GROWER, FIRST, LAST, NEXT, arcShape, DEPENDENT}
 use Rattle.words.specs.Layout.{AFTER, bucketShape, queueShape, workerShape, PHASE, HELD, OWN-NAME, LIST-COUNT}
 use Rattle.words.specs.Layout.{OWN-CLASS, OWN-GROWER, TALLY, PLACE, OWN-JOB, OWN-ARC, NAMES, IDLE, LOOKING, LINKING}
-use Rattle.words.specs.Layout.{MARKING, NOTIFYING, tables, view, sizesKept, Tables, View}
+use Rattle.words.specs.Layout.{MARKING, NOTIFYING, view, sizesKept, Tables, View}
 use Rattle.words.specs.Layout as words
 use Rattle.words.specs.Words.{firstArc}
 use Rattle.rules.specs.Rules.{Job, Call, idle, looking, linking, marking, notifying, Worker, Graph, job}

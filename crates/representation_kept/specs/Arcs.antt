@@ -12,9 +12,9 @@ use lib.Dec.{leb, eqb}
 use lib.ListN.{length, getD, drop, drop-of-length-le, List·getD-eq-default}
 use lib.Seq.{drop-cons}
 use borrow.Author.Tests.{eq-eqb, ne-eqb, lt-ltb, le-leb, lt-leb}
-use Rattle.terms.specs.Base.{pick, update}
+use Rattle.basics.specs.Base.{pick, update}
+use Rattle.basics.specs.Laws.{update-same, update-other}
 use Rattle.terms.specs.declared.Sizes.{Sizes}
-use Rattle.words.specs.Columns.{update-same, update-other}
 use Rattle.words.specs.Layout.{none, DEPENDENT, AFTER, view, Tables}
 use Rattle.words.specs.Words.{placeOk}
 use Rattle.words.specs.Observed.{dependentsFrom, arcsFrom}

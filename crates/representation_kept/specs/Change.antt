@@ -7,13 +7,13 @@ use mathlib.Core.List.{List, [], _∷_, _++_}
 use Prim.Native.Nat.{ℕ, zero, suc, _+_, _<_}
 use native.Mathlib.Omega.{arith}
 use lib.ListN.{length, getD, set, length-set}
+use Rattle.basics.specs.Laws.{set-all}
 use Rattle.terms.specs.declared.Sizes.{Sizes}
 use Rattle.words.specs.Columns.{put, stores}
 use Rattle.words.specs.Layout.{jobShape, NAME, NEXT, sizesKept, View}
 use Rattle.rules.specs.Rules.{Job, Worker, Graph, noJob, job, withJobs, withQueue, withWorkers}
 use Rattle.rules.specs.Sound.{started, startedBy}
 use Rattle.representation.specs.Rep.{Ghost, Row, TablesRep}
-use Rattle.representation_kept.specs.Lists.{set-all}
 use Rattle.representation_kept.specs.Stand.{viewOf}
 
 pub kept-put : (s : Sizes) (l : List ℕ) (i k x : ℕ) → sizesKept s (put jobShape l i k x) ≡ sizesKept s l

@@ -8,13 +8,15 @@ use Prim.Native.Nat.{ℕ, _+_, _-_, _<_}
 use native.Mathlib.Omega.{arith}
 use lib.Dec.{eqb}
 use lib.ListN.{length, set, length-append}
+use Rattle.terms.specs.Terms.{settles}
+use Rattle.basics.specs.Laws.{update-same, update-other}
 use Rattle.terms.specs.declared.Sizes.{Sizes}
-use Rattle.words.specs.Columns.{update-same, update-other, columns, columns-put, put, store, header-putHeader, rows-put}
+use Rattle.words.specs.Columns.{columns, columns-put, put, store, header-putHeader, rows-put}
 use Rattle.words.specs.Columns.{stores}
 use Rattle.words.specs.Layout.{jobShape, COUNT, queueShape, workerShape, tables, view, Tables, View}
 use Rattle.words.specs.Words.{applied, putCount, putCell}
 use Rattle.words.specs.declared.Plan.the-variants.{Settle, SettleQueue, Notify, NotifyQueue}
-use Rattle.rules.specs.Rules.{Call, Worker, Graph, job, withCount, settles, settled, notified, withJobs, withQueue}
+use Rattle.rules.specs.Rules.{Call, Worker, Graph, job, withCount, settled, notified, withJobs, withQueue}
 use Rattle.rules.specs.Rules.{withWorkers}
 use Rattle.rules.specs.Sound.{Sound, MayQueue, started}
 use Rattle.representation.specs.Rep.{Ghost, Row, TablesRep, Stands}

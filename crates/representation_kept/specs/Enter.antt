@@ -12,12 +12,13 @@ use lib.Dec.{eqb}
 use lib.ListN.{length, getD, length-append, List·getD-eq-default}
 use lib.Seq.{sets}
 use borrow.Author.Tests.{lt-ltb, le-ltb, eqb-true, eqb-false}
+use Rattle.basics.specs.Base.{pick}
+use Rattle.basics.specs.Laws.{update-same, update-at, update-other, length-prefix}
 use Rattle.bucket.specs.Bucket.{bucketOf}
 use Rattle.bucket.specs.Laws.{below}
-use Rattle.terms.specs.Base.{pick}
 use Rattle.terms.specs.Terms.{Arguments}
 use Rattle.terms.specs.declared.Sizes.{Sizes}
-use Rattle.words.specs.Columns.{update-same, update-at, update-other, place, Rows, columns, columns-put, put, store}
+use Rattle.words.specs.Columns.{place, Rows, columns, columns-put, put, store}
 use Rattle.words.specs.Columns.{putHeader, header-putHeader, rows-putHeader, stores}
 use Rattle.words.specs.Layout.{none, jobShape, JOBS, ARCS, BITS, WORKERS, MADE, NAME, LABEL, COUNT, CLASS, GROWER}
 use Rattle.words.specs.Layout.{FIRST, LAST, NEXT, arcShape, bucketShape, LIST-COUNT, view, sizesKept, Tables, View}
@@ -26,7 +27,7 @@ use Rattle.words.specs.declared.Plan.the-variants.{Enter}
 use Rattle.rules.specs.Rules.{Job, Graph, noJob, job, newJob, entered}
 use Rattle.rules.specs.Sound.{Sound}
 use Rattle.representation.specs.Rep.{Bucket, Ghost, enterGhost, Row, Linked, TablesRep, AddWords, Stands}
-use Rattle.representation_kept.specs.Lists.{append-all, length-prefix}
+use Rattle.representation_kept.specs.Lists.{append-all}
 use Rattle.representation_kept.specs.Records.{rows-sets, record-at, record-off, header-record}
 use Rattle.representation_kept.specs.Stand.{TablesStand, viewOf}
 use Rattle.representation_kept.specs.Change.{started-append}

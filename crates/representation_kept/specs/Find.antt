@@ -10,9 +10,9 @@ use native.Mathlib.Decide.{ℕ-discrete}
 use lib.Dec.{eqb}
 use lib.ListN.{length, getD}
 use borrow.Author.Tests.{eq-eqb, ne-eqb, lt-ltb, eqb-true, eqb-false}
+use Rattle.basics.specs.Base.{pick}
 use Rattle.bucket.specs.Bucket.{bucketOf}
 use Rattle.bucket.specs.Laws.{below}
-use Rattle.terms.specs.Base.{pick}
 use Rattle.terms.specs.declared.Sizes.{Sizes}
 use Rattle.words.specs.Layout.{none, NAME, NEXT, view, Tables}
 use Rattle.words.specs.Words.{walk, findOf}
@@ -120,9 +120,6 @@ find-finds g name =
 
 pub found-there : (g : Graph) (name j : ℕ) → find g name ≡ at j → (j < length (g .jobs)) × (job g j .name ≡ name)
 found-there g name j e = rw e at (find-finds g name)
-
-pub missing-new : (g : Graph) (name : ℕ) → find g name ≡ missing → (j : ℕ) → j < length (g .jobs) → job g j .name ≢ name
-missing-new g name e = rw e at (find-finds g name)
 
 -- ---- the walk finds what the search finds
 module _ (s : Sizes) (t : Tables) (g : Graph) (G : Ghost) (S : Stands s t g G) (O : Sound s g) where

@@ -5,9 +5,9 @@ use Prim.Native.Nat.{ℕ, _+_, _<_}
 use native.Mathlib.Omega.{arith}
 use native.Mathlib.Decide.{ℕ-discrete}
 use lib.ListN.{getD}
-use Rattle.terms.specs.Base.{update}
+use Rattle.basics.specs.Base.{update}
+use Rattle.basics.specs.Laws.{update-at, update-other}
 use Rattle.terms.specs.declared.Sizes.{Sizes}
-use Rattle.words.specs.Columns.{update-at, update-other}
 use Rattle.words.specs.Layout.{none, view, Tables, View}
 use Rattle.words.specs.Words.{applied}
 use Rattle.words.specs.declared.Plan.the-variants.{Quit, Pass, Tally}

@@ -6,10 +6,11 @@ use mathlib.Core.List.{List, _∷_}
 use Prim.Native.Nat.{ℕ, _+_, _<_}
 use native.Mathlib.Omega.{arith}
 use lib.ListN.{length, set}
+use Rattle.basics.specs.Laws.{update-same, update-other}
 use Rattle.terms.specs.Terms.{Label, executing, finished, labelNumber}
 use Rattle.terms.specs.declared.Sizes.{Sizes}
 use Rattle.terms.specs.declared.HandOut.{HandOut}
-use Rattle.words.specs.Columns.{update-same, update-other, columns-put, put, store, header-putHeader, rows-put, stores}
+use Rattle.words.specs.Columns.{columns-put, put, store, header-putHeader, rows-put, stores}
 use Rattle.words.specs.Layout.{none, jobShape, LABEL, queueShape, view, Tables, View}
 use Rattle.words.specs.Words.{applied, appliedGet}
 use Rattle.words.specs.declared.Plan.the-variants.{Mark}

@@ -8,13 +8,13 @@ use native.Mathlib.Omega.{arith}
 use native.Mathlib.Decide.{ℕ-discrete, decLt}
 use lib.ListN.{length, getD, set, length-set, length-append, List·getD-append, List·getD-eq-default}
 use lib.Seq.{getD-at}
-use Rattle.terms.specs.Base.{update}
+use Rattle.basics.specs.Base.{update}
+use Rattle.basics.specs.Laws.{update-same, update-at, update-other, set-all}
 use Rattle.terms.specs.declared.Sizes.{Sizes}
-use Rattle.words.specs.Columns.{update-same, update-at, update-other, store}
+use Rattle.words.specs.Columns.{store}
 use Rattle.words.specs.Layout.{none, NAME, LABEL, COUNT, CLASS, GROWER, FIRST, LAST, NEXT, DEPENDENT, AFTER, View}
 use Rattle.rules.specs.Rules.{Job, Worker, Graph, noJob, job, withDependent, withJobs, withWorkers}
 use Rattle.representation.specs.Rep.{Ghost, linkGhost, Row, Linked, TablesRep}
-use Rattle.representation_kept.specs.Lists.{set-all}
 use Rattle.representation_kept.specs.Stand.{viewOf}
 use Rattle.representation_kept.specs.Change.{started-set}
 use Rattle.representation_kept.specs.Keep.{spent-more}

@@ -10,19 +10,9 @@ use native.Mathlib.Nat.{add-zero, mul-suc}
 use lib.ListN.{length, getD, set, replicate, length-set, length-append, List·getD-append, List·getD-eq-default}
 use lib.ListN.{getD-replicate, take}
 use lib.Seq.{getD-set-same, getD-set-other, getD-append-seam, sets}
-use Rattle.terms.specs.Base.{prefix}
-use Rattle.terms.specs.Terms.{mostNames}
-use Rattle.words.specs.Layout.{none, NAMES, bareWorker, repeated}
+use Rattle.basics.specs.Limits.{mostNames}
+use Rattle.words.specs.Layout.{NAMES, bareWorker, repeated}
 use Rattle.words.specs.Observed.{cells}
-
--- ---- a fact of all places after a change: of the changed place, and of the others
-pub set-all : {A : Type 0} (P : ℕ → A → Type 0) (l : List A) (j : ℕ) (x d : A) → j < length l → P j x
-    → ((k : ℕ) → k ≢ j → P k (getD l k d))
-    → (k : ℕ) → P k (getD (set l j x) k d)
-set-all P l j x d h a b k = elim (ℕ-discrete k j) [
-  | yes e ↦ rw (e, getD-set-same l j x d h) a
-  | no e ↦ rw (getD-set-other l j k x d e) (b k e)
-]
 
 pub append-all : {A : Type 0} (P : ℕ → A → Type 0) (l : List A) (x d : A) → P (length l) x
     → ((k : ℕ) → k ≢ length l → P k (getD l k d))
@@ -102,10 +92,3 @@ pub bare-name : (phase held q : ℕ) → q < mostNames → getD (bareWorker phas
 bare-name phase held q h =
     getD-past (take NAMES (bareWorker phase held)) (replicate mostNames 0) q
     ∙ getD-replicate mostNames q 0 0 h
-
--- ---- the first n of a list are n
-pub length-prefix : (n : ℕ) (l : List ℕ) → length (prefix n l) ≡ n
-unfolding prefix
-length-prefix zero l = refl
-length-prefix (suc n) [] = omega (arith, length-prefix n [])
-length-prefix (suc n) (x ∷ l) = omega (arith, length-prefix n l)

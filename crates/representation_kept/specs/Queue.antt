@@ -11,10 +11,11 @@ use lib.Dec.{leb}
 use lib.ListN.{length, getD, length-append, List·getD-append}
 use lib.Seq.{getD-at}
 use borrow.Author.Tests.{lt-ltb, le-leb, eq-eqb}
-use Rattle.terms.specs.Base.{occurrences}
+use Rattle.basics.specs.Base.{occurrences}
+use Rattle.basics.specs.Laws.{update-at, update-other}
 use Rattle.terms.specs.Terms.{unexecuted}
 use Rattle.terms.specs.declared.Sizes.{Sizes}
-use Rattle.words.specs.Columns.{store, update-at, update-other}
+use Rattle.words.specs.Columns.{store}
 use Rattle.words.specs.Layout.{view, Tables}
 use Rattle.words.specs.Words.{withCell}
 use Rattle.words.specs.Observed.{waiting}

@@ -12,7 +12,7 @@ use lib.Dec.{ltb}
 use lib.ListN.{length, getD, length-append, List·getD-append}
 use lib.Seq.{sets, length-sets}
 use borrow.Author.Tests.{lt-ltb, ltb-true, leb-true}
-use Rattle.terms.specs.Base.{pick}
+use Rattle.basics.specs.Base.{pick}
 use Rattle.words.specs.Columns.{Shape, place, rows, Rows, columns, header, inside}
 use Rattle.words.specs.Layout.{repeated}
 use Rattle.representation_kept.specs.Lists.{sets-off, sets-at, getD-past, length-repeated, getD-repeated}

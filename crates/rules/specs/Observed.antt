@@ -1,6 +1,4 @@
 -- What is seen in a graph of the rules. Assumes nothing.
-use mathlib.Core.List.{List}
-use Prim.Native.Nat.{ℕ}
 use lib.ListN.{length, drop}
 use Rattle.terms.specs.Terms.{labelNumber}
 use Rattle.terms.specs.Seen.{request, CallSeen, JobSeen, Seen}

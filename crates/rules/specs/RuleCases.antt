@@ -1,13 +1,13 @@
 -- The rules tell what docs/RULES.md's rows say ("Checked by hand", cases 1 to 6), and hold a job back while one of its
 -- two prerequisites is not finished. Assumes nothing.
 use mathlib.Core.Path.{_≡_, refl}
-use mathlib.Core.List.{List, map}
-use Rattle.terms.specs.Base.{update, contains, repeats, occurrences, prefix}
+use mathlib.Core.List.{map}
+use Rattle.basics.specs.Base.{update, contains, repeats, occurrences, prefix}
 use Rattle.terms.specs.Terms.{argumentsWrong, sameSizes}
 use Rattle.terms.specs.Order.{earliest, firstBy, without}
 use Rattle.terms.specs.Runs.{after, events, entries}
 use Rattle.terms.specs.Starred.{Row, Told, telling, answersOf, steps, before, orders, rowsOf, starred, oneOfTwo}
-use Rattle.rules.specs.Rules.{Graph, empty, seek, lookUp, enter, linkTo, link, markDependents, mark, notify}
+use Rattle.rules.specs.Rules.{empty, seek, lookUp, enter, linkTo, link, markDependents, mark, notify}
 use Rattle.rules.specs.Rules.{stepCall, whenIdle, addPosted, finishPosted, takeNext, getJob, admitted, perform}
 
 abbrev pub tells : Row → Told

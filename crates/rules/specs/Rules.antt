@@ -1,20 +1,19 @@
 -- The rules of Johnson's dynamic task graph, as corrected in docs/RULES.md ("Steps", "Turned-away calls"): jobs with
 -- their dependents, a queue, and workers with the call that each is in. No words, no damage. Assumes nothing.
-use mathlib.Core.Bool.{Bool, true, false, _&&_, _||_}
+use mathlib.Core.Bool.{Bool, true, false, _||_}
 use mathlib.Core.List.{List, [], _∷_, _++_}
 use mathlib.Core.Option.{Option, none, some}
-use Prim.Native.Nat.{ℕ, zero, suc, _+_, _-_}
+use Prim.Native.Nat.{ℕ, suc, _+_, _-_}
 use lib.Dec.{ltb, leb, eqb}
 use lib.ListN.{length, getD, set}
-use Rattle.terms.specs.Base.{pick, update}
-use Rattle.terms.specs.Terms.{Label, unexecuted, executing, finished, Arguments, listed, argumentsWrong, sameSizes}
-use Rattle.terms.specs.Terms.{wrongSizes, noSuchWorker, halfDone, nothingToStep, wrongArguments, unknownName}
-use Rattle.terms.specs.Terms.{namePresent, noRoom, damaged, alreadyHolding, notHeld, Finish}
+use Rattle.basics.specs.Base.{pick, update}
+use Rattle.terms.specs.Terms.{settles, Label, unexecuted, executing, finished, Arguments, listed, argumentsWrong}
+use Rattle.terms.specs.Terms.{sameSizes, wrongSizes, noSuchWorker, halfDone, nothingToStep, wrongArguments, unknownName}
+use Rattle.terms.specs.Terms.{namePresent, tablesFull, damaged, alreadyHolding, notHeld, Finish}
 use Rattle.terms.specs.Order.{Order, inQueue, firstBy, without}
 use Rattle.terms.specs.Runs.{Item, postAdd, postFinish, step, get, Outcome, outcome}
 use Rattle.terms.specs.declared.Sizes.{Sizes}
 use Rattle.terms.specs.declared.HandOut.{HandOut}
-use Rattle.terms.specs.declared.Answer.{Answer}
 use Rattle.terms.specs.declared.Answer.the-variants.{Posted, Going, Ended, NoneReady, Handed, Refused}
 
 -- ---- the graph
@@ -161,7 +160,7 @@ unfoldable pub enter : Sizes → Graph → ℕ → Arguments → Found → Outco
 enter s g w a (at j) = outcome (Refused namePresent 0) (withCall g w idle)
 enter s g w a missing =
     pick (leb (s .jobs) (length (g .jobs)) || ltb (s .arcs) (g .reserved + a .count))
-    (outcome (Refused noRoom 0) (withCall g w idle))
+    (outcome (Refused tablesFull 0) (withCall g w idle))
     (outcome Going (entered g w a))
 
 -- one link: "a finished prerequisite adds 1 to the worker's tally, any other gets the arc appended to its list"
@@ -178,11 +177,7 @@ unfoldable pub link : Graph → ℕ → Arguments → ℕ → ℕ → ℕ → Fo
 link g w a j i t (at p) = linkTo g w a j i t p (job g p .label)
 link g w a j i t missing = outcome (Refused damaged 0) g
 
--- settling: "the remaining count falls by the tally, and the job enters the queue if the count is then 0 and either the
--- tally is above 0 or d is 0"
-abbrev pub settles : ℕ → ℕ → ℕ → Bool
-settles count t d = eqb count 0 && (ltb 0 t || eqb d 0)
-
+-- settling: "the remaining count falls by the tally, and the job enters the queue if" it settles
 abbrev pub settled : Graph → ℕ → ℕ → ℕ → ℕ → Graph
 settled g w j t d =
     withJobs (withQueue (withCall g w idle) (enqueue (settles (job g j .count - t) t d) (g .queue) j))

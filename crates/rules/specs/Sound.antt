@@ -1,16 +1,16 @@
 -- What holds of every graph that the rules reach from the empty one, as far as the tables of words and the reference
 -- model rest on it. The statements alone; they are shown elsewhere. Assumes nothing.
 use mathlib.Core.Path.{_≡_}
-use mathlib.Core.Bool.{Bool, true, false}
+use mathlib.Core.Bool.{true, false}
 use mathlib.Core.List.{List, [], _∷_}
 use mathlib.Core.Option.{Option, none, some}
-use Prim.Native.Nat.{ℕ, zero, suc, _+_, _-_, _≤_, _<_}
+use Prim.Native.Nat.{ℕ, _+_, _-_, _≤_, _<_}
 use lib.ListN.{length, getD}
-use Rattle.terms.specs.Base.{occurrences}
-use Rattle.terms.specs.Terms.{Label, unexecuted, executing, finished, mostNames, Arguments, listed, argumentsWrong}
+use Rattle.basics.specs.Limits.{mostNames}
+use Rattle.basics.specs.Base.{occurrences}
+use Rattle.terms.specs.Terms.{settles, Label, unexecuted, executing, finished, Arguments, listed, argumentsWrong}
 use Rattle.terms.specs.declared.Sizes.{Sizes}
-use Rattle.rules.specs.Rules.{Job, Call, idle, looking, linking, marking, notifying, Worker, Graph, job, find, at}
-use Rattle.rules.specs.Rules.{settles}
+use Rattle.rules.specs.Rules.{Job, Call, idle, looking, linking, marking, notifying, Graph, job, find, at}
 
 -- the jobs that were handed out
 abbrev pub startedBy : Label → ℕ

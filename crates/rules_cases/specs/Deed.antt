@@ -9,7 +9,7 @@ use Prim.Native.Nat.{ℕ, suc, _+_, _≤_, _<_}
 use lib.Dec.{ltb, leb, eqb}
 use lib.ListN.{length, getD}
 use Rattle.terms.specs.Terms.{finished, Arguments, listed, argumentsWrong, sameSizes, wrongSizes, noSuchWorker}
-use Rattle.terms.specs.Terms.{halfDone, nothingToStep, wrongArguments, unknownName, namePresent, noRoom, damaged}
+use Rattle.terms.specs.Terms.{halfDone, nothingToStep, wrongArguments, unknownName, namePresent, tablesFull, damaged}
 use Rattle.terms.specs.Terms.{alreadyHolding, notHeld, Finish}
 use Rattle.terms.specs.Order.{without}
 use Rattle.terms.specs.Runs.{Item, postAdd, postFinish, step, get, sizesOf, workerOf}
@@ -62,7 +62,7 @@ pub data Stepped (s : Sizes) (g : Graph) (w : ℕ) : Call → Answer → Graph �
   nameThere : {a : Arguments} {i : ℕ} (j : ℕ) → a .count ≤ i → find g (a .name) ≡ at j
       → Stepped s g w (looking a i) (Refused namePresent 0) (withCall g w idle)
   roomLacking : {a : Arguments} {i : ℕ} → a .count ≤ i → find g (a .name) ≡ missing → noPlace s g a ≡ true
-      → Stepped s g w (looking a i) (Refused noRoom 0) (withCall g w idle)
+      → Stepped s g w (looking a i) (Refused tablesFull 0) (withCall g w idle)
   jobEntered : {a : Arguments} {i : ℕ} → a .count ≤ i → find g (a .name) ≡ missing → noPlace s g a ≡ false
       → Stepped s g w (looking a i) Going (entered g w a)
   -- the links and the settling of an add

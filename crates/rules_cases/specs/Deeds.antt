@@ -8,6 +8,7 @@ use native.Mathlib.Omega.{arith}
 use lib.Dec.{ltb, eqb}
 use lib.ListN.{length, getD}
 use borrow.Author.Tests.{ltb-true, ltb-false, eqb-true}
+use Rattle.basics.specs.Laws.{never, pick-by}
 use Rattle.terms.specs.Terms.{Label, unexecuted, executing, finished, Arguments, listed, argumentsWrong, sameSizes}
 use Rattle.terms.specs.Terms.{Finish}
 use Rattle.terms.specs.OrderLaws.{none-first}
@@ -17,7 +18,6 @@ use Rattle.rules.specs.Rules.{Found, at, missing, Call, idle, looking, linking,
 use Rattle.rules.specs.Rules.{lookUp, enter, link, linkTo, markDependents, mark, notify, stepCall, whenIdle}
 use Rattle.rules.specs.Rules.{addPosted, finishPosted, takeNext, getJob, admitted, perform, nextOut, order}
 use Rattle.rules.specs.Sound.{CallSound}
-use Rattle.rules_cases.specs.Base.{never, pick-by}
 use Rattle.rules_cases.specs.Deed as to
 use Rattle.rules_cases.specs.Deed.{Admitted, isStep, noPlace, Broken, Stepped, Made, Deed}
 

@@ -10,9 +10,10 @@ use native.Mathlib.Omega.{arith}
 use lib.Dec.{eqb}
 use native.Mathlib.Decide.{ℕ-discrete}
 use lib.ListN.{length, getD, set, length-map, List·getD-map}
-use Rattle.terms.specs.Base.{pick, update, prefix}
-use Rattle.terms.specs.Terms.{Label, Arguments, wrongArguments, unknownName, namePresent, noRoom, alreadyHolding}
-use Rattle.terms.specs.Terms.{notHeld, finished, executing, finishOf}
+use Rattle.basics.specs.Base.{pick, update, prefix}
+use Rattle.basics.specs.Laws.{update-at, update-other}
+use Rattle.terms.specs.Terms.{noArguments, Label, Arguments, wrongArguments, unknownName, namePresent, tablesFull}
+use Rattle.terms.specs.Terms.{alreadyHolding, notHeld, finished, executing, finishOf}
 use Rattle.terms.specs.Order.{without}
 use Rattle.terms.specs.OrderLaws.{first-occurs}
 use Rattle.terms.specs.Runs.{Item}
@@ -30,9 +31,8 @@ use Rattle.sequential_model.specs.Book.{addEnd, add, get, finish, accepted, non
 use Rattle.sequential_model.specs.Book as book
 use Rattle.linearization.specs.Calls.{Reading, unread, becomes, decided, acceptedAdds}
 use Rattle.linearization.specs.Calls as reading
-use Rattle.rules_history.specs.History.{History, start, then, entryOf, entriesOf, noArguments, Booked}
+use Rattle.rules_history.specs.History.{History, start, then, entryOf, entriesOf, Booked}
 use Rattle.rules_history.specs.Noted.{reads}
-use Rattle.rules_cases.specs.Base.{update-at, update-other}
 use Rattle.rules_follow_model.specs.Paced.{paced, read}
 use Rattle.rules_follow_model.specs.Entries.{entry-at, entries-length, entries-append, entries-set, entries-kept}
 use Rattle.rules_follow_model.specs.Entries.{listed-append, listed-kept, listed-length}
@@ -176,7 +176,7 @@ module _ (s : Sizes) (g : Graph) (r : Reading) (S : Sound s g) (K : Kept s g r) 
   kept-on (by.stepped {w} A c (by.nameThere {a} j l e)) =
       refused-add w a namePresent 0 (add-there s g a (all-looked w c l) (K .reserved) j e)
   kept-on (by.stepped {w} A c (by.roomLacking {a} l e f)) =
-      refused-add w a noRoom 0 (add-no-room s g a (all-looked w c l) (K .reserved) e f)
+      refused-add w a tablesFull 0 (add-no-room s g a (all-looked w c l) (K .reserved) e f)
   kept-on (by.stepped {w} A c (by.jobEntered {a} l e f)) =
       enters w a _ refl (add-accepted s g a (all-looked w c l) (K .reserved) e f)
   kept-on (by.stepped A c (by.tallied p l e f)) = unseen _ _ refl (turned _ _) refl refl

@@ -7,9 +7,9 @@ use Prim.Native.Nat.{ℕ, _<_}
 use native.Mathlib.Omega.{arith}
 use lib.ListN.{getD}
 use borrow.Author.Tests.{eq-eqb}
-use Rattle.terms.specs.Base.{pick, occurrences}
+use Rattle.basics.specs.Base.{pick, occurrences}
 use Rattle.terms.specs.Terms.{unexecuted, Arguments, listed, argumentsWrong, wrongArguments, unknownName, namePresent}
-use Rattle.terms.specs.Terms.{noRoom, notHeld, finishOf, Finish}
+use Rattle.terms.specs.Terms.{tablesFull, notHeld, finishOf, Finish}
 use Rattle.terms.specs.declared.Sizes.{Sizes}
 use Rattle.rules.specs.Rules.{Graph, job, find, at, missing}
 use Rattle.rules.specs.Sound.{Looking, Sound}
@@ -61,7 +61,7 @@ module _ (s : Sizes) (g : Graph) (a : Arguments) where
   module _ (L : Looking g a (a .count)) (reserved : listedNames (entriesOf (g .jobs)) ≡ g .reserved) where
     all-known : addEnd s (bookOf g) a
         ≡ pick (known (a .name) (entriesOf (g .jobs))) (refused namePresent 0)
-        (pick (full s (bookOf g) a) (refused noRoom 0) accepted)
+        (pick (full s (bookOf g) a) (refused tablesFull 0) accepted)
     unfolding addEnd addKnown
     all-known =
         let first : firstUnknown (entriesOf (g .jobs)) (listed a) 0 ≡ nowhere =
@@ -76,7 +76,7 @@ module _ (s : Sizes) (g : Graph) (a : Arguments) where
     pub add-there : (j : ℕ) → find g (a .name) ≡ at j → refused namePresent 0 ≡ addEnd s (bookOf g) a
     add-there j z = rw (all-known, known-found (a .name) (g .jobs) 0, z)
 
-    pub add-no-room : find g (a .name) ≡ missing → noPlace s g a ≡ true → refused noRoom 0 ≡ addEnd s (bookOf g) a
+    pub add-no-room : find g (a .name) ≡ missing → noPlace s g a ≡ true → refused tablesFull 0 ≡ addEnd s (bookOf g) a
     add-no-room z f = rw (all-known, known-found (a .name) (g .jobs) 0, z, same-room, f)
 
     pub add-accepted : find g (a .name) ≡ missing → noPlace s g a ≡ false → accepted ≡ addEnd s (bookOf g) a

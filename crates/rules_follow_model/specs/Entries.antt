@@ -8,12 +8,13 @@ use native.Mathlib.Omega.{arith}
 use lib.Dec.{eqb}
 use lib.ListN.{length, getD, set}
 use borrow.Author.Tests.{eqb-true}
-use Rattle.terms.specs.Base.{pick, prefix}
+use Rattle.basics.specs.Base.{pick}
+use Rattle.basics.specs.Laws.{length-prefix}
 use Rattle.terms.specs.Terms.{finished, Arguments, listed}
-use Rattle.rules.specs.Rules.{Job, noJob, Graph, job, Found, at, missing, seek, find}
+use Rattle.rules.specs.Rules.{Job, noJob, Graph, job, Found, at, missing, seek}
 use Rattle.terms.specs.declared.Sizes.{Sizes}
 use Rattle.rules.specs.Sound.{Sound, Finished}
-use Rattle.sequential_model.specs.Book.{Entry, noEntry, entry, known, unfinished, awaited, awaitedNames, nowhere}
+use Rattle.sequential_model.specs.Book.{Entry, noEntry, known, unfinished, awaited, awaitedNames, nowhere}
 use Rattle.sequential_model.specs.Book.{firstUnknown}
 use Rattle.sequential_model.specs.Book.{listedNames}
 use Rattle.sequential_model.specs.Book as book
@@ -63,14 +64,8 @@ listed-kept [] j x e = refl
 listed-kept (y ∷ l) zero x e = ap (λ (m : List ℕ). length m + listedNames l) e
 listed-kept (y ∷ l) (suc j) x e = ap (λ n. length (y .list) + n) (listed-kept l j x e)
 
-prefix-length : (n : ℕ) (l : List ℕ) → length (prefix n l) ≡ n
-unfolding prefix
-prefix-length zero l = refl
-prefix-length (suc n) [] = ap suc (prefix-length n [])
-prefix-length (suc n) (x ∷ l) = ap suc (prefix-length n l)
-
 pub listed-length : (a : Arguments) → length (listed a) ≡ a .count
-listed-length a = prefix-length (a .count) (a .names)
+listed-length a = length-prefix (a .count) (a .names)
 
 -- ---- the job of a name
 abbrev pub isFound : Found → Bool

@@ -9,7 +9,8 @@ use native.Mathlib.Omega.{arith}
 use native.Mathlib.Decide.{ℕ-discrete}
 use lib.ListN.{length, getD, set, List·getD-append}
 use lib.Seq.{getD-append-seam}
-use Rattle.terms.specs.Base.{update}
+use Rattle.basics.specs.Base.{update}
+use Rattle.basics.specs.Laws.{update-same, update-other}
 use Rattle.terms.specs.Terms.{Arguments, finishOf}
 use Rattle.terms.specs.Runs.{Item, workerOf}
 use Rattle.terms.specs.declared.Sizes.{Sizes}
@@ -23,7 +24,7 @@ use Rattle.linearization.specs.Calls.{Pending, finishing, Reading, unread, Quie
 use Rattle.linearization.specs.Calls as reading
 use Rattle.rules_history.specs.History.{History, start, then, PacedCall, Paced, AllIdle}
 use Rattle.rules_history.specs.Noted.{reads, noted}
-use Rattle.rules_cases.specs.Base.{update-same, update-other, kept-field}
+use Rattle.rules_cases.specs.Base.{kept-field}
 
 -- every job keeps its name
 abbrev SameNames : Graph → Graph → Type 0

@@ -6,7 +6,8 @@ use mathlib.Core.Logic.{_↔_}
 use Prim.Native.Nat.{ℕ, _<_}
 use native.Mathlib.Omega.{arith}
 use lib.ListN.{length}
-use Rattle.terms.specs.Base.{occurrences}
+use Rattle.basics.specs.Base.{occurrences}
+use Rattle.basics.specs.Laws.{never}
 use Rattle.terms.specs.Runs.{get}
 use Rattle.terms.specs.OrderLaws.{first-occurs}
 use Rattle.terms.specs.declared.Sizes.{Sizes}
@@ -15,7 +16,6 @@ use Rattle.terms.specs.declared.Answer.the-variants.{NoneReady, Handed}
 use Rattle.rules.specs.Rules.{idle, Graph, job, perform, nextOut, handOut, order}
 use Rattle.rules_cases.specs.Deed as by
 use Rattle.rules_cases.specs.Deed.{Made}
-use Rattle.rules_cases.specs.Base.{never}
 use Rattle.sequential_model.specs.Book.{entry, awaitedNames, remaining, Ready}
 use Rattle.linearization.specs.Calls.{Reading}
 use Rattle.rules_history.specs.History.{entryOf, entriesOf, Booked, Balanced, Free, AllIdle}

@@ -3,13 +3,13 @@
 -- nothing.
 use mathlib.Core.Path.{_≡_}
 use mathlib.Core.Logic.{_↔_}
-use mathlib.Core.Bool.{Bool, true, false}
+use mathlib.Core.Bool.{true}
 use mathlib.Core.List.{List, [], _∷_}
 use mathlib.Core.Option.{Option, none, some}
-use Prim.Native.Nat.{ℕ, zero, suc, _+_, _-_, _*_, _≤_, _<_}
+use Prim.Native.Nat.{ℕ, suc, _+_, _-_, _≤_, _<_}
 use lib.ListN.{length, getD}
-use Rattle.terms.specs.Base.{contains, occurrences}
-use Rattle.terms.specs.Terms.{unexecuted, Arguments, listed, finishOf}
+use Rattle.basics.specs.Base.{contains, occurrences}
+use Rattle.terms.specs.Terms.{noArguments, unexecuted, Arguments, listed, finishOf}
 use Rattle.terms.specs.Runs.{Item}
 use Rattle.terms.specs.declared.Sizes.{Sizes}
 use Rattle.rules.specs.Rules.{Job, Call, idle, looking, linking, marking, notifying, Graph, empty, job, perform}
@@ -33,10 +33,6 @@ pub record Counted (g : Graph) (r : Reading) (e : ℕ → ℕ) : Type 0 where
   pub when-ended : (j : ℕ) → j < length (g .jobs) → contains (job g j .name) (r .added) ≡ true
       → ((i : ℕ) → i < length (job g j .list) → contains (getD (job g j .list) i 0) (r .finished) ≡ true)
       → e j ≡ 1
-
--- ---- the book
-abbrev pub noArguments : Arguments
-noArguments = record { name = 0; count = 0; names = []; class = 0; grower = 0 }
 
 -- the j-th accepted add is that of job j
 pub record Added (a : Arguments) (g : Graph) (j : ℕ) : Type 0 where

@@ -6,7 +6,7 @@ use Prim.Native.Nat.{ℕ, suc, _+_, _≤_}
 use native.Mathlib.Omega.{arith}
 use borrow.Author.Tests.{eq-eqb, ne-eqb, le-ltb, lt-leb}
 use Rattle.terms.specs.Terms.{Arguments, wrongSizes, noSuchWorker, halfDone, wrongArguments, unknownName}
-use Rattle.terms.specs.Terms.{namePresent, noRoom, damaged, alreadyHolding, notHeld, finishOf}
+use Rattle.terms.specs.Terms.{namePresent, tablesFull, damaged, alreadyHolding, notHeld, finishOf}
 use Rattle.terms.specs.Runs.{Item, postAdd, postFinish, step, get, workerOf}
 use Rattle.terms.specs.declared.Sizes.{Sizes}
 use Rattle.terms.specs.declared.Answer.{Answer}
@@ -28,7 +28,7 @@ readsStep r (by.broken b) = r
 readsStep {w} r (by.lookedUp {a} {i} j l e) = becomes r w (adding a (suc i))
 readsStep {w} r (by.nameUnknown {a} {i} l e) = becomes (decided r (add w a) (refused unknownName i)) w idle
 readsStep {w} r (by.nameThere {a} j l e) = becomes (decided r (add w a) (refused namePresent 0)) w idle
-readsStep {w} r (by.roomLacking {a} l e f) = becomes (decided r (add w a) (refused noRoom 0)) w idle
+readsStep {w} r (by.roomLacking {a} l e f) = becomes (decided r (add w a) (refused tablesFull 0)) w idle
 readsStep {w} r (by.jobEntered {a} l e f) = becomes (decided r (add w a) accepted) w (adding a (a .count + 1 + 0))
 readsStep {w} r (by.tallied {a} {j} {i} p l e f) = becomes r w (adding a (a .count + 1 + suc i))
 readsStep {w} r (by.arcAppended {a} {j} {i} p l e f) = becomes r w (adding a (a .count + 1 + suc i))

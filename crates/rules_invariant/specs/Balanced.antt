@@ -12,7 +12,7 @@ use borrow.Author.Tests.{eq-eqb, eqb-true}
 use lib.Dec.{eqb}
 use lib.ListN.{length, getD}
 use lib.Seq.{take-all}
-use Rattle.terms.specs.Base.{pick, occurrences}
+use Rattle.basics.specs.Base.{pick, occurrences}
 use Rattle.terms.specs.Terms.{Label, unexecuted, executing, finished, Label-discrete}
 use Rattle.terms.specs.declared.Sizes.{Sizes}
 use Rattle.rules.specs.Rules.{Job, noJob, Graph, job, Found, at, missing, seek}

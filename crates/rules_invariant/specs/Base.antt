@@ -9,7 +9,7 @@ use borrow.Author.Tests.{eq-eqb, ne-eqb}
 use lib.Dec.{eqb}
 use lib.ListN.{length, getD, take, drop, take-append-drop}
 use lib.Seq.{drop-cons, drop-append-le, take-suc}
-use Rattle.terms.specs.Base.{pick, occurrences}
+use Rattle.basics.specs.Base.{pick, occurrences}
 
 -- ---- 1 where the two are the same, and else 0
 unfoldable pub hit : ℕ → ℕ → ℕ

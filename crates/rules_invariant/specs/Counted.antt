@@ -8,7 +8,7 @@ use Prim.Native.Nat.{ℕ, _-_, _<_}
 use native.Mathlib.Omega.{arith}
 use native.Mathlib.Decide.{decLt}
 use lib.ListN.{length, getD, drop-of-length-le}
-use Rattle.terms.specs.Base.{occurrences, contains}
+use Rattle.basics.specs.Base.{contains, occurrences}
 use Rattle.terms.specs.Terms.{finished}
 use Rattle.terms.specs.declared.Sizes.{Sizes}
 use Rattle.rules.specs.Rules.{Graph, job}

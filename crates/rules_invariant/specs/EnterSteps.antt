@@ -8,16 +8,16 @@ use Prim.Native.Nat.{ℕ, suc, _+_, _≤_, _<_}
 use native.Mathlib.Omega.{arith}
 use lib.ListN.{length, getD, length-append}
 use lib.Seq.{getD-append-seam}
+use Rattle.basics.specs.Laws.{update-same, update-other, length-prefix}
 use Rattle.terms.specs.Terms.{unexecuted, finished, Arguments, listed}
 use Rattle.terms.specs.declared.Sizes.{Sizes}
 use Rattle.rules.specs.Rules.{Job, looking, linking, Graph, noJob, job, find, at, missing, newJob, entered, linked}
 use Rattle.rules.specs.Sound.{Looking}
 use Rattle.linearization.specs.Calls.{Pending, Reading, becomes}
-use Rattle.rules_cases.specs.Base.{update-same, update-other}
 use Rattle.rules_invariant.specs.State.{adding, State, enter}
 use Rattle.rules_invariant.specs.Invariant.{Invariant, Below, startedBy-none}
 use Rattle.rules_invariant.specs.Entering.{enter-keeps}
-use Rattle.rules_invariant.specs.Names.{Extends, extends-append, Numbers, sought-there, seek-new, length-prefix}
+use Rattle.rules_invariant.specs.Names.{Extends, extends-append, Numbers, sought-there, seek-new}
 use Rattle.rules_invariant.specs.Names.{few}
 use Rattle.rules_invariant.specs.Relation.{Kept, Known, jobRel, WorkerRel, snoc-all, finished-keeps}
 use Rattle.rules_invariant.specs.Turns.{Next, own-stage, own-call, workers-after}

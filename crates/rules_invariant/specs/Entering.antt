@@ -7,8 +7,8 @@ use native.Mathlib.Omega.{arith}
 use native.Mathlib.Decide.{ℕ-discrete}
 use lib.ListN.{length}
 use lib.Seq.{drop-nil}
-use Rattle.terms.specs.Base.{occurrences}
-use Rattle.rules_cases.specs.Base.{update-same, update-other, update-at}
+use Rattle.basics.specs.Base.{occurrences}
+use Rattle.basics.specs.Laws.{update-same, update-at, update-other}
 use Rattle.rules_invariant.specs.Base.{occurrences-nil, sum-suc}
 use Rattle.rules_invariant.specs.Own.{owns-frame, owns-take}
 use Rattle.rules_invariant.specs.State.{apart, adding, finishing, tag, State, enter}

@@ -3,17 +3,16 @@ use mathlib.Core.Path.{_≡_, refl, sym, ap, _∙_}
 use mathlib.Core.Logic.{_≢_}
 use mathlib.Core.Bool.{Bool}
 use mathlib.Core.Option.{none, some, Option·none-ne-some, Option·some-injective}
-use mathlib.Core.List.{List, _∷_}
+use mathlib.Core.List.{List}
 use Prim.Native.Nat.{ℕ, suc, _+_, _-_, _≤_, _<_}
 use native.Mathlib.Omega.{arith}
 use native.Mathlib.Decide.{ℕ-discrete, decLt}
 use lib.ListN.{length, getD}
-use Rattle.terms.specs.Base.{update, occurrences}
+use Rattle.basics.specs.Base.{update, occurrences}
+use Rattle.basics.specs.Laws.{update-same, update-at, update-other}
 use Rattle.terms.specs.Terms.{unexecuted, executing, finished}
 use Rattle.rules.specs.Sound.{startedBy}
-use Rattle.rules_cases.specs.Base.{update-same, update-other, update-at}
 use Rattle.rules_invariant.specs.Base.{hit, hit-same, hit-other}
-use Rattle.rules_invariant.specs.Base.{occurrences-cons}
 use Rattle.rules_invariant.specs.Base.{occurrences-drop, sum, sum-at}
 use Rattle.rules_invariant.specs.Own.{owns-frame, owns-take, owns-drop}
 use Rattle.rules_invariant.specs.State.{apart, adding, finishing, tag, State, bit, hand, mark, serve, close}

@@ -10,7 +10,7 @@ use native.Mathlib.Omega.{arith}
 use native.Mathlib.Decide.{decLt}
 use lib.ListN.{length, getD, take, drop}
 use lib.Seq.{take-all}
-use Rattle.terms.specs.Base.{occurrences}
+use Rattle.basics.specs.Base.{occurrences}
 use Rattle.terms.specs.Terms.{Label, unexecuted, executing, finished, Label-discrete}
 use Rattle.rules.specs.Rules.{enqueue}
 use Rattle.rules.specs.Sound.{startedBy}
@@ -119,10 +119,6 @@ module _ (s : State) (I : Invariant s) where
 
   pub held-there : (w j : ℕ) → s .held w ≡ some j → j < s .size
   held-there w j e = entered-there j (omega (arith, ap startedBy (I .held-executing w j e), I .queued j))
-
-  pub finishing-there : (w p : ℕ) → s .stage w ≡ finishing p → p < s .size
-  finishing-there w p f =
-      entered-there p (omega (arith, ap startedBy (I .finisher-finished w p (I .finishers .to w p f)), I .queued p))
 
   -- of a job that has entered the queue nothing is left to wait for
   pub all-finished : (j : ℕ) → 0 < s .entries j → (i : ℕ) → i < length (s .prerequisites j)

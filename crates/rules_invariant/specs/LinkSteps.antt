@@ -8,19 +8,19 @@ use Prim.Native.Nat.{ℕ, suc, _+_, _-_, _≤_, _<_}
 use native.Mathlib.Omega.{arith}
 use native.Mathlib.Decide.{ℕ-discrete}
 use lib.ListN.{length, getD, set, length-set, length-append}
-use Rattle.terms.specs.Base.{update, occurrences, contains}
-use Rattle.terms.specs.Terms.{finished, Arguments, listed}
+use Rattle.basics.specs.Base.{update, contains, occurrences}
+use Rattle.basics.specs.Laws.{update-same, update-at, update-other, length-prefix, set-all}
+use Rattle.terms.specs.Terms.{settles, finished, Arguments, listed}
 use Rattle.terms.specs.declared.Sizes.{Sizes}
 use Rattle.rules.specs.Rules.{Job, idle, linking, Graph, noJob, job, find, at, withCall, withDependent, withCount}
-use Rattle.rules.specs.Rules.{linked, settles, settled, enqueue}
+use Rattle.rules.specs.Rules.{linked, settled, enqueue}
 use Rattle.linearization.specs.Calls.{Pending, Reading, becomes, addEnded}
-use Rattle.rules_cases.specs.Base.{update-same, update-other, update-at}
 use Rattle.rules_invariant.specs.Base.{hit, hit-same, hit-other}
 use Rattle.rules_invariant.specs.State.{apart, adding, State, bit, linkFinished, linkDependent, settle}
 use Rattle.rules_invariant.specs.Invariant.{Invariant, occurrences-enqueue}
 use Rattle.rules_invariant.specs.Linking.{link-finished-keeps, link-dependent-keeps, settle-keeps, settles-right}
-use Rattle.rules_invariant.specs.Names.{Extends, extends-same, extends-set, length-prefix, contains-snoc}
-use Rattle.rules_invariant.specs.Relation.{Kept, known-keeps, jobRel, LinkRel, AddEnded, set-all}
+use Rattle.rules_invariant.specs.Names.{Extends, extends-same, extends-set, contains-snoc}
+use Rattle.rules_invariant.specs.Relation.{Kept, known-keeps, jobRel, LinkRel, AddEnded}
 use Rattle.rules_invariant.specs.Relation.{added-keeps, finished-keeps}
 use Rattle.rules_invariant.specs.Turns.{Next, own-stage, own-call, other-add, workers-after}
 

@@ -14,10 +14,9 @@ use borrow.Author.Tests.{eqb-true, eqb-false, ltb-true, ltb-false}
 use lib.Dec.{eqb, ltb}
 use lib.ListN.{length, getD, take, length-append, List·getD-append}
 use lib.Seq.{getD-append-seam}
-use Rattle.terms.specs.Base.{occurrences}
-use Rattle.terms.specs.Terms.{finished}
-use Rattle.rules.specs.Rules.{settles}
-use Rattle.rules_cases.specs.Base.{update-same, update-other, update-at}
+use Rattle.basics.specs.Base.{occurrences}
+use Rattle.basics.specs.Laws.{update-same, update-at, update-other}
+use Rattle.terms.specs.Terms.{settles, finished}
 use Rattle.rules_invariant.specs.Base.{hit, hit-same, hit-other}
 use Rattle.rules_invariant.specs.Base.{occurrences-take}
 use Rattle.rules_invariant.specs.Base.{occurrences-take-le, occurrences-drop-snoc, sum-at}

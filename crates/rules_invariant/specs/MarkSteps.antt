@@ -8,7 +8,8 @@ use Prim.Native.Nat.{ℕ, _+_, _<_}
 use native.Mathlib.Omega.{arith}
 use native.Mathlib.Decide.{ℕ-discrete}
 use lib.ListN.{length, getD, set, length-set}
-use Rattle.terms.specs.Base.{update, occurrences, contains}
+use Rattle.basics.specs.Base.{update, contains, occurrences}
+use Rattle.basics.specs.Laws.{update-same, update-other, set-all}
 use Rattle.terms.specs.Terms.{Label, executing, finished, finishOf}
 use Rattle.terms.specs.Order.{without}
 use Rattle.terms.specs.OrderLaws.{first-out}
@@ -16,7 +17,6 @@ use Rattle.terms.specs.declared.Sizes.{Sizes}
 use Rattle.rules.specs.Rules.{Job, idle, marking, notifying, Graph, noJob, job, withLabel, marked, handedOut, nextOut}
 use Rattle.rules.specs.Rules.{order}
 use Rattle.linearization.specs.Calls.{Pending, Reading, becomes, finishEnded}
-use Rattle.rules_cases.specs.Base.{update-same, update-other}
 use Rattle.rules_invariant.specs.Base.{hit, hit-same}
 use Rattle.rules_invariant.specs.State.{apart, finishing, State, hand, mark, close}
 use Rattle.rules_invariant.specs.Invariant.{Invariant, finished-not-unexecuted, executing-not-finished}
@@ -24,7 +24,7 @@ use Rattle.rules_invariant.specs.Invariant.{entered-there}
 use Rattle.rules_invariant.specs.Invariant.{held-there}
 use Rattle.rules_invariant.specs.Finishing.{out-waits, hand-keeps, mark-keeps, close-keeps}
 use Rattle.rules_invariant.specs.Names.{Extends, extends-set, contains-snoc}
-use Rattle.rules_invariant.specs.Relation.{Kept, known-keeps, JobRel, FinishEnded, set-all, added-keeps}
+use Rattle.rules_invariant.specs.Relation.{Kept, known-keeps, JobRel, FinishEnded, added-keeps}
 use Rattle.rules_invariant.specs.Turns.{Next, own-stage, workers-after}
 
 module _ (s : Sizes) (g : Graph) (r : Reading) (x : State) (K : Kept s g r x) (I : Invariant x) (w : ℕ) where

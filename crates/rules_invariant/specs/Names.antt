@@ -11,8 +11,10 @@ use borrow.Author.Tests.{eq-eqb, eqb-true, ltb-false}
 use lib.Dec.{eqb, ltb}
 use lib.ListN.{length, getD, set, List·getD-append}
 use lib.Seq.{getD-set-same, getD-set-other}
-use Rattle.terms.specs.Base.{pick, contains, repeats, prefix}
-use Rattle.terms.specs.Terms.{Arguments, listed, argumentsWrong, mostNames, mostClass, mostGrower}
+use Rattle.basics.specs.Limits.{mostNames, mostClass, mostGrower}
+use Rattle.basics.specs.Base.{pick, contains, repeats}
+use Rattle.basics.specs.Laws.{or-left, or-right}
+use Rattle.terms.specs.Terms.{Arguments, listed, argumentsWrong}
 use Rattle.rules.specs.Rules.{Job, noJob, at, missing, seek, Graph, find}
 use Rattle.rules.specs.Sound.{Named, Looking}
 
@@ -133,21 +135,6 @@ numbers-of g (x ∷ l) h =
       same-length = ap suc (rest .same-length);
       found = λ i. elim i [ zero ↦ λ r. first .found | suc k ↦ λ r. rest .found k (omega arith) ];
     }
-
--- ---- lists of names
-pub length-prefix : (n : ℕ) (l : List ℕ) → length (prefix n l) ≡ n
-unfolding prefix
-length-prefix zero l = refl
-length-prefix (suc n) [] = ap suc (length-prefix n [])
-length-prefix (suc n) (x ∷ l) = ap suc (length-prefix n l)
-
-pub or-left : (a b : Bool) → a || b ≡ false → a ≡ false
-or-left true b e = e
-or-left false b e = refl
-
-pub or-right : (a b : Bool) → a || b ≡ false → b ≡ false
-or-right true b e = absurd (let z : _≡_ {A = ℕ} 0 1 = cc in omega arith)
-or-right false b e = e
 
 -- number 5 is not due: the list is short
 pub few : (a : Arguments) → argumentsWrong a ≡ false → a .count ≤ mostNames

@@ -10,18 +10,18 @@ use native.Mathlib.Decide.{ℕ-discrete}
 use borrow.Author.Tests.{eqb-true, eqb-false}
 use lib.Dec.{eqb}
 use lib.ListN.{length, getD, set, length-set}
-use Rattle.terms.specs.Base.{update, occurrences, contains}
+use Rattle.basics.specs.Base.{update, contains, occurrences}
+use Rattle.basics.specs.Laws.{update-same, update-at, update-other, set-all}
 use Rattle.terms.specs.Terms.{finished, finishOf}
 use Rattle.terms.specs.declared.Sizes.{Sizes}
 use Rattle.rules.specs.Rules.{Job, idle, notifying, Graph, noJob, job, withCount, notified, enqueue}
 use Rattle.linearization.specs.Calls.{Pending, Reading, becomes, finishEnded}
-use Rattle.rules_cases.specs.Base.{update-same, update-other, update-at}
 use Rattle.rules_invariant.specs.Base.{hit-same, hit-other}
 use Rattle.rules_invariant.specs.State.{apart, finishing, State, bit, hitIf, serve, close}
 use Rattle.rules_invariant.specs.Invariant.{Invariant, occurrences-enqueue, counted-there}
 use Rattle.rules_invariant.specs.Finishing.{served-counted, serve-keeps, close-keeps}
 use Rattle.rules_invariant.specs.Names.{Extends, extends-set, contains-snoc}
-use Rattle.rules_invariant.specs.Relation.{Kept, known-keeps, jobRel, NotifyRel, FinishEnded, set-all}
+use Rattle.rules_invariant.specs.Relation.{Kept, known-keeps, jobRel, NotifyRel, FinishEnded}
 use Rattle.rules_invariant.specs.Relation.{added-keeps, finished-keeps}
 use Rattle.rules_invariant.specs.Turns.{Next, own-stage, own-call, other-finish, workers-after}
 

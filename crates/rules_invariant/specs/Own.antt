@@ -5,8 +5,8 @@ use mathlib.Core.Logic.{_≢_}
 use mathlib.Core.Option.{Option, none, some, Option·some-injective, Option·none-ne-some}
 use Prim.Native.Nat.{ℕ}
 use native.Mathlib.Decide.{ℕ-discrete}
-use Rattle.terms.specs.Base.{update}
-use Rattle.rules_cases.specs.Base.{update-other, update-at}
+use Rattle.basics.specs.Base.{update}
+use Rattle.basics.specs.Laws.{update-at, update-other}
 
 module _ {C : Type 0} where
   pub record Owns (K : ℕ → C) (call : ℕ → C) (own : ℕ → Option ℕ) : Type 0 where

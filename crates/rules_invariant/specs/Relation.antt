@@ -8,10 +8,11 @@ use mathlib.Core.List.{List, [], _∷_, _++_}
 use Prim.Native.Nat.{ℕ, _+_, _-_, _≤_, _<_}
 use native.Mathlib.Omega.{arith}
 use native.Mathlib.Decide.{ℕ-discrete, decLt}
-use lib.ListN.{length, getD, set, length-append, List·getD-append, List·getD-eq-default}
-use lib.Seq.{getD-set-same, getD-set-other, getD-append-seam}
-use Rattle.terms.specs.Base.{contains}
-use Rattle.terms.specs.Terms.{Label, finished, Arguments, listed, argumentsWrong, mostNames}
+use lib.ListN.{length, getD, length-append, List·getD-append, List·getD-eq-default}
+use lib.Seq.{getD-append-seam}
+use Rattle.basics.specs.Limits.{mostNames}
+use Rattle.basics.specs.Base.{contains}
+use Rattle.terms.specs.Terms.{Label, finished, Arguments, listed, argumentsWrong}
 use Rattle.terms.specs.declared.Sizes.{Sizes}
 use Rattle.rules.specs.Rules.{Job, Call, idle, looking, linking, marking, notifying, Worker, Graph, noJob, job, at}
 use Rattle.rules.specs.Rules.{seek}
@@ -166,13 +167,6 @@ pub record Reached (s : Sizes) (g : Graph) (r : Reading) (e : ℕ → ℕ) : Typ
   pub invariant : Invariant state
   pub kept : Kept s g r state
   pub entries : (k : ℕ) → e k ≡ state .entries k
-
--- ---- a list changed at one place, or longer by one
-pub set-all : {A : Type 0} (P : ℕ → A → Type 0) (l : List A) (j : ℕ) (x d : A) → j < length l → P j x
-    → ((k : ℕ) → k ≢ j → P k (getD l k d))
-    → (k : ℕ) → P k (getD (set l j x) k d)
-set-all P l j x d h a b k = elim
-    (ℕ-discrete k j) [ yes e ↦ rw (e, getD-set-same l j x d h) a | no e ↦ rw (getD-set-other l j k x d e) (b k e) ]
 
 pub snoc-all : {A : Type 0} (P : ℕ → A → Type 0) (l : List A) (x d : A) → P (length l) x
     → ((k : ℕ) → k ≢ length l → P k (getD l k d))

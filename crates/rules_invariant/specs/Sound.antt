@@ -6,10 +6,10 @@ use mathlib.Core.List.{List, [], _∷_}
 use Prim.Native.Nat.{ℕ, _+_, _-_, _<_}
 use native.Mathlib.Omega.{arith}
 use lib.ListN.{length, getD}
-use Rattle.terms.specs.Base.{occurrences}
-use Rattle.terms.specs.Terms.{unexecuted, finished, Arguments}
+use Rattle.basics.specs.Base.{occurrences}
+use Rattle.terms.specs.Terms.{settles, unexecuted, finished, Arguments}
 use Rattle.terms.specs.declared.Sizes.{Sizes}
-use Rattle.rules.specs.Rules.{Job, noJob, Call, idle, looking, linking, marking, notifying, Graph, job, settles}
+use Rattle.rules.specs.Rules.{Job, noJob, Call, idle, looking, linking, marking, notifying, Graph, job}
 use Rattle.rules.specs.Sound as rules
 use Rattle.rules.specs.Sound.{startedBy, started, Finished, MayQueue, Linking, Notifying, CallSound}
 use Rattle.linearization.specs.Calls.{Reading}

@@ -6,7 +6,7 @@ use mathlib.Core.Option.{none, Option·none-ne-some}
 use mathlib.Core.List.{[]}
 use Prim.Native.Nat.{ℕ}
 use native.Mathlib.Omega.{arith}
-use Rattle.terms.specs.Base.{contains}
+use Rattle.basics.specs.Base.{contains}
 use Rattle.terms.specs.Terms.{unexecuted, finished}
 use Rattle.terms.specs.declared.Sizes.{Sizes}
 use Rattle.rules.specs.Rules.{Graph, empty, at}

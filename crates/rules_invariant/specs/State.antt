@@ -6,7 +6,7 @@ use mathlib.Core.Option.{Option, none, some}
 use mathlib.Core.List.{List, [], _∷_, _++_}
 use Prim.Native.Nat.{ℕ, suc, _+_, _-_}
 use lib.ListN.{length}
-use Rattle.terms.specs.Base.{update}
+use Rattle.basics.specs.Base.{update}
 use Rattle.terms.specs.Terms.{Label, executing, finished}
 use Rattle.rules.specs.Rules.{enqueue}
 use Rattle.rules_invariant.specs.Base.{hit}

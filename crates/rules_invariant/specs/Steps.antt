@@ -8,6 +8,7 @@ use native.Mathlib.Decide.{ℕ-discrete}
 use borrow.Author.Tests.{ltb-false, leb-false}
 use lib.Dec.{ltb, leb}
 use lib.ListN.{length, getD}
+use Rattle.basics.specs.Laws.{length-prefix}
 use Rattle.terms.specs.Terms.{Arguments, listed}
 use Rattle.terms.specs.Runs.{Item, workerOf}
 use Rattle.terms.specs.declared.Sizes.{Sizes}
@@ -22,7 +23,7 @@ use Rattle.linearization.specs.Calls.{Pending, Reading, becomes, note}
 use Rattle.rules_history.specs.Noted.{readsStep, reads, noted}
 use Rattle.rules_invariant.specs.State.{State, apart}
 use Rattle.rules_invariant.specs.Invariant.{Invariant}
-use Rattle.rules_invariant.specs.Names.{extends-same, looking-keeps, numbers-of, length-prefix}
+use Rattle.rules_invariant.specs.Names.{extends-same, looking-keeps, numbers-of}
 use Rattle.rules_invariant.specs.Relation.{Kept}
 use Rattle.rules_invariant.specs.Turns.{Next, decided-too, stays, own-stage, own-call, turned}
 use Rattle.rules_invariant.specs.EnterSteps.{entering}

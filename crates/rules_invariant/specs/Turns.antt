@@ -8,13 +8,13 @@ use Prim.Native.Nat.{ℕ, _+_, _-_, _≤_}
 use native.Mathlib.Omega.{arith}
 use native.Mathlib.Decide.{ℕ-discrete}
 use lib.ListN.{length}
-use Rattle.terms.specs.Base.{update, occurrences}
+use Rattle.basics.specs.Base.{update, occurrences}
+use Rattle.basics.specs.Laws.{update-same, update-other}
 use Rattle.terms.specs.declared.Sizes.{Sizes}
 use Rattle.rules.specs.Rules.{Call, Worker, Graph, withCall}
 use Rattle.sequential_model.specs.Book.{Ended}
 use Rattle.linearization.specs.Calls.{Pending, Reading, becomes}
 use Rattle.rules_history.specs.History.{PacedCall}
-use Rattle.rules_cases.specs.Base.{update-same, update-other}
 use Rattle.rules_invariant.specs.State.{apart, adding, finishing, State}
 use Rattle.rules_invariant.specs.Invariant.{Invariant, held-there}
 use Rattle.rules_invariant.specs.Names.{Extends, extends-same}

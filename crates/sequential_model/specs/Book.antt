@@ -1,15 +1,15 @@
 -- The reference model: docs/RULES.md's plain book, which is fed whole calls, one after another. It keeps the jobs in
 -- order of entry and each worker's hold; counts and readiness are worked out from the labels. Assumes nothing.
 use mathlib.Core.Path.{_≡_}
-use mathlib.Core.Bool.{Bool, true, false, _&&_, _||_, not}
+use mathlib.Core.Bool.{Bool, true, false, _&&_, _||_}
 use mathlib.Core.List.{List, [], _∷_, _++_}
 use mathlib.Core.Option.{Option, none, some}
-use Prim.Native.Nat.{ℕ, zero, suc, _+_, _<_}
+use Prim.Native.Nat.{ℕ, suc, _+_, _<_}
 use lib.Dec.{ltb, leb, eqb}
 use lib.ListN.{length, getD, set}
-use Rattle.terms.specs.Base.{pick, update}
+use Rattle.basics.specs.Base.{pick, update}
 use Rattle.terms.specs.Terms.{Label, unexecuted, executing, finished, Arguments, listed, argumentsWrong, wrongArguments}
-use Rattle.terms.specs.Terms.{unknownName, namePresent, noRoom, alreadyHolding, notHeld, Finish}
+use Rattle.terms.specs.Terms.{unknownName, namePresent, tablesFull, alreadyHolding, notHeld, Finish}
 use Rattle.terms.specs.declared.Sizes.{Sizes}
 use Rattle.terms.specs.declared.HandOut.{HandOut}
 
@@ -99,7 +99,7 @@ full s b a = leb (s .jobs) (length (b .jobs)) || ltb (s .arcs) (listedNames (b .
 unfoldable pub addKnown : Sizes → Book → Arguments → Place → End
 addKnown s b a (at i) = refused unknownName i
 addKnown s b a nowhere =
-    pick (known (a .name) (b .jobs)) (refused namePresent 0) (pick (full s b a) (refused noRoom 0) accepted)
+    pick (known (a .name) (b .jobs)) (refused namePresent 0) (pick (full s b a) (refused tablesFull 0) accepted)
 
 unfoldable pub addEnd : Sizes → Book → Arguments → End
 addEnd s b a =

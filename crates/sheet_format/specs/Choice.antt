@@ -1,15 +1,10 @@
 -- What a test chose: the laws of `pick`, by which every definition of reading and writing chooses between an answer and
 -- a
 -- refusal. Assumes nothing.
-use Prim.Native.Nat.{ℕ}
 use mathlib.Core.Path.{_≡_, refl}
 use mathlib.Core.Bool.{Bool, true, false, _&&_}
-use native.Mathlib.Omega.{arith}
-use Rattle.sheet_format.specs.Decode.{pick}
-
--- anything follows where two constructors are said to be equal: then so are 0 and 1
-pub never : {X : Type 0} → _≡_ {A = ℕ} 0 1 → X
-never z = absurd (omega arith)
+use Rattle.basics.specs.Base.{pick}
+use Rattle.basics.specs.Laws.{never}
 
 pub both : (a b : Bool) → a && b ≡ true → (a ≡ true) × (b ≡ true)
 both true b h = (refl, h)

@@ -1,20 +1,17 @@
 -- Laws that proofs about code cite (docs/SHEETS.md): the bounds of what was read from any input, a sheet from an offset
 -- on, names one after the other, and stores one after the other. Assumes nothing.
 use Prim.Native.Nat.{ℕ, zero, suc, _+_, _*_, _-_, _≤_, _<_}
-use mathlib.Core.Path.{_≡_, refl, sym, ap, _∙_}
-use mathlib.Core.List.{List, [], _∷_, _++_, append-assoc, append-nil}
+use mathlib.Core.Path.{_≡_, refl, sym, ap}
+use mathlib.Core.List.{List, [], _∷_, _++_, append-assoc}
 use native.Mathlib.Omega.{arith}
-use native.Mathlib.Numerals.{add-one}
-use lib.ListN.{length, getD, set, take, replicate}
-use lib.Seq.{sets, set-at, take-suc, length-take-le}
+use lib.ListN.{length, getD, set}
+use lib.Seq.{sets}
+use Rattle.basics.specs.Laws.{never}
 use Rattle.sheet_format.specs.Number.{numberAt, spelt}
-use Rattle.sheet_format.specs.Job.{Job, Below, none, more, bitOf, speltNames, mostNames, nameBytes, countBytes}
+use Rattle.sheet_format.specs.Job.{Job, Below, none, more, bitOf, speltNames, nameBytes, countBytes}
 use Rattle.sheet_format.specs.Job.{classBytes, growerBytes}
 use Rattle.sheet_format.specs.Decode.{namesAt, Decoded, job, end, refused, decode, jobs, onward, decodeFrom}
-use Rattle.sheet_format.specs.Decode.{padded}
 use Rattle.sheet_format.specs.Write.{listBytes, listPlace, entriesFrom}
-use Rattle.sheet_format.specs.Choice.{never}
-use Rattle.sheet_format.specs.NumberLaws.{length-speltNames, length-namesAt}
 use Rattle.sheet_format.specs.EntryTrip.{length-encode, entry-stands, end-there}
 use Rattle.sheet_format.specs.SheetTrip.{Each, after-entry}
 use Rattle.sheet_format.specs.RewriteTrip.{Short}
@@ -64,11 +61,6 @@ any-bound (suc k) (suc l) s at enough-k enough-l = by-entry (decode s at) refl (
     by-entry end e ih = refl
     by-entry (refused c a) e ih = refl
 
--- the sheet from an offset on: what stands there, and the sheet past it
-pub sheet-from : (s : List ℕ) (at : ℕ) → decodeFrom (length s) s at ≡ onward (decode s at) (decodeFrom (length s) s)
-unfolding decodeFrom
-sheet-from s at = any-bound (length s) (suc (length s)) s at (omega arith) (omega arith)
-
 -- the bounds of a sheet that was read
 pub sheet-bounds : (k : ℕ) (s : List ℕ) (at : ℕ) (js : List Job) → at ≤ length s → decodeFrom k s at ≡ jobs js
     → (at + leastBytes * length js ≤ length s) × Each Short js
@@ -101,18 +93,6 @@ names-more w s at (suc n) =
     let q : at + w * suc n ≡ at + w + w * n = omega arith in
     rw q (ap (λ (l : List ℕ). numberAt w s at ∷ l) (names-more w s (at + w) n))
 
--- one name more in a row of names that is 0 past them
-pub fill-step : (w : ℕ) (s : List ℕ) (at i : ℕ) → i < mostNames
-    → set (padded (namesAt w s at i)) i (numberAt w s (at + w * i)) ≡ padded (namesAt w s at (i + 1))
-fill-step w s at i h =
-    let l = length-namesAt w s at i in
-    let l′ = length-namesAt w s at (i + 1) in
-    let e : mostNames - length (namesAt w s at i) ≡ suc (mostNames - suc i) = omega arith in
-    let e′ : mostNames - length (namesAt w s at (i + 1)) ≡ mostNames - suc i = omega arith in
-    rw (e, e′, add-one i, names-more)
-    (set-at (namesAt w s at i) 0 (replicate (mostNames - suc i) 0) (numberAt w s (at + w * i)) i l
-    ∙ sym (append-assoc (namesAt w s at i) (numberAt w s (at + w * i) ∷ []) (replicate (mostNames - suc i) 0)))
-
 -- WRITING
 
 pub length-entriesFrom : (rows : List ℕ) (i n : ℕ) → length (entriesFrom rows i n) ≡ n
@@ -135,15 +115,3 @@ unfolding speltNames
 speltNames-append w [] ys = refl
 speltNames-append w (x ∷ xs) ys =
     rw (speltNames-append w xs ys) (sym (append-assoc (spelt w x) (speltNames w xs) (speltNames w ys)))
-
--- one name more in the output
-pub store-step : (w : ℕ) (l names : List ℕ) (at i : ℕ) → i < length names
-    → sets (sets l at (speltNames w (take i names))) (at + w * i) (spelt w (getD names i 0))
-    ≡ sets l at (speltNames w (take (i + 1) names))
-unfolding speltNames
-store-step w l names at i h =
-    let k = length-speltNames w (take i names) in
-    let n : length (take i names) ≡ i = length-take-le i names (omega arith) in
-    let q : at + w * i ≡ at + length (speltNames w (take i names)) = rw (k, n) in
-    rw (add-one i, take-suc names i 0 h, speltNames-append, append-nil)
-    (sets-append l (speltNames w (take i names)) (spelt w (getD names i 0)) at (at + w * i) q)

@@ -1,12 +1,14 @@
 -- What reading answers at every offset of every input (docs/SHEETS.md and numbers 12 to 14). Assumes nothing.
 use Prim.Native.Nat.{ℕ, zero, suc, _+_, _*_, _-_, _/_, _%_}
 use mathlib.Core.List.{List, [], _∷_, _++_}
-use mathlib.Core.Bool.{Bool, true, false, _&&_}
+use mathlib.Core.Bool.{_&&_}
 use lib.ListN.{length, getD, replicate}
 use lib.Seq.{sets}
 use lib.Dec.{ltb, leb, eqb}
+use Rattle.basics.specs.Limits.{mostNames, mostClass, mostGrower}
+use Rattle.basics.specs.Base.{pick}
 use Rattle.sheet_format.specs.Number.{numberAt}
-use Rattle.sheet_format.specs.Job.{Job, mostNames, mostClass, mostGrower, nameBytes, countBytes, classBytes}
+use Rattle.sheet_format.specs.Job.{Job, nameBytes, countBytes, classBytes}
 use Rattle.sheet_format.specs.Job.{growerBytes}
 use Rattle.sheet_format.specs.declared.Entry.{Entry}
 use Rattle.sheet_format.specs.declared.Field.{Field}
@@ -15,10 +17,6 @@ use Rattle.sheet_format.specs.declared.Scan.{Scan}
 use Rattle.sheet_format.specs.declared.Read.{Read}
 use Rattle.sheet_format.specs.declared.Reading.{Reading}
 use Rattle.sheet_format.specs.declared.SheetRead.{SheetRead}
-
-abbrev pub pick {ℓ} : {A : Type ℓ} → Bool → A → A → A
-pick true a b = a
-pick false a b = b
 
 -- refusals: 12, the sheet ends inside an entry; 13, the map byte; 14, a field's value off its limits; 15, no room in
 -- the output

@@ -7,13 +7,15 @@ use native.Mathlib.Omega.{arith}
 use lib.ListN.{length, drop, length-append}
 use lib.Dec.{ltb}
 use borrow.Author.Tests.{ltb-true, ltb-false, lt-ltb, le-ltb}
+use Rattle.basics.specs.Limits.{mostNames, mostClass, mostGrower}
+use Rattle.basics.specs.Laws.{never}
 use Rattle.sheet_format.specs.Number.{spelt}
-use Rattle.sheet_format.specs.Job.{Job, Valid, bitOf, speltUnlessZero, speltList, mapByte, encode, mostNames}
-use Rattle.sheet_format.specs.Job.{mostClass, mostGrower, nameBytes, countBytes, classBytes, growerBytes}
+use Rattle.sheet_format.specs.Job.{Job, Valid, bitOf, speltUnlessZero, speltList, mapByte, encode}
+use Rattle.sheet_format.specs.Job.{nameBytes, countBytes, classBytes, growerBytes}
 use Rattle.sheet_format.specs.Decode.{ifBit, mapAt, nameAt, limitedAt, listAt, namesAt, Decoded, job, end}
 use Rattle.sheet_format.specs.Decode.{refused, thenDecoded, decode}
 use Rattle.sheet_format.specs.Write.{listBytes, listPlace}
-use Rattle.sheet_format.specs.Choice.{never, by-test}
+use Rattle.sheet_format.specs.Choice.{by-test}
 use Rattle.sheet_format.specs.NumberLaws.{Bytes, first, length-spelt, length-speltNames, length-namesAt}
 use Rattle.sheet_format.specs.FieldTrip.{map-there, name-there, list-there, limited-there, Stands, join, map-back}
 use Rattle.sheet_format.specs.FieldTrip.{name-back, list-back, limited-back}

@@ -2,17 +2,8 @@
 use Prim.Native.Nat.{ℕ, zero, suc, _+_, _*_, _≤_, _<_, _^_}
 use mathlib.Core.List.{List, [], _∷_, _++_}
 use lib.ListN.{length}
+use Rattle.basics.specs.Limits.{mostNames, mostClass, mostGrower}
 use Rattle.sheet_format.specs.Number.{spelt}
-
--- the limits of docs/RULES.md, and the widths of the fields in bytes
-abbrev pub mostNames : ℕ
-mostNames = 32
-
-abbrev pub mostClass : ℕ
-mostClass = 15
-
-abbrev pub mostGrower : ℕ
-mostGrower = 65535
 
 abbrev pub nameBytes : ℕ
 nameBytes = 4

@@ -5,11 +5,12 @@ use mathlib.Core.Path.{_≡_, refl}
 use mathlib.Core.List.{List, map}
 use lib.ListN.{length}
 use lib.Dec.{leb, eqb}
+use Rattle.basics.specs.Laws.{never}
 use Rattle.sheet_format.specs.Job.{Job, encode, encodeSheet}
 use Rattle.sheet_format.specs.Decode.{Sheet, jobs, broken, rowWords, SheetRows, readSheet}
 use Rattle.sheet_format.specs.Write.{jobOf, Fault, faultOf, Written, writeJudged, writeEntry, entriesOf}
 use Rattle.sheet_format.specs.Write.{SheetFault, sheetFault, SheetWritten, writeSheetJudged, writeSheet}
-use Rattle.sheet_format.specs.Choice.{never, picked}
+use Rattle.sheet_format.specs.Choice.{picked}
 use Rattle.sheet_format.specs.declared.Entry.{Entry}
 use Rattle.sheet_format.specs.declared.Wrote.{Wrote}
 use Rattle.sheet_format.specs.declared.SheetRead.{SheetRead}

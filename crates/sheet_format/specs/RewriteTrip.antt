@@ -11,7 +11,8 @@ use lib.ListN.{length, getD, take, drop, replicate, length-append, length-replic
 use lib.Seq.{sets, take-at, drop-at, take-all, drop-drop, getD-drop, length-sets}
 use lib.Dec.{eqb}
 use borrow.Author.Tests.{le-leb, eq-eqb}
-use Rattle.sheet_format.specs.Job.{Job, Valid, encode, encodeSheet, mostNames}
+use Rattle.basics.specs.Limits.{mostNames}
+use Rattle.sheet_format.specs.Job.{Job, Valid, encode, encodeSheet}
 use Rattle.sheet_format.specs.Decode.{job, decode, jobs, decodeSheet, padded, entryOf, rowOf, rowsOf, rowWords}
 use Rattle.sheet_format.specs.Decode.{readSheet}
 use Rattle.sheet_format.specs.Write.{jobOf, Fault, faultOf, written, writeEntry, entryAt, entriesFrom, entriesOf}

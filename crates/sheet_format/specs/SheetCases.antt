@@ -5,8 +5,9 @@ use Prim.Native.Nat.{ℕ}
 use mathlib.Core.Path.{_≡_, refl}
 use mathlib.Core.List.{List, [], _∷_, map}
 use lib.ListN.{replicate}
+use Rattle.basics.specs.Limits.{mostNames}
 use Rattle.sheet_format.specs.Number.{numberAt}
-use Rattle.sheet_format.specs.Job.{Job, mostNames}
+use Rattle.sheet_format.specs.Job.{Job}
 use Rattle.sheet_format.specs.Decode.{mapAt, nameAt, limitedAt, listAt, namesAt, decode, Sheet, jobs, broken}
 use Rattle.sheet_format.specs.Decode.{decodeFrom, decodeSheet, cut, wrongMap, offLimits}
 use Rattle.sheet_format.specs.Write.{Fault, faultOf}

@@ -5,10 +5,10 @@ use mathlib.Core.Path.{_≡_, refl, sym, ap, _∙_}
 use mathlib.Core.List.{List, [], _∷_, _++_}
 use native.Mathlib.Omega.{arith}
 use lib.ListN.{length, drop, length-append, length-drop, drop-of-length-le}
+use Rattle.basics.specs.Laws.{never}
 use Rattle.sheet_format.specs.Job.{Job, Valid, encode, encodeSheet}
 use Rattle.sheet_format.specs.Decode.{Decoded, job, end, refused, decode, Sheet, jobs, broken, before, onward}
 use Rattle.sheet_format.specs.Decode.{decodeFrom, decodeSheet}
-use Rattle.sheet_format.specs.Choice.{never}
 use Rattle.sheet_format.specs.NumberLaws.{Bytes}
 use Rattle.sheet_format.specs.EntryTrip.{length-encode, entry-there, entry-stands, end-there, end-back}
 

@@ -5,9 +5,11 @@ use mathlib.Core.List.{List, [], _∷_, map}
 use lib.ListN.{length, getD, take, drop}
 use lib.Seq.{sets}
 use lib.Dec.{leb, eqb}
-use Rattle.sheet_format.specs.Job.{Job, bitOf, mostNames, mostClass, mostGrower, nameBytes, countBytes}
+use Rattle.basics.specs.Limits.{mostNames, mostClass, mostGrower}
+use Rattle.basics.specs.Base.{pick}
+use Rattle.sheet_format.specs.Job.{Job, bitOf, nameBytes, countBytes}
 use Rattle.sheet_format.specs.Job.{classBytes, encode, encodeSheet}
-use Rattle.sheet_format.specs.Decode.{pick, offLimits, noRoom, rowWords}
+use Rattle.sheet_format.specs.Decode.{offLimits, noRoom, rowWords}
 use Rattle.sheet_format.specs.declared.Entry.{Entry}
 use Rattle.sheet_format.specs.declared.Wrote.{Wrote}
 use Rattle.sheet_format.specs.declared.SheetWrote.{SheetWrote}

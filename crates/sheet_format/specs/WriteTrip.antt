@@ -9,13 +9,15 @@ use lib.ListN.{length, getD, take, drop, replicate, length-drop}
 use lib.Seq.{sets, sets-eq, drop-at, take-at, length-take-le}
 use lib.Dec.{leb, eqb}
 use borrow.Author.Tests.{leb-true, le-leb}
-use Rattle.sheet_format.specs.Job.{Job, Below, none, more, Valid, encode, encodeSheet, mostNames, mostClass}
-use Rattle.sheet_format.specs.Job.{mostGrower}
-use Rattle.sheet_format.specs.Decode.{pick, job, jobs, decode, decodeSheet, readingOf, rowWords}
+use Rattle.basics.specs.Limits.{mostNames, mostClass, mostGrower}
+use Rattle.basics.specs.Base.{pick}
+use Rattle.basics.specs.Laws.{never}
+use Rattle.sheet_format.specs.Job.{Job, Below, none, more, Valid, encode, encodeSheet}
+use Rattle.sheet_format.specs.Decode.{job, jobs, decode, decodeSheet, readingOf, rowWords}
 use Rattle.sheet_format.specs.Write.{jobOf, Fault, faultOf, Written, writeJudged, writeEntry, entryAt}
 use Rattle.sheet_format.specs.Write.{entriesFrom, entriesOf, SheetFault, orElse, sheetFault, SheetWritten}
 use Rattle.sheet_format.specs.Write.{writeSheetJudged, writeSheet}
-use Rattle.sheet_format.specs.Choice.{never, held}
+use Rattle.sheet_format.specs.Choice.{held}
 use Rattle.sheet_format.specs.EntryTrip.{entry-there}
 use Rattle.sheet_format.specs.SheetTrip.{Each, sheet-there}
 use Rattle.sheet_format.specs.declared.Entry.{Entry}

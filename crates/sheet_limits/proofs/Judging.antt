@@ -6,8 +6,9 @@ use mathlib.Core.Bool.{Bool, true, false}
 use lib.ListN.{length}
 use lib.Dec.{leb}
 use borrow.Author.Tests.{leb-true}
-use Rattle.sheet_format.specs.Job.{encode, encodeSheet, mostNames}
-use Rattle.sheet_format.specs.Decode.{pick}
+use Rattle.basics.specs.Limits.{mostNames}
+use Rattle.basics.specs.Base.{pick}
+use Rattle.sheet_format.specs.Job.{encode, encodeSheet}
 use Rattle.sheet_format.specs.Write.{Fault, jobOf, faultOf, listPlace, SheetFault, sheetFault}
 use Rattle.sheet_format.specs.declared.Entry.{Entry}
 use Rattle.sheet_limits.specs.declared.Judged.{Judged}

@@ -5,7 +5,8 @@ use mathlib.Core.List.{List, [], _∷_, _++_, map}
 use native.Mathlib.Omega.{arith}
 use lib.ListN.{length, getD, drop, length-append, length-drop}
 use lib.Seq.{length-take-le, take-take}
-use Rattle.sheet_format.specs.Job.{bitOf, mostNames, nameBytes, encode, encodeSheet}
+use Rattle.basics.specs.Limits.{mostNames}
+use Rattle.sheet_format.specs.Job.{bitOf, nameBytes, encode, encodeSheet}
 use Rattle.sheet_format.specs.Decode.{rowWords}
 use Rattle.sheet_format.specs.Write.{Fault, faultOf, listBytes, jobOf, entryAt, entriesFrom, SheetFault, sheetFault}
 use Rattle.sheet_format.specs.Write.{orElse}

@@ -6,8 +6,8 @@ use native.Mathlib.Omega.{arith}
 use native.Mathlib.Numerals.{add-one}
 use lib.ListN.{length, set, drop, replicate, length-replicate, replicate-append-replicate}
 use lib.Seq.{sets, sets-eq, set-set, set-comm}
+use Rattle.basics.specs.Limits.{mostNames}
 use Rattle.sheet_format.specs.Number.{numberAt}
-use Rattle.sheet_format.specs.Job.{mostNames}
 use Rattle.sheet_format.specs.Decode.{namesAt, padded}
 use Rattle.entry_scan.proofs.Entries.{names-length}
 

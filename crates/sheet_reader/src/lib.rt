@@ -18,7 +18,8 @@ ghost use mathlib.Core.List.{_∷_};
 ghost use Prim.Native.Nat.{_+_, _*_, _-_, _≤_};
 ghost use lib.ListN.{length, replicate};
 ghost use lib.Seq.{sets};
-ghost use Rattle.sheet_format.specs.Job.{nameBytes, mostNames};
+ghost use Rattle.basics.specs.Limits.{mostNames};
+ghost use Rattle.sheet_format.specs.Job.{nameBytes};
 ghost use Rattle.sheet_format.specs.Decode.{namesAt, padded, decode, blank, readingOf};
 ghost use Rattle.sheet_format.specs.Decode.{decodeSheet, scanSheet, rowWords, sheetRows, readSheet};
 

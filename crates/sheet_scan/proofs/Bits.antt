@@ -9,9 +9,11 @@ use native.Mathlib.Omega.{arith}
 use lib.ListN.{length, getD}
 use lib.Dec.{ltb, leb, eqb}
 use borrow.Author.Tests.{leb-true, le-leb, lt-ltb}
+use Rattle.basics.specs.Limits.{mostNames, mostClass, mostGrower}
+use Rattle.basics.specs.Laws.{never}
 use Rattle.sheet_format.specs.Number.{numberAt}
 use Rattle.sheet_format.specs.Choice.{both}
-use Rattle.sheet_format.specs.Job.{Job, mostNames, mostClass, mostGrower, nameBytes, countBytes, classBytes}
+use Rattle.sheet_format.specs.Job.{Job, nameBytes, countBytes, classBytes}
 use Rattle.sheet_format.specs.Job.{growerBytes}
 use Rattle.sheet_format.specs.Decode.{mapAt, nameAt, limitedAt, listAt, ifBit, namesAt, Decoded, job, end, refused}
 use Rattle.sheet_format.specs.Decode.{thenDecoded, decode, scanOf}
@@ -20,7 +22,7 @@ use Rattle.sheet_format.specs.declared.Field.the-variants.{Got, Refused}
 use Rattle.sheet_format.specs.declared.Scan.{Scan}
 use Rattle.entry_scan.specs.Stages.{judgedThen, fromGrower, fromClass}
 use Rattle.sheet_scan.specs.Places.{longestEntry, classPlace, growerPlace}
-use Rattle.entry_scan.proofs.Fields.{never, got, through, limited-got, from-class-is}
+use Rattle.entry_scan.proofs.Fields.{got, through, limited-got, from-class-is}
 use Rattle.entry_scan.proofs.Entries.{decoded, inside, names-length, stands}
 
 -- a number is left out, or from 1 to its limit

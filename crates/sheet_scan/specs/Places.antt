@@ -1,6 +1,7 @@
 -- How long an entry can be, and where its last fields stand (docs/SHEETS.md). Assumes nothing.
 use Prim.Native.Nat.{ℕ, _+_, _*_, _/_, _%_}
-use Rattle.sheet_format.specs.Job.{mostNames, nameBytes, countBytes, classBytes, growerBytes}
+use Rattle.basics.specs.Limits.{mostNames}
+use Rattle.sheet_format.specs.Job.{nameBytes, countBytes, classBytes, growerBytes}
 
 -- the most bytes of an entry
 abbrev pub longestEntry : ℕ

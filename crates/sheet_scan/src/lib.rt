@@ -16,8 +16,8 @@ use sheet_format::SheetRead;
 ghost use mathlib.Core.Path.{_≡_};
 ghost use Prim.Native.Nat.{ℕ, _+_, _*_, _/_, _%_, _≤_};
 ghost use lib.ListN.{length, getD};
+ghost use Rattle.basics.specs.Limits.{mostNames};
 ghost use Rattle.sheet_format.specs.Number.{numberAt};
-ghost use Rattle.sheet_format.specs.Job.{mostNames};
 ghost use Rattle.sheet_format.specs.Decode.{decode, refused, scanOf, decodeSheet, scanSheet};
 ghost use Rattle.sheet_scan.specs.Places.{longestEntry, classPlace, growerPlace};
 

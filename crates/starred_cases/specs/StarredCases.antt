@@ -2,7 +2,7 @@
 -- bucket function, 8 by the reader of sheets; one theorem shows them all from the definitions that the code's contracts
 -- cite. Assumes nothing.
 use mathlib.Core.Path.{_≡_}
-use mathlib.Core.List.{List, [], _∷_, map}
+use mathlib.Core.List.{[], _∷_, map}
 use Prim.Native.Nat.{ℕ}
 use Rattle.bucket.specs.Bucket.{bucketOf}
 use Rattle.bucket.specs.Laws.{five-buckets}

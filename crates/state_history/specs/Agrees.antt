@@ -8,7 +8,8 @@ use Prim.Native.Nat.{ℕ, _≤_, _<_}
 use native.Mathlib.Omega.{arith}
 use lib.Dec.{ltb, leb, eqb}
 use borrow.Author.Tests.{eq-eqb, lt-ltb, eqb-true}
-use Rattle.terms.specs.Base.{pick}
+use Rattle.basics.specs.Base.{pick}
+use Rattle.basics.specs.Laws.{never}
 use Rattle.terms.specs.Terms.{wrongSizes, noSuchWorker, halfDone, nothingToStep, damaged, alreadyHolding, notHeld}
 use Rattle.terms.specs.declared.Sizes.{Sizes}
 use Rattle.terms.specs.declared.HandOut.{HandOut}
@@ -29,9 +30,6 @@ use Rattle.worker_state.specs.Held.{callOf, holdingOf, counted, heldWords}
 use Rattle.worker_state.specs.Drained.{every, queueOk, wordsOk, free, isDrained, drainedWords}
 use Rattle.worker_state.specs.declared.Holding.{Holding}
 use Rattle.state_history.specs.Theorem.{none-called, every-true, every-at}
-
-never : {A : Type 0} → _≡_ {A = ℕ} 0 1 → A
-never e = absurd (omega arith)
 
 -- ---- an answer is a refusal by n
 abbrev by : ℕ → Answer → Bool

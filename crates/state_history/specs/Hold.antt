@@ -5,7 +5,7 @@ use mathlib.Core.Option.{Option, none, some}
 use Prim.Native.Nat.{ℕ}
 use native.Mathlib.Omega.{arith}
 use lib.Dec.{eqb}
-use Rattle.terms.specs.Base.{pick, update}
+use Rattle.basics.specs.Base.{pick, update}
 use Rattle.terms.specs.Terms.{Finish}
 use Rattle.terms.specs.declared.Sizes.{Sizes}
 use Rattle.sequential_model.specs.Book.{Book, Call, add, get, finish, End, accepted, noneReady, handed, refused, Ended}

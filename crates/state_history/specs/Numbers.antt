@@ -7,7 +7,7 @@ use mathlib.Core.List.{[], _∷_}
 use Prim.Native.Nat.{ℕ, _≤_}
 use native.Mathlib.Omega.{arith}
 use lib.Dec.{ltb}
-use Rattle.terms.specs.Base.{pick, contains}
+use Rattle.basics.specs.Base.{pick, contains}
 use Rattle.terms.specs.Terms.{wrongSizes, noSuchWorker, damaged}
 use Rattle.terms.specs.declared.Sizes.{Sizes}
 use Rattle.words.specs.Layout.{HELD, Tables, view, sizesFit}

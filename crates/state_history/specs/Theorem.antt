@@ -12,7 +12,8 @@ use native.Mathlib.Decide.{decLt}
 use lib.Dec.{ltb, eqb}
 use lib.ListN.{length}
 use borrow.Author.Tests.{eq-eqb, le-leb, ltb-true, eqb-true}
-use Rattle.terms.specs.Base.{pick}
+use Rattle.basics.specs.Base.{pick}
+use Rattle.basics.specs.Laws.{never}
 use Rattle.terms.specs.Terms.{Arguments, sameSizes}
 use Rattle.terms.specs.Runs.{Item, after, events}
 use Rattle.terms.specs.Seen.{JobSeen, Same}
@@ -48,9 +49,6 @@ use Rattle.worker_state.specs.declared.Holding.{Holding}
 use Rattle.state_history.specs.Told.{heldRead, callRead, addsRead, holdingRead, turnedAway}
 use Rattle.state_history.specs.Told as Told
 use Rattle.state_history.specs.Hold.{held-follows}
-
-never : {A : Type 0} → _≡_ {A = ℕ} 0 1 → A
-never e = absurd (omega arith)
 
 -- ---- a test of every number below n
 pub every-true : (f : ℕ → Bool) (n : ℕ) → ((i : ℕ) → i < n → f i ≡ true) → every f n ≡ true

@@ -5,7 +5,7 @@ use mathlib.Core.Option.{Option, none, some}
 use mathlib.Core.Bool.{Bool}
 use Prim.Native.Nat.{ℕ}
 use lib.Dec.{ltb, eqb}
-use Rattle.terms.specs.Base.{pick}
+use Rattle.basics.specs.Base.{pick}
 use Rattle.terms.specs.Terms.{Arguments, sameSizes}
 use Rattle.terms.specs.declared.Sizes.{Sizes}
 use Rattle.sequential_model.specs.Book.{Call, add, get, finish, End, accepted, noneReady, handed, refused, Ended}

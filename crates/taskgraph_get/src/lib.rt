@@ -1,7 +1,6 @@
 // A get as C has it: the sizes, the five lent tables, then the worker. A slice is a pointer and a count of elements in
 // C; the answer is a struct by value. include/taskgraph.h declares it. Follows docs/RULES.md, "Steps" and "Turned-away
 // calls". Assumes nothing but that a pointer with a count points to that many elements.
-ghost use mathlib.Core.Path.{_≡_};
 ghost use Rattle.words.specs.Layout.{atEntry, atExit};
 ghost use Rattle.words.specs.Words.{getWords};
 ghost use Rattle.taskgraph_answer.specs.Answers.{Gives};

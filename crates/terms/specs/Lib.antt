@@ -1,4 +1,3 @@
-pub mod Base
 pub mod Terms
 pub mod Order
 pub mod OrderLaws

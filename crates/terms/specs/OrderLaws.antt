@@ -3,13 +3,14 @@
 use mathlib.Core.Path.{_≡_, refl, sym, ap, _∙_}
 use mathlib.Core.Bool.{Bool, true, false}
 use mathlib.Core.List.{List, [], _∷_}
-use mathlib.Core.Option.{Option, none, some}
+use mathlib.Core.Option.{none, some}
 use Prim.Native.Nat.{ℕ, suc, _+_, _<_}
 use native.Mathlib.Omega.{arith}
 use lib.Dec.{eqb}
 use lib.ListN.{length}
 use borrow.Author.Tests.{eq-eqb, ne-eqb, eqb-true, eqb-false}
-use Rattle.terms.specs.Base.{pick, occurrences}
+use Rattle.basics.specs.Base.{pick, occurrences}
+use Rattle.basics.specs.Laws.{never}
 use Rattle.terms.specs.Order.{Order, inQueue, earliest, firstBy, without}
 
 -- j was taken out of a list, and this is left
@@ -20,9 +21,6 @@ pub record TakenOut (j : ℕ) (l rest : List ℕ) : Type 0 where
 pub head-occurs : (j : ℕ) (l : List ℕ) → 0 < occurrences j (j ∷ l)
 unfolding occurrences
 head-occurs j l = rw (eq-eqb j j refl) (omega arith)
-
-never : {A : Type 0} → _≡_ {A = ℕ} 0 1 → A
-never e = absurd (omega arith)
 
 -- ---- the first by an order is in the list
 earlier-occurs : (before : Order) (j k : ℕ) (l : List ℕ) (b : Bool)

@@ -1,7 +1,7 @@
 -- Items, and what a list of them does: one definition for every machine that answers items. Assumes nothing.
 use mathlib.Core.List.{List, [], _∷_}
 use Prim.Native.Nat.{ℕ, _+_, _-_}
-use Rattle.terms.specs.Base.{occurrences}
+use Rattle.basics.specs.Base.{occurrences}
 use Rattle.terms.specs.Terms.{Arguments, Finish}
 use Rattle.terms.specs.declared.Sizes.{Sizes}
 use Rattle.terms.specs.declared.Answer.{Answer}

@@ -1,10 +1,11 @@
 -- The terms of docs/RULES.md that every level shares: limits, refusals, labels, and the arguments of an add. Assumes
 -- nothing.
-use mathlib.Core.Bool.{Bool, true, false, _&&_, _||_}
-use mathlib.Core.List.{List, [], _∷_}
+use mathlib.Core.Bool.{Bool, _&&_, _||_}
+use mathlib.Core.List.{List, []}
 use Prim.Native.Nat.{ℕ}
 use lib.Dec.{ltb, leb, eqb}
-use Rattle.terms.specs.Base.{contains, repeats, prefix}
+use Rattle.basics.specs.Limits.{mostNames, mostClass, mostGrower}
+use Rattle.basics.specs.Base.{contains, repeats, prefix}
 use Rattle.terms.specs.declared.Sizes.{Sizes}
 
 -- ---- limits ("Tables and their measures")
@@ -19,15 +20,6 @@ mostBits = 8
 
 abbrev pub mostWorkers : ℕ
 mostWorkers = 16
-
-abbrev pub mostNames : ℕ
-mostNames = 32
-
-abbrev pub mostClass : ℕ
-mostClass = 15
-
-abbrev pub mostGrower : ℕ
-mostGrower = 65535
 
 -- "R jobs 1 to 4,096; A arcs 0 to 32,768; b bucket bits 1 to 8; P workers 1 to 16"
 unfoldable pub withinLimits : Sizes → Bool
@@ -63,8 +55,8 @@ unknownName = 6
 abbrev pub namePresent : ℕ
 namePresent = 7
 
-abbrev pub noRoom : ℕ
-noRoom = 8
+abbrev pub tablesFull : ℕ
+tablesFull = 8
 
 abbrev pub damaged : ℕ
 damaged = 9
@@ -110,3 +102,12 @@ unfoldable pub argumentsWrong : Arguments → Bool
 argumentsWrong a =
     ltb mostClass (a .class) || ltb mostGrower (a .grower) || ltb mostNames (a .count)
     || (contains (a .name) (listed a) || repeats (listed a))
+
+-- the arguments of no add
+abbrev pub noArguments : Arguments
+noArguments = record { name = 0; count = 0; names = []; class = 0; grower = 0 }
+
+-- settling: "the remaining count falls by the tally, and the job enters the queue if the count is then 0 and either the
+-- tally is above 0 or d is 0"
+abbrev pub settles : ℕ → ℕ → ℕ → Bool
+settles count t d = eqb count 0 && (ltb 0 t || eqb d 0)

@@ -1,11 +1,13 @@
 -- The board of totals: how many jobs stand under each label, and the sum of their minutes. docs/RULES.md, "The board
 -- and the day list", with numbers 1 and 9 of "Turned-away calls". The minutes by class are a table that the definitions
 -- take. Assumes nothing.
-use mathlib.Core.Bool.{Bool, true, false, _&&_}
+use mathlib.Core.Bool.{Bool, true, _&&_}
 use mathlib.Core.List.{List, [], _∷_}
 use Prim.Native.Nat.{ℕ, zero, suc, _+_, _*_, _%_}
 use lib.Dec.{eqb, leb, ltb}
 use lib.ListN.{length, getD}
+use Rattle.terms.specs.Terms.{wrongSizes, damaged}
+use Rattle.basics.specs.Base.{pick}
 use Rattle.minutes.specs.Minutes.{classes, minutesIn}
 use Rattle.totals.specs.declared.JobRecord.{JobRecord}
 use Rattle.totals.specs.declared.Totals.{Totals}
@@ -27,17 +29,6 @@ mostRecords = 4096
 -- how the board was answered: served, or the number of the refusal
 abbrev pub served : ℕ
 served = 0
-
-abbrev pub offLimits : ℕ
-offLimits = 1
-
-abbrev pub damaged : ℕ
-damaged = 9
-
--- the first where the test holds, else the second
-abbrev pub pick {ℓ} : {A : Type ℓ} → Bool → A → A → A
-pick true a b = a
-pick false a b = b
 
 -- what the records of a row count for, together
 unfoldable pub sumOver : (JobRecord → ℕ) → List JobRecord → ℕ
@@ -90,7 +81,7 @@ counted table rows = record {
 -- what the board answers of a lent row of job records; number 1 comes before number 9
 unfoldable pub totalsOf : List ℕ → List JobRecord → Totals
 totalsOf table rows =
-    pick (ltb mostRecords (length rows)) (refused offLimits)
+    pick (ltb mostRecords (length rows)) (refused wrongSizes)
     (pick (allWellFormed rows) (counted table rows) (refused damaged))
 
 -- the same row as words, a label and a class for each record
@@ -125,8 +116,8 @@ unfoldable pub totalsOfTable : List ℕ → (head width label class : ℕ) → L
 totalsOfTable table head width label class words count =
     pick (standsInTable head width label class words count)
     (totalsOf table (rowsOfTable head width label class words count))
-    (refused offLimits)
+    (refused wrongSizes)
 
 -- an odd number of words is no row of records: number 1
 unfoldable pub totalsOfWords : List ℕ → List ℕ → Totals
-totalsOfWords table words = pick (eqb (length words % 2) 0) (totalsOf table (rowsOfWords words)) (refused offLimits)
+totalsOfWords table words = pick (eqb (length words % 2) 0) (totalsOf table (rowsOfWords words)) (refused wrongSizes)

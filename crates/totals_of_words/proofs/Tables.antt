@@ -10,10 +10,12 @@ use borrow.Author.Tests.{eq-eqb, ne-eqb, le-leb, lt-ltb, ltb-true, leb-true, leb
 use lib.Dec.{leb, ltb}
 use lib.ListN.{length, getD}
 use lib.Seq.{ext-getD}
+use Rattle.terms.specs.Terms.{wrongSizes}
+use Rattle.basics.specs.Base.{pick}
 use Rattle.minutes.specs.Rising.{Rising}
 use Rattle.totals.specs.declared.JobRecord.{JobRecord}
 use Rattle.totals.specs.declared.Totals.{Totals}
-use Rattle.totals.specs.Board.{pick, served, offLimits, mostRecords, refused, totalsOf, recordsFrom, recordAt}
+use Rattle.totals.specs.Board.{served, mostRecords, refused, totalsOf, recordsFrom, recordAt}
 use Rattle.totals.specs.Board.{rowsOfTable, standsInTable, totalsOfTable, rowsOfWords, totalsOfWords}
 use Rattle.totals_step.specs.Step.{withRecord}
 use Rattle.totals_of_words.specs.Standing.{standing}
@@ -40,8 +42,8 @@ product width n h k = mul-le-mul {n₂ = 4294967295} {m₂ = mostRecords} (omega
 
 -- ---- whether there is a row
 module _ (table : List ℕ) (head width label class : ℕ) (words : List ℕ) (count : ℕ) {t : Totals} where
-  refused-if : (few stand : Bool) → leb count mostRecords ≡ few → (few && stand) ≡ false → t ≡ refused offLimits
-      → t ≡ pick stand (totalsOf table (rowsOfTable head width label class words count)) (refused offLimits)
+  refused-if : (few stand : Bool) → leb count mostRecords ≡ few → (few && stand) ≡ false → t ≡ refused wrongSizes
+      → t ≡ pick stand (totalsOf table (rowsOfTable head width label class words count)) (refused wrongSizes)
   refused-if true false h k e = e
   refused-if true true h k e = let z : true ≡ false = k in cc
   refused-if false false h k e = e
@@ -52,7 +54,7 @@ module _ (table : List ℕ) (head width label class : ℕ) (words : List ℕ) (c
 
   -- no row: number 1
   pub none-stands : {b : Bool} → b ≡ standing head width label class (length words) count → b ≡ false
-      → t ≡ refused offLimits → t ≡ totalsOfTable table head width label class words count
+      → t ≡ refused wrongSizes → t ≡ totalsOfTable table head width label class words count
   unfolding totalsOfTable
   none-stands is left e =
       refused-if (leb count mostRecords) (standsInTable head width label class words count) refl (sym is ∙ left) e
@@ -154,7 +156,7 @@ even-words table words n h k e =
     rw (eq-eqb (length words % 2) 0 h, ← (words-table words n (omega (arith, rows-length words h))))
     (rw (two-each words n k) at e)
 
-pub odd-words : (table words : List ℕ) {t : Totals} → (length words % 2 ≡ 0 → ⊥) → t ≡ refused offLimits
+pub odd-words : (table words : List ℕ) {t : Totals} → (length words % 2 ≡ 0 → ⊥) → t ≡ refused wrongSizes
     → t ≡ totalsOfWords table words
 unfolding totalsOfWords
 odd-words table words h e = rw (ne-eqb (length words % 2) 0 h) e

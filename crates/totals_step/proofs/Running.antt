@@ -8,10 +8,11 @@ use native.Mathlib.Omega.{arith}
 use borrow.Author.Tests.{lt-ltb}
 use lib.ListN.{length, getD, take}
 use lib.Seq.{take-suc, take-all, length-take-le}
+use Rattle.terms.specs.Terms.{wrongSizes}
 use Rattle.minutes.specs.Rising.{Rising}
 use Rattle.totals.specs.declared.JobRecord.{JobRecord}
 use Rattle.totals.specs.declared.Totals.{Totals}
-use Rattle.totals.specs.Board.{served, offLimits, mostRecords, sumOver, allWellFormed, refused, counted, totalsOf}
+use Rattle.totals.specs.Board.{served, mostRecords, sumOver, allWellFormed, refused, counted, totalsOf}
 use Rattle.totals_step.specs.Step.{withRecord}
 use Rattle.totals_step.proofs.Sums.{with-record-totals}
 
@@ -40,6 +41,6 @@ module _ {table : List ℕ} {rows : List JobRecord} where
   last {t} {i} run h = rw (take-all i rows h) at (run .totals)
 
 pub too-many : (table : List ℕ) (rows : List JobRecord) {t : Totals} → mostRecords < length rows
-    → t ≡ refused offLimits → t ≡ totalsOf table rows
+    → t ≡ refused wrongSizes → t ≡ totalsOf table rows
 unfolding totalsOf
 too-many table rows h e = rw (lt-ltb mostRecords (length rows) h) e

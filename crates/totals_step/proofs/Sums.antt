@@ -9,10 +9,12 @@ use native.Mathlib.Omega.{arith}
 use borrow.Author.Tests.{ltb-true, ltb-false, le-ltb, lt-leb}
 use lib.Dec.{eqb, ltb}
 use lib.ListN.{length, getD, set, length-append}
+use Rattle.terms.specs.Terms.{damaged}
+use Rattle.basics.specs.Base.{pick}
 use Rattle.minutes.specs.Minutes.{classes, minutesIn}
 use Rattle.minutes.specs.Rising.{Rising, mostMinutes}
 use Rattle.totals.specs.declared.JobRecord.{JobRecord}
-use Rattle.totals.specs.Board.{pick, finished, served, damaged, mostRecords, sumOver, under, oneJob, itsMinutes}
+use Rattle.totals.specs.Board.{finished, served, mostRecords, sumOver, under, oneJob, itsMinutes}
 use Rattle.totals.specs.Board.{wellFormed, allWellFormed, refused, counted, totalsOf}
 use Rattle.totals_step.specs.Step.{raised, withRecord, Room}
 

@@ -4,10 +4,12 @@ use mathlib.Core.List.{List}
 use Prim.Native.Nat.{ℕ, _+_, _*_, _%_, _^_, _<_}
 use lib.Dec.{eqb}
 use lib.ListN.{getD, set}
+use Rattle.terms.specs.Terms.{damaged}
+use Rattle.basics.specs.Base.{pick}
 use Rattle.minutes.specs.Minutes.{minutesIn}
 use Rattle.minutes.specs.Rising.{mostMinutes}
 use Rattle.totals.specs.declared.Totals.{Totals}
-use Rattle.totals.specs.Board.{pick, served, damaged, refused, wellFormed, mostRecords}
+use Rattle.totals.specs.Board.{served, refused, wellFormed, mostRecords}
 
 -- a sum with one entry raised, at 32 bits
 abbrev pub raised : List ℕ → ℕ → ℕ → List ℕ

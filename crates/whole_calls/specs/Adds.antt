@@ -2,10 +2,10 @@
 -- links and the settling, which Last has. Assumes nothing.
 use mathlib.Core.Path.{_≡_, refl, sym, ap, ap₂, _∙_}
 use mathlib.Core.List.{[], _∷_}
-use Prim.Native.Nat.{ℕ, zero, suc, _+_, _*_, _≤_, _<_}
+use Prim.Native.Nat.{ℕ, zero, suc, _+_, _≤_, _<_}
 use native.Mathlib.Omega.{arith}
 use lib.ListN.{length, length-append}
-use Rattle.terms.specs.Terms.{Arguments, wrongArguments, unknownName, namePresent, noRoom}
+use Rattle.terms.specs.Terms.{Arguments, wrongArguments, unknownName, namePresent, tablesFull}
 use Rattle.terms.specs.Runs.{postAdd, step, Outcome, outcome, after, events}
 use Rattle.terms.specs.declared.Sizes.{Sizes}
 use Rattle.terms.specs.declared.Answer.{Answer}
@@ -102,7 +102,7 @@ module _ (s : Sizes) {w : ℕ} (h : w < s .workers) (a : Arguments) where
   looks {g} history i l rest (by.nameThere j m z) E =
       refuses g i namePresent 0 E (present (omega arith) (unchanged g _))
   looks {g} history i l rest (by.roomLacking m z y) E =
-      refuses g i noRoom 0 E (no-room (omega arith) (unchanged g _))
+      refuses g i tablesFull 0 E (no-room (omega arith) (unchanged g _))
   looks history i l rest (by.jobEntered m z y) E = entering history i (omega arith) E
 
   looks-end : (n : ℕ) {g : Graph} {r : Reading} {e : ℕ → ℕ} → History s g r e → (i : ℕ)
@@ -139,11 +139,3 @@ whole-add {s} {g} history w h c a = of (own-made s g (postAdd s w a) (own-sizes 
           answered = ap₂ (λ x l. x ∷ l) (ap (λ (o : Outcome Graph). o .answer) E) (R .answered);
           left = left-so (rw E (unchanged g _)) (omega arith) (rw E (with-call g w (looking a 0))) (R .left);
         }
-
--- no add takes more steps than an accepted one
-pub steps-within : {a : Arguments} {g later : Graph} {k : ℕ} {x : Answer} → AddEnd a g later k x → k ≤ 2 * a .count + 2
-steps-within (accepted e l) = omega arith
-steps-within (wrong e U) = omega arith
-steps-within (unknown h e U) = omega arith
-steps-within (present e U) = omega arith
-steps-within (no-room e U) = omega arith

@@ -8,7 +8,8 @@ use Prim.Native.Nat.{ℕ, zero, suc, _+_, _≤_, _<_}
 use native.Mathlib.Omega.{arith}
 use lib.Dec.{eqb}
 use lib.ListN.{length, getD}
-use Rattle.terms.specs.Base.{occurrences}
+use Rattle.basics.specs.Base.{occurrences}
+use Rattle.basics.specs.Laws.{pick-by}
 use Rattle.terms.specs.Terms.{finished}
 use Rattle.terms.specs.declared.Sizes.{Sizes}
 use Rattle.rules.specs.Rules.{Job, noJob, Graph, job}
@@ -19,7 +20,6 @@ use Rattle.rules_invariant.specs.Base.{place-of, sum, sum-zero, sum-first, sum-
 use Rattle.rules_invariant.specs.Invariant.{executing-not-finished}
 use Rattle.rules_invariant.specs.Start.{reached}
 use Rattle.rules_invariant.specs.Sound.{sound}
-use Rattle.rules_cases.specs.Base.{pick-by}
 use Rattle.rules_follow_model.specs.Booked.{kept}
 
 -- ---- sums

@@ -9,16 +9,17 @@ use native.Mathlib.Omega.{arith}
 use lib.ListN.{length, length-set}
 use lib.Seq.{getD-set-same, getD-set-other}
 use borrow.Author.Tests.{eq-eqb}
-use Rattle.terms.specs.Terms.{finished, notHeld, Finish, finishOf}
+use Rattle.basics.specs.Laws.{never, update-same, update-other}
+use Rattle.terms.specs.Terms.{finished, finishOf}
 use Rattle.terms.specs.Runs.{postFinish, step, Outcome, outcome, after, events}
 use Rattle.terms.specs.declared.Sizes.{Sizes}
 use Rattle.terms.specs.declared.Answer.{Answer}
-use Rattle.terms.specs.declared.Answer.the-variants.{Posted, Going, Ended, Refused}
+use Rattle.terms.specs.declared.Answer.the-variants.{Posted, Going, Ended}
 use Rattle.rules.specs.Rules.{Job, noJob, Call, idle, marking, notifying, Worker, Graph, job, withCall, withLabel}
 use Rattle.rules.specs.Rules.{marked, perform}
 use Rattle.rules_cases.specs.Deed as by
-use Rattle.rules_cases.specs.Deed.{HoldsNot, Stepped, Made}
-use Rattle.rules_cases.specs.Base.{never, update-same, update-other, kept-field}
+use Rattle.rules_cases.specs.Deed.{Stepped, Made}
+use Rattle.rules_cases.specs.Base.{kept-field}
 use Rattle.linearization.specs.Calls.{Reading}
 use Rattle.rules_history.specs.History.{History}
 use Rattle.rules_invariant.specs.Sound.{sound}
@@ -26,16 +27,6 @@ use Rattle.rules_cases.specs.Own.{own-sizes, own-step, own-made}
 use Rattle.whole_calls.specs.Whole.{stepsOf, answers, through, goingTo, FinishLeft, WholeFinish}
 use Rattle.whole_calls.specs.Kept.{kept-same, call-turned, with-call}
 use Rattle.whole_calls.specs.Last.{Ran, arcs-end}
-
--- 11: "finish of a name that this worker does not hold", "nothing changed"
-pub finish-refused : (s : Sizes) (g : Graph) (w : ℕ) → w < s .workers → g .workers w .call ≡ idle
-    → (f : Finish) → HoldsNot g (f .name) (g .workers w .held)
-    → perform s g (postFinish s w f) ≡ outcome (Refused notHeld 0) g
-finish-refused s g w h c f n = of (own-made s g (postFinish s w f) (own-sizes s) h refl c)
-  where
-    of : {x : Answer} {k : Graph} → Made s g (postFinish s w f) x k → outcome x k ≡ outcome (Refused notHeld 0) g
-    of (by.finishWrong z) = refl
-    of (by.finishPosted p e z) = absurd (true≢false (sym (eq-eqb (job g p .name) (f .name) z) ∙ rw e at n))
 
 -- ---- the mark
 module _ (g : Graph) (w p : ℕ) where

@@ -1,15 +1,13 @@
 -- Laws of what steps keep: the queue that only grows, the workers but one, the labels. Assumes nothing.
 use mathlib.Core.Path.{_≡_, refl, sym, ap, _∙_}
-use mathlib.Core.Logic.{_≢_}
 use mathlib.Core.Bool.{Bool, true, false}
 use mathlib.Core.List.{List, [], _∷_, _++_, append-nil, append-assoc}
 use Prim.Native.Nat.{ℕ, zero, suc}
-use native.Mathlib.Decide.{ℕ-discrete}
 use lib.ListN.{getD, set}
+use Rattle.basics.specs.Laws.{update-same, update-other}
 use Rattle.terms.specs.Terms.{unexecuted}
-use Rattle.rules.specs.Rules.{Job, noJob, Call, idle, Worker, Graph, job, turn, withCall, enqueue}
-use Rattle.rules_history.specs.History.{AllIdle}
-use Rattle.rules_cases.specs.Base.{update-same, update-other, kept-field}
+use Rattle.rules.specs.Rules.{Job, noJob, Call, Worker, Graph, job, turn, withCall, enqueue}
+use Rattle.rules_cases.specs.Base.{kept-field}
 use Rattle.whole_calls.specs.Whole.{Grown, Kept}
 
 -- ---- the queue
@@ -66,6 +64,3 @@ module _ (g : Graph) (w : ℕ) where
   with-call c = turned (withCall g w c) c refl (λ j. refl) (grown-same (g .queue))
 
 -- ---- every worker is idle after a call run whole, if every worker was
-pub still-idle : (g later : Graph) (w : ℕ) → AllIdle g → later .workers w .call ≡ idle
-    → ((v : ℕ) → v ≢ w → later .workers v ≡ g .workers v) → AllIdle later
-still-idle g later w I e others v = elim (ℕ-discrete v w) [ yes z ↦ rw z e | no z ↦ rw (others v z) (I v) ]

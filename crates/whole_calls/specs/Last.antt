@@ -7,12 +7,12 @@ use Prim.Native.Nat.{ℕ, zero, suc, _+_, _-_, _≤_, _<_}
 use native.Mathlib.Omega.{arith}
 use lib.Dec.{eqb}
 use lib.ListN.{length, getD, length-set, set}
+use Rattle.terms.specs.Terms as terms
 use Rattle.terms.specs.Terms.{Arguments}
 use Rattle.terms.specs.Runs.{step, Outcome, outcome, after, events}
 use Rattle.terms.specs.declared.Sizes.{Sizes}
 use Rattle.terms.specs.declared.Answer.{Answer}
 use Rattle.terms.specs.declared.Answer.the-variants.{Going, Ended}
-use Rattle.rules.specs.Rules as rules
 use Rattle.rules.specs.Rules.{Job, noJob, Call, idle, linking, notifying, Worker, Graph, job, turn, perform}
 use Rattle.rules.specs.Sound.{Linking}
 use Rattle.rules_cases.specs.Deed as by
@@ -76,7 +76,7 @@ module _ {s : Sizes} {g : Graph} {w : ℕ} where
   settles l (by.arcAppended p m e f) = absurd (omega arith)
   settles {a} {j} {i} {t} l (by.jobSettled m) =
       set-one g w Ended _ _ j _ refl refl refl
-      (grown-by (rules.settles (job g j .count - t) t (a .count)) (g .queue) j)
+      (grown-by (terms.settles (job g j .count - t) t (a .count)) (g .queue) j)
 
   notifies-on : {p k : ℕ} {x : Answer} {h : Graph} → suc k < length (job g p .dependents)
       → by.Stepped s g w (notifying p k) x h

@@ -7,7 +7,7 @@ use mathlib.Core.List.{List, [], _∷_, _++_, map}
 use mathlib.Core.Option.{none}
 use Prim.Native.Nat.{ℕ, zero, suc, _+_, _*_, _<_}
 use lib.ListN.{length, replicate}
-use Rattle.terms.specs.Terms.{Arguments, finished, wrongArguments, unknownName, namePresent, noRoom, finishOf}
+use Rattle.terms.specs.Terms.{Arguments, finished, wrongArguments, unknownName, namePresent, tablesFull, finishOf}
 use Rattle.terms.specs.Runs.{Item, postAdd, postFinish, step, Event, after, events}
 use Rattle.terms.specs.declared.Sizes.{Sizes}
 use Rattle.terms.specs.declared.Answer.{Answer}
@@ -60,7 +60,7 @@ pub data AddEnd (a : Arguments) (g later : Graph) (steps : ℕ) : Answer → Typ
   wrong : steps ≡ 0 → Unchanged g later → AddEnd a g later steps (Refused wrongArguments 0)
   unknown : {i : ℕ} → i < a .count → steps ≡ i + 1 → Unchanged g later → AddEnd a g later steps (Refused unknownName i)
   present : steps ≡ a .count + 1 → Unchanged g later → AddEnd a g later steps (Refused namePresent 0)
-  no-room : steps ≡ a .count + 1 → Unchanged g later → AddEnd a g later steps (Refused noRoom 0)
+  no-room : steps ≡ a .count + 1 → Unchanged g later → AddEnd a g later steps (Refused tablesFull 0)
 
 pub record AddLeft (w : ℕ) (a : Arguments) (g later : Graph) (steps : ℕ) (answer : Answer) : Type 0 where
   pub idle : later .workers w .call ≡ idle

@@ -1,17 +1,17 @@
 -- The five tables as words ("Tables and their measures"): their counters, their records, the fields of a record, and a
 -- fresh graph. Assumes nothing.
-use mathlib.Core.Bool.{Bool, true, false, _&&_, _||_}
+use mathlib.Core.Bool.{Bool, _&&_}
 use mathlib.Core.List.{List, [], _∷_, _++_}
 use Prim.Native.Nat.{ℕ, zero, suc, _+_, _*_, _^_}
-use lib.Dec.{ltb, leb, eqb}
-use lib.ListN.{length, getD, replicate}
+use lib.Dec.{leb, eqb}
+use lib.ListN.{length, replicate}
 use lib.Seq.{sets}
 use denote.Ref.{RefT, now}
 use denote.Triple.Both.{Both}
-use Rattle.terms.specs.Base.{pick}
-use Rattle.terms.specs.Terms.{mostNames, withinLimits}
+use Rattle.basics.specs.Limits.{mostNames}
+use Rattle.terms.specs.Terms.{withinLimits}
 use Rattle.terms.specs.declared.Sizes.{Sizes}
-use Rattle.words.specs.Columns.{Shape, place, columns, header}
+use Rattle.words.specs.Columns.{Shape, columns, header}
 
 -- "None as a place is 4294967295"
 abbrev pub none : ℕ

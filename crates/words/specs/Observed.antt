@@ -1,12 +1,11 @@
 -- What is seen in the words of the tables: the queue ("A job waits while it has a place in the queue"), each job with
 -- its own list of arcs, the holds and the calls half done. Assumes nothing.
-use mathlib.Core.Bool.{Bool, true, false}
 use mathlib.Core.List.{List, [], _∷_}
 use mathlib.Core.Option.{Option, some}
 use mathlib.Core.Option as option
 use Prim.Native.Nat.{ℕ, zero, suc, _+_, _-_}
 use lib.Dec.{eqb}
-use Rattle.terms.specs.Base.{pick}
+use Rattle.basics.specs.Base.{pick}
 use Rattle.terms.specs.Seen.{Request, CallSeen, idle, looking, linking, marking, notifying, JobSeen, Seen}
 use Rattle.words.specs.Layout.{none, NAME, LABEL, COUNT, CLASS, GROWER, FIRST, NEXT, DEPENDENT, AFTER, PHASE}
 use Rattle.words.specs.Layout.{HELD, OWN-NAME, LIST-COUNT, OWN-CLASS, OWN-GROWER, TALLY, PLACE, OWN-JOB, OWN-ARC}

@@ -1,11 +1,11 @@
 -- The words tell what docs/RULES.md's rows say ("Checked by hand", cases 1 to 6), from tables that just suffice and
 -- were laid out over old words. Assumes nothing.
 use mathlib.Core.Path.{_≡_, refl}
-use mathlib.Core.List.{List, map}
+use mathlib.Core.List.{map}
 use Prim.Native.Nat.{_^_}
 use lib.ListN.{replicate}
+use Rattle.basics.specs.Base.{contains, repeats, occurrences, prefix}
 use Rattle.bucket.specs.Bucket.{productOf, bucketOf}
-use Rattle.terms.specs.Base.{contains, repeats, occurrences, prefix}
 use Rattle.terms.specs.Terms.{argumentsWrong, withinLimits}
 use Rattle.terms.specs.Runs.{after, events, entries}
 use Rattle.terms.specs.Starred.{Row, Told, telling, answersOf, steps, before, orders, rowsOf, starred, oneOfTwo}

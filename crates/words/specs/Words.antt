@@ -2,16 +2,16 @@
 -- what is left behind ("Steps", "Turned-away calls"). A call plans by reading, and stores only where nothing is left to
 -- refuse. Assumes nothing.
 use mathlib.Core.Bool.{Bool, true, false, _&&_, _||_, not}
-use mathlib.Core.List.{List, [], _∷_, _++_}
-use Prim.Native.Nat.{ℕ, zero, suc, _+_, _*_, _-_}
+use mathlib.Core.List.{List, [], _∷_}
+use Prim.Native.Nat.{ℕ, zero, suc, _+_, _-_}
 use lib.Dec.{ltb, leb, eqb}
-use lib.ListN.{length, getD}
 use lib.Seq.{sets}
+use Rattle.basics.specs.Limits.{mostNames, mostClass, mostGrower}
+use Rattle.basics.specs.Base.{pick, prefix}
 use Rattle.bucket.specs.Bucket.{bucketOf}
-use Rattle.terms.specs.Base.{pick, prefix}
-use Rattle.terms.specs.Terms.{mostNames, mostClass, mostGrower, Arguments, listed, argumentsWrong, wrongSizes}
-use Rattle.terms.specs.Terms.{noSuchWorker, halfDone, nothingToStep, wrongArguments, unknownName, namePresent, noRoom}
-use Rattle.terms.specs.Terms.{damaged, alreadyHolding, notHeld}
+use Rattle.terms.specs.Terms.{settles, Arguments, listed, argumentsWrong, wrongSizes, noSuchWorker, halfDone}
+use Rattle.terms.specs.Terms.{nothingToStep, wrongArguments, unknownName, namePresent, tablesFull, damaged}
+use Rattle.terms.specs.Terms.{alreadyHolding, notHeld}
 use Rattle.terms.specs.Runs.{Item, postAdd, postFinish, step, get, Outcome, outcome}
 use Rattle.terms.specs.declared.Sizes.{Sizes}
 use Rattle.terms.specs.declared.HandOut.{HandOut}
@@ -81,7 +81,7 @@ planLookUp i Damaged = Refuse damaged
 unfoldable pub planEnter : Sizes → View → ℕ → ℕ → Found → Plan
 planEnter s v name d (At j) = Quit namePresent 0
 planEnter s v name d Missing =
-    pick (leb (s .jobs) (v .made) || ltb (s .arcs) (v .reserved + d)) (Quit noRoom 0)
+    pick (leb (s .jobs) (v .made) || ltb (s .arcs) (v .reserved + d)) (Quit tablesFull 0)
     (Enter (v .made) (bucketOf name (s .bits)) (v .bucket 0 (bucketOf name (s .bits))) (v .reserved))
 planEnter s v name d Damaged = Refuse damaged
 
@@ -101,10 +101,6 @@ planLink s v x j Damaged = Refuse damaged
 -- the cell of the queue that the next job is put in: "the queue would pass its end" is 9
 unfoldable pub withCell : Sizes → View → (ℕ → Plan) → Plan
 withCell s v plan = pick (leb (v .taken) (v .put) && ltb (v .put) (s .jobs)) (plan (v .put)) (Refuse damaged)
-
--- settling job j with tally t and a list of d names
-abbrev pub settles : ℕ → ℕ → ℕ → Bool
-settles count t d = eqb count 0 && (ltb 0 t || eqb d 0)
 
 unfoldable pub planSettle : Sizes → View → ℕ → ℕ → ℕ → Plan
 planSettle s v j t d =

@@ -1,19 +1,16 @@
 -- Demand 3 on the words, from what holds of every history by the rules and from the words doing what the rules do.
-use mathlib.Core.Path.{_≡_, refl, sym, ap, _∙_, subst}
+use mathlib.Core.Path.{_≡_, refl, sym, ap, _∙_}
 use mathlib.Core.Logic.{_↔_}
-use mathlib.Core.Bool.{true}
 use mathlib.Core.List.{List, [], _∷_}
 use mathlib.Core.Option.{none}
-use Prim.Native.Nat.{ℕ, zero, suc, _+_, _-_, _≤_, _<_}
+use Prim.Native.Nat.{ℕ, _+_, _-_, _<_}
 use native.Mathlib.Omega.{arith}
-use lib.ListN.{length, getD}
-use Rattle.terms.specs.Base.{contains, occurrences}
-use Rattle.terms.specs.Terms.{Arguments, listed, labelNumber}
+use lib.ListN.{length}
+use Rattle.terms.specs.Terms.{Arguments, labelNumber}
 use Rattle.terms.specs.Seen.{Same, JobSeen}
-use Rattle.terms.specs.Runs.{Item, get, Event, Outcome, after, events, entries}
+use Rattle.terms.specs.Runs.{Item, get, after, events, entries}
 use Rattle.terms.specs.declared.Sizes.{Sizes}
-use Rattle.terms.specs.declared.Answer.{Answer}
-use Rattle.terms.specs.declared.Answer.the-variants.{Laid, NoneReady}
+use Rattle.terms.specs.declared.Answer.the-variants.{NoneReady}
 use Rattle.words.specs.Layout.{Tables}
 use Rattle.words.specs.Words as words
 use Rattle.words.specs.Observed.{seen}
@@ -21,10 +18,10 @@ use Rattle.rules.specs.Rules.{Graph, empty, job}
 use Rattle.rules.specs.Rules as rules
 use Rattle.rules.specs.Observed as rules-seen
 use Rattle.rules.specs.Sound.{Sound, Finished}
-use Rattle.sequential_model.specs.Book.{Book, entry, remaining, Ready}
-use Rattle.linearization.specs.Calls.{Reading, unread, readOn, reading, Quiet, acceptedAdds}
-use Rattle.rules_history.specs.History.{History, start, Counted, Booked, Balanced, AllIdle, entryOf, entriesOf}
-use Rattle.linearizability.specs.Demand.{entriesInto, addOf, MarkedFinished, JobShown, Shows, Demand}
+use Rattle.sequential_model.specs.Book.{Ready}
+use Rattle.linearization.specs.Calls.{Reading, unread, reading, Quiet, acceptedAdds}
+use Rattle.rules_history.specs.History.{History, start, Counted, Booked, Balanced, AllIdle}
+use Rattle.linearizability.specs.Demand.{entriesInto, addOf, MarkedFinished, Shows, Demand}
 use Rattle.representation.specs.Rep.{Ghost, Stands}
 use Rattle.representation_kept.specs.Find.{found-there}
 use Rattle.representation_kept.specs.Queue.{waiting-queue}

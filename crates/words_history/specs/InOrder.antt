@@ -6,12 +6,13 @@ use mathlib.Core.List.{List, [], _∷_, _++_, append-assoc, append-nil}
 use Prim.Native.Nat.{ℕ, _-_, _<_}
 use lib.Dec.{eqb}
 use lib.ListN.{length, getD, List·getD-append}
+use Rattle.terms.specs.Terms.{settles}
 use Rattle.terms.specs.Runs.{Item, after, events}
 use Rattle.terms.specs.OrderLaws.{first-head}
 use Rattle.terms.specs.declared.Sizes.{Sizes}
 use Rattle.terms.specs.declared.Answer.{Answer}
 use Rattle.terms.specs.declared.Answer.the-variants.{Laid, Posted, Going, Ended, NoneReady, Handed, Refused}
-use Rattle.rules.specs.Rules.{Call, Graph, job, enqueue, settles, perform}
+use Rattle.rules.specs.Rules.{Call, Graph, job, enqueue, perform}
 use Rattle.rules_cases.specs.Deed as by
 use Rattle.rules_cases.specs.Deed.{Stepped, Deed}
 use Rattle.rules_cases.specs.Deeds.{deed}

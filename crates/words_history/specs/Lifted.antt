@@ -8,11 +8,12 @@ use mathlib.Core.Option.{none}
 use Prim.Native.Nat.{ℕ, _+_, _^_, _≤_, _<_}
 use native.Mathlib.Omega.{arith}
 use lib.ListN.{length, getD}
+use Rattle.basics.specs.Limits.{mostNames}
+use Rattle.basics.specs.Base.{contains, occurrences}
 use Rattle.bucket.specs.Bucket.{bucketOf}
-use Rattle.terms.specs.Base.{contains, occurrences}
-use Rattle.terms.specs.Terms.{Arguments, listed, sameSizes, mostNames, labelNumber, unexecuted, finished, Finish}
+use Rattle.terms.specs.Terms.{Arguments, sameSizes, labelNumber, unexecuted, finished, Finish}
 use Rattle.terms.specs.Runs.{Item, step, get, after, events}
-use Rattle.terms.specs.Seen.{JobSeen, CallSeen, Same}
+use Rattle.terms.specs.Seen.{JobSeen, Same}
 use Rattle.terms.specs.Seen as seen-as
 use Rattle.terms.specs.OrderLaws.{head-occurs, head-first}
 use Rattle.terms.specs.declared.Sizes.{Sizes}
@@ -26,14 +27,13 @@ use Rattle.rules.specs.Rules.{Call, idle, looking, linking, marking, notifying,
 use Rattle.rules.specs.Rules as rules
 use Rattle.rules.specs.Observed as rules-seen
 use Rattle.rules.specs.Sound.{Sound, Finished}
-use Rattle.linearization.specs.Calls.{Pending, adding, finishing, Reading, reading, Quiet, acceptedAdds}
+use Rattle.linearization.specs.Calls.{adding, finishing, Reading, reading, Quiet, acceptedAdds}
 use Rattle.linearization.specs.Calls.{acceptedFinishes}
 use Rattle.linearization.specs.Calls as reading
 use Rattle.rules_history.specs.History.{History, start, Paced, Booked}
 use Rattle.rules_history.specs.Onward.{entriesBy, onward}
 use Rattle.linearizability.specs.Demand.{addOf, HandedRightly, JobFinished, handedOut}
-use Rattle.linearizability.specs.Ends.{AddStep, FinishStep, FinishOf}
-use Rattle.representation.specs.Rep.{Stands}
+use Rattle.linearizability.specs.Ends.{AddStep, FinishOf}
 use Rattle.representation_kept.specs.Find.{found-there}
 use Rattle.representation_kept.specs.Arcs.{few-arcs}
 use Rattle.representation_kept.specs.Chains.{chains}

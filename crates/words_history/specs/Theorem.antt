@@ -1,21 +1,20 @@
 -- The theorems, put together: what holds of every list of items from tables that were laid out, by any sizes. Assumes
 -- nothing.
-use mathlib.Core.Path.{_≡_, refl, sym, ap, _∙_}
+use mathlib.Core.Path.{_≡_, refl}
 use mathlib.Core.Bool.{Bool, true, false}
-use mathlib.Core.List.{List, _++_}
-use Prim.Native.Nat.{ℕ, suc, _+_, _*_, _<_}
+use mathlib.Core.List.{List}
+use Prim.Native.Nat.{ℕ, _<_}
 use native.Mathlib.Omega.{arith}
 use lib.ListN.{length, getD}
-use Rattle.terms.specs.Base.{pick}
-use Rattle.terms.specs.Terms.{Arguments, damaged, wrongSizes}
-use Rattle.terms.specs.Runs.{Item, step, Outcome, outcome, after, events}
+use Rattle.basics.specs.Base.{pick}
+use Rattle.terms.specs.Terms.{damaged, wrongSizes}
+use Rattle.terms.specs.Runs.{Item, Outcome, outcome, after, events}
 use Rattle.terms.specs.declared.Sizes.{Sizes}
-use Rattle.terms.specs.declared.Answer.{Answer}
-use Rattle.terms.specs.declared.Answer.the-variants.{Laid, Ended, Refused}
+use Rattle.terms.specs.declared.Answer.the-variants.{Laid, Refused}
 use Rattle.words.specs.Layout.{Tables, roomFor, freshTables}
 use Rattle.words.specs.Words.{perform, layOut}
 use Rattle.words.specs.Observed.{waiting, seen}
-use Rattle.rules.specs.Rules.{Graph, empty, job, find, at}
+use Rattle.rules.specs.Rules.{Graph, empty}
 use Rattle.rules.specs.Rules as rules
 use Rattle.rules.specs.Sound.{Sound, Finished}
 use Rattle.linearization.specs.Calls.{Reading, unread, reading, Quiet, acceptedAdds}
@@ -33,7 +32,7 @@ use Rattle.rules_invariant.specs.Counted.{counted}
 use Rattle.rules_invariant.specs.Balanced.{balanced}
 use Rattle.rules_history.specs.Onward.{onward}
 use Rattle.words_history.specs.Holds.{Along, along, marked, holds}
-use Rattle.words_history.specs.InOrder.{Moved, in-order, kth}
+use Rattle.words_history.specs.InOrder.{in-order, kth}
 
 laid-stands : (s : Sizes) (t : Tables) → roomFor s t ≡ true → Stands s (layOut s t .state) empty noGhost
 unfolding layOut

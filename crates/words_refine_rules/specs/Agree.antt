@@ -7,7 +7,7 @@ use mathlib.Core.Bool.{Bool, true, false}
 use Prim.Native.Nat.{ℕ, _<_}
 use lib.Dec.{ltb, eqb}
 use borrow.Author.Tests.{ltb-true}
-use Rattle.terms.specs.Base.{pick, update}
+use Rattle.basics.specs.Base.{pick, update}
 use Rattle.terms.specs.Terms.{sameSizes, wrongSizes, noSuchWorker, halfDone, damaged}
 use Rattle.terms.specs.Runs.{Outcome, outcome}
 use Rattle.terms.specs.declared.Sizes.{Sizes}

@@ -9,12 +9,14 @@ use native.Mathlib.Omega.{arith}
 use lib.Dec.{ltb, eqb}
 use lib.ListN.{length, getD}
 use borrow.Author.Tests.{eq-eqb, ne-eqb, lt-ltb, le-leb, lt-leb, ltb-true, ltb-false, eqb-true, eqb-false}
-use Rattle.terms.specs.Base.{pick}
-use Rattle.terms.specs.Terms.{labelNumber, mostNames}
+use Rattle.basics.specs.Limits.{mostNames}
+use Rattle.basics.specs.Base.{pick}
+use Rattle.basics.specs.Laws.{update-same}
+use Rattle.terms.specs.Terms.{labelNumber}
 use Rattle.terms.specs.Runs.{outcome}
 use Rattle.terms.specs.declared.Sizes.{Sizes}
 use Rattle.terms.specs.declared.Answer.the-variants.{Going, Ended}
-use Rattle.words.specs.Columns.{columns, columns-put, stores, update-same}
+use Rattle.words.specs.Columns.{columns, columns-put, stores}
 use Rattle.words.specs.Layout.{LABEL, workerShape, PHASE, HELD, OWN-ARC, IDLE, MARKING, NOTIFYING, bareWorker, view}
 use Rattle.words.specs.Layout.{Tables}
 use Rattle.words.specs.Layout as layout

@@ -8,10 +8,10 @@ use Prim.Native.Nat.{ℕ, _+_}
 use native.Mathlib.Omega.{arith}
 use native.Mathlib.Decide.{ℕ-discrete}
 use lib.ListN.{length, getD}
-use Rattle.terms.specs.Base.{update}
+use Rattle.basics.specs.Base.{update}
+use Rattle.basics.specs.Laws.{update-at, update-other}
 use Rattle.terms.specs.Terms.{Arguments}
 use Rattle.terms.specs.declared.Sizes.{Sizes}
-use Rattle.words.specs.Columns.{update-at, update-other}
 use Rattle.words.specs.Layout.{PHASE, HELD, OWN-NAME, LIST-COUNT, OWN-CLASS, OWN-GROWER, TALLY, PLACE, OWN-JOB, OWN-ARC}
 use Rattle.words.specs.Layout.{NAMES, view, Tables}
 use Rattle.words.specs.Layout as words

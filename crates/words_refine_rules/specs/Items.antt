@@ -3,7 +3,7 @@
 use mathlib.Core.Path.{_≡_, refl}
 use Prim.Native.Nat.{ℕ, _<_}
 use lib.Dec.{eqb}
-use Rattle.terms.specs.Base.{pick}
+use Rattle.basics.specs.Base.{pick}
 use Rattle.terms.specs.Terms.{Arguments, argumentsWrong, nothingToStep, halfDone, wrongArguments, alreadyHolding}
 use Rattle.terms.specs.Terms.{notHeld, Finish}
 use Rattle.terms.specs.Runs.{Item, postAdd, postFinish, step, get}

@@ -8,12 +8,14 @@ use native.Mathlib.Omega.{arith}
 use lib.Dec.{ltb}
 use lib.ListN.{length, getD}
 use borrow.Author.Tests.{ne-eqb, le-leb, ltb-true, ltb-false}
-use Rattle.terms.specs.Base.{pick}
-use Rattle.terms.specs.Terms.{Label, unexecuted, executing, finished, labelNumber, mostNames, Arguments, listed}
+use Rattle.basics.specs.Limits.{mostNames}
+use Rattle.basics.specs.Base.{pick}
+use Rattle.basics.specs.Laws.{update-same, length-prefix}
+use Rattle.terms.specs.Terms.{settles, Label, unexecuted, executing, finished, labelNumber, Arguments, listed}
 use Rattle.terms.specs.Runs.{outcome}
 use Rattle.terms.specs.declared.Sizes.{Sizes}
 use Rattle.terms.specs.declared.Answer.the-variants.{Going, Ended}
-use Rattle.words.specs.Columns.{columns-put, stores, update-same}
+use Rattle.words.specs.Columns.{columns-put, stores}
 use Rattle.words.specs.Layout.{LABEL, workerShape, TALLY, PLACE, NAMES, LINKING, view, Tables}
 use Rattle.words.specs.Words.{findOf, planPhase, planLinks, planLink, planAppend, planSettle, withCell, firstArc}
 use Rattle.words.specs.Words.{applied}
@@ -21,10 +23,9 @@ use Rattle.words.specs.Words.{planCall}
 use Rattle.words.specs.declared.Plan.the-variants.{Tally, Settle, SettleQueue}
 use Rattle.words.specs.declared.Found.the-variants.{At}
 use Rattle.rules.specs.Rules.{Call, idle, linking, notifying, Graph, job, at, find, withCall, linked, linkTo, link}
-use Rattle.rules.specs.Rules.{settles, settled, stepCall}
+use Rattle.rules.specs.Rules.{settled, stepCall}
 use Rattle.rules.specs.Sound.{Sound, CallSound, Linking, started}
 use Rattle.representation.specs.Rep.{Ghost, tallyGhost, linkGhost, TablesRep, CallRep, Stands}
-use Rattle.representation_kept.specs.Lists.{length-prefix}
 use Rattle.representation_kept.specs.Find.{find-agrees, found-there}
 use Rattle.representation_kept.specs.Keep.{tally-stands}
 use Rattle.representation_kept.specs.Append.{append-stands, append-answer, append-workers}

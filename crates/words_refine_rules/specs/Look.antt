@@ -8,13 +8,15 @@ use native.Mathlib.Omega.{arith}
 use lib.Dec.{ltb, leb}
 use lib.ListN.{length, getD}
 use borrow.Author.Tests.{ltb-true, ltb-false, leb-false}
+use Rattle.basics.specs.Limits.{mostNames}
+use Rattle.basics.specs.Base.{pick}
+use Rattle.basics.specs.Laws.{update-same}
 use Rattle.bucket.specs.Bucket.{bucketOf}
-use Rattle.terms.specs.Base.{pick}
-use Rattle.terms.specs.Terms.{mostNames, Arguments, listed, unknownName, namePresent, noRoom}
+use Rattle.terms.specs.Terms.{Arguments, listed, unknownName, namePresent, tablesFull}
 use Rattle.terms.specs.Runs.{outcome}
 use Rattle.terms.specs.declared.Sizes.{Sizes}
 use Rattle.terms.specs.declared.Answer.the-variants.{Going, Refused}
-use Rattle.words.specs.Columns.{columns-put, stores, update-same}
+use Rattle.words.specs.Columns.{columns-put, stores}
 use Rattle.words.specs.Layout.{none, workerShape, PHASE, PLACE, OWN-JOB, OWN-ARC, NAMES, LOOKING, LINKING, view, Tables}
 use Rattle.words.specs.Words.{findOf, planPhase, planCall, planAdd, planLookUp, planEnter, enteredWorker, applied}
 use Rattle.words.specs.declared.Plan.{Plan}
@@ -95,9 +97,9 @@ module _ (s : Sizes) (t : Tables) (g : Graph) (G : Ghost) (S : Stands s t g G) (
       }))
 
   room : (b : Bool) → (leb (s .jobs) n || ltb (s .arcs) (g .reserved + a .count)) ≡ b
-      → Agrees s (done (pick b (Quit noRoom 0) enterPlan) t w)
-      (pick b (outcome (Refused noRoom 0) (withCall g w idle)) (outcome Going (entered g w a)))
-  room true e = quits noRoom 0
+      → Agrees s (done (pick b (Quit tablesFull 0) enterPlan) t w)
+      (pick b (outcome (Refused tablesFull 0) (withCall g w idle)) (outcome Going (entered g w a)))
+  room true e = quits tablesFull 0
   room false e =
       let z = neither (leb (s .jobs) n) (ltb (s .arcs) (g .reserved + a .count)) e in
       enter-agrees (leb-false (s .jobs) n (z .0)) (ltb-false (s .arcs) (g .reserved + a .count) (z .1))

@@ -10,8 +10,10 @@ use native.Mathlib.Decide.{ℕ-discrete}
 use lib.Dec.{ltb, leb, eqb}
 use lib.ListN.{length, getD}
 use borrow.Author.Tests.{eq-eqb, ne-eqb, lt-ltb, le-leb, eqb-true, eqb-false, ltb-false}
-use Rattle.terms.specs.Base.{pick, contains, repeats}
-use Rattle.terms.specs.Terms.{mostNames, mostClass, mostGrower, Arguments, listed, argumentsWrong, sameSizes}
+use Rattle.basics.specs.Limits.{mostNames, mostClass, mostGrower}
+use Rattle.basics.specs.Base.{pick, contains, repeats}
+use Rattle.basics.specs.Laws.{length-prefix}
+use Rattle.terms.specs.Terms.{Arguments, listed, argumentsWrong, sameSizes}
 use Rattle.terms.specs.declared.Sizes.{Sizes}
 use Rattle.words.specs.Columns.{rows, header}
 use Rattle.words.specs.Layout.{need, jobShape, arcShape, bucketShape, queueShape, workerShape, JOBS, ARCS, BITS}
@@ -23,7 +25,6 @@ use Rattle.rules.specs.Rules.{Call, idle, looking, linking, marking, notifying,
 use Rattle.rules.specs.Sound.{Sound, CallSound, Linking}
 use Rattle.representation.specs.Rep.{Ghost, TablesRep, holdWord, AddWords, BareWords, CallRep, Stands}
 use Rattle.representation_kept.specs.Stand.{limits-of, both}
-use Rattle.representation_kept.specs.Lists.{length-prefix}
 use Rattle.representation_kept.specs.Arcs.{arc-ok}
 
 -- ---- tests

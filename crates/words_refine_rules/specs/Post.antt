@@ -10,14 +10,15 @@ use native.Mathlib.Omega.{arith}
 use lib.Dec.{eqb}
 use lib.ListN.{length}
 use borrow.Author.Tests.{eq-eqb, ne-eqb, lt-ltb, le-leb}
-use Rattle.terms.specs.Base.{pick}
+use Rattle.basics.specs.Base.{pick}
+use Rattle.basics.specs.Laws.{update-same}
 use Rattle.terms.specs.Terms.{labelNumber, Arguments, argumentsWrong, wrongArguments, alreadyHolding, notHeld, Finish}
 use Rattle.terms.specs.Runs.{Outcome, outcome}
 use Rattle.terms.specs.Order.{without}
 use Rattle.terms.specs.OrderLaws.{none-first, first-head}
 use Rattle.terms.specs.declared.Sizes.{Sizes}
 use Rattle.terms.specs.declared.Answer.the-variants.{Posted, NoneReady, Handed, Refused}
-use Rattle.words.specs.Columns.{columns, columns-put, update-same}
+use Rattle.words.specs.Columns.{columns, columns-put}
 use Rattle.words.specs.Layout.{LABEL, workerShape, HELD, IDLE, MARKING, bareWorker, tables, view, Tables}
 use Rattle.words.specs.Layout as layout
 use Rattle.words.specs.Words.{putWorker, planTake, planQueue, answerGet, appliedGet, holdsName, addingWorker, posted}

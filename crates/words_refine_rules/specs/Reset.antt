@@ -6,12 +6,13 @@ use mathlib.Core.Logic.{_≢_}
 use Prim.Native.Nat.{ℕ, zero, suc, _+_, _≤_, _<_}
 use native.Mathlib.Omega.{arith}
 use lib.ListN.{getD, getD-replicate, List·getD-eq-default}
-use Rattle.terms.specs.Terms.{mostNames, Arguments, listed}
+use Rattle.basics.specs.Limits.{mostNames}
+use Rattle.basics.specs.Laws.{length-prefix}
+use Rattle.terms.specs.Terms.{Arguments, listed}
 use Rattle.terms.specs.declared.Sizes.{Sizes}
 use Rattle.words.specs.Layout.{none, workerShape, HELD, LIST-COUNT, NAMES, IDLE, bareWorker, view, Tables}
 use Rattle.rules.specs.Rules.{Call, idle, looking, linking, marking, notifying, Graph}
 use Rattle.representation.specs.Rep.{Ghost, AddWords, BareWords, CallRep, Stands}
-use Rattle.representation_kept.specs.Lists.{length-prefix}
 
 -- ---- a worker's words, by its call
 module _ (f : ℕ → ℕ → ℕ) (w : ℕ) where

@@ -8,6 +8,7 @@ use Prim.Native.Nat.{ℕ, _+_, _<_}
 use native.Mathlib.Omega.{arith}
 use native.Mathlib.Nat.{zero-add}
 use lib.ListN.{length}
+use Rattle.basics.specs.Laws.{length-prefix}
 use Rattle.terms.specs.Terms.{Arguments, listed, argumentsWrong}
 use Rattle.terms.specs.Seen.{request, Same}
 use Rattle.terms.specs.declared.Sizes.{Sizes}
@@ -18,7 +19,7 @@ use Rattle.rules.specs.Rules.{Call, idle, looking, linking, marking, notifying,
 use Rattle.rules.specs.Observed as rules
 use Rattle.rules.specs.Sound.{Sound, CallSound}
 use Rattle.representation.specs.Rep.{Ghost, holdWord, AddWords, CallRep, Stands}
-use Rattle.representation_kept.specs.Lists.{cells-list, length-prefix}
+use Rattle.representation_kept.specs.Lists.{cells-list}
 use Rattle.representation_kept.specs.Queue.{waiting-queue}
 use Rattle.representation_kept.specs.Arcs.{arcs-seen}
 use Rattle.words_refine_rules.specs.Own.{fitting, job-place}

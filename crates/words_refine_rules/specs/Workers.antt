@@ -10,15 +10,17 @@ use native.Mathlib.Decide.{ℕ-discrete}
 use lib.Dec.{ltb}
 use lib.ListN.{length, getD, length-replicate, take}
 use borrow.Author.Tests.{eq-eqb, ne-eqb, ltb-true}
-use Rattle.terms.specs.Base.{prefix}
-use Rattle.terms.specs.Terms.{mostNames, Arguments, listed}
-use Rattle.words.specs.Columns.{Rows, columns, columns-put, rows-put, store, update-same, update-other}
+use Rattle.basics.specs.Limits.{mostNames}
+use Rattle.basics.specs.Base.{prefix}
+use Rattle.basics.specs.Laws.{update-same, update-other, length-prefix}
+use Rattle.terms.specs.Terms.{Arguments, listed}
+use Rattle.words.specs.Columns.{Rows, columns, columns-put, rows-put, store}
 use Rattle.words.specs.Layout.{none, workerShape, PHASE, HELD, TALLY, PLACE, OWN-JOB, OWN-ARC, NAMES, LOOKING, LINKING}
 use Rattle.words.specs.Layout.{NOTIFYING, LIST-COUNT, bareWorker, OWN-NAME, OWN-CLASS, OWN-GROWER}
 use Rattle.words.specs.Words.{putField, putWorker, addingWorker, firstArc}
 use Rattle.representation.specs.Rep.{AddWords, BareWords}
 use Rattle.representation_kept.specs.Records.{record-at, record-off, rows-sets}
-use Rattle.representation_kept.specs.Lists.{bare-name, length-prefix, getD-past}
+use Rattle.representation_kept.specs.Lists.{bare-name, getD-past}
 
 -- ---- one field stored
 store-off : (f : ℕ → ℕ → ℕ) (i k x q u : ℕ) → u ≢ i → store f i k x q u ≡ f q u

@@ -24,10 +24,4 @@ returns-3 c = rw (c .enum-told2 .given .1)
 pub after-spec : {M : Type 1} → statement M
 after-spec =
     tie.close
-    (tie.spec
-    enum-known-answer
-    enum-told
-    enum-told-2
-    returns
-    returns-2
-    returns-3)
+    (tie.spec enum-known-answer enum-told enum-told-2 returns returns-2 returns-3)

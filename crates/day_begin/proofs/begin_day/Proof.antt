@@ -39,21 +39,13 @@ same-length-6 c = search needs
 
 returns : tie.Need-returns
 returns c =
-    begin-parts _ _ _ _ _ _ _ _ _ (ap (λ (o : Outcome Tables). o .state) (c .before .before .before .before .before .before .before .before .before .before .before .before .before .before .before .before .before .before .before .before .before .before .before .before .before .before .before .before .before .before .before .before .before .before .before .lay-out .ensures))
+    begin-parts _ _ _ _ _ _ _ _ _
+    (ap (λ (o : Outcome Tables). o .state)
+    (c .before .before .before .before .before .before .before .before .before .before .before .before .before .before .before .before .before .before .before .before .before .before .before .before .before .before .before .before .before .before .before .before .before .before .before .lay-out .ensures))
     (c .before .before .before .before .before .before .before .before .before .before .before .before .before .before .before .before .before .before .add-all .ensures) (c .before .before .before .before .header .ensures) (c .before .before .jobs-line .ensures)
 
 pub begin-day-spec : {M : Type 1} → statement M
 begin-day-spec =
     tie.close
-    (tie.spec
-    lay-out-requires
-    add-all-requires
-    header-requires
-    jobs-line-requires
-    same-length
-    same-length-2
-    same-length-3
-    same-length-4
-    same-length-5
-    same-length-6
-    returns)
+    (tie.spec lay-out-requires add-all-requires header-requires jobs-line-requires same-length same-length-2
+    same-length-3 same-length-4 same-length-5 same-length-6 returns)

@@ -39,22 +39,12 @@ same-length-7 c = search needs
 
 returns : tie.Need-returns
 returns c =
-    end-parts _ _ _ _ _ _ _ _ _ (c .before .before .before .before .before .before .before .before .before .before .before .before .before .before .before .before .before .before .before .before .before .before .before .run-rounds .ensures) (c .before .before .before .before .before .before .before .before .print-hand-outs .ensures)
+    end-parts _ _ _ _ _ _ _ _ _
+    (c .before .before .before .before .before .before .before .before .before .before .before .before .before .before .before .before .before .before .before .before .before .before .before .run-rounds .ensures) (c .before .before .before .before .before .before .before .before .print-hand-outs .ensures)
     (c .before .before .before .before .count-unfinished .ensures) (c .before .before .left-line .ensures)
 
 pub end-day-spec : {M : Type 1} → statement M
 end-day-spec =
     tie.close
-    (tie.spec
-    run-rounds-requires
-    print-hand-outs-requires
-    count-unfinished-requires
-    left-line-requires
-    same-length
-    same-length-2
-    same-length-3
-    same-length-4
-    same-length-5
-    same-length-6
-    same-length-7
-    returns)
+    (tie.spec run-rounds-requires print-hand-outs-requires count-unfinished-requires left-line-requires same-length
+    same-length-2 same-length-3 same-length-4 same-length-5 same-length-6 same-length-7 returns)

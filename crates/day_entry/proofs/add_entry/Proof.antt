@@ -36,13 +36,5 @@ returns c =
 pub add-entry-spec : {M : Type 1} → statement M
 add-entry-spec =
     tie.close
-    (tie.spec
-    add-whole-requires
-    print-refusal-requires
-    same-length
-    same-length-2
-    same-length-3
-    same-length-4
-    same-length-5
-    same-length-6
-    returns)
+    (tie.spec add-whole-requires print-refusal-requires same-length same-length-2 same-length-3 same-length-4
+    same-length-5 same-length-6 returns)

@@ -12,7 +12,8 @@ tell-requires c κs = search needs
 returns : tie.Need-returns
 returns c =
     let a = c .before .before .before .args in
-    nothing-printed (a .limit) (page (a .at) (now (a .out))) (a .entry) (a .answer) _ (c .before .tell .ensures) (c .if1 .left)
+    nothing-printed (a .limit) (page (a .at) (now (a .out))) (a .entry) (a .answer) _ (c .before .tell .ensures)
+    (c .if1 .left)
 
 refused-line-requires : tie.Need-refused-line-requires
 refused-line-requires c κs = search needs
@@ -23,15 +24,11 @@ same-length c = search needs
 returns-2 : tie.Need-returns-2
 returns-2 c =
     let a = c .before .before .before .before .before .before .before .args in
-    refusal-printed (a .limit) (page (a .at) (now (a .out))) (a .entry) (a .answer) _ (c .before .before .before .before .before .tell .ensures) _
+    refusal-printed (a .limit) (page (a .at) (now (a .out))) (a .entry) (a .answer) _
+    (c .before .before .before .before .before .tell .ensures) _
     (c .before .before .before .before .if1 .taken) (c .before .before .refused-line .ensures)
 
 pub print-refusal-spec : {M : Type 1} → statement M
 print-refusal-spec =
     tie.close
-    (tie.spec
-    tell-requires
-    returns
-    refused-line-requires
-    same-length
-    returns-2)
+    (tie.spec tell-requires returns refused-line-requires same-length returns-2)

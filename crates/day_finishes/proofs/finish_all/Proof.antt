@@ -64,14 +64,25 @@ loop-again c =
     let l = c .before .before .before .before .before .before .before .before .before .before .before .before .before .before .before .before .before .before .before .before .before .loop in
     let n = c .before .before .before .before .before .before .before .before .before .before .before .before .before .before .before .before .before .before .before .before .before .before .before .before .before .before .before .before .before .args .holders .count in
     let e = c .before .before .before .before .before .before .before .before .before .before .finish-whole in
-    let k : n - (l .left - 1) ≡ suc (n - l .left) = omega (arith, c .before .before .before .before .before .before .before .before .before .before .before .before .before .before .before .before .before .before .before .before .loop-test .taken, l .inv .5) in (
+    let k : n - (l .left - 1) ≡ suc (n - l .left) =
+    omega (
+      arith,
+      c .before .before .before .before .before .before .before .before .before .before .before .before .before .before .before .before .before .before .before .before .loop-test .taken,
+      l .inv .5,
+    ) in (
       e .kept .1 .0 ∙ l .inv .0,
       e .kept .1 .1 .0 ∙ l .inv .1,
       e .kept .1 .1 .1 .0 ∙ l .inv .2,
       e .kept .1 .1 .1 .1 .0 ∙ l .inv .3,
       e .kept .1 .1 .1 .1 .1 .0 ∙ l .inv .4,
       omega (arith, l .inv .5),
-      rw (k, finish-next, ← l .inv .6, ← c .before .before .before .before .before .before .before .before .before .before .before .before .before .before .before .before .before .before .word .ensures, ← c .before .before .before .before .before .before .before .before .before .before .before .before .before .before .before .before .word2 .ensures)
+      rw (
+        k,
+        finish-next,
+        ← l .inv .6,
+        ← c .before .before .before .before .before .before .before .before .before .before .before .before .before .before .before .before .before .before .word .ensures,
+        ← c .before .before .before .before .before .before .before .before .before .before .before .before .before .before .before .before .word2 .ensures,
+      )
           (ap (λ (o : Outcome Tables). o .state) (e .ensures)),
     )
 
@@ -100,23 +111,6 @@ returns c =
 pub finish-all-spec : {M : Type 1} → statement M
 finish-all-spec =
     tie.close
-    (tie.spec
-    Inv-loop
-    μ-loop
-    loop-holds
-    slice-aggregate-word
-    sub-word
-    word-requires
-    slice-aggregate-word-2
-    sub-word-2
-    word-requires-2
-    finish-whole-requires
-    sub-left
-    loop-less
-    loop-again
-    same-length
-    same-length-2
-    same-length-3
-    same-length-4
-    same-length-5
-    returns)
+    (tie.spec Inv-loop μ-loop loop-holds slice-aggregate-word sub-word word-requires slice-aggregate-word-2 sub-word-2
+    word-requires-2 finish-whole-requires sub-left loop-less loop-again same-length same-length-2 same-length-3
+    same-length-4 same-length-5 returns)

@@ -54,19 +54,7 @@ returns c =
 pub print-day-spec : {M : Type 1} → statement M
 print-day-spec =
     tie.close
-    (tie.spec
-    slice-aggregate-begin-day
-    slice-aggregate-begin-day-2
-    slice-aggregate-begin-day-3
-    slice-aggregate-begin-day-4
-    slice-aggregate-begin-day-5
-    begin-day-requires
-    slice-aggregate-end-day
-    slice-aggregate-end-day-2
-    slice-aggregate-end-day-3
-    slice-aggregate-end-day-4
-    slice-aggregate-end-day-5
-    slice-aggregate-end-day-6
-    end-day-requires
-    same-length
-    returns)
+    (tie.spec slice-aggregate-begin-day slice-aggregate-begin-day-2 slice-aggregate-begin-day-3
+    slice-aggregate-begin-day-4 slice-aggregate-begin-day-5 begin-day-requires slice-aggregate-end-day
+    slice-aggregate-end-day-2 slice-aggregate-end-day-3 slice-aggregate-end-day-4 slice-aggregate-end-day-5
+    slice-aggregate-end-day-6 end-day-requires same-length returns)

@@ -37,27 +37,37 @@ loop-holds c = (refl, refl, refl, refl, refl, omega arith, omega arith, rw (no-h
 get-one-requires : tie.Need-get-one-requires Inv-loop μ-loop
 get-one-requires c κs =
     let l = c .before .before .before .before .before .before .before .loop in
-    let b = below (l .worker) (c .before .before .before .before .before .before .before .before .before .before .before .before .before .args .sizes .workers) (c .before .before .before .before .before .if1 .taken) in
+    let b = below (l .worker)
+    (c .before .before .before .before .before .before .before .before .before .before .before .before .before .args .sizes .workers) (c .before .before .before .before .before .if1 .taken) in
     omega (arith, b .1, l .inv .6)
 
 add-worker : tie.Need-add-worker Inv-loop μ-loop
 add-worker c =
     let l = c .before .before .before .before .before .before .before .before .before .before .before .before .before .before .before .before .before .before .loop in
     let a = c .before .before .before .before .before .before .before .before .before .before .before .before .before .before .before .before .before .before .before .before .before .before .before .before .args in
-    omega (arith, below (l .worker) (a .sizes .workers) (c .before .before .before .before .before .before .before .before .before .before .before .before .before .before .before .before .if1 .taken) .1)
+    omega (
+      arith,
+      below (l .worker) (a .sizes .workers)
+          (c .before .before .before .before .before .before .before .before .before .before .before .before .before .before .before .before .if1 .taken) .1,
+    )
 
 loop-less : tie.Need-loop-less Inv-loop μ-loop
 loop-less c =
     let l = c .before .before .before .before .before .before .before .before .before .before .before .before .before .before .before .before .before .before .loop in
     let a = c .before .before .before .before .before .before .before .before .before .before .before .before .before .before .before .before .before .before .before .before .before .before .before .before .args in
-    omega (arith, below (l .worker) (a .sizes .workers) (c .before .before .before .before .before .before .before .before .before .before .before .before .before .before .before .before .if1 .taken) .1)
+    omega (
+      arith,
+      below (l .worker) (a .sizes .workers)
+          (c .before .before .before .before .before .before .before .before .before .before .before .before .before .before .before .before .if1 .taken) .1,
+    )
 
 loop-again : tie.Need-loop-again Inv-loop μ-loop
 loop-again c =
     let l = c .before .before .before .before .before .before .before .before .before .before .before .before .before .before .before .before .before .before .loop in
     let a = c .before .before .before .before .before .before .before .before .before .before .before .before .before .before .before .before .before .before .before .before .before .before .before .before .args in
     let e = c .before .before .before .before .before .before .before .before .before .before .get-one in
-    let b = below (l .worker) (a .sizes .workers) (c .before .before .before .before .before .before .before .before .before .before .before .before .before .before .before .before .if1 .taken) in
+    let b = below (l .worker) (a .sizes .workers)
+    (c .before .before .before .before .before .before .before .before .before .before .before .before .before .before .before .before .if1 .taken) in
     let k : a .sizes .workers - l .worker ≡ suc (a .sizes .workers - suc (l .worker)) = omega (arith, b .0) in
     let s = get-first (a .sizes) (a .sizes .workers - suc (l .worker)) (l .worker) _ _ _ (e .ensures .0) in (
       e .kept .1 .0 ∙ l .inv .0,
@@ -89,23 +99,12 @@ returns : tie.Need-returns Inv-loop μ-loop
 returns c =
     let l = c .before .before .loop in
     let t = tables (l .jobs) (l .arcs) (l .buckets) (l .queue) (l .workers) in
-    let s = gets-over (c .before .before .before .before .before .before .before .before .args .sizes) (l .worker) t (holding (l .holders)) (c .if1 .left) in
+    let s = gets-over (c .before .before .before .before .before .before .before .before .args .sizes) (l .worker) t
+    (holding (l .holders)) (c .if1 .left) in
     (rw s at (l .inv .7), omega (arith, l .inv .5, l .inv .6))
 
 pub get-all-spec : {M : Type 1} → statement M
 get-all-spec =
     tie.close
-    (tie.spec
-    Inv-loop
-    μ-loop
-    loop-holds
-    get-one-requires
-    add-worker
-    loop-less
-    loop-again
-    same-length
-    same-length-2
-    same-length-3
-    same-length-4
-    same-length-5
-    returns)
+    (tie.spec Inv-loop μ-loop loop-holds get-one-requires add-worker loop-less loop-again same-length same-length-2
+    same-length-3 same-length-4 same-length-5 returns)

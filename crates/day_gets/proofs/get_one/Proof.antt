@@ -30,19 +30,14 @@ same-length-5 c = search needs
 
 returns : tie.Need-returns
 returns c =
-    let h = c .hold .ensures in
-    (got-told _ _ _ _ _ _ _ _ (c .before .before .before .before .before .before .before .before .before .before .before .before .get .ensures) (c .before .tell .ensures) (h .0), h .1)
+    let h = c .hold .ensures in (
+      got-told _ _ _ _ _ _ _ _
+          (c .before .before .before .before .before .before .before .before .before .before .before .before .get .ensures) (c .before .tell .ensures) (h .0),
+      h .1,
+    )
 
 pub get-one-spec : {M : Type 1} → statement M
 get-one-spec =
     tie.close
-    (tie.spec
-    get-requires
-    tell-requires
-    hold-requires
-    same-length
-    same-length-2
-    same-length-3
-    same-length-4
-    same-length-5
-    returns)
+    (tie.spec get-requires tell-requires hold-requires same-length same-length-2 same-length-3 same-length-4
+    same-length-5 returns)

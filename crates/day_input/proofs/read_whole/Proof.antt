@@ -60,20 +60,5 @@ returns-3 c = counts _ _ (omega arith)
 pub read-whole-spec : {M : Type 1} → statement M
 read-whole-spec =
     tie.close
-    (tie.spec
-    Inv-loop
-    μ-loop
-    loop-holds
-    sub-read-some
-    part-read-some-start
-    part-read-some-end
-    read-some-requires
-    same-length
-    returns
-    same-length-2
-    returns-2
-    add-bytes
-    loop-less
-    loop-again
-    same-length-3
-    returns-3)
+    (tie.spec Inv-loop μ-loop loop-holds sub-read-some part-read-some-start part-read-some-end read-some-requires
+    same-length returns same-length-2 returns-2 add-bytes loop-less loop-again same-length-3 returns-3)

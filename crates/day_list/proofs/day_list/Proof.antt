@@ -41,11 +41,4 @@ returns-3 c =
 pub day-list-spec : {M : Type 1} → statement M
 day-list-spec =
     tie.close
-    (tie.spec
-    returns
-    print-list-requires
-    same-length
-    returns-2
-    print-list-requires-2
-    same-length-2
-    returns-3)
+    (tie.spec returns print-list-requires same-length returns-2 print-list-requires-2 same-length-2 returns-3)

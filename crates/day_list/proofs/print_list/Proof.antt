@@ -74,16 +74,5 @@ returns-3 c =
 pub print-list-spec : {M : Type 1} → statement M
 print-list-spec =
     tie.close
-    (tie.spec
-    broken-line-requires
-    same-length
-    returns
-    scan-sheet-requires
-    enum-told
-    print-day-requires
-    enum-known-number
-    broken-line-requires-2
-    same-length-2
-    returns-2
-    same-length-3
-    returns-3)
+    (tie.spec broken-line-requires same-length returns scan-sheet-requires enum-told print-day-requires
+    enum-known-number broken-line-requires-2 same-length-2 returns-2 same-length-3 returns-3)

@@ -80,16 +80,5 @@ returns c =
 pub count-unfinished-spec : {M : Type 1} → statement M
 count-unfinished-spec =
     tie.close
-    (tie.spec
-    Inv-loop
-    μ-loop
-    header-requires
-    loop-holds
-    sub-left
-    job-word-requires
-    loop-less
-    loop-again
-    add-sum
-    loop-less-2
-    loop-again-2
-    returns)
+    (tie.spec Inv-loop μ-loop header-requires loop-holds sub-left job-word-requires loop-less loop-again add-sum
+    loop-less-2 loop-again-2 returns)

@@ -51,7 +51,11 @@ handed-line-requires : tie.Need-handed-line-requires Inv-loop μ-loop
 handed-line-requires c κs = search needs
 
 add-i : tie.Need-add-i Inv-loop μ-loop
-add-i c = omega (arith, c .before .before .before .before .before .before .loop-test .taken, c .before .before .before .before .before .before .before .loop .inv .1)
+add-i c = omega (
+  arith,
+  c .before .before .before .before .before .before .loop-test .taken,
+  c .before .before .before .before .before .before .before .loop .inv .1,
+)
 
 loop-less : tie.Need-loop-less Inv-loop μ-loop
 loop-less c = omega (arith, c .before .before .before .before .before .before .loop-test .taken)
@@ -61,9 +65,11 @@ loop-again c =
     let l = c .before .before .before .before .before .before .before .loop in
     let a = c .before .before .before .before .before .before .before .before .before .before .before .args in
     let e = c .before .before .handed-line in
-    let k : a .count - l .i ≡ suc (a .count - suc (l .i)) = omega (arith, c .before .before .before .before .before .before .loop-test .taken) in
+    let k : a .count - l .i ≡ suc (a .count - suc (l .i)) =
+    omega (arith, c .before .before .before .before .before .before .loop-test .taken) in
     let s = print-first (a .limit) _ _ (a .count - suc (l .i)) (l .i) (now (a .row))
-    (rw (c .before .before .before .before .before .word .ensures, c .before .before .before .before .word2 .ensures) at (e .ensures)) in (
+    (rw (c .before .before .before .before .before .word .ensures, c .before .before .before .before .word2 .ensures)
+    at (e .ensures)) in (
       e .kept .0 ∙ l .inv .0,
       l .inv .1,
       omega (arith, c .before .before .before .before .before .before .loop-test .taken),
@@ -82,19 +88,5 @@ returns-2 c =
 pub print-hand-outs-spec : {M : Type 1} → statement M
 print-hand-outs-spec =
     tie.close
-    (tie.spec
-    Inv-loop
-    μ-loop
-    returns
-    loop-holds
-    mul-word
-    word-requires
-    mul-word-2
-    add-word
-    word-requires-2
-    handed-line-requires
-    add-i
-    loop-less
-    loop-again
-    same-length
-    returns-2)
+    (tie.spec Inv-loop μ-loop returns loop-holds mul-word word-requires mul-word-2 add-word word-requires-2
+    handed-line-requires add-i loop-less loop-again same-length returns-2)

@@ -27,18 +27,14 @@ same-length-5 c = search needs
 
 returns : tie.Need-returns
 returns c =
-    let g = c .before .before .before .before .before .before .before .before .before .before .before .before .before .before .before .before .before .before .before .before .before .before .before .before .before .before .get-all .ensures in
-    (round-parts _ _ _ _ _ (g .0) (c .before .before .before .before .before .before .before .before .before .before .finish-all .ensures), g .1)
+    let g = c .before .before .before .before .before .before .before .before .before .before .before .before .before .before .before .before .before .before .before .before .before .before .before .before .before .before .get-all .ensures in (
+      round-parts _ _ _ _ _ (g .0)
+          (c .before .before .before .before .before .before .before .before .before .before .finish-all .ensures),
+      g .1,
+    )
 
 pub run-round-spec : {M : Type 1} → statement M
 run-round-spec =
     tie.close
-    (tie.spec
-    get-all-requires
-    finish-all-requires
-    same-length
-    same-length-2
-    same-length-3
-    same-length-4
-    same-length-5
+    (tie.spec get-all-requires finish-all-requires same-length same-length-2 same-length-3 same-length-4 same-length-5
     returns)

@@ -66,18 +66,40 @@ same-length-6 c = search needs
 returns : tie.Need-returns Inv-loop μ-loop
 returns c =
     let l = c .before .before .before .before .before .before .before .before .before .before .before .before .before .before .before .before .before .before .before .loop in
-    let k : l .left ≡ suc (l .left - 1) = omega (arith, c .before .before .before .before .before .before .before .before .before .before .before .before .before .before .before .before .before .before .loop-test .taken) in
-    round-last (l .left - 1) _ _ _ _ _ (c .before .before .before .before .before .before .before .before .before .before .before .before .run-round .ensures .0) (length-holders _ _ _ ∙ c .if1 .taken)
+    let k : l .left ≡ suc (l .left - 1) =
+    omega (
+      arith,
+      c .before .before .before .before .before .before .before .before .before .before .before .before .before .before .before .before .before .before .loop-test .taken,
+    ) in
+    round-last (l .left - 1) _ _ _ _ _
+    (c .before .before .before .before .before .before .before .before .before .before .before .before .run-round .ensures .0) (length-holders _ _ _ ∙ c .if1 .taken)
     ∙ rw k at (l .inv .7)
 
 store-requires : tie.Need-store-requires Inv-loop μ-loop
-store-requires c κs = (omega (arith, c .before .before .before .before .before .before .before .before .before .before .before .before .before .before .before .before .before .before .before .before .loop .inv .6, c .before .before .before .before .before .before .before .before .before .before .before .before .before .before .before .before .before .before .before .before .before .struct-known .given), c .before .before .before .before .before .before .before .before .before .before .before .before .before .run-round .ensures .1)
+store-requires c κs = (
+  omega (
+    arith,
+    c .before .before .before .before .before .before .before .before .before .before .before .before .before .before .before .before .before .before .before .before .loop .inv .6,
+    c .before .before .before .before .before .before .before .before .before .before .before .before .before .before .before .before .before .before .before .before .before .struct-known .given,
+  ),
+  c .before .before .before .before .before .before .before .before .before .before .before .before .before .run-round .ensures .1,
+)
 
 add-handed : tie.Need-add-handed Inv-loop μ-loop
-add-handed c = omega (arith, c .before .before .before .before .before .before .before .before .before .before .before .before .before .before .before .before .before .before .before .before .before .before .before .before .loop .inv .6, c .before .before .before .before .before .before .before .before .before .before .before .before .before .before .before .before .before .run-round .ensures .1, c .before .before .before .before .before .before .before .before .before .before .before .before .before .before .before .before .before .before .before .before .before .before .before .before .before .struct-known .given)
+add-handed c =
+    omega (
+      arith,
+      c .before .before .before .before .before .before .before .before .before .before .before .before .before .before .before .before .before .before .before .before .before .before .before .before .loop .inv .6,
+      c .before .before .before .before .before .before .before .before .before .before .before .before .before .before .before .before .before .run-round .ensures .1,
+      c .before .before .before .before .before .before .before .before .before .before .before .before .before .before .before .before .before .before .before .before .before .before .before .before .before .struct-known .given,
+    )
 
 loop-less : tie.Need-loop-less Inv-loop μ-loop
-loop-less c = omega (arith, c .before .before .before .before .before .before .before .before .before .before .before .before .before .before .before .before .before .before .before .before .before .before .before .loop-test .taken)
+loop-less c =
+    omega (
+      arith,
+      c .before .before .before .before .before .before .before .before .before .before .before .before .before .before .before .before .before .before .before .before .before .before .before .loop-test .taken,
+    )
 
 loop-again : tie.Need-loop-again Inv-loop μ-loop
 loop-again c =
@@ -92,7 +114,8 @@ loop-again c =
       e .kept .1 .1 .1 .1 .1 .0 ∙ l .inv .4,
       c .before .before .before .store .kept .1 .0 ∙ l .inv .5,
       omega (arith, t, e .ensures .1, l .inv .6),
-      round-on (l .left - 1) _ _ _ _ _ _ _ (e .ensures .0) (sym (length-holders _ _ _)) (omega (arith, c .before .before .before .before .before .if1 .left))
+      round-on (l .left - 1) _ _ _ _ _ _ _ (e .ensures .0) (sym (length-holders _ _ _))
+          (omega (arith, c .before .before .before .before .before .if1 .left))
           (c .before .before .before .store .ensures)
           ∙ rw k at (l .inv .7),
     )
@@ -124,29 +147,6 @@ returns-2 c =
 pub run-rounds-spec : {M : Type 1} → statement M
 run-rounds-spec =
     tie.close
-    (tie.spec
-    Inv-loop
-    μ-loop
-    cast-left
-    add-left
-    loop-holds
-    sub-left
-    run-round-requires
-    same-length
-    same-length-2
-    same-length-3
-    same-length-4
-    same-length-5
-    same-length-6
-    returns
-    store-requires
-    add-handed
-    loop-less
-    loop-again
-    same-length-7
-    same-length-8
-    same-length-9
-    same-length-10
-    same-length-11
-    same-length-12
-    returns-2)
+    (tie.spec Inv-loop μ-loop cast-left add-left loop-holds sub-left run-round-requires same-length same-length-2
+    same-length-3 same-length-4 same-length-5 same-length-6 returns store-requires add-handed loop-less loop-again
+    same-length-7 same-length-8 same-length-9 same-length-10 same-length-11 same-length-12 returns-2)

@@ -41,16 +41,29 @@ put-word-requires : tie.Need-put-word-requires Inv-loop μ-loop
 put-word-requires c κs = search needs
 
 add-put-word : tie.Need-add-put-word Inv-loop μ-loop
-add-put-word c = omega (arith, c .before .before .before .before .before .before .before .before .before .before .before .before .before .before .pre, c .before .before .before .before .before .before .before .before .before .loop-test .taken)
+add-put-word c = omega (
+  arith,
+  c .before .before .before .before .before .before .before .before .before .before .before .before .before .before .pre,
+  c .before .before .before .before .before .before .before .before .before .loop-test .taken,
+)
 
 put-word-requires-2 : tie.Need-put-word-requires-2 Inv-loop μ-loop
 put-word-requires-2 c κs = search needs
 
 add-i : tie.Need-add-i Inv-loop μ-loop
-add-i c = omega (arith, c .before .before .before .before .before .before .before .before .before .before .before .before .before .before .before .before .before .pre, c .before .before .before .before .before .before .before .before .before .before .before .before .loop-test .taken)
+add-i c =
+    omega (
+      arith,
+      c .before .before .before .before .before .before .before .before .before .before .before .before .before .before .before .before .before .pre,
+      c .before .before .before .before .before .before .before .before .before .before .before .before .loop-test .taken,
+    )
 
 loop-less : tie.Need-loop-less Inv-loop μ-loop
-loop-less c = omega (arith, c .before .before .before .before .before .before .before .before .before .before .before .before .loop-test .taken)
+loop-less c =
+    omega (
+      arith,
+      c .before .before .before .before .before .before .before .before .before .before .before .before .loop-test .taken,
+    )
 
 loop-again : tie.Need-loop-again Inv-loop μ-loop
 loop-again c =
@@ -58,8 +71,19 @@ loop-again c =
     let p = c .before .before .before .before .before .before .put-word in
     let q = c .before .before .put-word2 in (
       q .kept .0 ∙ p .kept .0 ∙ l .inv .0,
-      omega (arith, c .before .before .before .before .before .before .before .before .before .before .before .before .loop-test .taken),
-      rw (add-one, stored-more, ← l .inv .2, ← c .before .before .before .before .before .before .before .before .before .before .word .ensures, ← c .before .before .before .before .before .before .before .before .word2 .ensures, ← p .ensures) (q .ensures),
+      omega (
+        arith,
+        c .before .before .before .before .before .before .before .before .before .before .before .before .loop-test .taken,
+      ),
+      rw (
+        add-one,
+        stored-more,
+        ← l .inv .2,
+        ← c .before .before .before .before .before .before .before .before .before .before .word .ensures,
+        ← c .before .before .before .before .before .before .before .before .word2 .ensures,
+        ← p .ensures,
+      )
+          (q .ensures),
     )
 
 same-length : tie.Need-same-length Inv-loop μ-loop
@@ -68,27 +92,12 @@ same-length c = search needs
 returns : tie.Need-returns Inv-loop μ-loop
 returns c =
     let l = c .before .loop in
-    let k : l .i ≡ c .before .before .before .before .before .args .holders .count = omega (arith, c .loop-test .left, l .inv .1) in
+    let k : l .i ≡ c .before .before .before .before .before .args .holders .count =
+    omega (arith, c .loop-test .left, l .inv .1) in
     rw k at (l .inv .2)
 
 pub store-spec : {M : Type 1} → statement M
 store-spec =
     tie.close
-    (tie.spec
-    Inv-loop
-    μ-loop
-    loop-holds
-    add-place
-    mul-place
-    slice-aggregate-word
-    word-requires
-    slice-aggregate-word-2
-    word-requires-2
-    put-word-requires
-    add-put-word
-    put-word-requires-2
-    add-i
-    loop-less
-    loop-again
-    same-length
-    returns)
+    (tie.spec Inv-loop μ-loop loop-holds add-place mul-place slice-aggregate-word word-requires slice-aggregate-word-2
+    word-requires-2 put-word-requires add-put-word put-word-requires-2 add-i loop-less loop-again same-length returns)

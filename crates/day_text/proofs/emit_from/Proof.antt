@@ -69,14 +69,5 @@ returns c =
 pub emit-from-spec : {M : Type 1} → statement M
 emit-from-spec =
     tie.close
-    (tie.spec
-    Inv-loop
-    μ-loop
-    loop-holds
-    shared-slice-read-emit
-    emit-requires
-    add-i
-    loop-less
-    loop-again
-    same-length
+    (tie.spec Inv-loop μ-loop loop-holds shared-slice-read-emit emit-requires add-i loop-less loop-again same-length
     returns)

@@ -26,10 +26,5 @@ returns c = c .before .before .emit-from .ensures
 pub emit-number-spec : {M : Type 1} → statement M
 emit-number-spec =
     tie.close
-    (tie.spec
-    slice-aggregate-write-digits
-    write-digits-requires
-    slice-aggregate-emit-from
-    emit-from-requires
-    same-length
-    returns)
+    (tie.spec slice-aggregate-write-digits write-digits-requires slice-aggregate-emit-from emit-from-requires
+    same-length returns)

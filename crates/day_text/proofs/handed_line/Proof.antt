@@ -42,10 +42,4 @@ returns-2 c =
 pub handed-line-spec : {M : Type 1} → statement M
 handed-line-spec =
     tie.close
-    (tie.spec
-    returns
-    emit-number-requires
-    emit-requires
-    emit-two-requires
-    same-length
-    returns-2)
+    (tie.spec returns emit-number-requires emit-requires emit-two-requires same-length returns-2)

@@ -54,13 +54,5 @@ returns-2 c =
 pub jobs-line-spec : {M : Type 1} → statement M
 jobs-line-spec =
     tie.close
-    (tie.spec
-    returns
-    slice-aggregate-emit-from
-    emit-from-requires
-    emit-number-requires
-    slice-aggregate-emit-from-2
-    emit-from-requires-2
-    emit-last-requires
-    same-length
-    returns-2)
+    (tie.spec returns slice-aggregate-emit-from emit-from-requires emit-number-requires slice-aggregate-emit-from-2
+    emit-from-requires-2 emit-last-requires same-length returns-2)

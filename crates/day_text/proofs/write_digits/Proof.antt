@@ -72,16 +72,5 @@ returns-2 c =
 pub write-digits-spec : {M : Type 1} → statement M
 write-digits-spec =
     tie.close
-    (tie.spec
-    Inv-loop
-    μ-loop
-    loop-holds
-    sub-from
-    digit-requires
-    slice-write-bytes
-    same-length
-    returns
-    loop-less
-    loop-again
-    same-length-2
-    returns-2)
+    (tie.spec Inv-loop μ-loop loop-holds sub-from digit-requires slice-write-bytes same-length returns loop-less
+    loop-again same-length-2 returns-2)

@@ -44,15 +44,6 @@ returns-2 c = search needs
 pub main-spec : {M : Type 1} → statement M
 main-spec =
     tie.close
-    (tie.spec
-    slice-aggregate-read-whole
-    read-whole-requires
-    slice-aggregate-write-all
-    write-all-requires
-    returns
-    array-share-prefix-sheet
-    slice-aggregate-day-list-of-two
-    day-list-of-two-requires
-    slice-aggregate-show
-    show-requires
-    returns-2)
+    (tie.spec slice-aggregate-read-whole read-whole-requires slice-aggregate-write-all write-all-requires returns
+    array-share-prefix-sheet slice-aggregate-day-list-of-two day-list-of-two-requires slice-aggregate-show
+    show-requires returns-2)

@@ -32,11 +32,5 @@ returns-3 c = search needs
 pub show-spec : {M : Type 1} → statement M
 show-spec =
     tie.close
-    (tie.spec
-    slice-aggregate-write-all
-    write-all-requires
-    slice-aggregate-write-all-2
-    write-all-requires-2
-    returns
-    returns-2
-    returns-3)
+    (tie.spec slice-aggregate-write-all write-all-requires slice-aggregate-write-all-2 write-all-requires-2 returns
+    returns-2 returns-3)

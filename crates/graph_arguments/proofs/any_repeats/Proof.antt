@@ -5,7 +5,7 @@ use mathlib.Core.Path.{_≡_, refl, sym, _∙_}
 use Prim.Native.Nat.{_≤_, _-_}
 use native.Mathlib.Omega.{arith}
 use lib.ListN.{drop}
-use Rattle.terms.specs.Base.{repeats, prefix}
+use Rattle.basics.specs.Base.{repeats, prefix}
 use Rattle.graph_arguments.proofs.Listed.{again, once, not-again}
 use Rattle.graph_arguments.proofs.any_repeats.Statement.{statement}
 use Rattle.graph_arguments.proofs.any_repeats.Tie as tie

@@ -2,8 +2,8 @@
 -- Assumes nothing.
 use mathlib.Core.List.{[], _∷_}
 use mathlib.Core.Path.{refl}
-use Rattle.terms.specs.Base.{prefix}
-use Rattle.terms.specs.Terms.{mostNames}
+use Rattle.basics.specs.Limits.{mostNames}
+use Rattle.basics.specs.Base.{prefix}
 use Rattle.words.specs.Layout.{none, LOOKING}
 use Rattle.graph_posted_add.proofs.Laws.{worker-record}
 use borrow.Author.Needs.{needs}

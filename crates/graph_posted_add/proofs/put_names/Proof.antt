@@ -7,8 +7,8 @@ use native.Mathlib.Omega.{arith}
 use borrow.Author.Needs.{needs}
 use lib.ListN.{length, drop}
 use lib.Seq.{sets}
-use Rattle.terms.specs.Base.{prefix}
-use Rattle.terms.specs.Terms.{mostNames}
+use Rattle.basics.specs.Limits.{mostNames}
+use Rattle.basics.specs.Base.{prefix}
 use Rattle.graph_posted_add.proofs.Laws.{names-one, names-rest}
 use Rattle.graph_posted_add.proofs.put_names.Statement.{statement}
 use Rattle.graph_posted_add.proofs.put_names.Tie as tie

@@ -1,9 +1,9 @@
 -- `judge` finds the first field off its limits, or the bytes of the entry (docs/NUMBERS.md, 14). Assumes nothing.
-use Rattle.sheet_format.specs.Job.{mostNames, mostClass, mostGrower}
 -- `judge` finds the first field off its limits, or the bytes of the entry (docs/NUMBERS.md, 14). Assumes nothing.
 use native.Mathlib.Omega.{arith}
 use borrow.Author.Tests.{le-leb, lt-leb}
 use borrow.Author.Needs.{needs}
+use Rattle.basics.specs.Limits.{mostNames, mostClass, mostGrower}
 use Rattle.sheet_format.specs.Write.{faultOf}
 use Rattle.sheet_limits.specs.Judge.{judged}
 use Rattle.sheet_limits.proofs.Sizes.{encode-length}

@@ -2,7 +2,8 @@
 use native.Mathlib.Omega.{arith}
 use lib.ListN.{length-set}
 use borrow.Author.Needs.{needs}
-use Rattle.sheet_format.specs.Job.{mostNames, nameBytes}
+use Rattle.basics.specs.Limits.{mostNames}
+use Rattle.sheet_format.specs.Job.{nameBytes}
 use Rattle.sheet_reader.proofs.Stores.{row-stored}
 use Rattle.sheet_reader.proofs.store_row.Statement.{statement}
 use Rattle.sheet_reader.proofs.store_row.Tie as tie

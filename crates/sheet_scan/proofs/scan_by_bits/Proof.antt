@@ -4,7 +4,7 @@ use mathlib.Core.Path.{sym, _∙_}
 use mathlib.Core.Bool.{_&&_}
 use native.Mathlib.Omega.{arith}
 use lib.Dec.{ltb, eqb}
-use Rattle.sheet_format.specs.Job.{mostNames}
+use Rattle.basics.specs.Limits.{mostNames}
 use Rattle.sheet_format.specs.Choice.{both}
 use Rattle.sheet_scan.proofs.Bits.{bit-times, within-most, sure}
 use borrow.Author.Needs.{needs}

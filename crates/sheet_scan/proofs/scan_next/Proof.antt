@@ -4,7 +4,7 @@ use mathlib.Core.Bool.{_&&_}
 use native.Mathlib.Omega.{arith}
 use lib.Dec.{leb, eqb}
 use borrow.Author.Tests.{eqb-true}
-use Rattle.sheet_format.specs.Job.{mostNames}
+use Rattle.basics.specs.Limits.{mostNames}
 use Rattle.sheet_format.specs.Choice.{both}
 use Rattle.sheet_scan.proofs.Bits.{name-alone, name-and-list}
 use borrow.Author.Needs.{needs}

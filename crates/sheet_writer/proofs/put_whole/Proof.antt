@@ -2,7 +2,7 @@
 use mathlib.Core.Path.{_≡_}
 use native.Mathlib.Omega.{arith}
 use lib.ListN.{length}
-use Rattle.sheet_format.specs.Job.{mostNames}
+use Rattle.basics.specs.Limits.{mostNames}
 use Rattle.sheet_limits.proofs.Judging.{few}
 use borrow.Author.Needs.{needs}
 use Rattle.sheet_writer.proofs.put_whole.Statement.{statement}

@@ -1,7 +1,6 @@
 -- `write` answers and leaves what `writeEntry` says, for every entry, output and offset. Assumes nothing.
 use Prim.Native.Nat.{_+_}
 use mathlib.Core.Path.{_≡_, sym, _∙_}
-use native.Mathlib.Omega.{arith}
 use lib.ListN.{length}
 use borrow.Author.Tests.{leb-true}
 use borrow.Author.Needs.{needs}

@@ -42,11 +42,4 @@ returns-2 c =
 pub tg-day-list-spec : {M : Type 1} → statement M
 tg-day-list-spec =
     tie.close
-    (tie.spec
-    day-list-requires
-    enum-known-bytes
-    enum-known-number
-    same-length
-    returns
-    same-length-2
-    returns-2)
+    (tie.spec day-list-requires enum-known-bytes enum-known-number same-length returns same-length-2 returns-2)

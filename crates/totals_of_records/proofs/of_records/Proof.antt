@@ -53,9 +53,10 @@ use denote.Triple.Table.{entered, cited}
 use denote.Triple.Walked.{says, Stays, stay-none-slice, walkOf, goes-none-slice, Walks, ends-at, walked, walk-meets}
 use denote.Triple.Clauses.{ensured, lasts}
 use denote.Exit.{yes}
+use Rattle.terms.specs.Terms.{wrongSizes}
 use Rattle.minutes.specs.Minutes.{fixedMinutes}
 use Rattle.minutes.specs.Rising.{fixed-rising}
-use Rattle.totals.specs.Board.{mostRecords, served, offLimits, refused, totalsOf}
+use Rattle.totals.specs.Board.{mostRecords, served, refused, totalsOf}
 use Rattle.totals_step.specs.Step.{withRecord}
 use Rattle.totals.specs.declared.JobRecord.{JobRecord}
 use Rattle.totals.specs.declared.Totals.{Totals}
@@ -369,13 +370,13 @@ module _ {M : Type 1} (𝓤 : URA M) (H : Heap 𝓤) (A : Atoms 𝓤) (W : Given
           assigns ! (bin ! limit (load ! (from ! (stop !)) (look ! 10 refl)) tt) (from ! (stop !))
           (init ! 8 refl (tt, tt)) $
           first ! $ branches ! (load ! (from ! (stop !)) (look ! 8 refl))
-          (λ many. use0 W (raw (Blank .pre (to-blank offLimits))) (goes-blank offLimits (lit< tt)) $
-          calls-at ! (fmOf 𝓤 H (W .laws) 𝓣) Blank known-blank (to-blank offLimits) (and-then ! (lit ! tt) (no-more !))
-          (λ v. blank-answers ! tt offLimits v (λ is.
-          land ! (from ! (stop !)) (init ! 20 refl (typed (refused offLimits) v is)) $
+          (λ many. use0 W (raw (Blank .pre (to-blank wrongSizes))) (goes-blank wrongSizes (lit< tt)) $
+          calls-at ! (fmOf 𝓤 H (W .laws) 𝓣) Blank known-blank (to-blank wrongSizes) (and-then ! (lit ! tt) (no-more !))
+          (λ v. blank-answers ! tt wrongSizes v (λ is.
+          land ! (from ! (stop !)) (init ! 20 refl (typed (refused wrongSizes) v is)) $
           returns-within ! Post refl (look ! 20 refl) $ forget ! 8 refl $ forget ! 10 refl $ forget ! 18 refl $
           forget ! 20 refl $ move ! (22 ∷ 23 ∷ []) $
-          ends (refused offLimits) v (too-many fixedMinutes ys (ltb→lt mostRecords n many) refl) is)))
+          ends (refused wrongSizes) v (too-many fixedMinutes ys (ltb→lt mostRecords n many) refl) is)))
           (λ few. skips ! $ exec ! C Λ En Mir.t-4 (atRet En Post) $
           use0 W (raw (Blank .pre (to-blank served))) (goes-blank served (lit< tt)) $
           calls-at ! (fmOf 𝓤 H (W .laws) 𝓣) Blank known-blank (to-blank served) (and-then ! (lit ! tt) (no-more !))

@@ -48,14 +48,5 @@ returns c =
 pub add-whole-spec : {M : Type 1} → statement M
 add-whole-spec =
     tie.close
-    (tie.spec
-    post-add-requires
-    mul-most
-    add-most
-    rest-requires
-    same-length
-    same-length-2
-    same-length-3
-    same-length-4
-    same-length-5
-    returns)
+    (tie.spec post-add-requires mul-most add-most rest-requires same-length same-length-2 same-length-3 same-length-4
+    same-length-5 returns)

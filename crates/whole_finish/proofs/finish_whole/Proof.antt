@@ -49,14 +49,5 @@ returns c =
 pub finish-whole-spec : {M : Type 1} → statement M
 finish-whole-spec =
     tie.close
-    (tie.spec
-    post-finish-requires
-    cast-most
-    add-most
-    rest-requires
-    same-length
-    same-length-2
-    same-length-3
-    same-length-4
-    same-length-5
-    returns)
+    (tie.spec post-finish-requires cast-most add-most rest-requires same-length same-length-2 same-length-3
+    same-length-4 same-length-5 returns)

@@ -44,13 +44,5 @@ returns-2 c = sym (ended _ _ _ (sym (c .before .goes-on .ensures) ∙ c .if1 .le
 pub rest-spec : {M : Type 1} → statement M
 rest-spec =
     tie.close
-    (tie.spec
-    goes-on-requires
-    steps-requires
-    same-length
-    same-length-2
-    same-length-3
-    same-length-4
-    same-length-5
-    returns
-    returns-2)
+    (tie.spec goes-on-requires steps-requires same-length same-length-2 same-length-3 same-length-4 same-length-5
+    returns returns-2)

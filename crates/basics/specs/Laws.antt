@@ -1,0 +1,67 @@
+-- Laws of choice by a test, of maps changed at one place and of lists, said once for all crates. Assumes nothing.
+use mathlib.Core.Path.{_≡_, refl, ap}
+use mathlib.Core.Logic.{_≢_}
+use mathlib.Core.Bool.{Bool, true, false, _&&_, _||_}
+use mathlib.Core.List.{List, [], _∷_}
+use Prim.Native.Nat.{ℕ, zero, suc, _<_}
+use native.Mathlib.Omega.{arith}
+use native.Mathlib.Decide.{ℕ-discrete}
+use lib.ListN.{length, getD, set}
+use lib.Seq.{getD-set-same, getD-set-other}
+use borrow.Author.Tests.{eq-eqb, ne-eqb}
+use Rattle.basics.specs.Base.{pick, update, prefix}
+
+-- anything follows where two constructors are said to be equal: then so are 0 and 1
+pub never : {A : Type 0} → _≡_ {A = ℕ} 0 1 → A
+never e = absurd (omega arith)
+
+-- ---- tests
+pub and-left : (a b : Bool) → (a && b) ≡ true → a ≡ true
+and-left true b e = refl
+and-left false b e = e
+
+pub and-right : (a b : Bool) → (a && b) ≡ true → b ≡ true
+and-right true b e = e
+and-right false b e = cc
+
+pub or-left : (a b : Bool) → (a || b) ≡ false → a ≡ false
+or-left true b e = e
+or-left false b e = refl
+
+pub or-right : (a b : Bool) → (a || b) ≡ false → b ≡ false
+or-right true b e = cc
+or-right false b e = e
+
+-- what holds of both sides of a choice holds of the choice
+pub pick-by : {A : Type 0} (Q : A → Type 0) (b : Bool) {x y : A} → (b ≡ true → Q x) → (b ≡ false → Q y) → Q (pick b x y)
+pick-by Q true f g = f refl
+pick-by Q false f g = g refl
+
+-- ---- a map changed at one place
+pub update-same : {A : Type 0} (f : ℕ → A) (i : ℕ) (v : A) → update f i v i ≡ v
+unfolding update
+update-same f i v = rw (eq-eqb i i refl)
+
+pub update-at : {A : Type 0} (f : ℕ → A) (i : ℕ) (v : A) (j : ℕ) → j ≡ i → update f i v j ≡ v
+unfolding update
+update-at f i v j e = rw (eq-eqb j i e)
+
+pub update-other : {A : Type 0} (f : ℕ → A) (i : ℕ) (v : A) (j : ℕ) → j ≢ i → update f i v j ≡ f j
+unfolding update
+update-other f i v j e = rw (ne-eqb j i e)
+
+-- ---- lists
+pub length-prefix : (n : ℕ) (l : List ℕ) → length (prefix n l) ≡ n
+unfolding prefix
+length-prefix zero l = refl
+length-prefix (suc n) [] = ap suc (length-prefix n [])
+length-prefix (suc n) (x ∷ l) = ap suc (length-prefix n l)
+
+-- ---- a fact of all places after a change: of the changed place, and of the others
+pub set-all : {A : Type 0} (P : ℕ → A → Type 0) (l : List A) (j : ℕ) (x d : A) → j < length l → P j x
+    → ((k : ℕ) → k ≢ j → P k (getD l k d))
+    → (k : ℕ) → P k (getD (set l j x) k d)
+set-all P l j x d h a b k = elim (ℕ-discrete k j) [
+  | yes e ↦ rw (e, getD-set-same l j x d h) a
+  | no e ↦ rw (getD-set-other l j k x d e) (b k e)
+]

@@ -1,0 +1,3 @@
+pub mod Base
+pub mod Laws
+pub mod Limits
