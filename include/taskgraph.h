@@ -248,24 +248,27 @@ enum {
 
 /* number 0, holds 1: the worker holds `job`, whose name is `name`.
  * number 0, holds 0: it holds none; job and name are 0.
- * With number 0 `call` says which call is half done; tg_step goes on with it.
+ * With number 0 `call` says which call is half done; tg_step goes on with it. Of an add half done `adds` is
+ * the name of the job that it adds, else 0. A finish frees the hold with its first step, its mark: from then
+ * on no word of the worker has the job's name.
  * number 1, 2 or 9: all else is 0. */
 typedef struct {
-    uint32_t number, holds, job, name, call;
+    uint32_t number, holds, job, name, call, adds;
 } tg_holding;
 
 /* What a worker holds, and whether its call is half done: for a worker that restarts. */
 tg_holding tg_held(tg_sizes sizes, TG_TABLES_READ, uint32_t worker);
 
-/* number 0: drained is 1 where the queue is empty and every worker is idle and holds nothing, else 0.
+/* number 0: drained is 1 where the queue is empty and every worker is idle and without a job, else 0.
  * number 1: a size off its limits or not the one laid out, or a table too short; drained is 0.
- * number 9: damaged words, of any worker or the counters; drained is 0. */
+ * number 9: damaged words, of any worker, the counters or the queue's; drained is 0. */
 typedef struct {
     uint32_t number, drained;
 } tg_drained_answer;
 
-/* Whether nothing is left to do, for a host that wants to stop. In tables that were laid out, and since
- * written by these functions alone, drained 1 means too that every job that entered is finished. */
+/* Whether the queue is empty and every worker idle and without a job: for a host that wants to stop. In
+ * tables that were laid out, and since written by these functions alone, drained 1 means too that every job
+ * that entered is finished. */
 tg_drained_answer tg_drained(tg_sizes sizes, TG_TABLES_READ);
 
 /* The totals of the jobs made.

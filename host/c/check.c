@@ -36,11 +36,12 @@ _Static_assert(offsetof(tg_answer, place) == 8, "tg_answer.place");
 _Static_assert(offsetof(tg_answer, job) == 12, "tg_answer.job");
 _Static_assert(offsetof(tg_answer, name) == 16, "tg_answer.name");
 _Static_assert(sizeof(tg_need) == 48, "tg_need");
-_Static_assert(sizeof(tg_holding) == 20, "tg_holding");
+_Static_assert(sizeof(tg_holding) == 24, "tg_holding");
 _Static_assert(offsetof(tg_holding, holds) == 4, "tg_holding.holds");
 _Static_assert(offsetof(tg_holding, job) == 8, "tg_holding.job");
 _Static_assert(offsetof(tg_holding, name) == 12, "tg_holding.name");
 _Static_assert(offsetof(tg_holding, call) == 16, "tg_holding.call");
+_Static_assert(offsetof(tg_holding, adds) == 20, "tg_holding.adds");
 _Static_assert(sizeof(tg_drained_answer) == 8, "tg_drained_answer");
 _Static_assert(offsetof(tg_drained_answer, drained) == 4, "tg_drained_answer.drained");
 _Static_assert(sizeof(tg_day) == 16, "tg_day");
@@ -415,11 +416,11 @@ static void check_state(void)
     drained("tg_drained, a fresh graph", 0, 1);
     holds("tg_held, a fresh graph", 1, (tg_holding){0});
     answers("tg_post_add", tg_post_add(sizes, LENT, 1, (tg_entry){.name = 7}), posted);
-    holds("tg_held, an add to enter", 1, (tg_holding){.call = TG_CALL_ADD});
+    holds("tg_held, an add to enter", 1, (tg_holding){.call = TG_CALL_ADD, .adds = 7});
     holds("tg_held, the other worker", 0, (tg_holding){.call = TG_CALL_NONE});
     drained("tg_drained, an add half done", 0, 0);
     answers("tg_step", tg_step(sizes, LENT, 1), going_on);
-    holds("tg_held, an add to settle", 1, (tg_holding){.call = TG_CALL_ADD});
+    holds("tg_held, an add to settle", 1, (tg_holding){.call = TG_CALL_ADD, .adds = 7});
     answers("tg_step", tg_step(sizes, LENT, 1), ended);
     drained("tg_drained, a job waits", 0, 0);
     answers("tg_get", tg_get(sizes, LENT, 1), handed_out(0, 7));
@@ -440,7 +441,11 @@ static void check_state(void)
     holds("tg_held, phase 5 of the other worker", 0, (tg_holding){0});
     drained("tg_drained, phase 5", TG_DAMAGED, 0);
     workers[42] = 0;
+    arcs[0] = 9;
+    holds("tg_held, more arcs reserved than there are", 1, (tg_holding){.number = TG_DAMAGED});
+    arcs[0] = 0;
     queue[0] = 2;
+    holds("tg_held, more taken than put", 1, (tg_holding){0});
     drained("tg_drained, more taken than put", TG_DAMAGED, 0);
 }
 

@@ -48,7 +48,7 @@ class tg_need(c.Structure):
 
 
 class tg_holding(c.Structure):
-    _fields_ = _words("number", "holds", "job", "name", "call")
+    _fields_ = _words("number", "holds", "job", "name", "call", "adds")
 
 
 class tg_drained_answer(c.Structure):
@@ -78,14 +78,14 @@ FUNCTIONS: dict[str, tuple[Any, list[Any]]] = {
     "tg_post_finish": (tg_answer, [*_GRAPH, c.c_uint32, c.c_uint32]),
     "tg_step": (tg_answer, [*_GRAPH, c.c_uint32]),
     "tg_get": (tg_answer, [*_GRAPH, c.c_uint32]),
+    "tg_held": (tg_holding, [*_GRAPH, c.c_uint32]),
+    "tg_drained": (tg_drained_answer, [*_GRAPH]),
     "tg_totals_of_graph": (tg_totals, [tg_sizes, *_WORDS]),
     "tg_day_list": (tg_day, [*_BYTES, c.c_uint32, *_BYTES]),
 }
 # Functions that a library may lack.
 OPTIONAL: dict[str, tuple[Any, list[Any]]] = {
     "tg_message": (c.c_char_p, [c.c_uint32]),
-    "tg_held": (tg_holding, [*_GRAPH, c.c_uint32]),
-    "tg_drained": (tg_drained_answer, [*_GRAPH]),
 }
 
 

@@ -56,10 +56,11 @@ class Call(enum.IntEnum):
 
 
 class Holding(NamedTuple):
-    """The job that a worker holds, or None, and the call that it has half done."""
+    """The job that a worker holds, or None; the call that it has half done; of an add half done the name, or None."""
 
     job: Job | None
     call: Call
+    adds: int | None
 
 
 class Labels(NamedTuple):
@@ -146,7 +147,8 @@ class Graph:
     def held(self, worker: int) -> Holding:
         """What a worker holds, for a process that takes its number over. Refused by 1, 2 or 9."""
         holding = self._read("tg_held", _worker(worker))
-        return Holding(Job(holding.job, holding.name) if holding.holds else None, Call(holding.call))
+        job = Job(holding.job, holding.name) if holding.holds else None
+        return Holding(job, Call(holding.call), holding.adds if holding.call == Call.ADD else None)
 
     def drained(self) -> bool:
         """Whether no job waits, none is held and no call is half done. Refused by 1 or 9."""
@@ -205,9 +207,7 @@ class Graph:
         return answer
 
     def _read(self, name: str, *more: object) -> Any:
-        """One call of a function that the library may lack."""
-        if not hasattr(self._library, name):
-            raise NotImplementedError(f"this libtaskgraph has no {name}: it is older than the function")
+        """One call of a function that changes no word."""
         answer = self._called(name, *more)
         if answer.number:
             raise Refusal(answer.number)

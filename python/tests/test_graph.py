@@ -6,7 +6,7 @@ import unittest
 from multiprocessing.shared_memory import SharedMemory
 
 from support import SMALL
-from taskgraph import Call, Entry, Graph, Holding, Job, Refusal, Sizes, Words, _library
+from taskgraph import Call, Entry, Graph, Holding, Job, Refusal, Sizes, Words
 
 
 class Counter:
@@ -77,24 +77,20 @@ class Calls(unittest.TestCase):
 
     def test_held_and_drained(self):
         graph = Graph(SMALL)
-        if not hasattr(_library.library(), "tg_held"):
-            for call in (lambda: graph.held(0), graph.drained):
-                self.assertRaisesRegex(NotImplementedError, "has no tg_", call)
-            return
         self.assertTrue(graph.drained())
-        self.assertEqual(graph.held(0), Holding(None, Call.NONE))
-        graph.post_add(0, Entry(0))
-        self.assertEqual(graph.held(0), Holding(None, Call.ADD))
+        self.assertEqual(graph.held(0), Holding(None, Call.NONE, None))
+        graph.post_add(0, Entry(7))
+        self.assertEqual(graph.held(0), Holding(None, Call.ADD, 7))
         self.assertFalse(graph.drained())
         steps(graph, 0)
         self.assertFalse(graph.drained())
         graph.get(1)
-        self.assertEqual(graph.held(1), Holding(Job(0, 0), Call.NONE))
+        self.assertEqual(graph.held(1), Holding(Job(0, 7), Call.NONE, None))
         self.assertFalse(graph.drained())
-        graph.post_finish(1, 0)
-        self.assertEqual(graph.held(1), Holding(Job(0, 0), Call.FINISH))
+        graph.post_finish(1, 7)
+        self.assertEqual(graph.held(1), Holding(Job(0, 7), Call.FINISH, None))
         steps(graph, 1)
-        self.assertEqual(graph.held(1), Holding(None, Call.NONE))
+        self.assertEqual(graph.held(1), Holding(None, Call.NONE, None))
         self.assertTrue(graph.drained())
         with self.assertRaises(Refusal) as caught:
             graph.held(2)

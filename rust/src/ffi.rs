@@ -162,15 +162,17 @@ pub struct Holding {
     pub name: u32,
     /// [`CALL_NONE`](crate::raw::CALL_NONE), or the call that is half done.
     pub call: u32,
+    /// The name of the job that an add half done adds, else 0.
+    pub adds: u32,
 }
 
-/// Whether nothing is left to do.
+/// Whether the queue is empty and every worker idle and without a job.
 #[repr(C)]
 #[derive(Clone, Copy, Debug, Default, PartialEq, Eq)]
 pub struct DrainedAnswer {
     /// 0, 1 or 9.
     pub number: u32,
-    /// 1 where no job waits and every worker is idle and holds nothing, else 0.
+    /// 1 where it is so, else 0.
     pub drained: u32,
 }
 
@@ -194,7 +196,7 @@ const _: () = assert!(size_of::<Totals>() == 28);
 const _: () = assert!(size_of::<Sizes>() == 16);
 const _: () = assert!(size_of::<Answer>() == 20);
 const _: () = assert!(size_of::<Need>() == 48);
-const _: () = assert!(size_of::<Holding>() == 20);
+const _: () = assert!(size_of::<Holding>() == 24);
 const _: () = assert!(size_of::<DrainedAnswer>() == 8);
 const _: () = assert!(size_of::<Day>() == 16);
 
@@ -314,7 +316,7 @@ extern "C" {
         workers_len: usize,
         worker: u32,
     ) -> Holding;
-    /// Whether nothing is left to do.
+    /// Whether the queue is empty and every worker idle and without a job.
     pub fn tg_drained(
         sizes: Sizes,
         jobs: *const u32,

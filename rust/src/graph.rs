@@ -17,8 +17,11 @@ pub struct HandedOut {
 /// A call that was posted and has not ended.
 #[derive(Clone, Copy, Debug, PartialEq, Eq, Hash)]
 pub enum HalfDone {
-    /// An add.
-    Add,
+    /// An add of a job of this name.
+    Add {
+        /// The name of the job.
+        name: u32,
+    },
     /// A finish.
     Finish,
 }
@@ -38,7 +41,7 @@ impl Holding {
         let job = (answer.holds == 1).then_some(HandedOut { job: answer.job, name: answer.name });
         let call = match answer.call {
             CALL_NONE => None,
-            CALL_ADD => Some(HalfDone::Add),
+            CALL_ADD => Some(HalfDone::Add { name: answer.adds }),
             _ => Some(HalfDone::Finish),
         };
         Ok(Holding { job, call })
@@ -139,8 +142,8 @@ pub trait TaskGraph {
         Holding::of(raw::held(self.sizes(), self.words(), worker))
     }
 
-    /// Whether nothing is left to do: no job waits, no worker holds one, and no call is half done. Where only these
-    /// calls wrote the words, every job that entered is finished then.
+    /// Whether no job waits, no worker holds one, and no call is half done. Where only these calls wrote the words,
+    /// every job that entered is finished then.
     ///
     /// # Errors
     /// 1 or 9, where the words are not those of a graph of these sizes.

@@ -109,7 +109,7 @@ pub fn held(sizes: Sizes, tables: [&[u32]; 5], worker: u32) -> Holding {
     ask!(tg_held, sizes, tables, worker)
 }
 
-/// Whether nothing is left to do; the tables are in the order of [`Tables`].
+/// Whether the queue is empty and every worker idle and without a job; the tables are in the order of [`Tables`].
 pub fn drained(sizes: Sizes, tables: [&[u32]; 5]) -> DrainedAnswer {
     ask!(tg_drained, sizes, tables)
 }

@@ -141,7 +141,7 @@ impl SharedGraph {
         self.call(|graph| graph.held(worker))
     }
 
-    /// Whether nothing is left to do.
+    /// Whether no job waits, no worker holds one, and no call is half done.
     ///
     /// # Errors
     /// As [`TaskGraph::drained`], and as [`lock`](SharedGraph::lock).

@@ -42,7 +42,7 @@ fn what_a_worker_holds() {
     let mut graph = fresh();
     assert_eq!(graph.drained(), Ok(true));
     assert_eq!(graph.post_add(1, &Job::new(7, &[])), Ok(()));
-    assert_eq!(graph.held(1), Ok(Holding { job: None, call: Some(HalfDone::Add) }));
+    assert_eq!(graph.held(1), Ok(Holding { job: None, call: Some(HalfDone::Add { name: 7 }) }));
     assert_eq!(graph.held(0), Ok(Holding::default()));
     assert_eq!(graph.drained(), Ok(false), "a call is half done");
     assert_eq!(graph.run(1), Ok(()));
@@ -58,6 +58,11 @@ fn what_a_worker_holds() {
     // The phase of worker 1.
     graph.tables().workers[42] = 5;
     assert_eq!((graph.held(1), graph.drained()), (Err(Refusal::Damaged), Err(Refusal::Damaged)));
+    graph.tables().workers[42] = 0;
+    assert_eq!(graph.held(1), Ok(Holding::default()));
+    // The jobs made.
+    graph.tables().jobs[4] = u32::MAX;
+    assert_eq!(graph.held(1), Err(Refusal::Damaged));
 }
 
 #[test]

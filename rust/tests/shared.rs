@@ -135,7 +135,7 @@ fn a_call_left_half_done_is_stepped_on() {
     assert!(matches!(refused, SharedError::Refused(Refusal::HalfDone)));
     assert_eq!(graph.get(0).expect("worker 0 is served"), Some(HandedOut { job: 0, name: 1 }));
     let held = graph.held(1).expect("worker 1 is one of four");
-    assert_eq!(held, Holding { job: None, call: Some(HalfDone::Add) });
+    assert_eq!(held, Holding { job: None, call: Some(HalfDone::Add { name: 2 }) });
     graph.run(1).expect("the add goes on");
     graph.finish(0, 1).expect("worker 0 holds job 1");
     assert_eq!(graph.get(1).expect("worker 1 is idle"), Some(HandedOut { job: 1, name: 2 }));

@@ -4,7 +4,8 @@ ghost use mathlib.Core.Path.{_≡_};
 ghost use mathlib.Core.List.{List};
 ghost use Prim.Native.Nat.{ℕ};
 ghost use Rattle.words.specs.Layout.{tables, atEntry, view};
-ghost use Rattle.worker_state.specs.Held.{callOf, refused, holdingOf, heldWords};
+ghost use Rattle.worker_state.specs.Held.{callOf, addsOf, refused, holdingOf, counted, heldWords};
+use graph_own::counters_ok;
 use graph_own::own_ok;
 use graph_sizes::sizes_fit;
 use graph_words::job_word;
@@ -33,12 +34,21 @@ fn call_of(phase: u32) -> u32
     if adding { AN_ADD } else { A_FINISH }
 }
 
+// The name of the add half done, of the worker's words: 0 where its call is none.
+fn adds_of(call: u32, name: u32) -> u32
+    ensures { λ r. ⌜ r ≡ addsOf call name ⌝ }
+{
+    let adding = call == AN_ADD;
+    if adding { name } else { 0 }
+}
+
 // The held job's name is read only where there is one.
 fn holding_of(jobs: &[u32], workers: &[u32], worker: u32) -> Holding
     ensures { λ r. ⌜ ((arcs buckets queue : List ℕ)
         → r ≡ holdingOf (view (tables (now (jobs .entry)) arcs buckets queue (now (workers .entry)))) worker) ⌝ }
 {
     let call = call_of(worker_word(workers, worker, PHASE));
+    let adds = adds_of(call, worker_word(workers, worker, OWN_NAME));
     let held = worker_word(workers, worker, HELD);
     let none = held == NONE;
     if none {
@@ -48,6 +58,7 @@ fn holding_of(jobs: &[u32], workers: &[u32], worker: u32) -> Holding
             job: 0,
             name: 0,
             call,
+            adds,
         }
     } else {
         Holding {
@@ -56,6 +67,7 @@ fn holding_of(jobs: &[u32], workers: &[u32], worker: u32) -> Holding
             job: held,
             name: job_word(jobs, held, NAME),
             call,
+            adds,
         }
     }
 }
@@ -69,6 +81,21 @@ fn refused(number: u32) -> Holding
         job: 0,
         name: 0,
         call: 0,
+        adds: 0,
+    }
+}
+
+// The counters are read too, as every call with a worker reads them.
+fn counted(sizes: Sizes, jobs: &[u32], arcs: &[u32], workers: &[u32], worker: u32) -> Holding
+    ensures { λ r. ⌜ ((buckets queue : List ℕ)
+        → r ≡ counted sizes (view (tables (now (jobs .entry)) (now (arcs .entry)) buckets queue (now (workers .entry))))
+        worker) ⌝ }
+{
+    let sound = counters_ok(sizes, jobs, arcs);
+    if sound {
+        holding_of(jobs, workers, worker)
+    } else {
+        refused(DAMAGED)
     }
 }
 
@@ -90,7 +117,7 @@ pub fn held(
         if known {
             let sound = own_ok(sizes, jobs, arcs, workers, worker);
             if sound {
-                holding_of(jobs, workers, worker)
+                counted(sizes, jobs, arcs, workers, worker)
             } else {
                 refused(DAMAGED)
             }

@@ -75,7 +75,7 @@ neither true b e = e
 neither false b e = refl
 
 -- a place that is none or in use is none, or lies within its size
-place-cases : {A : Type 0} (j c n : ℕ) → placeOk j c n ≡ true
+pub place-cases : {A : Type 0} (j c n : ℕ) → placeOk j c n ≡ true
     → (eqb j none ≡ true → A) → (eqb j none ≡ false → ltb j n ≡ true → A) → A
 place-cases j c n e f g = test (eqb j none) f (λ h. g h (right (ltb j c) (ltb j n) (rw h at e)))
 
@@ -201,7 +201,7 @@ module _ (s : Sizes) (v : View) (made : leb (v .made) (s .jobs) ≡ true)
           (λ _. settle z _ _ _ o))
 
 -- a worker's own words: its hold, the job and the arc of its call are none or in use
-own-places : (s : Sizes) (v : View) (w : ℕ) → ownOk s v w ≡ true
+pub own-places : (s : Sizes) (v : View) (w : ℕ) → ownOk s v w ≡ true
     → (placeOk (v .worker HELD w) (v .made) (s .jobs) ≡ true)
     × (placeOk (v .worker OWN-JOB w) (v .made) (s .jobs) ≡ true)
     × (placeOk (v .worker OWN-ARC w) (v .reserved) (s .arcs) ≡ true)

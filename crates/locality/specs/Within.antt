@@ -35,7 +35,7 @@ length-adding held a = rw (length-prefix mostNames (listed a))
 
 -- ---- words behind tables that are long enough stay as they are, and no call tells them
 module _ (s : Sizes) (t r : Tables) (e : longEnough s t ≡ true) where
-  admitted-joined : {A : Type 0} (w : ℕ) (refuse : ℕ → A) (x : View → A)
+  pub admitted-joined : {A : Type 0} (w : ℕ) (refuse : ℕ → A) (x : View → A)
       → ((v : View) → ltb w (s .workers) ≡ true → ownOk s v w ≡ true → x v ≡ x (clip s v))
       → admitted s (joined t r) w refuse (x (view (joined t r))) ≡ admitted s t w refuse (x (view t))
   unfolding admitted
@@ -128,7 +128,7 @@ turned-away t (postFinish s w f) e = rw e
 turned-away t (step s w) e = rw e
 turned-away t (get s w) e = rw e
 
-too-short : (s : Sizes) (t : Tables) → longEnough s t ≡ false → sizesFit s t ≡ false
+pub too-short : (s : Sizes) (t : Tables) → longEnough s t ≡ false → sizesFit s t ≡ false
 too-short s t e = rw (e, and-false (withinLimits s))
 
 -- the tables' lengths and the sizes that they keep stay, whatever the item

@@ -26,16 +26,16 @@ use Rattle.basics.specs.Limits.{mostNames}
 use Rattle.basics.specs.Base.{pick, contains, occurrences}
 use Rattle.bucket.specs.Bucket.{bucketOf}
 use Rattle.terms.specs.Terms.{Arguments, withinLimits, sameSizes, wrongSizes, noSuchWorker, damaged}
-use Rattle.terms.specs.Terms.{mostWorkers, Finish}
+use Rattle.terms.specs.Terms.{halfDone, nothingToStep, mostWorkers, Finish}
 use Rattle.terms.specs.Runs.{Item, step, get, sizesOf, workerOf, outcome, after, events}
 use Rattle.terms.specs.Seen.{Same, idle, handOut}
 use Rattle.terms.specs.declared.Sizes.{Sizes}
 use Rattle.terms.specs.declared.HandOut.{HandOut}
-use Rattle.terms.specs.declared.Answer.the-variants.{Laid, Ended, NoneReady, Handed, Refused}
+use Rattle.terms.specs.declared.Answer.the-variants.{Laid, Posted, Ended, NoneReady, Handed, Refused}
 use Rattle.words.specs.Layout.{Tables, view, workerShape, NAME, LABEL, HELD, LIST-COUNT, NAMES, IDLE, bareWorker}
 use Rattle.words.specs.Layout.{roomFor}
 use Rattle.words.specs.Layout as words
-use Rattle.words.specs.Words.{putWorker, perform, layOut}
+use Rattle.words.specs.Words.{putWorker, finishWords, stepWords, getWords, perform, layOut}
 use Rattle.words.specs.Observed.{waiting, bucketFrom, newestFirst, seen}
 use Rattle.rules.specs.Rules.{empty}
 use Rattle.rules.specs.Rules as rules
@@ -70,8 +70,10 @@ use Rattle.graph_board.specs.Accounted.{Accounted}
 use Rattle.board_history.specs.Minutes.{accounted}
 use Rattle.worker_state.specs.Held.{heldWords}
 use Rattle.worker_state.specs.Drained.{drainedWords}
-use Rattle.state_history.specs.Told.{callRead, holdingSeen}
+use Rattle.state_history.specs.Told.{heldRead, turnedAway, told}
 use Rattle.state_history.specs.Numbers as state-numbers
+use Rattle.state_history.specs.Need as state-need
+use Rattle.state_history.specs.Agrees as state-agrees
 use Rattle.state_history.specs.Theorem as state
 use Rattle.starred_cases.specs.StarredCases.{Starred, every-row}
 
@@ -203,24 +205,33 @@ module _ (s : Sizes) (t : Tables) (laid : layOut s t .answer ≡ Laid) (items : 
       → Accounted graphTotals table s (at-end .jobs) (acceptedAdds (read .calls))
   the-board-accounts-for-every-job table = accounted table s t laid items
 
-  -- ---- a worker that restarts is told what is seen of its hold, the job and its name or none, and of its call what is
-  -- read off items and answers: none where none is half done, an add where one is, a finish where one is.
-  pub a-worker-is-told-what-it-holds : (w : ℕ) → w < s .workers
-      → heldWords s at-end w ≡ holdingSeen (seen at-end) (seen at-end .held w) (callRead (read .pending w))
+  -- ---- a worker that restarts is told what items and answers alone say: the job that was handed out to it last, under
+  -- the name of that job's add, unless a finish of it was accepted since, and then none; and its call half done, of an
+  -- add the name too. Whatever sizes and worker it asks with: 1 unless the sizes are those laid out, then 2 unless w is
+  -- below P.
+  pub a-worker-is-told-what-it-holds : (q : Sizes) (w : ℕ) → heldWords q at-end w ≡ told q s read w
   a-worker-is-told-what-it-holds = state.held s t laid items
 
-  -- ---- a host that wants to stop is never refused,
-  pub drained-is-never-refused : drainedWords s at-end .number ≡ 0
-  drained-is-never-refused = state.never-refused s t laid items
+  -- What is seen of its hold is the same.
+  pub a-hold-is-read-off-the-calls : (w : ℕ) → w < s .workers → seen at-end .held w ≡ heldRead read w
+  a-hold-is-read-off-the-calls = state.hold s t laid items
 
-  -- is told that the graph is drained exactly if no call is half done, no worker holds a job and nothing waits,
-  pub drained-exactly : (drainedWords s at-end .drained ≡ 1)
-      ↔ (Quiet read × ((w : ℕ) → w < s .workers → seen at-end .held w ≡ none) × (seen at-end .waiting ≡ []))
+  -- ---- a host that wants to stop is refused by 1 where it asks with other sizes, and else never;
+  pub drained-is-refused-for-other-sizes : (q : Sizes)
+      → drainedWords q at-end .number ≡ pick (sameSizes q s) 0 wrongSizes
+  drained-is-refused-for-other-sizes = state.drained-number s t laid items
+
+  -- it is told that the graph is drained exactly if no call is half done, no worker holds a job and nothing waits,
+  pub drained-exactly : (q : Sizes) → (drainedWords q at-end .drained ≡ 1)
+      ↔ ((sameSizes q s ≡ true) × Quiet read
+      × ((w : ℕ) → w < s .workers → seen at-end .held w ≡ none)
+      × (seen at-end .waiting ≡ []))
   drained-exactly = state.drained-exactly s t laid items
 
   -- and then every job that entered is finished.
-  pub what-is-told-drained-is-finished : drainedWords s at-end .drained ≡ 1 → (j : ℕ)
-      → j < length (acceptedAdds (read .calls)) → JobFinished (seen at-end) (read .calls) j
+  pub what-is-told-drained-is-finished : (q : Sizes) → drainedWords q at-end .drained ≡ 1
+      → (j : ℕ) → j < length (acceptedAdds (read .calls))
+      → JobFinished (seen at-end) (read .calls) j
   what-is-told-drained-is-finished = state.drained-finished s t laid items
 
 -- ---- of ALL tables, damaged ones too, and every item
@@ -278,6 +289,43 @@ module _ (s : Sizes) (t : Tables) where
 
   pub drained-is-refused-by-1-or-9 : contains (drainedWords s t .number) (0 ∷ wrongSizes ∷ damaged ∷ []) ≡ true
   drained-is-refused-by-1-or-9 = state-numbers.drained-number s t
+
+  -- A refusal has 0 in all else, and drained is 0 or 1.
+  pub held-refused-tells-nothing : (w : ℕ) → heldWords s t w .number ≢ 0
+      → heldWords s t w ≡ turnedAway (heldWords s t w .number)
+  held-refused-tells-nothing = state-numbers.held-refused s t
+
+  pub drained-is-0-or-1 : (drainedWords s t .drained ≤ 1)
+      × (drainedWords s t .number ≢ 0 → drainedWords s t .drained ≡ 0)
+  drained-is-0-or-1 = state-numbers.drained-refused s t
+
+  -- What is told agrees with what the calls answer: where the number is 0, a call of 0 is one whose step is refused by
+  -- 4, and another one where a get is refused by 3;
+  pub no-call-is-told-where-a-step-is-refused-by-4 : (w : ℕ) → heldWords s t w .number ≡ 0
+      → (heldWords s t w .call ≡ 0) ↔ (stepWords s t w .answer ≡ Refused nothingToStep 0)
+  no-call-is-told-where-a-step-is-refused-by-4 = state-agrees.step-by-4 s t
+
+  pub a-call-is-told-where-a-get-is-refused-by-3 : (w : ℕ) → heldWords s t w .number ≡ 0
+      → (heldWords s t w .call ≢ 0) ↔ (getWords s t w .answer ≡ Refused halfDone 0)
+  a-call-is-told-where-a-get-is-refused-by-3 = state-agrees.get-by-3 s t
+
+  -- a worker told idle with a job of a name is one whose finish of that name is taken;
+  pub the-name-told-is-the-one-that-finishes : (w name : ℕ)
+      → ((heldWords s t w .number ≡ 0) × (heldWords s t w .call ≡ 0)
+      × (heldWords s t w .holds ≡ 1)
+      × (heldWords s t w .name ≡ name))
+      ↔ (finishWords s t w name .answer ≡ Posted)
+  the-name-told-is-the-one-that-finishes = state-agrees.finish-taken s t
+
+  -- and the graph is told drained exactly if a get of every worker says "none ready".
+  pub drained-is-none-ready-for-all : 1 ≤ s .workers
+      → (drainedWords s t .drained ≡ 1) ↔ ((w : ℕ) → w < s .workers → getWords s t w .answer ≡ NoneReady)
+  drained-is-none-ready-for-all = state-agrees.drained-by-gets s t
+
+  -- Neither looks at a word past the need.
+  pub held-and-drained-read-within-the-need : (u : Tables) (w : ℕ) → needed s t ≡ needed s u
+      → (heldWords s t w ≡ heldWords s u w) × (drainedWords s t ≡ drainedWords s u)
+  held-and-drained-read-within-the-need u = state-need.not-read s t u
 
 -- Laying out succeeds exactly if the sizes lie in their limits and each table is long enough; then the words needed are
 -- a fresh graph, whatever they were, and the rest is as it was. Else it is refused by 1, and nothing is changed.

@@ -1,50 +1,84 @@
 -- Over all tables, damaged ones too: neither question is turned away by another number than 1, 2 and 9, and that of a
--- drained graph not by 2. Follows document 01, "Turned-away calls". Assumes nothing.
+-- drained graph not by 2; and a refusal tells nothing else. Follows docs/RULES.md, "Turned-away calls". Assumes nothing.
 use mathlib.Core.Path.{_≡_, refl}
+use mathlib.Core.Logic.{_≢_}
 use mathlib.Core.Bool.{Bool, true, false}
 use mathlib.Core.List.{[], _∷_}
-use Prim.Native.Nat.{ℕ}
+use Prim.Native.Nat.{ℕ, _≤_}
+use native.Mathlib.Omega.{arith}
 use lib.Dec.{ltb}
 use Rattle.basics.specs.Base.{pick, contains}
 use Rattle.terms.specs.Terms.{wrongSizes, noSuchWorker, damaged}
 use Rattle.terms.specs.declared.Sizes.{Sizes}
 use Rattle.words.specs.Layout.{HELD, Tables, view, sizesFit}
-use Rattle.words.specs.Words.{isPlace, ownOk, admitted}
-use Rattle.worker_state.specs.Held.{refused, holdingOf, heldWords}
+use Rattle.words.specs.Words.{isPlace, countersOk, ownOk, admitted}
+use Rattle.worker_state.specs.Held.{refused, holdingOf, counted, heldWords}
 use Rattle.worker_state.specs.Drained.{wordsOk, isDrained, judged, drainedWords}
 use Rattle.worker_state.specs.Drained as drained
 use Rattle.worker_state.specs.declared.Holding.{Holding}
 use Rattle.worker_state.specs.declared.Drained.{Drained}
+use Rattle.state_history.specs.Told.{turnedAway}
 
 -- what is told without a refusal has number 0
 served : (b : Bool) (x y : Holding) → x .number ≡ 0 → y .number ≡ 0 → pick b x y .number ≡ 0
 served true x y e f = e
 served false x y e f = f
 
+-- the two questions, by the outcome of each test
+abbrev asked : Bool → Bool → Bool → Bool → Holding → Holding
+asked a b c d h =
+    pick a (pick b (pick c (pick d h (refused damaged)) (refused damaged)) (refused noSuchWorker)) (refused wrongSizes)
+
+abbrev stopped : Bool → Bool → Bool → Drained
+stopped a b c = pick a (pick b (judged c) (drained.refused damaged)) (drained.refused wrongSizes)
+
 -- served, or turned away by a number of the list
 module _ (s : Sizes) (t : Tables) where
   pub held-number : (w : ℕ) → contains (heldWords s t w .number) (0 ∷ wrongSizes ∷ noSuchWorker ∷ damaged ∷ []) ≡ true
-  unfolding heldWords admitted holdingOf contains
+  unfolding heldWords admitted counted holdingOf contains
   held-number w =
-      go (sizesFit s t) (ltb w (s .workers)) (ownOk s (view t) w) (holdingOf (view t) w)
+      go (sizesFit s t) (ltb w (s .workers)) (ownOk s (view t) w) (countersOk s (view t)) (holdingOf (view t) w)
       (served (isPlace (view t .worker HELD w)) _ _ refl refl)
     where
-      go : (a b c : Bool) (h : Holding) → h .number ≡ 0
-          → contains (pick a (pick b (pick c h (refused damaged)) (refused noSuchWorker)) (refused wrongSizes) .number)
-          (0 ∷ wrongSizes ∷ noSuchWorker ∷ damaged ∷ []) ≡ true
-      go true true true h e = rw e
-      go true true false h e = refl
-      go true false c h e = refl
-      go false b c h e = refl
+      go : (a b c d : Bool) (h : Holding) → h .number ≡ 0
+          → contains (asked a b c d h .number) (0 ∷ wrongSizes ∷ noSuchWorker ∷ damaged ∷ []) ≡ true
+      go true true true true h e = rw e
+      go true true true false h e = refl
+      go true true false d h e = refl
+      go true false c d h e = refl
+      go false b c d h e = refl
 
   pub drained-number : contains (drainedWords s t .number) (0 ∷ wrongSizes ∷ damaged ∷ []) ≡ true
   unfolding drainedWords contains
-  drained-number = go (sizesFit s t) (wordsOk s (view t))
+  drained-number = go (sizesFit s t) (wordsOk s (view t)) (isDrained s (view t))
     where
-      go : (a b : Bool) → contains
-          (pick {A = Drained} a (pick b (judged (isDrained s (view t))) (drained.refused damaged))
-          (drained.refused wrongSizes) .number)
-          (0 ∷ wrongSizes ∷ damaged ∷ []) ≡ true
-      go true true = refl
-      go true false = refl
-      go false b = refl
+      go : (a b c : Bool) → contains (stopped a b c .number) (0 ∷ wrongSizes ∷ damaged ∷ []) ≡ true
+      go true true c = refl
+      go true false c = refl
+      go false b c = refl
+
+  -- ---- with a number that is not 0, all else is 0; and drained is 0 or 1
+  pub held-refused : (w : ℕ) → heldWords s t w .number ≢ 0 → heldWords s t w ≡ turnedAway (heldWords s t w .number)
+  unfolding heldWords admitted counted holdingOf
+  held-refused w =
+      go (sizesFit s t) (ltb w (s .workers)) (ownOk s (view t) w) (countersOk s (view t)) (holdingOf (view t) w)
+      (served (isPlace (view t .worker HELD w)) _ _ refl refl)
+    where
+      go : (a b c d : Bool) (h : Holding) → h .number ≡ 0 → asked a b c d h .number ≢ 0
+          → asked a b c d h ≡ turnedAway (asked a b c d h .number)
+      go true true true true h e n = absurd (n e)
+      go true true true false h e n = refl
+      go true true false d h e n = refl
+      go true false c d h e n = refl
+      go false b c d h e n = refl
+
+  pub drained-refused : (drainedWords s t .drained ≤ 1)
+      × (drainedWords s t .number ≢ 0 → drainedWords s t .drained ≡ 0)
+  unfolding drainedWords
+  drained-refused = go (sizesFit s t) (wordsOk s (view t)) (isDrained s (view t))
+    where
+      go : (a b c : Bool) → (stopped a b c .drained ≤ 1) × (stopped a b c .number ≢ 0 → stopped a b c .drained ≡ 0)
+      go true true true = (omega arith, λ n. absurd (n refl))
+      go true true false = (omega arith, λ n. refl)
+      go true false c = (omega arith, λ n. refl)
+      go false b c = (omega arith, λ n. refl)

@@ -1,5 +1,6 @@
--- After any items from tables that were laid out: a worker is told what is seen and what call it has half done, and the
--- graph is told drained exactly where nothing waits, no call is half done and no worker holds a job. Assumes nothing.
+-- After any items from tables that were laid out, asked with any sizes and of any worker: a worker is told what items
+-- and answers say of its hold and its call, and the graph is told drained exactly where nothing waits, no call is half
+-- done and no worker holds a job. Assumes nothing.
 use mathlib.Core.Path.{_≡_, refl, sym, ap, _∙_}
 use mathlib.Core.Logic.{_↔_}
 use mathlib.Core.Bool.{Bool, true, false, _||_, not}
@@ -8,48 +9,54 @@ use mathlib.Core.Option.{Option, none, some}
 use Prim.Native.Nat.{ℕ, zero, suc, _+_, _<_}
 use native.Mathlib.Omega.{arith}
 use native.Mathlib.Decide.{decLt}
-use lib.Dec.{eqb}
+use lib.Dec.{ltb, eqb}
 use lib.ListN.{length}
-use borrow.Author.Tests.{eq-eqb, lt-ltb, le-leb, eqb-true}
+use borrow.Author.Tests.{eq-eqb, le-leb, ltb-true, eqb-true}
 use Rattle.basics.specs.Base.{pick}
 use Rattle.basics.specs.Laws.{never}
+use Rattle.terms.specs.Terms.{Arguments, sameSizes}
 use Rattle.terms.specs.Runs.{Item, after, events}
-use Rattle.terms.specs.Seen.{Seen}
+use Rattle.terms.specs.Seen.{JobSeen, Same}
 use Rattle.terms.specs.declared.Sizes.{Sizes}
 use Rattle.terms.specs.declared.Answer.the-variants.{Laid}
-use Rattle.words.specs.Layout.{Tables, view, PHASE, HELD, IDLE, LOOKING, LINKING}
+use Rattle.words.specs.Layout.{Tables, view, NAME, PHASE, HELD, IDLE, LOOKING, LINKING}
 use Rattle.words.specs.Layout as words
-use Rattle.words.specs.Words.{ownOk, admitted, perform, layOut}
+use Rattle.words.specs.Words.{countersOk, ownOk, admitted, perform, layOut}
 use Rattle.words.specs.Observed.{seen}
 use Rattle.rules.specs.Rules.{Call, idle, looking, linking, marking, notifying, Graph, empty}
 use Rattle.rules.specs.Rules as rules
+use Rattle.rules.specs.Observed as rules-seen
 use Rattle.rules.specs.Sound.{Sound, started}
+use Rattle.sequential_model.specs.Book.{blank}
 use Rattle.linearization.specs.Calls.{Pending, adding, finishing, Reading, reading, Quiet, acceptedAdds}
 use Rattle.linearization.specs.Calls as reading
-use Rattle.linearizability.specs.Demand.{JobFinished}
+use Rattle.linearizability.specs.Demand.{addOf, JobFinished}
 use Rattle.rules_history.specs.History.{History, start, PacedCall}
 use Rattle.rules_history.specs.Onward.{entriesBy, onward}
 use Rattle.rules_invariant.specs.Sound.{sound}
 use Rattle.rules_follow_model.specs.Paced.{paced}
 use Rattle.rules_follow_model.specs.Steps.{pending-there}
+use Rattle.locality.specs.Parts.{test}
 use Rattle.representation.specs.Rep.{Ghost, CallRep}
 use Rattle.representation_kept.specs.Stand.{both}
 use Rattle.representation_kept.specs.Queue.{waiting-queue, put-there, queue-end}
-use Rattle.words_refine_rules.specs.Own.{and-true, sizes-fit, counters-ok, own-ok}
-use Rattle.words_history.specs.Theorem.{Reached, after-items, same-events}
+use Rattle.words_refine_rules.specs.Own.{and-true, same-sizes, sizes-fit, sizes-decide, counters-ok, own-ok}
+use Rattle.words_history.specs.Theorem.{Reached, after-items, same-events, demand}
 use Rattle.words_history.specs.Lifted as lifted
-use Rattle.worker_state.specs.Held.{callOf, holdingOf, heldWords, holdingJob, holdingNone}
+use Rattle.worker_state.specs.Held.{callOf, addsAt, holdingOf, counted, heldWords, holdingJob, holdingNone}
 use Rattle.worker_state.specs.Drained.{every, queueOk, wordsOk, free, isDrained, drainedWords}
 use Rattle.worker_state.specs.declared.Holding.{Holding}
-use Rattle.state_history.specs.Told.{callRead, holdingSeen}
+use Rattle.state_history.specs.Told.{heldRead, callRead, addsRead, holdingRead, turnedAway}
+use Rattle.state_history.specs.Told as Told
+use Rattle.state_history.specs.Hold.{held-follows}
 
 -- ---- a test of every number below n
-every-true : (f : ℕ → Bool) (n : ℕ) → ((i : ℕ) → i < n → f i ≡ true) → every f n ≡ true
+pub every-true : (f : ℕ → Bool) (n : ℕ) → ((i : ℕ) → i < n → f i ≡ true) → every f n ≡ true
 unfolding every
 every-true f zero h = refl
 every-true f (suc n) h = and-true (every f n) (f n) (every-true f n (λ i l. h i (omega arith))) (h n (omega arith))
 
-every-at : (f : ℕ → Bool) (n : ℕ) → every f n ≡ true → (i : ℕ) → i < n → f i ≡ true
+pub every-at : (f : ℕ → Bool) (n : ℕ) → every f n ≡ true → (i : ℕ) → i < n → f i ≡ true
 unfolding every
 every-at f zero e i h = absurd (omega arith)
 every-at f (suc n) e i h = elim (decLt i n) [
@@ -57,19 +64,19 @@ every-at f (suc n) e i h = elim (decLt i n) [
   | no l ↦ let same : n ≡ i = omega arith in rw same at (both (every f n) (f n) e .1)
 ]
 
--- ---- a hold, as it is seen
-held-seen : (x : Seen) (p c : ℕ) (b : Bool)
-    → pick {A = Holding} (not b) (holdingJob p (x .job p .name) c) (holdingNone c)
-    ≡ holdingSeen x (pick b none (some p)) c
-held-seen x p c true = refl
-held-seen x p c false = refl
+-- ---- a hold, as it is told: b says that the place p is none
+held-told : (adds : List Arguments) (p name c a : ℕ) (q : Pending) (b : Bool) → c ≡ callRead q → a ≡ addsRead q
+    → (b ≡ false → name ≡ addOf adds p .name)
+    → pick {A = Holding} (not b) (holdingJob p name c a) (holdingNone c a) ≡ holdingRead adds (pick b none (some p)) q
+held-told adds p name c a q true e f n = rw (e, f)
+held-told adds p name c a q false e f n = rw (e, f, n refl)
 
 seen-none : (p : ℕ) (b : Bool) → pick {A = Option ℕ} b none (some p) ≡ none → b ≡ true
 seen-none p true e = refl
 seen-none p false e = never (cc)
 
 -- ---- a call: a number by its phase, and by what is read
-none-called : (b c : Bool) → pick {A = ℕ} b 0 (pick c 1 2) ≡ 0 → b ≡ true
+pub none-called : (b c : Bool) → pick {A = ℕ} b 0 (pick c 1 2) ≡ 0 → b ≡ true
 none-called true c e = refl
 none-called false true e = absurd (omega (arith, e))
 none-called false false e = absurd (omega (arith, e))
@@ -88,6 +95,16 @@ phase-tells f G w g h (linking a j i u) p r e = rw (r .0 .phase, e .0)
 phase-tells f G w g none marking p r e = absurd e
 phase-tells f G w g (some j) marking p r e = rw (r .phase, e)
 phase-tells f G w g h (notifying j k) p r e = rw (r .phase, e)
+
+-- and of an add its name
+name-tells : (f : ℕ → ℕ → ℕ) (G : Ghost) (w : ℕ) (g : Graph) (h : Option ℕ) (c : Call) (p : Pending)
+    → CallRep f G w c → PacedCall g h c p → addsAt f w ≡ addsRead p
+name-tells f G w g h idle p r e = rw (r .phase, e)
+name-tells f G w g h (looking a i) p r e = rw (r .phase, r .name, e)
+name-tells f G w g h (linking a j i u) p r e = rw (r .0 .phase, r .0 .name, e .0)
+name-tells f G w g none marking p r e = absurd e
+name-tells f G w g (some j) marking p r e = rw (r .phase, e)
+name-tells f G w g h (notifying j k) p r e = rw (r .phase, e)
 
 module _ (s : Sizes) (t : Tables) (laid : layOut s t .answer ≡ Laid) (items : List Item) where
   abbrev T : Tables
@@ -124,13 +141,54 @@ module _ (s : Sizes) (t : Tables) (laid : layOut s t .answer ≡ Laid) (items : 
   called w h = rw told (phase-tells (view T .worker) (R .ghost) w g (g .workers w .held) (g .workers w .call) _
       (R .stands .calls w h .call) (paced soundly history w))
 
-  -- ---- what a worker holds
-  pub held : (w : ℕ) → w < s .workers
-      → heldWords s T w ≡ holdingSeen (seen T) (seen T .held w) (callRead (read .pending w))
-  unfolding heldWords admitted holdingOf
-  held w h =
-      rw (fits, lt-ltb w (s .workers) h, owned w h, called w h)
-      (held-seen (seen T) (view T .worker HELD w) _ (eqb (view T .worker HELD w) words.none))
+  named : (w : ℕ) → w < s .workers → addsAt (view T .worker) w ≡ addsRead (read .pending w)
+  named w h = rw told (name-tells (view T .worker) (R .ghost) w g (g .workers w .held) (g .workers w .call) _
+      (R .stands .calls w h .call) (paced soundly history w))
+
+  counted-ok : countersOk s (view T) ≡ true
+  counted-ok = counters-ok s T g (R .ghost) (R .stands) (R .sound)
+
+  does : Same s (seen T) (rules-seen.seen g)
+  does = demand s t laid items .does
+
+  -- ---- what a worker holds: as it is seen, and as it is read off the calls
+  pub hold : (w : ℕ) → w < s .workers → seen T .held w ≡ heldRead read w
+  unfolding blank
+  hold w h = does .held w h ∙ sym (R .booked .held w) ∙ held-follows (R .booked .follows) w
+
+  -- the name of a held job is that of its add
+  held-name : (w p : ℕ) → w < s .workers → seen T .held w ≡ some p
+      → view T .job NAME p ≡ addOf (acceptedAdds (read .calls)) p .name
+  held-name w p h e =
+      let there = R .sound .held-there w p (sym (does .held w h) ∙ e) in
+      ap (λ (x : JobSeen). x .name) (does .jobs p there) ∙ sym (R .booked .added p there .name)
+
+  held-of-known : (w : ℕ) → w < s .workers
+      → holdingOf (view T) w ≡ holdingRead (acceptedAdds (read .calls)) (heldRead read w) (read .pending w)
+  unfolding holdingOf
+  held-of-known w h =
+      rw (← hold w h)
+      (held-told (acceptedAdds (read .calls)) (view T .worker HELD w) _ _ _ (read .pending w)
+      (eqb (view T .worker HELD w) words.none) (called w h) (named w h)
+      (λ e. held-name w (view T .worker HELD w) h (rw e)))
+
+  held-of-any : (w : ℕ) → heldWords s T w ≡ pick (ltb w (s .workers))
+      (holdingRead (acceptedAdds (read .calls)) (heldRead read w) (read .pending w)) (turnedAway 2)
+  unfolding heldWords admitted counted
+  held-of-any w = test (ltb w (s .workers))
+      (λ e. let h = ltb-true w (s .workers) e in rw (fits, e, owned w h, counted-ok) (held-of-known w h))
+      (λ e. rw (fits, e))
+
+  -- asked with other sizes
+  abbrev decide : (q : Sizes) → words.sizesFit q T ≡ sameSizes q s
+  decide = sizes-decide s T g (R .ghost) (R .stands)
+
+  held-of-others : (q : Sizes) (w : ℕ) → sameSizes q s ≡ false → heldWords q T w ≡ turnedAway 1
+  unfolding heldWords admitted
+  held-of-others q w e = rw (decide q, e)
+
+  pub held : (q : Sizes) (w : ℕ) → heldWords q T w ≡ Told.told q s read w
+  held q w = test (sameSizes q s) (λ e. rw e (rw (same-sizes q s e) (held-of-any w))) (λ e. rw e (held-of-others q w e))
 
   -- ---- drained
   queue-ok : queueOk s (view T) ≡ true
@@ -146,7 +204,7 @@ module _ (s : Sizes) (t : Tables) (laid : layOut s t .answer ≡ Laid) (items : 
   words-ok =
       rw (
         every-true (ownOk s (view T)) (s .workers) owned,
-        counters-ok s T g (R .ghost) (R .stands) (R .sound),
+        counted-ok,
         queue-ok,
       )
 
@@ -217,15 +275,31 @@ module _ (s : Sizes) (t : Tables) (laid : layOut s t .answer ≡ Laid) (items : 
   one true e = refl
   one false e = absurd (omega (arith, e))
 
-  pub never-refused : drainedWords s T .number ≡ 0
-  never-refused = rw drained-answers
+  drained-of-others : (q : Sizes) → sameSizes q s ≡ false → drainedWords q T ≡ record { number = 1; drained = 0 }
+  unfolding drainedWords
+  drained-of-others q e = rw (decide q, e)
 
-  pub drained-exactly : (drainedWords s T .drained ≡ 1) ↔ (Quiet read × NoneHeld × (seen T .waiting ≡ []))
-  drained-exactly = rw drained-answers (
+  -- refused by 1 alone
+  pub drained-number : (q : Sizes) → drainedWords q T .number ≡ pick (sameSizes q s) 0 1
+  drained-number q = test (sameSizes q s) (λ e. rw e (rw (same-sizes q s e, drained-answers) refl))
+      (λ e. rw (e, drained-of-others q e))
+
+  drained-laid : (drainedWords s T .drained ≡ 1) ↔ (Quiet read × NoneHeld × (seen T .waiting ≡ []))
+  drained-laid = rw drained-answers (
     (λ e. nothing-left (one (isDrained s (view T)) e)),
     (λ d. rw (all-done d)),
   )
 
-  pub drained-finished : drainedWords s T .drained ≡ 1 → (j : ℕ) → j < length (acceptedAdds (read .calls))
+  pub drained-exactly : (q : Sizes) → (drainedWords q T .drained ≡ 1)
+      ↔ ((sameSizes q s ≡ true) × Quiet read × NoneHeld × (seen T .waiting ≡ []))
+  drained-exactly q = (
+    (λ x. test (sameSizes q s)
+        (λ e. let d = drained-laid .0 (rw (same-sizes q s e) at x) in (e, d .0, d .1, d .2))
+        (λ e. let no : _≡_ {A = ℕ} 0 1 = rw (drained-of-others q e) at x in never no)),
+    (λ d. rw (same-sizes q s (d .0)) (drained-laid .1 (d .1, d .2, d .3))),
+  )
+
+  pub drained-finished : (q : Sizes) → drainedWords q T .drained ≡ 1
+      → (j : ℕ) → j < length (acceptedAdds (read .calls))
       → JobFinished (seen T) (read .calls) j
-  drained-finished e = let d = drained-exactly .0 e in lifted.drained s t laid items (d .0) (d .1) (d .2)
+  drained-finished q e = let d = drained-exactly q .0 e in lifted.drained s t laid items (d .1) (d .2) (d .3)

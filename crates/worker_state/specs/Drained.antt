@@ -1,4 +1,5 @@
--- Whether nothing is left to do, by the words of the tables, for ALL tables. Assumes nothing.
+-- Whether the queue is empty and every worker idle and without a job, by the words of the tables, for ALL tables.
+-- Assumes nothing.
 use mathlib.Core.Bool.{Bool, true, _&&_}
 use Prim.Native.Nat.{ℕ, zero, suc}
 use lib.Dec.{leb, eqb}

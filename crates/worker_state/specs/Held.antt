@@ -4,9 +4,10 @@ use mathlib.Core.Bool.{_||_}
 use Prim.Native.Nat.{ℕ}
 use lib.Dec.{eqb}
 use Rattle.basics.specs.Base.{pick}
+use Rattle.terms.specs.Terms.{damaged}
 use Rattle.terms.specs.declared.Sizes.{Sizes}
-use Rattle.words.specs.Layout.{NAME, PHASE, HELD, IDLE, LOOKING, LINKING, Tables, View, view}
-use Rattle.words.specs.Words.{isPlace, admitted}
+use Rattle.words.specs.Layout.{NAME, PHASE, HELD, OWN-NAME, IDLE, LOOKING, LINKING, Tables, View, view}
+use Rattle.words.specs.Words.{isPlace, countersOk, admitted}
 use Rattle.worker_state.specs.declared.Holding.{Holding}
 
 -- the call half done: none, an add, or a finish
@@ -23,23 +24,38 @@ aFinish = 2
 abbrev pub callOf : ℕ → ℕ
 callOf phase = pick (eqb phase IDLE) noCall (pick (eqb phase LOOKING || eqb phase LINKING) anAdd aFinish)
 
+-- the name of the add half done
+abbrev pub addsOf : ℕ → ℕ → ℕ
+addsOf call name = pick (eqb call anAdd) name 0
+
 -- a refusal has its number, and 0 elsewhere
 abbrev pub refused : ℕ → Holding
-refused n = record { number = n; holds = 0; job = 0; name = 0; call = 0 }
+refused n = record { number = n; holds = 0; job = 0; name = 0; call = 0; adds = 0 }
 
 -- a worker that holds the job j of a name, and one that holds none, in a call
-abbrev pub holdingJob : ℕ → ℕ → ℕ → Holding
-holdingJob j name c = record { number = 0; holds = 1; job = j; name = name; call = c }
+abbrev pub holdingJob : ℕ → ℕ → ℕ → ℕ → Holding
+holdingJob j name c a = record { number = 0; holds = 1; job = j; name = name; call = c; adds = a }
 
-abbrev pub holdingNone : ℕ → Holding
-holdingNone c = record { number = 0; holds = 0; job = 0; name = 0; call = c }
+abbrev pub holdingNone : ℕ → ℕ → Holding
+holdingNone c a = record { number = 0; holds = 0; job = 0; name = 0; call = c; adds = a }
+
+-- the call and its name, by the fields of each worker
+abbrev pub callAt : (ℕ → ℕ → ℕ) → ℕ → ℕ
+callAt f w = callOf (f PHASE w)
+
+abbrev pub addsAt : (ℕ → ℕ → ℕ) → ℕ → ℕ
+addsAt f w = addsOf (callAt f w) (f OWN-NAME w)
 
 unfoldable pub holdingOf : View → ℕ → Holding
 holdingOf v w =
     pick (isPlace (v .worker HELD w))
-    (holdingJob (v .worker HELD w) (v .job NAME (v .worker HELD w)) (callOf (v .worker PHASE w)))
-    (holdingNone (callOf (v .worker PHASE w)))
+    (holdingJob (v .worker HELD w) (v .job NAME (v .worker HELD w)) (callAt (v .worker) w) (addsAt (v .worker) w))
+    (holdingNone (callAt (v .worker) w) (addsAt (v .worker) w))
 
--- "Order: 1, 2, 9 for the worker's own words"
+-- "every call with a worker reads how many jobs were made and arcs reserved": off their range they are 9
+unfoldable pub counted : Sizes → View → ℕ → Holding
+counted s v w = pick (countersOk s v) (holdingOf v w) (refused damaged)
+
+-- "Order: 1, 2, 9 for the worker's own words", then 9 for the counters
 unfoldable pub heldWords : Sizes → Tables → ℕ → Holding
-heldWords s t w = admitted s t w refused (holdingOf (view t) w)
+heldWords s t w = admitted s t w refused (counted s (view t) w)

@@ -75,14 +75,14 @@ pub fn holding_to_library(holding: Result<Holding, Refusal>) -> proved::Holding 
         Err(Refusal { number, .. }) => return Told { number, ..Told::default() },
         Ok(holding) => holding,
     };
-    let call = match call {
-        HalfDone::Nothing => CALL_NONE,
-        HalfDone::Add => CALL_ADD,
-        HalfDone::Finish => CALL_FINISH,
+    let (call, adds) = match call {
+        HalfDone::Nothing => (CALL_NONE, 0),
+        HalfDone::Add { name } => (CALL_ADD, name),
+        HalfDone::Finish => (CALL_FINISH, 0),
     };
     match held {
-        None => Told { call, ..Told::default() },
-        Some((job, name)) => Told { number: 0, holds: 1, job: job as u32, name, call },
+        None => Told { call, adds, ..Told::default() },
+        Some((job, name)) => Told { number: 0, holds: 1, job: job as u32, name, call, adds },
     }
 }
 

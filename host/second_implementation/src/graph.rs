@@ -116,7 +116,10 @@ pub struct Worker {
 #[derive(Clone, Copy, Debug, PartialEq, Eq)]
 pub enum HalfDone {
     Nothing,
-    Add,
+    /// An add of a job of this name.
+    Add {
+        name: u32,
+    },
     Finish,
 }
 
@@ -241,9 +244,9 @@ impl Graph {
 
     pub fn held(&self, sizes: Sizes, worker: u32) -> Result<Holding, Refusal> {
         let worker = &self.workers[self.worker(sizes, worker)?];
-        let call = match worker.call {
+        let call = match &worker.call {
             None => HalfDone::Nothing,
-            Some(Call::Add(_)) => HalfDone::Add,
+            Some(Call::Add(add)) => HalfDone::Add { name: add.name },
             Some(Call::Finish(_)) => HalfDone::Finish,
         };
         Ok(Holding { held: worker.held.map(|job| (job, self.jobs[job].name)), call })

@@ -12,8 +12,8 @@ sizes-fit-requires c κs = search needs
 own-ok-requires : tie.Need-own-ok-requires
 own-ok-requires c κs = search needs
 
-holding-of-requires : tie.Need-holding-of-requires
-holding-of-requires c κs = search needs
+counted-requires : tie.Need-counted-requires
+counted-requires c κs = search needs
 
 refused-requires : tie.Need-refused-requires
 refused-requires c κs = search needs
@@ -30,7 +30,7 @@ returns c =
     let c4 = c .before .before .before .before in
     admits _ _ _ _ _ (c4 .before .before .sizes-fit .ensures) (c .before .before .own-ok .ensures _ _)
     (c4 .before .if1 .taken) (c .before .before .before .if2 .taken) (c .before .if3 .taken)
-    (rw (← c .holding-of .ensures))
+    (rw (← c .counted .ensures))
 
 returns-2 : tie.Need-returns-2
 unfolding heldWords
@@ -57,7 +57,7 @@ held-spec =
     (tie.spec
     sizes-fit-requires
     own-ok-requires
-    holding-of-requires
+    counted-requires
     refused-requires
     refused-requires-2
     refused-requires-3

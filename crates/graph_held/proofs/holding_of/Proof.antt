@@ -14,6 +14,12 @@ call-of-requires c κs = search needs
 worker-word-requires-2 : tie.Need-worker-word-requires-2
 worker-word-requires-2 c κs = search needs
 
+adds-of-requires : tie.Need-adds-of-requires
+adds-of-requires c κs = search needs
+
+worker-word-requires-3 : tie.Need-worker-word-requires-3
+worker-word-requires-3 c κs = search needs
+
 job-word-requires : tie.Need-job-word-requires
 job-word-requires c κs = search needs
 
@@ -22,9 +28,11 @@ unfolding holdingOf
 returns c =
     λ arcs buckets queue.
     rw (
-      ← c .before .before .before .worker-word .ensures,
-      ← c .before .before .call-of .ensures,
-      ← c .before .worker-word2 .ensures,
+      ← c .before .before .before .before .before .worker-word .ensures,
+      ← c .before .before .before .before .call-of .ensures,
+      ← c .before .before .before .worker-word2 .ensures,
+      ← c .before .before .adds-of .ensures,
+      ← c .before .worker-word3 .ensures,
       c .if1 .taken,
     )
 
@@ -33,9 +41,11 @@ unfolding holdingOf
 returns-2 c =
     λ arcs buckets queue.
     rw (
-      ← c .before .before .before .before .worker-word .ensures,
-      ← c .before .before .before .call-of .ensures,
-      ← c .before .before .worker-word2 .ensures,
+      ← c .before .before .before .before .before .before .worker-word .ensures,
+      ← c .before .before .before .before .before .call-of .ensures,
+      ← c .before .before .before .before .worker-word2 .ensures,
+      ← c .before .before .before .adds-of .ensures,
+      ← c .before .before .worker-word3 .ensures,
       c .before .if1 .left,
       ← c .job-word .ensures,
     )
@@ -47,6 +57,8 @@ holding-of-spec =
     worker-word-requires
     call-of-requires
     worker-word-requires-2
+    adds-of-requires
+    worker-word-requires-3
     job-word-requires
     returns
     returns-2)

@@ -53,18 +53,20 @@ fn admitted<'a>(tables: &'a Tables, sizes: Sizes, call: &Call) -> Result<(Words<
 
 /// What the worker of a call holds, whatever the words.
 pub fn expected_holding(tables: &Tables, sizes: Sizes, call: &Call) -> Holding {
-    let (words, own) = match admitted(tables, sizes, call) {
+    let found = admitted(tables, sizes, call)
+        .and_then(|found| found.0.judge_counters().map(|()| found).map_err(|Harm| refusal::DAMAGED));
+    let (words, own) = match found {
         Ok(found) => found,
         Err(number) => return Holding { number, ..Holding::default() },
     };
-    let call = match own[worker::PHASE] {
-        phase::IDLE => CALL_NONE,
-        phase::LOOKING_UP | phase::LINKING => CALL_ADD,
-        _ => CALL_FINISH,
+    let (call, adds) = match own[worker::PHASE] {
+        phase::IDLE => (CALL_NONE, 0),
+        phase::LOOKING_UP | phase::LINKING => (CALL_ADD, own[worker::NAME]),
+        _ => (CALL_FINISH, 0),
     };
     match own[worker::HELD] {
-        NONE => Holding { call, ..Holding::default() },
-        held => Holding { number: 0, holds: 1, job: held, name: words.job(held)[job::NAME], call },
+        NONE => Holding { call, adds, ..Holding::default() },
+        held => Holding { number: 0, holds: 1, job: held, name: words.job(held)[job::NAME], call, adds },
     }
 }
 

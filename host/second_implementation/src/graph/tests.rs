@@ -253,7 +253,7 @@ fn what_a_worker_holds_and_when_all_is_done() {
     let holding = |held, call| Ok(Holding { held, call });
     assert_eq!(told(&graph), (holding(None, HalfDone::Nothing), Ok(true)));
     assert_eq!(graph.post_add(1, 9, &[]), POSTED);
-    assert_eq!(told(&graph), (holding(None, HalfDone::Add), Ok(false)));
+    assert_eq!(told(&graph), (holding(None, HalfDone::Add { name: 9 }), Ok(false)));
     assert_eq!(graph.run(1), (2, ENDED));
     assert_eq!(told(&graph), (holding(None, HalfDone::Nothing), Ok(false)), "a job waits");
     assert_eq!(graph.get(1), handed_out(0, 9));

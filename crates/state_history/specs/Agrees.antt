@@ -1,0 +1,355 @@
+-- What is told agrees with what the calls answer, for ALL tables, damaged ones too: with a call of 0 a step is refused by
+-- 4, with another a get by 3; the name told is the one whose finish is taken; and drained is what a get of every worker
+-- says. Follows docs/RULES.md, "Steps" and "Turned-away calls". Assumes nothing.
+use mathlib.Core.Path.{_≡_, refl, sym, ap, _∙_}
+use mathlib.Core.Logic.{_↔_, _≢_}
+use mathlib.Core.Bool.{Bool, true, false, _&&_, _||_}
+use Prim.Native.Nat.{ℕ, _≤_, _<_}
+use native.Mathlib.Omega.{arith}
+use lib.Dec.{ltb, leb, eqb}
+use borrow.Author.Tests.{eq-eqb, lt-ltb, eqb-true}
+use Rattle.basics.specs.Base.{pick}
+use Rattle.basics.specs.Laws.{never}
+use Rattle.terms.specs.Terms.{wrongSizes, noSuchWorker, halfDone, nothingToStep, damaged, alreadyHolding, notHeld}
+use Rattle.terms.specs.declared.Sizes.{Sizes}
+use Rattle.terms.specs.declared.HandOut.{HandOut}
+use Rattle.terms.specs.declared.Answer.{Answer}
+use Rattle.terms.specs.declared.Answer.the-variants.{Laid, Posted, Going, Ended, NoneReady, Handed, Refused}
+use Rattle.words.specs.Layout.{none, NAME, LABEL, PHASE, HELD, IDLE, LOOKING, LINKING, Tables, View, view}
+use Rattle.words.specs.Layout.{sizesFit}
+use Rattle.words.specs.Words.{isPlace, countersOk, ownOk, planLookUp, planEnter, planAppend, planLink, withCell}
+use Rattle.words.specs.Words.{planSettle, planMark, planNotify, planAdd, planLinks, planCall, planPhase, admitted}
+use Rattle.words.specs.Words.{goingUnless, answerOf, stepWords, planTake, planQueue, planGet, answerGet, getWords}
+use Rattle.words.specs.Words.{posted, finishWords}
+use Rattle.words.specs.declared.Found.{Found}
+use Rattle.words.specs.declared.Found.the-variants.{At, Missing, Damaged}
+use Rattle.words.specs.declared.Plan.{Plan}
+use Rattle.locality.specs.Parts.{test}
+use Rattle.representation_kept.specs.Stand.{both}
+use Rattle.worker_state.specs.Held.{callOf, holdingOf, counted, heldWords}
+use Rattle.worker_state.specs.Drained.{every, queueOk, wordsOk, free, isDrained, drainedWords}
+use Rattle.worker_state.specs.declared.Holding.{Holding}
+use Rattle.state_history.specs.Theorem.{none-called, every-true, every-at}
+
+-- ---- an answer is a refusal by n
+abbrev by : ℕ → Answer → Bool
+by n (Refused m p) = eqb m n
+by n Laid = false
+by n Posted = false
+by n Going = false
+by n Ended = false
+by n NoneReady = false
+by n (Handed h) = false
+
+-- an answer read off a plan is none: a type of its own, so that the plan is found
+data Not {A : Type 0} (n : ℕ) (answer : A → Answer) (x : A) : Type 0 where
+  not-by : by n (answer x) ≡ false → Not n answer x
+
+either : {A : Type 0} {n : ℕ} {answer : A → Answer} (b : Bool) {x y : A} → Not n answer x → Not n answer y
+    → Not n answer (pick b x y)
+either true e f = e
+either false e f = f
+
+refuted : {A B : Type 0} {n p : ℕ} {answer : A → Answer} {x : A} → Not n answer x → answer x ≡ Refused n p → B
+refuted {n = n} (not-by e) f =
+    let same : true ≡ false = sym (eq-eqb n n refl) ∙ sym (ap (by n) f) ∙ e in never (cc)
+
+-- ---- no step of a call half done is refused by 4
+abbrev Not4 : Plan → Type 0
+Not4 = Not nothingToStep answerOf
+
+on : (b : Bool) → by nothingToStep (goingUnless b) ≡ false
+on true = refl
+on false = refl
+
+-- for `search`
+ruleset answers = (either, not-by, on, refl)
+
+module _ (s : Sizes) (v : View) where
+  look-up : (i : ℕ) (f : Found) → Not4 (planLookUp i f)
+  unfolding planLookUp
+  look-up i (At j) = not-by refl
+  look-up i Missing = not-by refl
+  look-up i Damaged = not-by refl
+
+  enter : (name d : ℕ) (f : Found) → Not4 (planEnter s v name d f)
+  unfolding planEnter
+  enter name d (At j) = not-by refl
+  enter name d Missing = search answers depth 9
+  enter name d Damaged = not-by refl
+
+  link : (x j : ℕ) (f : Found) → Not4 (planLink s v x j f)
+  unfolding planLink planAppend
+  link x j (At p) = search answers depth 9
+  link x j Missing = not-by refl
+  link x j Damaged = not-by refl
+
+  cell : (plan : ℕ → Plan) → Not4 (plan (v .put)) → Not4 (withCell s v plan)
+  unfolding withCell
+  cell plan e = search (answers, e)
+
+  settle : (j t d : ℕ) → Not4 (planSettle s v j t d)
+  unfolding planSettle
+  settle j t d = search (answers, cell) depth 9
+
+  mark : (p : ℕ) → Not4 (planMark s v p)
+  unfolding planMark
+  mark p = search answers depth 9
+
+  notify : (x : ℕ) → Not4 (planNotify s v x)
+  unfolding planNotify
+  notify x = search (answers, cell) depth 9
+
+  stepped : (w : ℕ) → Not4 (planCall s v w)
+  unfolding planCall planAdd planLinks
+  stepped w = search (answers, look-up, enter, link, settle, mark, notify) depth 9
+
+  -- ---- and no get of an idle worker by 3
+  got : Not halfDone answerGet (planQueue s v)
+  unfolding planQueue planTake
+  got = search answers depth 9
+
+-- ---- a worker that is told something
+module _ (s : Sizes) (t : Tables) (w : ℕ) where
+  abbrev v : View
+  v = view t
+
+  -- the worker is idle, by its phase
+  abbrev atRest : Bool
+  atRest = eqb (v .worker PHASE w) IDLE
+
+  record Served : Type 0 where
+    fits : sizesFit s t ≡ true
+    known : ltb w (s .workers) ≡ true
+    own : ownOk s v w ≡ true
+    counters : countersOk s v ≡ true
+
+  served : heldWords s t w .number ≡ 0 → Served
+  unfolding heldWords admitted counted
+  served e = test (sizesFit s t)
+      (λ a. test (ltb w (s .workers))
+      (λ b. test (ownOk s v w)
+      (λ c. test (countersOk s v) (λ d. record { fits = a; known = b; own = c; counters = d })
+      (λ d. let z : _≡_ {A = ℕ} damaged 0 = rw (a, b, c, d) at e in absurd (omega arith)))
+      (λ c. let z : _≡_ {A = ℕ} damaged 0 = rw (a, b, c) at e in absurd (omega arith)))
+      (λ b. let z : _≡_ {A = ℕ} noSuchWorker 0 = rw (a, b) at e in absurd (omega arith)))
+      (λ a. let z : _≡_ {A = ℕ} wrongSizes 0 = rw a at e in absurd (omega arith))
+
+  told : Served → heldWords s t w ≡ holdingOf v w
+  unfolding heldWords admitted counted
+  told S = rw (S .fits, S .known, S .own, S .counters)
+
+  called : holdingOf v w .call ≡ callOf (v .worker PHASE w)
+  unfolding holdingOf
+  called = test (isPlace (v .worker HELD w)) (λ e. rw e) (λ e. rw e)
+
+  call-told : Served → heldWords s t w .call ≡ callOf (v .worker PHASE w)
+  call-told S = ap (λ (h : Holding). h .call) (told S) ∙ called
+
+  idle : Served → heldWords s t w .call ≡ 0 → atRest ≡ true
+  idle S e = none-called atRest (eqb (v .worker PHASE w) LOOKING || eqb (v .worker PHASE w) LINKING)
+      (sym (call-told S) ∙ e)
+
+  rests : Served → atRest ≡ true → heldWords s t w .call ≡ 0
+  rests S e = call-told S ∙ rw e
+
+  -- ---- a step
+  step-is : Served → stepWords s t w .answer ≡ pick atRest (Refused nothingToStep 0) (answerOf (planCall s v w))
+  unfolding stepWords admitted planPhase
+  step-is S = rw (S .fits, S .known, S .own, S .counters) (test atRest (λ e. rw e) (λ e. rw e))
+
+  pub step-by-4 : heldWords s t w .number ≡ 0
+      → (heldWords s t w .call ≡ 0) ↔ (stepWords s t w .answer ≡ Refused nothingToStep 0)
+  step-by-4 e =
+      let S = served e in (
+        (λ c. rw (step-is S, idle S c)),
+        (λ a. test atRest (rests S) (λ i. refuted (stepped s v w) (rw (step-is S, i) at a))),
+      )
+
+  -- ---- a get
+  get-is : Served → getWords s t w .answer
+      ≡ pick atRest (pick (eqb (v .worker HELD w) none) (answerGet (planQueue s v)) (Refused alreadyHolding 0))
+      (Refused halfDone 0)
+  unfolding getWords admitted planGet
+  get-is S =
+      rw (S .fits, S .known, S .own)
+      (test atRest (λ e. rw e (test (eqb (v .worker HELD w) none) (λ h. rw h) (λ h. rw h))) (λ e. rw e))
+
+  no-holder : {A : Type 0} → Refused alreadyHolding 0 ≡ Refused halfDone 0 → A
+  no-holder e = let same : true ≡ false = sym (ap (by halfDone) e) in never (cc)
+
+  pub get-by-3 : heldWords s t w .number ≡ 0
+      → (heldWords s t w .call ≢ 0) ↔ (getWords s t w .answer ≡ Refused halfDone 0)
+  get-by-3 e =
+      let S = served e in (
+        (λ c. test atRest (λ i. absurd (c (rests S i))) (λ i. rw (get-is S, i))),
+        (λ a c. let i = idle S c in
+            test (eqb (v .worker HELD w) none) (λ h. refuted (got s v) (rw (get-is S, i, h) at a))
+            (λ h. no-holder (rw (get-is S, i, h) at a))),
+      )
+
+  -- ---- a finish
+  no-post : {A : Type 0} (n : ℕ) → Refused n 0 ≡ Posted → A
+  no-post n e = let z : _≡_ {A = ℕ} 0 1 = cc in never z
+
+  -- the name is that of the held job
+  abbrev Holds : ℕ → Type 0
+  Holds name = (heldWords s t w .number ≡ 0) × (heldWords s t w .call ≡ 0)
+      × (heldWords s t w .holds ≡ 1)
+      × (heldWords s t w .name ≡ name)
+
+  abbrev nameHeld : ℕ
+  nameHeld = v .job NAME (v .worker HELD w)
+
+  place-told : Served → heldWords s t w .holds ≡ 1 → isPlace (v .worker HELD w) ≡ true
+  unfolding holdingOf
+  place-told S e = test (isPlace (v .worker HELD w)) (λ p. p)
+      (λ p. let z : _≡_ {A = ℕ} 0 1 = rw p at (sym (ap (λ (h : Holding). h .holds) (told S)) ∙ e) in never z)
+
+  job-told : Served → isPlace (v .worker HELD w) ≡ true
+      → (heldWords s t w .holds ≡ 1) × (heldWords s t w .name ≡ nameHeld)
+  unfolding holdingOf
+  job-told S p = rw (told S, p) (refl, refl)
+
+  posts : (name : ℕ) → Holds name → finishWords s t w name .answer ≡ Posted
+  unfolding finishWords admitted posted
+  posts name h =
+      let S = served (h .0) in
+      let p = place-told S (h .2) in
+      let same : nameHeld ≡ name = sym (job-told S p .1) ∙ h .3 in
+      rw (S .fits, S .known, S .own, idle S (h .1), p, eq-eqb nameHeld name same, S .counters)
+
+  holder : Served → atRest ≡ true → isPlace (v .worker HELD w) ≡ true → (name : ℕ) → eqb nameHeld name ≡ true
+      → Holds name
+  unfolding holdingOf
+  holder S i p name n =
+      let j = job-told S p in (
+        rw (told S, p) refl,
+        rests S i,
+        j .0,
+        j .1 ∙ eqb-true nameHeld name n,
+      )
+
+  posted-holds : (name : ℕ) → finishWords s t w name .answer ≡ Posted → Holds name
+  unfolding finishWords admitted posted
+  posted-holds name e = test (sizesFit s t)
+      (λ a. test (ltb w (s .workers))
+      (λ b. test (ownOk s v w)
+      (λ c. test atRest
+      (λ i. test (isPlace (v .worker HELD w))
+      (λ p. test (eqb nameHeld name)
+      (λ n. test (countersOk s v)
+      (λ d. holder (record { fits = a; known = b; own = c; counters = d }) i p name n)
+      (λ d. no-post damaged (rw (a, b, c, i, p, n, d) at e)))
+      (λ n. no-post notHeld (rw (a, b, c, i, p, n) at e)))
+      (λ p. no-post notHeld (rw (a, b, c, i, p) at e)))
+      (λ i. no-post halfDone (rw (a, b, c, i) at e)))
+      (λ c. no-post damaged (rw (a, b, c) at e)))
+      (λ b. no-post noSuchWorker (rw (a, b) at e)))
+      (λ a. no-post wrongSizes (rw a at e))
+
+  pub finish-taken : (name : ℕ) → Holds name ↔ (finishWords s t w name .answer ≡ Posted)
+  finish-taken name = (posts name, posted-holds name)
+
+  -- ---- a get that finds nothing
+  no-none : {A : Type 0} (n : ℕ) → Refused n 0 ≡ NoneReady → A
+  no-none n e = let z : _≡_ {A = ℕ} 0 1 = cc in never z
+
+  no-job : {A : Type 0} (h : HandOut) → Handed h ≡ NoneReady → A
+  no-job h e = let z : _≡_ {A = ℕ} 0 1 = cc in never z
+
+  record Bare : Type 0 where
+    fits : sizesFit s t ≡ true
+    known : ltb w (s .workers) ≡ true
+    own : ownOk s v w ≡ true
+    rest : atRest ≡ true
+    jobless : eqb (v .worker HELD w) none ≡ true
+    queue : countersOk s v && leb (v .taken) (v .put) && leb (v .put) (s .jobs) ≡ true
+    empty : eqb (v .taken) (v .put) ≡ true
+
+  not-taken : {A : Type 0} (j : ℕ) → answerGet (planTake v j) ≡ NoneReady → A
+  unfolding planTake
+  not-taken j e = test (ltb j (v .made) && eqb (v .job LABEL j) 0) (λ h. no-job _ (rw h at e))
+      (λ h. no-none damaged (rw h at e))
+
+  finds-none : getWords s t w .answer ≡ NoneReady → Bare
+  unfolding getWords admitted planGet planQueue
+  finds-none e = test (sizesFit s t)
+      (λ a. test (ltb w (s .workers))
+      (λ b. test (ownOk s v w)
+      (λ c. test atRest
+      (λ i. test (eqb (v .worker HELD w) none)
+      (λ p. test (countersOk s v && leb (v .taken) (v .put) && leb (v .put) (s .jobs))
+      (λ q. test (eqb (v .taken) (v .put))
+      (λ x. record { fits = a; known = b; own = c; rest = i; jobless = p; queue = q; empty = x })
+      (λ x. not-taken (v .cell 0 (v .taken)) (rw (a, b, c, i, p, q, x) at e)))
+      (λ q. no-none damaged (rw (a, b, c, i, p, q) at e)))
+      (λ p. no-none alreadyHolding (rw (a, b, c, i, p) at e)))
+      (λ i. no-none halfDone (rw (a, b, c, i) at e)))
+      (λ c. no-none damaged (rw (a, b, c) at e)))
+      (λ b. no-none noSuchWorker (rw (a, b) at e)))
+      (λ a. no-none wrongSizes (rw a at e))
+
+  bare-none : Bare → getWords s t w .answer ≡ NoneReady
+  unfolding getWords admitted planGet planQueue
+  bare-none B = rw (B .fits, B .known, B .own, B .rest, B .jobless, B .queue, B .empty)
+
+-- ---- drained
+module _ (s : Sizes) (t : Tables) where
+  abbrev u : View
+  u = view t
+
+  record Done : Type 0 where
+    fits : sizesFit s t ≡ true
+    words : wordsOk s u ≡ true
+    drained : isDrained s u ≡ true
+
+  done : drainedWords s t .drained ≡ 1 → Done
+  unfolding drainedWords
+  done e = test (sizesFit s t)
+      (λ a. test (wordsOk s u)
+      (λ b. test (isDrained s u) (λ c. record { fits = a; words = b; drained = c })
+      (λ c. let z : _≡_ {A = ℕ} 0 1 = rw (a, b, c) at e in never z))
+      (λ b. let z : _≡_ {A = ℕ} 0 1 = rw (a, b) at e in never z))
+      (λ a. let z : _≡_ {A = ℕ} 0 1 = rw a at e in never z)
+
+  drained-bare : Done → (w : ℕ) → w < s .workers → Bare s t w
+  drained-bare D w h =
+      let sound = both (every (ownOk s u) (s .workers)) (countersOk s u && queueOk s u) (D .words) in
+      let counts = both (countersOk s u) (queueOk s u) (sound .1) in
+      let order = both (leb (u .taken) (u .put)) (leb (u .put) (s .jobs)) (counts .1) in
+      let at-rest = both (eqb (u .taken) (u .put)) (every (free (u .worker)) (s .workers)) (D .drained) in
+      let own = both (eqb (u .worker PHASE w) IDLE) (eqb (u .worker HELD w) none)
+      (every-at (free (u .worker)) (s .workers) (at-rest .1) w h) in
+      record {
+        fits = D .fits;
+        known = lt-ltb w (s .workers) h;
+        own = every-at (ownOk s u) (s .workers) (sound .0) w h;
+        rest = own .0;
+        jobless = own .1;
+        queue = rw (counts .0, order .0, order .1);
+        empty = at-rest .0;
+      }
+
+  bare-drained : 1 ≤ s .workers → ((w : ℕ) → w < s .workers → Bare s t w) → drainedWords s t .drained ≡ 1
+  unfolding drainedWords
+  bare-drained some all =
+      let B = all 0 (omega arith) in
+      let q = both (countersOk s u && leb (u .taken) (u .put)) (leb (u .put) (s .jobs)) (B .queue) in
+      let c = both (countersOk s u) (leb (u .taken) (u .put)) (q .0) in
+      rw (
+        B .fits,
+        every-true (ownOk s u) (s .workers) (λ w h. all w h .own),
+        c .0,
+        c .1,
+        q .1,
+        B .empty,
+        every-true (free (u .worker)) (s .workers) (λ w h. rw (all w h .rest, all w h .jobless)),
+      )
+
+  pub drained-by-gets : 1 ≤ s .workers
+      → (drainedWords s t .drained ≡ 1) ↔ ((w : ℕ) → w < s .workers → getWords s t w .answer ≡ NoneReady)
+  drained-by-gets some = (
+    (λ e w h. bare-none s t w (drained-bare (done e) w h)),
+    (λ all. bare-drained some (λ w h. finds-none s t w (all w h))),
+  )
