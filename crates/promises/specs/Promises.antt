@@ -382,6 +382,6 @@ pub no-day-list-is-refused : (sheet out : List ℕ) → Bytes sheet → mostPrin
     → dayList 2 sheet out ≡ printing (Printed (length (dayText 2 sheet))) (sets out 0 (dayText 2 sheet))
 no-day-list-is-refused = ends-of-day.nothing-is-refused
 
--- ---- the starred cases of document 01, "Checked by hand".
+-- ---- the starred cases of docs/RULES.md, "Checked by hand".
 pub the-starred-cases-hold : Starred
 the-starred-cases-hold = every-row
