@@ -1,6 +1,6 @@
--- What is told agrees with what the calls answer, for ALL tables, damaged ones too: with a call of 0 a step is refused by
--- 4, with another a get by 3; the name told is the one whose finish is taken; and drained is what a get of every worker
--- says. Follows docs/RULES.md, "Steps" and "Turned-away calls". Assumes nothing.
+-- What is told agrees with what the calls answer, for ALL tables, damaged ones too: with a call of 0 a step is refused
+-- by 4, with another a get by 3; the name told is the one whose finish is taken; and drained is what a get of every
+-- worker says. Follows docs/RULES.md, "Steps" and "Turned-away calls". Assumes nothing.
 use mathlib.Core.Path.{_≡_, refl, sym, ap, _∙_}
 use mathlib.Core.Logic.{_↔_, _≢_}
 use mathlib.Core.Bool.{Bool, true, false, _&&_, _||_}

@@ -1,5 +1,6 @@
 -- Over all tables, damaged ones too: neither question is turned away by another number than 1, 2 and 9, and that of a
--- drained graph not by 2; and a refusal tells nothing else. Follows docs/RULES.md, "Turned-away calls". Assumes nothing.
+-- drained graph not by 2; and a refusal tells nothing else. Follows docs/RULES.md, "Turned-away calls". Assumes
+-- nothing.
 use mathlib.Core.Path.{_≡_, refl}
 use mathlib.Core.Logic.{_≢_}
 use mathlib.Core.Bool.{Bool, true, false}

@@ -44,7 +44,9 @@ trustsSizes q t = judged (isDrained q (view t))
 
 pub trusts-sizes : ForItsSizes trustsSizes → ⊥
 unfolding after sameSizes withinLimits columns header longEnough sizesKept repeated freshTables layOut every
-trusts-sizes f = let z = f (small 2) (old (small 2)) refl [] (small 1) refl in let no : _≡_ {A = ℕ} 0 1 = cc in omega arith
+trusts-sizes f =
+    let z = f (small 2) (old (small 2)) refl [] (small 1) refl in
+    let no : _≡_ {A = ℕ} 0 1 = cc in omega arith
 
 -- one that answers 2
 abbrev pub answersTwo : Sizes → Tables → Drained
