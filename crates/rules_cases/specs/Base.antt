@@ -1,5 +1,4 @@
--- Small laws of maps changed at one place, of choices by a test, and of what a change at one place leaves in a list.
--- Assumes nothing.
+-- What a change at one place leaves in a list. Assumes nothing.
 use mathlib.Core.Path.{_≡_, sym, ap, _∙_}
 use mathlib.Core.List.{List}
 use Prim.Native.Nat.{ℕ}
