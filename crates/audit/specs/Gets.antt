@@ -28,8 +28,8 @@ use Rattle.rules_cases.specs.Own.{own-made}
 use Rattle.rules_invariant.specs.Sound.{sound}
 
 -- ---- "none ready", exactly
--- a get is answered "none ready" exactly if it came with the sizes laid out, from a worker that there is, which is
--- idle and holds nothing, and the queue is empty
+-- a get is answered "none ready" exactly if it came with the sizes laid out, from a worker that there is, which is idle
+-- and holds nothing, and the queue is empty
 pub none-ready : (s q : Sizes) (g : Graph) (w : ℕ) → (perform s g (get q w) .answer ≡ NoneReady)
     ↔ ((sameSizes q s ≡ true) × (w < s .workers) × (g .workers w .call ≡ idle) × (g .workers w .held ≡ none)
     × (g .queue ≡ []))

@@ -1,5 +1,5 @@
--- Entries added one after the other: the names of an entry, the entry that a reading tells, and its lines.
--- Assumes nothing.
+-- Entries added one after the other: the names of an entry, the entry that a reading tells, and its lines. Assumes
+-- nothing.
 use mathlib.Core.Path.{_≡_, refl, sym, ap, _∙_}
 use mathlib.Core.Bool.{true, false}
 use mathlib.Core.List.{List, [], _∷_, _++_}

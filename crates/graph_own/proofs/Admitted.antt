@@ -1,6 +1,5 @@
 -- The tests that come first, for a worker that is known: the code looks at its own words only within the table, where
--- they always are.
--- Assumes nothing.
+-- they always are. Assumes nothing.
 use mathlib.Core.Path.{_≡_, sym, _∙_}
 use mathlib.Core.Bool.{Bool, true, false, _&&_}
 use Prim.Native.Nat.{ℕ, _^_}

@@ -13,8 +13,7 @@ use Rattle.terms.specs.declared.Answer.the-variants.{Laid, Posted, Going, Ended
 use Rattle.sequential_model.specs.Book.{Call, add, finish, End, accepted, noneReady, handed, refused}
 use Rattle.sequential_model.specs.Book as book
 
--- a worker's call half done, with the steps answered so far: an add with its arguments, a finish with what it
--- brings
+-- a worker's call half done, with the steps answered so far: an add with its arguments, a finish with what it brings
 pub data Pending : Type 0 where
   idle : Pending
   adding : Arguments → ℕ → Pending

@@ -1,5 +1,5 @@
--- The plain book of a graph has each call end as the rules have it end ("The plain book", "Turned-away calls").
--- Assumes that the graph is sound and that its reserved arcs are the names in its jobs' lists.
+-- The plain book of a graph has each call end as the rules have it end ("The plain book", "Turned-away calls"). Assumes
+-- that the graph is sound and that its reserved arcs are the names in its jobs' lists.
 use mathlib.Core.Path.{_≡_, refl, ap, _∙_}
 use mathlib.Core.Bool.{true, false}
 use mathlib.Core.Option.{Option, none, some}

@@ -1,6 +1,5 @@
 -- With no call half done, each job's count is how many of its listed names have jobs not finished, and the jobs in the
--- queue are those that are unexecuted with count 0 (docs/RULES.md, "The plain book").
--- Assumes nothing.
+-- queue are those that are unexecuted with count 0 (docs/RULES.md, "The plain book"). Assumes nothing.
 use mathlib.Core.Path.{_≡_, refl, sym, ap, _∙_}
 use mathlib.Core.Logic.{_≢_}
 use mathlib.Core.Bool.{Bool, true, false, _&&_, _||_}

@@ -1,6 +1,5 @@
 -- What a test chose: the laws of `pick`, by which every definition of reading and writing chooses between an answer and
--- a
--- refusal. Assumes nothing.
+-- a refusal. Assumes nothing.
 use mathlib.Core.Path.{_≡_, refl}
 use mathlib.Core.Bool.{Bool, true, false, _&&_}
 use Rattle.basics.specs.Base.{pick}

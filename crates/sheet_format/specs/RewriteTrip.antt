@@ -1,6 +1,5 @@
 -- What was read, written again, is the same bytes: "one accepted sheet has one spelling" (demand 2), of one entry and
--- of
--- whole sheets through the rows that hold them. Assumes nothing.
+-- of whole sheets through the rows that hold them. Assumes nothing.
 use Prim.Native.Nat.{ℕ, _+_, _*_, _-_, _/_, _%_, _≤_}
 use mathlib.Core.Path.{_≡_, refl, sym, ap, _∙_}
 use mathlib.Core.List.{List, [], _∷_, _++_, map}

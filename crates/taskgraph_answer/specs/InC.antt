@@ -1,5 +1,5 @@
--- From what a call of the graph ensures to what its function of the C interface does: one law for all of them.
--- Assumes nothing.
+-- From what a call of the graph ensures to what its function of the C interface does: one law for all of them. Assumes
+-- nothing.
 use mathlib.Core.Path.{_≡_, ap, _∙_}
 use Rattle.terms.specs.Runs.{Outcome}
 use Rattle.words.specs.Layout.{Tables}

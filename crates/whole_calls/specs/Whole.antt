@@ -39,8 +39,8 @@ pub record Grown (q l : List ℕ) : Type 0 where
   pub more : List ℕ
   pub so : l ≡ q ++ more
 
--- the holds, the calls of the other workers and the labels are as they were, and no job has left the queue
--- (a job that is not there is unexecuted, as is one that enters)
+-- the holds, the calls of the other workers and the labels are as they were, and no job has left the queue (a job that
+-- is not there is unexecuted, as is one that enters)
 pub record Kept (w : ℕ) (g later : Graph) : Type 0 where
   pub held : later .workers w .held ≡ g .workers w .held
   pub others : (v : ℕ) → v ≢ w → later .workers v ≡ g .workers v

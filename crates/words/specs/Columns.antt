@@ -21,8 +21,8 @@ pub record Shape : Type 0 where
 abbrev pub place : Shape → ℕ → ℕ → ℕ
 place s i k = s .head + s .width * i + k
 
--- the table is long enough for its header and R records
--- (a test, so that `simp` itself carries it through any number of stores)
+-- the table is long enough for its header and R records (a test, so that `simp` itself carries it through any number of
+-- stores)
 unfoldable pub rows : Shape → ℕ → List ℕ → Bool
 rows s R l = leb (s .head + s .width * R) (length l)
 

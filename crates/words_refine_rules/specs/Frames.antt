@@ -1,5 +1,5 @@
--- A step of one worker leaves the calls of the others: their words, and the ghosts that their calls speak of.
--- From the tables, the words of the worker that steps, and this, the whole relation after the step. Assumes nothing.
+-- A step of one worker leaves the calls of the others: their words, and the ghosts that their calls speak of. From the
+-- tables, the words of the worker that steps, and this, the whole relation after the step. Assumes nothing.
 use mathlib.Core.Path.{_≡_, refl, ap, _∙_}
 use mathlib.Core.Logic.{_≢_}
 use mathlib.Core.List.{[], _∷_, _++_}
