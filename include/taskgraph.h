@@ -250,7 +250,7 @@ enum {
  * number 0, holds 0: it holds none; job and name are 0.
  * With number 0 `call` says which call is half done; tg_step goes on with it. Of an add half done `adds` is
  * the name of the job that it adds, else 0. A finish frees the hold with its first step, its mark: from then
- * on no word of the worker has the job's name.
+ * on the job and its name are not told.
  * number 1, 2 or 9: all else is 0. */
 typedef struct {
     uint32_t number, holds, job, name, call, adds;

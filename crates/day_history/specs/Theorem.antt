@@ -162,7 +162,7 @@ module _ (s : Sizes) (limits : withinLimits s ≡ true) where
     pub none-is-unfinished : unfinished (view (afterRounds js) .job LABEL) (view (afterRounds js) .made) ≡ 0
     none-is-unfinished = all-finished (O .now) (O .empty)
 
-    -- no more is handed out than there are jobs, and so at most R
+    -- at most R jobs are handed out
     pub hand-outs-within : length (handOuts (runDay s (afterAdds js) .rounds)) ≤ s .jobs
     hand-outs-within = let F = few-jobs (O .now) in omega (arith, O .count, F .given, F .made)
 
