@@ -15,6 +15,8 @@ pub const MOST_CLASS: u32 = 15;
 
 pub const MOST_GROWER: u32 = 65535;
 
+pub const MOST_ENTRIES: u32 = 64;
+
 pub const WRONG_SIZES: u32 = 1;
 
 pub const NO_SUCH_WORKER: u32 = 2;
@@ -36,3 +38,5 @@ pub const DAMAGED: u32 = 9;
 pub const ALREADY_HOLDING: u32 = 10;
 
 pub const NOT_HELD: u32 = 11;
+
+pub const TOO_MANY_ENTRIES: u32 = 16;

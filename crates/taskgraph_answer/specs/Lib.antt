@@ -1,2 +1,3 @@
 pub mod Answers
 pub mod InC
+pub mod Arguments

@@ -21,6 +21,10 @@ mostBits = 8
 abbrev pub mostWorkers : ℕ
 mostWorkers = 16
 
+-- "One call takes up to 64 entries"
+abbrev pub mostEntries : ℕ
+mostEntries = 64
+
 -- "R jobs 1 to 4,096; A arcs 0 to 32,768; b bucket bits 1 to 8; P workers 1 to 16"
 unfoldable pub withinLimits : Sizes → Bool
 withinLimits s =
@@ -66,6 +70,9 @@ alreadyHolding = 10
 
 abbrev pub notHeld : ℕ
 notHeld = 11
+
+abbrev pub tooManyEntries : ℕ
+tooManyEntries = 16
 
 -- ---- a job's label
 pub data Label : Type 0 where

@@ -1,0 +1,1 @@
+// Theorems alone: specs/ has demand 3 of lists of calls.

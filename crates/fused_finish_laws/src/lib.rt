@@ -1,0 +1,1 @@
+// Theorems alone: specs/ has that a finish in one go is its post and steps.

@@ -1,0 +1,1 @@
+// Theorems alone: specs/ has the laws of a worker's words that are stored once.

@@ -1,0 +1,3 @@
+pub mod FusedWorker
+pub mod FusedAdd
+pub mod FusedFinish

@@ -1,0 +1,134 @@
+-- Demand 3 of lists in which single items stand beside adds and finishes run whole and sheets: what is read off calls and
+-- replies alone, and the claim, of any machine. (WrongCalls.antt has machines that do not meet it.) Follows
+-- docs/RULES.md, "Whole calls". Assumes nothing.
+use mathlib.Core.Path.{_≡_}
+use mathlib.Core.Bool.{Bool, true, false}
+use mathlib.Core.List.{List, [], _∷_, _++_}
+use Prim.Native.Nat.{ℕ}
+use lib.Dec.{ltb, leb}
+use lib.ListN.{length}
+use Rattle.basics.specs.Base.{pick}
+use Rattle.terms.specs.Terms.{Arguments, Finish, sameSizes, mostEntries, wrongSizes, noSuchWorker, halfDone}
+use Rattle.terms.specs.Terms.{tooManyEntries}
+use Rattle.terms.specs.Runs.{Item, Outcome, after, events, entries}
+use Rattle.terms.specs.Seen.{Seen}
+use Rattle.terms.specs.declared.Sizes.{Sizes}
+use Rattle.terms.specs.declared.Answer.{Answer}
+use Rattle.terms.specs.declared.Answer.the-variants.{Laid, Posted, Going, Ended, NoneReady, Handed, Refused}
+use Rattle.sequential_model.specs.Book.{Call, add, finish, accepted, refused}
+use Rattle.sequential_model.specs.Book as book
+use Rattle.linearization.specs.Calls.{Reading, unread, note, endsCall, reading}
+use Rattle.linearizability.specs.Demand.{Demand, isIdle}
+use Rattle.host_calls.specs.HostCalls.{HostCall, single, wholeAdd, wholeFinish, sheet, Reply, one, each, Replied}
+use Rattle.host_calls.specs.HostCalls.{replied, worth, replyWorth, afterCalls, callEntries}
+
+-- ---- what is read off calls and replies alone
+-- a whole call that an answer ended, as the book is fed it: accepted, or by its number; 1 to 4 and 9 end no call
+abbrev pub endedBy : Call → Answer → List book.Ended
+endedBy c Ended = record { call = c; end = accepted } ∷ []
+endedBy c (Refused n i) = pick (endsCall n) (record { call = c; end = refused n i } ∷ []) []
+endedBy c Laid = []
+endedBy c Posted = []
+endedBy c Going = []
+endedBy c NoneReady = []
+endedBy c (Handed h) = []
+
+-- the name, where the call was accepted
+abbrev pub nameIfEnded : ℕ → Answer → List ℕ
+nameIfEnded name Ended = name ∷ []
+nameIfEnded name (Refused n i) = []
+nameIfEnded name Laid = []
+nameIfEnded name Posted = []
+nameIfEnded name Going = []
+nameIfEnded name NoneReady = []
+nameIfEnded name (Handed h) = []
+
+abbrev pub noteWholeAdd : Reading → ℕ → Arguments → Answer → Reading
+noteWholeAdd r w a x =
+    record {
+      pending = r .pending;
+      calls = r .calls ++ endedBy (add w a) x;
+      added = r .added ++ nameIfEnded (a .name) x;
+      finished = r .finished;
+    }
+
+abbrev pub noteWholeFinish : Reading → ℕ → Finish → Answer → Reading
+noteWholeFinish r w f x =
+    record {
+      pending = r .pending;
+      calls = r .calls ++ endedBy (finish w f) x;
+      added = r .added;
+      finished = r .finished ++ nameIfEnded (f .name) x;
+    }
+
+-- "it counts as its separate adds"
+unfoldable pub noteAdds : Reading → ℕ → List Arguments → List Answer → Reading
+noteAdds r w [] xs = r
+noteAdds r w (a ∷ l) [] = r
+noteAdds r w (a ∷ l) (x ∷ xs) = noteAdds (noteWholeAdd r w a x) w l xs
+
+unfoldable pub noteCall : Reading → HostCall → Reply → Reading
+noteCall r (single i) (one x) = note r i x
+noteCall r (wholeAdd s w a) (one x) = noteWholeAdd r w a x
+noteCall r (wholeFinish s w f) (one x) = noteWholeFinish r w f x
+noteCall r (sheet s w l) (each n xs) = noteAdds r w l xs
+noteCall r (single i) (each n xs) = r
+noteCall r (wholeAdd s w a) (each n xs) = r
+noteCall r (wholeFinish s w f) (each n xs) = r
+noteCall r (sheet s w l) (one x) = r
+
+-- the same is read
+pub record SameReading (r q : Reading) : Type 0 where
+  pub pending : (w : ℕ) → r .pending w ≡ q .pending w
+  pub calls : r .calls ≡ q .calls
+  pub added : r .added ≡ q .added
+  pub finished : r .finished ≡ q .finished
+
+-- the number that turns a sheet away, or 0: 1, 2 and 3 as any post, and then 16
+abbrev pub turningSheet : Sizes → Reading → Sizes → ℕ → List Arguments → ℕ
+turningSheet laid r s w l =
+    pick (sameSizes s laid)
+    (pick (ltb w (laid .workers))
+    (pick (isIdle (r .pending w)) (pick (leb (length l) mostEntries) 0 tooManyEntries) halfDone)
+    noSuchWorker)
+    wrongSizes
+
+-- ---- the claim, of a machine that answers items and calls, the sizes laid out, the state that laying out left, and a
+-- list of calls
+module _ {S : Type 0} (perform : S → Item → Outcome S) (turned : S → Sizes → ℕ → List Arguments → ℕ)
+    (answer : S → HostCall → Replied S) (see : S → Seen) (s : Sizes) (t : S) where
+  -- the items that the calls are worth, one after another
+  unfoldable pub allWorth : S → List HostCall → List Item
+  allWorth x [] = []
+  allWorth x (c ∷ cs) = worth perform turned x c ++ allWorth (answer x c .state) cs
+
+  unfoldable pub readCalls : Reading → S → List HostCall → Reading
+  readCalls r x [] = r
+  readCalls r x (c ∷ cs) = readCalls (noteCall r c (answer x c .reply)) (answer x c .state) cs
+
+  module _ (calls : List HostCall) where
+    abbrev pub items : List Item
+    items = allWorth t calls
+
+    abbrev pub read : Reading
+    read = readCalls unread t calls
+
+    abbrev pub at-end : S
+    at-end = afterCalls answer t calls
+
+    pub record CallsDemand : Type 0 where
+      -- the next call, whatever it is, replies what its posts and steps answer, and leaves what they leave;
+      pub replies : (c : HostCall)
+          → answer at-end c
+          ≡ replied (replyWorth perform turned at-end c) (after perform at-end (worth perform turned at-end c))
+      -- a sheet is turned away exactly if it must be;
+      pub turns-away : (q : Sizes) (w : ℕ) (l : List Arguments)
+          → turned at-end q w l ≡ turningSheet s read q w l
+      -- the state, what is read, and the entries of each job are those of the items that the calls are worth,
+      pub leaves : at-end ≡ after perform t items
+      pub reads : SameReading read (reading (events perform t items))
+      pub enters : (j : ℕ)
+          → callEntries answer (λ x. see x .waiting) t calls j
+          ≡ entries perform (λ x. see x .waiting) t items j
+      -- of which every clause of the demand holds
+      pub demand : Demand perform see s t items

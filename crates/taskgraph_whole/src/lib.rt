@@ -1,0 +1,61 @@
+// An add and a finish run whole as C has them: posted, and stepped to the end, in one call. A slice is a pointer and a
+// count of elements in C; answers are structs by value. include/taskgraph.h declares all of this. Follows
+// docs/RULES.md, "Whole calls". Assumes nothing but that a pointer with a count points to that many elements.
+ghost use Rattle.words.specs.Layout.{atEntry, atExit};
+ghost use Rattle.whole_words.specs.Whole.{wholeAdd, wholeFinish};
+ghost use Rattle.taskgraph_answer.specs.Answers.{Gives};
+ghost use Rattle.taskgraph_answer.specs.Arguments.{argumentsOf};
+use sheet_format::Entry;
+use taskgraph_answer::GraphAnswer;
+use taskgraph_answer::answered;
+use terms::Sizes;
+
+// Adds the entry's job.
+#[no_mangle]
+pub extern "C" fn tg_add(
+    sizes: Sizes,
+    jobs: &mut [u32],
+    arcs: &mut [u32],
+    buckets: &mut [u32],
+    queue: &mut [u32],
+    workers: &mut [u32],
+    worker: u32,
+    entry: Entry,
+) -> GraphAnswer
+    ensures { λ r. ⌜ Gives r (atExit jobs arcs buckets queue workers)
+        (wholeAdd sizes (atEntry jobs arcs buckets queue workers) worker (argumentsOf entry)) ⌝ }
+{
+    let names = entry.names;
+    answered(whole_add::add_whole(
+        sizes,
+        jobs,
+        arcs,
+        buckets,
+        queue,
+        workers,
+        worker,
+        entry.name,
+        names,
+        entry.count,
+        entry.class,
+        entry.grower,
+    ))
+}
+
+// Finishes the held job of a name.
+#[no_mangle]
+pub extern "C" fn tg_finish(
+    sizes: Sizes,
+    jobs: &mut [u32],
+    arcs: &mut [u32],
+    buckets: &mut [u32],
+    queue: &mut [u32],
+    workers: &mut [u32],
+    worker: u32,
+    name: u32,
+) -> GraphAnswer
+    ensures { λ r. ⌜ Gives r (atExit jobs arcs buckets queue workers)
+        (wholeFinish sizes (atEntry jobs arcs buckets queue workers) worker name) ⌝ }
+{
+    answered(whole_finish::finish_whole(sizes, jobs, arcs, buckets, queue, workers, worker, name))
+}
