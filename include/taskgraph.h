@@ -18,9 +18,9 @@ extern "C" {
 #endif
 
 #define TG_VERSION_MAJOR 1
-#define TG_VERSION_MINOR 0
+#define TG_VERSION_MINOR 1
 #define TG_VERSION_PATCH 0
-#define TG_VERSION "1.0.0"
+#define TG_VERSION "1.1.0"
 
 /* The numbers of the refusals (docs/RULES.md, "Turned-away calls"), as they stand in a `number`. docs/NUMBERS.md
  * says what a host does about each. */
@@ -40,7 +40,8 @@ enum {
     TG_CUT = 12,          /* the sheet ends inside an entry */
     TG_MAP = 13,          /* a wrong map byte */
     TG_VALUE = 14,        /* a field's value off its limits */
-    TG_NO_ROOM = 15       /* the output lacks room */
+    TG_NO_ROOM = 15,      /* the output lacks room */
+    TG_ENTRIES = 16       /* more entries than one call takes */
 };
 
 /* The limits. */
@@ -55,6 +56,7 @@ enum {
     TG_MAX_RECORDS = 4096,     /* the longest row that the totals take */
     TG_ENTRY_WORDS = 36,       /* the 32-bit words of a tg_entry, which is a row of tg_read_sheet */
     TG_MAX_ENTRY_BYTES = 137,  /* the longest entry of a sheet */
+    TG_MAX_ENTRIES = 64,       /* the entries that tg_add_sheet takes */
     TG_MAX_DAY_SHEET = 32768,  /* the longest sheet that the day list reads, in bytes */
     TG_MAX_DAY_LIST = 97979,   /* the longest day list of two workers, in bytes */
     TG_DAY_JOBS = 256,         /* R of the day list */
@@ -232,6 +234,28 @@ tg_answer tg_step(tg_sizes sizes, TG_TABLES, uint32_t worker);
 
 /* Takes the job longest in the queue: handed out, none ready, or refused with 1, 2, 9, 3 or 10. */
 tg_answer tg_get(tg_sizes sizes, TG_TABLES, uint32_t worker);
+
+/* An add run whole: posted, and stepped to its end with no other call between. Ended, or refused with 1, 2, 9,
+ * 3, 5, 6, 7 or 8; after a 9 in its middle, which only damaged tables give, the call is half done. */
+tg_answer tg_add(tg_sizes sizes, TG_TABLES, uint32_t worker, tg_entry entry);
+
+/* A finish run whole: ended, or refused with 1, 2, 9, 3 or 11. In damaged tables, where a list of arcs runs in a
+ * circle, it may answer going on after arcs + 1 steps; tg_step goes on with it. */
+tg_answer tg_finish(tg_sizes sizes, TG_TABLES, uint32_t worker, uint32_t name);
+
+/* number 0: `numbers` and `places` have for each entry what its add run whole answers: 0 and 0 where it was
+ * accepted, else its number, and for number 6 the place in the list.
+ * number 1, 2, 9, 3 or 16: the sheet was turned away before any entry, and nothing was changed.
+ * All else is 0. */
+typedef struct {
+    uint32_t number;
+    uint32_t numbers[TG_MAX_ENTRIES], places[TG_MAX_ENTRIES];
+} tg_sheet_added;
+
+/* Adds the entries of all rows, each run whole, in order, as so many calls of tg_add would; a refused entry does
+ * not stop the next. The rows are those of tg_read_sheet, or a row of tg_entry, TG_ENTRY_WORDS words each;
+ * `rows_len` counts words. Words that make no whole rows are 1, more than TG_MAX_ENTRIES entries 16, after 3. */
+tg_sheet_added tg_add_sheet(tg_sizes sizes, TG_TABLES, uint32_t worker, const uint32_t *rows, size_t rows_len);
 
 /* The same tables, only read. */
 #define TG_TABLES_READ                                                                                  \

@@ -5,7 +5,7 @@
 ghost use Rattle.words.specs.Layout.{atEntry, atExit};
 ghost use Rattle.words.specs.Words.{addWords};
 ghost use Rattle.taskgraph_answer.specs.Answers.{Gives};
-ghost use Rattle.taskgraph_answer.specs.Arguments.{argumentsOf};
+ghost use Rattle.sheet_rows.specs.Arguments.{argumentsOf};
 use sheet_format::Entry;
 use taskgraph_answer::GraphAnswer;
 use taskgraph_answer::answered;

@@ -4,7 +4,7 @@
 ghost use Rattle.words.specs.Layout.{atEntry, atExit};
 ghost use Rattle.whole_words.specs.Whole.{wholeAdd, wholeFinish};
 ghost use Rattle.taskgraph_answer.specs.Answers.{Gives};
-ghost use Rattle.taskgraph_answer.specs.Arguments.{argumentsOf};
+ghost use Rattle.sheet_rows.specs.Arguments.{argumentsOf};
 use sheet_format::Entry;
 use taskgraph_answer::GraphAnswer;
 use taskgraph_answer::answered;

@@ -1,0 +1,110 @@
+-- `add_rows` adds the rows in order. The loop's invariant: what is left makes the whole. Assumes nothing.
+use mathlib.Core.Path.{_≡_, refl, sym, _∙_}
+use Prim.Native.Nat.{suc, _≤_, _+_, _-_}
+use native.Mathlib.Omega.{arith}
+use lib.ListN.{length}
+use borrow.Author.Needs.{needs}
+use Rattle.words.specs.Layout.{tables}
+use Rattle.sheet_rows.specs.SheetRows.{noEntries}
+use Rattle.sheet_adds.specs.Left.{left, told, row-told, none-left, all-left, added}
+use Rattle.sheet_adds.proofs.add_rows.Statement.{statement}
+use Rattle.sheet_adds.proofs.add_rows.Tie as tie
+
+abbrev Inv-loop : tie.InvT-loop
+Inv-loop sizes jobs₀ arcs₀ buckets₀ queue₀ workers₀ worker rows count numbers₀ places₀ row₀ jobs arcs buckets queue workers numbers places row =
+    (length jobs ≡ length jobs₀)
+    × (length arcs ≡ length arcs₀)
+    × (length buckets ≡ length buckets₀)
+    × (length queue ≡ length queue₀)
+    × (length workers ≡ length workers₀)
+    × (row ≤ count)
+    × (told numbers places row (left sizes worker rows row (count - row) (tables jobs arcs buckets queue workers))
+    ≡ told noEntries noEntries 0
+    (left sizes worker rows 0 count (tables jobs₀ arcs₀ buckets₀ queue₀ workers₀)))
+
+abbrev μ-loop : tie.MeasureT-loop
+μ-loop sizes jobs₀ arcs₀ buckets₀ queue₀ workers₀ worker rows count numbers₀ places₀ row₀ jobs arcs buckets queue workers numbers places row =
+    count - row
+
+loop-holds : tie.Need-loop-holds Inv-loop μ-loop
+loop-holds c =
+    let a = c .before .before .before .before .before .before .args in
+    (refl, refl, refl, refl, refl, omega arith, all-left (a .sizes) (a .worker) (a .rows .now) (a .count) _ _ _)
+
+add-row-requires : tie.Need-add-row-requires Inv-loop μ-loop
+add-row-requires c κs = omega arith
+
+number-of-requires : tie.Need-number-of-requires Inv-loop μ-loop
+number-of-requires c κs = search needs
+
+mul-numbers : tie.Need-mul-numbers Inv-loop μ-loop
+mul-numbers c = search needs
+
+array-write-numbers : tie.Need-array-write-numbers Inv-loop μ-loop
+array-write-numbers c = omega arith
+
+place-of-requires : tie.Need-place-of-requires Inv-loop μ-loop
+place-of-requires c κs = search needs
+
+mul-places : tie.Need-mul-places Inv-loop μ-loop
+mul-places c = search needs
+
+array-write-places : tie.Need-array-write-places Inv-loop μ-loop
+array-write-places c = omega arith
+
+add-row : tie.Need-add-row Inv-loop μ-loop
+add-row c = omega arith
+
+loop-less : tie.Need-loop-less Inv-loop μ-loop
+loop-less c = omega arith
+
+loop-again : tie.Need-loop-again Inv-loop μ-loop
+loop-again c =
+    let c8 = c .before .before .before .before .before .before .before .before in
+    let f = c8 .before .before .before .before .add-row in
+    let c16 = c8 .before .before .before .before .before .before .before .before in
+    let l = c16 .before .before .before .loop in
+    let a = c16 .before .before .before .before .before .before .before .before .before .before .args in
+    let more : a .count - l .row ≡ suc (a .count - (l .row + 1)) = omega arith in (
+      f .kept .1 .0 ∙ l .inv .0,
+      f .kept .1 .1 .0 ∙ l .inv .1,
+      f .kept .1 .1 .1 .0 ∙ l .inv .2,
+      f .kept .1 .1 .1 .1 .0 ∙ l .inv .3,
+      f .kept .1 .1 .1 .1 .1 .0 ∙ l .inv .4,
+      omega arith,
+      rw (c .place-of .ensures, c .before .number-of .ensures)
+          (row-told (a .sizes) (a .worker) (a .rows .now) (l .row) _ _ _ _ (l .numbers) (l .places) more (f .ensures))
+          ∙ l .inv .6,
+    )
+
+same-length : tie.Need-same-length Inv-loop μ-loop
+same-length c = c .before .loop .inv .0
+
+same-length-2 : tie.Need-same-length-2 Inv-loop μ-loop
+same-length-2 c = c .before .loop .inv .1
+
+same-length-3 : tie.Need-same-length-3 Inv-loop μ-loop
+same-length-3 c = c .before .loop .inv .2
+
+same-length-4 : tie.Need-same-length-4 Inv-loop μ-loop
+same-length-4 c = c .before .loop .inv .3
+
+same-length-5 : tie.Need-same-length-5 Inv-loop μ-loop
+same-length-5 c = c .before .loop .inv .4
+
+returns : tie.Need-returns Inv-loop μ-loop
+returns c =
+    let l = c .before .loop in
+    let c4 = c .before .before .before .before in
+    let a = c4 .before .before .before .before .args in
+    let e = sym (none-left (a .sizes) (a .worker) (a .rows .now) (l .row) (a .count - l .row)
+    (tables (l .jobs) (l .arcs) (l .buckets) (l .queue) (l .workers)) (l .numbers) (l .places) (omega arith))
+    ∙ l .inv .6 in
+    added (a .sizes) (a .worker) (a .rows .now) (a .count) _ _ e
+
+pub add-rows-spec : {M : Type 1} → statement M
+add-rows-spec =
+    tie.close
+    (tie.spec Inv-loop μ-loop loop-holds add-row-requires number-of-requires mul-numbers array-write-numbers
+    place-of-requires mul-places array-write-places add-row loop-less loop-again same-length same-length-2
+    same-length-3 same-length-4 same-length-5 returns)

@@ -1,0 +1,84 @@
+-- A sheet that is turned away, and one that is served. Assumes nothing.
+use mathlib.Core.Path.{_≡_, refl, sym, _∙_}
+use mathlib.Core.Bool.{Bool, true, false}
+use mathlib.Core.List.{List, [], map}
+use Prim.Native.Nat.{ℕ, zero, suc, _<_, _≤_, _%_, _/_}
+use native.Mathlib.Omega.{arith}
+use lib.Dec.{eqb, ltb, leb}
+use lib.ListN.{length}
+use borrow.Author.Tests.{leb-true, ltb-true, ltb-false}
+use Rattle.basics.specs.Base.{pick}
+use Rattle.terms.specs.Terms.{Arguments, mostEntries, wrongSizes}
+use Rattle.terms.specs.declared.Sizes.{Sizes}
+use Rattle.words.specs.Layout.{Tables, view, PHASE, IDLE, sizesFit}
+use Rattle.words.specs.Words.{admitted, ownOk}
+use Rattle.sheet_format.specs.Decode.{rowWords}
+use Rattle.sheet_format.specs.Write.{entriesFrom, entriesOf}
+use Rattle.whole_words.specs.Sheet.{SheetOutcome, sheetOutcome, addEach, judgedSheet, served, sheetWords}
+use Rattle.sheet_rows.specs.Arguments.{argumentsOf}
+use Rattle.sheet_rows.specs.SheetRows.{addsOf, rowsWords, turnedAway, Added}
+use Rattle.sheet_rows.specs.declared.SheetAdded.{SheetAdded}
+
+-- ---- what is not turned away has few entries
+all-tests : (a b c d e : Bool) → _≡_ {A = ℕ} (pick a (pick b (pick c (pick d (pick e 0 16) 3) 9) 2) 1) 0 → e ≡ true
+all-tests true true true true true h = refl
+all-tests true true true true false h = absurd (omega arith)
+all-tests true true true false e h = absurd (omega arith)
+all-tests true true false d e h = absurd (omega arith)
+all-tests true false c d e h = absurd (omega arith)
+all-tests false b c d e h = absurd (omega arith)
+
+zero-of : (n : ℕ) → ltb 0 n ≡ false → n ≡ 0
+zero-of n h = let no = ltb-false 0 n h in omega (arith, no)
+
+pub few : (s : Sizes) (t : Tables) (w n k : ℕ) → k ≡ judgedSheet s t w n → ltb 0 k ≡ false → n ≤ mostEntries
+unfolding admitted
+few s t w n k j z =
+    let h = sym j ∙ zero-of k z in
+    leb-true n mostEntries
+    (all-tests (sizesFit s t) (ltb w (s .workers)) (ownOk s (view t) w) (eqb (view t .worker PHASE w) IDLE)
+    (leb n mostEntries) h)
+
+-- ---- by the number that judging gave
+pub turned : (s : Sizes) (t : Tables) (w : ℕ) (l : List Arguments) (n : ℕ) → n ≡ judgedSheet s t w (length l) → 0 < n
+    → sheetWords s t w l ≡ sheetOutcome n [] t
+unfolding sheetWords served
+turned s t w l zero e h = absurd (omega arith)
+turned s t w l (suc n) e h = rw (← e) refl
+
+pub not-turned : (s : Sizes) (t : Tables) (w : ℕ) (l : List Arguments) (n : ℕ) → n ≡ judgedSheet s t w (length l)
+    → n ≡ 0
+    → sheetWords s t w l ≡ addEach s w l t
+unfolding sheetWords served
+not-turned s t w l n e h = rw (← e, h) refl
+
+-- ---- by the rows
+length-entries : (rows : List ℕ) (i n : ℕ) → length (map argumentsOf (entriesFrom rows i n)) ≡ n
+unfolding entriesFrom
+length-entries rows i zero = refl
+length-entries rows i (suc n) = rw (length-entries rows _ n) refl
+
+pub adds-count : (rows : List ℕ) → length (addsOf rows) ≡ length rows / rowWords
+adds-count rows = length-entries rows 0 (length rows / rowWords)
+
+pub no-whole-rows : (s : Sizes) (t : Tables) (w : ℕ) (rows : List ℕ) (r : SheetAdded)
+    → eqb (length rows % rowWords) 0 ≡ false → r ≡ turnedAway wrongSizes
+    → Added r t (rowsWords s t w rows)
+unfolding rowsWords
+no-whole-rows s t w rows r e h = rw e (h, refl)
+
+pub turned-rows : (s : Sizes) (t : Tables) (w : ℕ) (rows : List ℕ) (n : ℕ) (r : SheetAdded)
+    → eqb (length rows % rowWords) 0 ≡ true → n ≡ judgedSheet s t w (length rows / rowWords) → ltb 0 n ≡ true
+    → r ≡ turnedAway n
+    → Added r t (rowsWords s t w rows)
+unfolding rowsWords
+turned-rows s t w rows n r e j h k =
+    rw (e, turned s t w (addsOf rows) n (rw (adds-count rows) j) (ltb-true 0 n h)) (k, refl)
+
+pub served-rows : (s : Sizes) (t t' : Tables) (w : ℕ) (rows : List ℕ) (n : ℕ) (r : SheetAdded)
+    → eqb (length rows % rowWords) 0 ≡ true → n ≡ judgedSheet s t w (length rows / rowWords) → ltb 0 n ≡ false
+    → Added r t' (addEach s w (addsOf rows) t)
+    → Added r t' (rowsWords s t w rows)
+unfolding rowsWords
+served-rows s t t' w rows n r e j h k =
+    rw (e, not-turned s t w (addsOf rows) n (rw (adds-count rows) j) (zero-of n h)) k

@@ -1,0 +1,3 @@
+pub mod Copied
+pub mod Left
+pub mod Judged

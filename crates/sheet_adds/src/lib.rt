@@ -1,0 +1,197 @@
+// The entries of a sheet's rows, added one after another by one worker, each whole. Follows docs/RULES.md, "Whole
+// calls". Assumes nothing.
+ghost use mathlib.Core.Path.{_≡_};
+ghost use Prim.Native.Nat.{_+_, _*_, _≤_};
+ghost use lib.ListN.{length, take, drop};
+ghost use mathlib.Core.List.{map};
+ghost use Rattle.basics.specs.Limits.{mostNames};
+ghost use Rattle.terms.specs.Terms.{mostEntries};
+ghost use Rattle.terms.specs.Runs.{outcome};
+ghost use Rattle.words.specs.Layout.{atEntry, atExit};
+ghost use Rattle.sheet_format.specs.Decode.{rowWords};
+ghost use Rattle.sheet_format.specs.Write.{entryAt, entriesFrom};
+ghost use Rattle.whole_words.specs.Whole.{wholeAdd};
+ghost use Rattle.whole_words.specs.Sheet.{addEach};
+ghost use Rattle.sheet_rows.specs.Arguments.{argumentsOf};
+ghost use Rattle.sheet_rows.specs.SheetRows.{numberOf, placeOf, turnedAway, Added, rowsWords};
+use graph_words::numbers::WRONG_SIZES;
+use sheet_judge::judge_sheet;
+use sheet_limits::CLASS_WORD;
+use sheet_limits::COUNT_WORD;
+use sheet_limits::GROWER_WORD;
+use sheet_limits::NAMES_WORD;
+use sheet_limits::ROW_WORDS;
+use sheet_rows::SheetAdded;
+use terms::Answer;
+use terms::Sizes;
+use whole_add::add_whole;
+
+// The number that refused an add, or 0.
+fn number_of(answer: Answer) -> u32
+    ensures { λ r. ⌜ r ≡ numberOf answer ⌝ }
+{
+    match answer {
+        Answer::Laid => 0,
+        Answer::Posted => 0,
+        Answer::Going => 0,
+        Answer::Ended => 0,
+        Answer::NoneReady => 0,
+        Answer::Handed { .. } => 0,
+        Answer::Refused { number, place: _ } => number,
+    }
+}
+
+// The place that came with it, or 0.
+fn place_of(answer: Answer) -> u32
+    ensures { λ r. ⌜ r ≡ placeOf answer ⌝ }
+{
+    match answer {
+        Answer::Laid => 0,
+        Answer::Posted => 0,
+        Answer::Going => 0,
+        Answer::Ended => 0,
+        Answer::NoneReady => 0,
+        Answer::Handed { .. } => 0,
+        Answer::Refused { number: _, place } => place,
+    }
+}
+
+// The names of a row, from a word on.
+fn row_names(rows: &[u32], from: usize) -> [u32; 32]
+    requires { ⌜ from + mostNames ≤ length (now rows) ⌝ }
+    ensures { λ r. ⌜ r ≡ take mostNames (drop from (now (rows .entry))) ⌝ }
+{
+    let mut names: [u32; 32] = [0; 32];
+    let mut i: usize = 0;
+    while i < 32 {
+        names[i] = rows[from + i];
+        i += 1;
+    }
+    names
+}
+
+// The add of a row's entry.
+fn add_row(
+    sizes: Sizes,
+    jobs: &mut [u32],
+    arcs: &mut [u32],
+    buckets: &mut [u32],
+    queue: &mut [u32],
+    workers: &mut [u32],
+    worker: u32,
+    rows: &[u32],
+    row: usize,
+) -> Answer
+    requires { ⌜ rowWords * row + rowWords ≤ length (now rows) ⌝ }
+    ensures { λ r. ⌜ outcome r (atExit jobs arcs buckets queue workers)
+        ≡ wholeAdd sizes (atEntry jobs arcs buckets queue workers) worker
+        (argumentsOf (entryAt (now (rows .entry)) row)) ⌝ }
+{
+    let at = ROW_WORDS * row;
+    let names = row_names(rows, at + NAMES_WORD);
+    add_whole(
+        sizes,
+        jobs,
+        arcs,
+        buckets,
+        queue,
+        workers,
+        worker,
+        rows[at],
+        names,
+        rows[at + COUNT_WORD],
+        rows[at + CLASS_WORD],
+        rows[at + GROWER_WORD],
+    )
+}
+
+// The adds of the first rows, in order; a refused one does not stop the next.
+fn add_rows(
+    sizes: Sizes,
+    jobs: &mut [u32],
+    arcs: &mut [u32],
+    buckets: &mut [u32],
+    queue: &mut [u32],
+    workers: &mut [u32],
+    worker: u32,
+    rows: &[u32],
+    count: usize,
+) -> SheetAdded
+    requires { ⌜ (count ≤ mostEntries) × (rowWords * count ≤ length (now rows)) ⌝ }
+    ensures { λ r. ⌜ Added r (atExit jobs arcs buckets queue workers)
+        (addEach sizes worker (map argumentsOf (entriesFrom (now (rows .entry)) 0 count))
+        (atEntry jobs arcs buckets queue workers)) ⌝ }
+{
+    let mut numbers: [u32; 64] = [0; 64];
+    let mut places: [u32; 64] = [0; 64];
+    let mut row: usize = 0;
+    while row < count {
+        let answer = add_row(
+            sizes,
+            jobs,
+            arcs,
+            buckets,
+            queue,
+            workers,
+            worker,
+            rows,
+            row,
+        );
+        numbers[row] = number_of(answer);
+        places[row] = place_of(answer);
+        row += 1;
+    }
+    SheetAdded {
+        number: 0,
+        numbers,
+        places,
+    }
+}
+
+// A sheet that was turned away.
+fn turned_away(number: u32) -> SheetAdded
+    ensures { λ r. ⌜ r ≡ turnedAway number ⌝ }
+{
+    SheetAdded {
+        number,
+        numbers: [0; 64],
+        places: [0; 64],
+    }
+}
+
+// Adds the entries of all rows, each whole, in order, or turns the sheet away.
+pub fn add_sheet(
+    sizes: Sizes,
+    jobs: &mut [u32],
+    arcs: &mut [u32],
+    buckets: &mut [u32],
+    queue: &mut [u32],
+    workers: &mut [u32],
+    worker: u32,
+    rows: &[u32],
+) -> SheetAdded
+    ensures { λ r. ⌜ Added r (atExit jobs arcs buckets queue workers)
+        (rowsWords sizes (atEntry jobs arcs buckets queue workers) worker (now (rows .entry))) ⌝ }
+{
+    let whole = rows.len() % ROW_WORDS == 0;
+    if whole {} else {
+        return turned_away(WRONG_SIZES);
+    }
+    let count = rows.len() / ROW_WORDS;
+    let number = judge_sheet(sizes, jobs, arcs, buckets, queue, workers, worker, count);
+    let turned = 0 < number;
+    if turned {
+        return turned_away(number);
+    }
+    add_rows(
+        sizes,
+        jobs,
+        arcs,
+        buckets,
+        queue,
+        workers,
+        worker,
+        rows,
+        count,
+    )
+}

@@ -1,0 +1,60 @@
+// What turns a sheet of adds away, before any entry: it reads and judges, and stores nothing. Follows docs/RULES.md,
+// "Whole calls". Assumes nothing: the definition holds of all tables and arguments.
+ghost use mathlib.Core.Path.{_≡_};
+ghost use lib.Dec.{leb, eqb};
+ghost use Rattle.basics.specs.Base.{pick};
+ghost use Rattle.terms.specs.Terms.{mostEntries, tooManyEntries, halfDone};
+ghost use Rattle.words.specs.Columns.{columns};
+ghost use Rattle.words.specs.Layout.{workerShape, PHASE, IDLE, atEntry};
+ghost use Rattle.whole_words.specs.Sheet.{judgedSheet};
+use graph_own::own_ok;
+use graph_sizes::sizes_fit;
+use graph_words::layout::*;
+use graph_words::numbers::*;
+use graph_words::worker_word;
+use terms::Sizes;
+
+// What turns a sheet of so many entries away where the worker is known and sound.
+fn judge_admitted_sheet(workers: &[u32], worker: u32, entries: usize) -> u32
+    ensures { λ r. ⌜ r ≡ pick (eqb (columns workerShape (now (workers .entry)) PHASE worker) IDLE)
+        (pick (leb entries mostEntries) 0 tooManyEntries) halfDone ⌝ }
+{
+    let idle = worker_word(workers, worker, PHASE) == IDLE;
+    if idle {
+        let few = entries <= (MOST_ENTRIES as usize);
+        if few { 0 } else { TOO_MANY_ENTRIES }
+    } else {
+        HALF_DONE
+    }
+}
+
+// The number that turns a sheet of so many entries away, or 0.
+pub fn judge_sheet(
+    sizes: Sizes,
+    jobs: &[u32],
+    arcs: &[u32],
+    buckets: &[u32],
+    queue: &[u32],
+    workers: &[u32],
+    worker: u32,
+    entries: usize,
+) -> u32
+    ensures { λ r. ⌜ r ≡ judgedSheet sizes (atEntry jobs arcs buckets queue workers) worker entries ⌝ }
+{
+    let fit = sizes_fit(sizes, jobs, arcs, buckets, queue, workers);
+    if fit {
+        let known = worker < sizes.workers;
+        if known {
+            let sound = own_ok(sizes, jobs, arcs, workers, worker);
+            if sound {
+                judge_admitted_sheet(workers, worker, entries)
+            } else {
+                DAMAGED
+            }
+        } else {
+            NO_SUCH_WORKER
+        }
+    } else {
+        WRONG_SIZES
+    }
+}

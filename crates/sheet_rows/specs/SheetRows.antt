@@ -1,0 +1,72 @@
+-- A sheet of adds as a host has it: the rows that reading a sheet writes, and each entry's number and place
+-- (docs/RULES.md, "Whole calls"). Assumes nothing.
+use mathlib.Core.Path.{_≡_}
+use mathlib.Core.List.{List, [], map}
+use Prim.Native.Nat.{ℕ, _%_}
+use lib.Dec.{eqb}
+use lib.ListN.{length, replicate}
+use lib.Seq.{sets}
+use Rattle.basics.specs.Base.{pick}
+use Rattle.terms.specs.Terms.{Arguments, mostEntries, wrongSizes}
+use Rattle.terms.specs.declared.Sizes.{Sizes}
+use Rattle.terms.specs.declared.Answer.{Answer}
+use Rattle.terms.specs.declared.Answer.the-variants.{Laid, Posted, Going, Ended, NoneReady, Handed, Refused}
+use Rattle.words.specs.Layout.{Tables}
+use Rattle.sheet_format.specs.Decode.{rowWords}
+use Rattle.sheet_format.specs.Write.{entriesOf}
+use Rattle.whole_words.specs.Sheet.{SheetOutcome, sheetOutcome, sheetWords}
+use Rattle.sheet_rows.specs.Arguments.{argumentsOf}
+use Rattle.sheet_rows.specs.declared.SheetAdded.{SheetAdded}
+
+-- the adds of the rows' entries
+abbrev pub addsOf : List ℕ → List Arguments
+addsOf rows = map argumentsOf (entriesOf rows)
+
+-- the sheet of all rows; words that make no whole rows are a table shorter than its records need: 1
+unfoldable pub rowsWords : Sizes → Tables → ℕ → List ℕ → SheetOutcome
+rowsWords s t w rows =
+    pick (eqb (length rows % rowWords) 0) (sheetWords s t w (addsOf rows)) (sheetOutcome wrongSizes [] t)
+
+-- an add that is run whole ends, or is refused by a number, of which 6 has a place
+abbrev pub numberOf : Answer → ℕ
+numberOf (Refused n i) = n
+numberOf Laid = 0
+numberOf Posted = 0
+numberOf Going = 0
+numberOf Ended = 0
+numberOf NoneReady = 0
+numberOf (Handed h) = 0
+
+abbrev pub placeOf : Answer → ℕ
+placeOf (Refused n i) = i
+placeOf Laid = 0
+placeOf Posted = 0
+placeOf Going = 0
+placeOf Ended = 0
+placeOf NoneReady = 0
+placeOf (Handed h) = 0
+
+-- the numbers and the places of the entries from i on, stored in their row
+abbrev pub toldFrom : List ℕ → List ℕ → ℕ → List Answer → SheetAdded
+toldFrom numbers places i xs =
+    record { number = 0; numbers = sets numbers i (map numberOf xs); places = sets places i (map placeOf xs) }
+
+abbrev pub noEntries : List ℕ
+noEntries = replicate mostEntries 0
+
+-- "each entry's number and place"
+abbrev pub sheetAdded : SheetOutcome → SheetAdded
+sheetAdded o =
+    record {
+      number = o .number;
+      numbers = sets noEntries 0 (map numberOf (o .answers));
+      places = sets noEntries 0 (map placeOf (o .answers));
+    }
+
+-- a sheet that was turned away
+abbrev pub turnedAway : ℕ → SheetAdded
+turnedAway n = record { number = n; numbers = noEntries; places = noEntries }
+
+-- a sheet answers so and leaves these tables: those of a definition's outcome, as C has them
+abbrev pub Added : SheetAdded → Tables → SheetOutcome → Type 0
+Added r t o = (r ≡ sheetAdded o) × (t ≡ o .state)

@@ -1,0 +1,27 @@
+// A sheet of adds in one call, as C has it: the sizes, the five lent tables, then the worker and the rows of the
+// entries. A slice is a pointer and a count of elements in C; answers are structs by value. include/taskgraph.h declares
+// all of this. Follows docs/RULES.md, "Whole calls". Assumes nothing but that a pointer with a count points to that many
+// elements.
+ghost use Rattle.words.specs.Layout.{atEntry, atExit};
+ghost use Rattle.sheet_rows.specs.SheetRows.{Added, rowsWords};
+use sheet_adds::add_sheet;
+use sheet_rows::SheetAdded;
+use terms::Sizes;
+
+// Adds the entries of all rows, each whole, in order.
+#[no_mangle]
+pub extern "C" fn tg_add_sheet(
+    sizes: Sizes,
+    jobs: &mut [u32],
+    arcs: &mut [u32],
+    buckets: &mut [u32],
+    queue: &mut [u32],
+    workers: &mut [u32],
+    worker: u32,
+    rows: &[u32],
+) -> SheetAdded
+    ensures { λ r. ⌜ Added r (atExit jobs arcs buckets queue workers)
+        (rowsWords sizes (atEntry jobs arcs buckets queue workers) worker (now (rows .entry))) ⌝ }
+{
+    add_sheet(sizes, jobs, arcs, buckets, queue, workers, worker, rows)
+}
