@@ -1,0 +1,2 @@
+pub mod FindStable
+pub mod Listed
