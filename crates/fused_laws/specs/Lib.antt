@@ -1,0 +1,6 @@
+pub mod Records
+pub mod Fits
+pub mod Plans
+pub mod Deeds
+pub mod Steps
+pub mod Kept
