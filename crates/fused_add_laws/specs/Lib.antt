@@ -1,2 +1,5 @@
 pub mod FindStable
 pub mod Listed
+pub mod Room
+pub mod Stage
+pub mod Entered
