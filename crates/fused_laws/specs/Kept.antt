@@ -9,6 +9,7 @@ use lib.Dec.{ltb, leb, eqb}
 use lib.ListN.{length, getD}
 use lib.Seq.{sets, length-sets}
 use borrow.Author.Tests.{lt-ltb, ne-eqb}
+use Rattle.basics.specs.Laws.{never}
 use Rattle.terms.specs.declared.Sizes.{Sizes}
 use Rattle.words.specs.Columns.{place, header, put, putHeader, header-put, header-other}
 use Rattle.words.specs.Layout.{Tables, tables, view, none, jobShape, arcShape, queueShape, bucketShape, MADE, RESERVED}
@@ -91,3 +92,54 @@ reserved-put l i k v = header-put arcShape l i k v RESERVED refl
 
 pub reserved-new : (l : List ℕ) (x j : ℕ) → header (newArc l x j) RESERVED ≡ header l RESERVED
 reserved-new l x j = reserved-put (put arcShape l x DEPENDENT j) x AFTER none ∙ reserved-put l x DEPENDENT j
+
+-- a plan that enters nothing
+abbrev pub entersNone : Plan → Bool
+entersNone (Enter j k h x) = false
+entersNone (Refuse n) = true
+entersNone (Quit n i) = true
+entersNone Pass = true
+entersNone Tally = true
+entersNone (LinkFirst p x j) = true
+entersNone (LinkAfter p y x j) = true
+entersNone (Settle j c) = true
+entersNone (SettleQueue j c q) = true
+entersNone (Mark p x) = true
+entersNone (Notify j c x) = true
+entersNone (NotifyQueue j c x q) = true
+
+pub stored-made : (p : Plan) (t : Tables) (r : List ℕ) → entersNone p ≡ true
+    → view (storedBy p t r) .made ≡ view t .made
+unfolding storedBy
+stored-made (Enter j k h x) t r e = never (cc)
+stored-made (Refuse n) t r e = refl
+stored-made (Quit n i) t r e = refl
+stored-made Pass t r e = refl
+stored-made Tally t r e = refl
+stored-made (LinkFirst p x j) t r e = made-put (put jobShape (t .jobs) p FIRST x) p LAST x ∙ made-put (t .jobs) p FIRST x
+stored-made (LinkAfter p y x j) t r e = made-put (t .jobs) p LAST x
+stored-made (Settle j c) t r e = made-put (t .jobs) j COUNT c
+stored-made (SettleQueue j c q) t r e = made-put (t .jobs) j COUNT c
+stored-made (Mark p x) t r e = made-put (t .jobs) p LABEL 2
+stored-made (Notify j c x) t r e = made-put (t .jobs) j COUNT c
+stored-made (NotifyQueue j c x q) t r e = made-put (t .jobs) j COUNT c
+
+pub stored-reserved : (p : Plan) (t : Tables) (r : List ℕ) → entersNone p ≡ true
+    → view (storedBy p t r) .reserved ≡ view t .reserved
+unfolding storedBy
+stored-reserved (Enter j k h x) t r e = never (cc)
+stored-reserved (Refuse n) t r e = refl
+stored-reserved (Quit n i) t r e = refl
+stored-reserved Pass t r e = refl
+stored-reserved Tally t r e = refl
+stored-reserved (LinkFirst p x j) t r e = reserved-new (t .arcs) x j
+stored-reserved (LinkAfter p y x j) t r e = reserved-put (newArc (t .arcs) x j) y AFTER x ∙ reserved-new (t .arcs) x j
+stored-reserved (Settle j c) t r e = refl
+stored-reserved (SettleQueue j c q) t r e = refl
+stored-reserved (Mark p x) t r e = refl
+stored-reserved (Notify j c x) t r e = refl
+stored-reserved (NotifyQueue j c x q) t r e = refl
+
+pub stored-counters : (s : Sizes) (p : Plan) (t : Tables) (r : List ℕ) → entersNone p ≡ true
+    → countersOk s (view (storedBy p t r)) ≡ countersOk s (view t)
+stored-counters s p t r e = rw (stored-made p t r e, stored-reserved p t r e)

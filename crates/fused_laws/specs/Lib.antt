@@ -4,3 +4,5 @@ pub mod Plans
 pub mod Deeds
 pub mod Steps
 pub mod Kept
+pub mod Posts
+pub mod Calls

@@ -94,8 +94,12 @@ module _ (s : Sizes) (t : Tables) (w : ℕ) (r : List ℕ) (fit : sizesFit s t �
       (three PHASE PLACE OWN-JOB LINKING 0 j (omega arith) (omega arith) (omega arith))
       ∙ ap (λ d. putField (putWorker l w m) w OWN-ARC (firstArc d x)) (worker-word LIST-COUNT)
       ∙ field-in-record l w m OWN-ARC (firstArc (getD r LIST-COUNT 0) x)
-      (omega (arith, length-set r PHASE LINKING, length-set (set r PHASE LINKING) PLACE 0,
-      length-set (set (set r PHASE LINKING) PLACE 0) OWN-JOB j))
+      (omega (
+        arith,
+        length-set r PHASE LINKING,
+        length-set (set r PHASE LINKING) PLACE 0,
+        length-set (set (set r PHASE LINKING) PLACE 0) OWN-JOB j,
+      ))
 
   choose : (b : Bool) {x y : List ℕ} (m n : List ℕ) → x ≡ putWorker l w m → y ≡ putWorker l w n
       → pick b x y ≡ putWorker l w (pick b m n)
