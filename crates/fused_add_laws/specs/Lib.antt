@@ -3,3 +3,4 @@ pub mod Listed
 pub mod Room
 pub mod Stage
 pub mod Entered
+pub mod Halfway
