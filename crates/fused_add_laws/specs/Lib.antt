@@ -4,3 +4,6 @@ pub mod Room
 pub mod Stage
 pub mod Entered
 pub mod Halfway
+pub mod LinkPlans
+pub mod Linking
+pub mod Settling
