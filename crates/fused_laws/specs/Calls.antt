@@ -1,19 +1,18 @@
 -- The records that an add and a finish in one go would have between their steps: they are sound, and the plan of each.
 -- Follows docs/RULES.md, "Steps". Assumes nothing.
-use mathlib.Core.Path.{_≡_, refl, sym, ap, _∙_}
-use mathlib.Core.Bool.{Bool, true, false, _&&_}
+use mathlib.Core.Path.{_≡_, refl, ap, _∙_}
+use mathlib.Core.Bool.{true}
 use mathlib.Core.List.{List, [], _∷_, _++_}
 use Prim.Native.Nat.{ℕ, zero, suc, _+_, _≤_, _<_}
 use native.Mathlib.Omega.{arith}
-use lib.Dec.{ltb, leb, eqb}
 use lib.ListN.{length, getD, take}
 use borrow.Author.Tests.{lt-ltb, le-ltb, le-leb}
 use Rattle.basics.specs.Limits.{mostNames, mostClass, mostGrower}
-use Rattle.basics.specs.Base.{pick, prefix}
+use Rattle.basics.specs.Base.{prefix}
 use Rattle.basics.specs.Laws.{length-prefix}
 use Rattle.terms.specs.Terms.{Arguments, listed}
 use Rattle.terms.specs.declared.Sizes.{Sizes}
-use Rattle.words.specs.Layout.{View, workerShape, NAMES, IDLE, LOOKING, LINKING, MARKING, NOTIFYING, bareWorker}
+use Rattle.words.specs.Layout.{View, workerShape, NAMES, LOOKING, LINKING, MARKING, NOTIFYING, bareWorker}
 use Rattle.words.specs.Words.{placeOk, findOf, planLookUp, planEnter, planLink, planSettle, planMark, planNotify}
 use Rattle.fused_words.specs.FusedWorker.{addWorker, notifyWorker}
 use Rattle.fused_laws.specs.Plans.{recordOk, recordPlan, recordName}

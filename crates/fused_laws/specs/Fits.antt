@@ -1,19 +1,15 @@
--- The sizes fit after each store that a call makes: no length changes, and no size that the jobs table keeps. Neither do
--- the counters, but where entering moves them. Follows docs/RULES.md, "Tables and their measures". Assumes nothing.
-use mathlib.Core.Path.{_≡_, refl, sym, ap, _∙_}
-use mathlib.Core.Bool.{Bool, true, false, _&&_}
-use mathlib.Core.List.{List, [], _∷_}
-use Prim.Native.Nat.{ℕ, _+_, _^_, _≤_, _<_}
+-- The sizes fit tables of the same lengths that keep the same sizes; so they fit after a worker's words are stored.
+-- What a store leaves of a length and of a header. Follows docs/RULES.md, "Tables and their measures". Assumes nothing.
+use mathlib.Core.Path.{_≡_, refl}
+use mathlib.Core.List.{List}
+use Prim.Native.Nat.{ℕ, _<_}
 use native.Mathlib.Omega.{arith}
-use lib.Dec.{leb, eqb}
-use lib.ListN.{length, set, length-set}
+use lib.ListN.{length, length-set}
 use lib.Seq.{sets, length-sets}
-use Rattle.basics.specs.Laws.{and-left, and-right}
-use Rattle.terms.specs.Terms.{withinLimits}
 use Rattle.terms.specs.declared.Sizes.{Sizes}
-use Rattle.words.specs.Columns.{Shape, place, rows, Rows, header, put, putHeader, header-put, header-other}
-use Rattle.words.specs.Layout.{Tables, tables, need, jobShape, arcShape, bucketShape, queueShape, workerShape}
-use Rattle.words.specs.Layout.{JOBS, ARCS, BITS, WORKERS, MADE, longEnough, sizesKept, roomFor, sizesFit}
+use Rattle.words.specs.Columns.{Shape, place, header, put, putHeader}
+use Rattle.words.specs.Layout.{Tables, workerShape}
+use Rattle.words.specs.Layout.{JOBS, ARCS, BITS, WORKERS, MADE, longEnough, sizesKept, sizesFit}
 use Rattle.fused_words.specs.FusedWorker.{withWorker}
 use Rattle.fused_laws.specs.Records.{sets-off}
 

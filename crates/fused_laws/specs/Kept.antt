@@ -1,20 +1,19 @@
 -- The sizes fit after each plan, and but for entering the counters of jobs made and arcs reserved stay. Follows
 -- docs/RULES.md, "Tables and their measures". Assumes nothing.
-use mathlib.Core.Path.{_≡_, refl, sym, ap, _∙_}
-use mathlib.Core.Bool.{Bool, true, false, _&&_}
-use mathlib.Core.List.{List, [], _∷_}
-use Prim.Native.Nat.{ℕ, _+_, _≤_, _<_}
+use mathlib.Core.Path.{_≡_, refl, _∙_}
+use mathlib.Core.Bool.{Bool, true, false}
+use mathlib.Core.List.{List}
+use Prim.Native.Nat.{ℕ, _+_, _<_}
 use native.Mathlib.Omega.{arith}
-use lib.Dec.{ltb, leb, eqb}
 use lib.ListN.{length, getD}
 use lib.Seq.{sets, length-sets}
 use borrow.Author.Tests.{lt-ltb, ne-eqb}
 use Rattle.basics.specs.Laws.{never}
 use Rattle.terms.specs.declared.Sizes.{Sizes}
 use Rattle.words.specs.Columns.{place, header, put, putHeader, header-put, header-other}
-use Rattle.words.specs.Layout.{Tables, tables, view, none, jobShape, arcShape, queueShape, bucketShape, MADE, RESERVED}
-use Rattle.words.specs.Layout.{LABEL, COUNT, FIRST, LAST, DEPENDENT, AFTER, PUT, sizesFit}
-use Rattle.words.specs.Words.{putCount, putCell, newArc, countersOk}
+use Rattle.words.specs.Layout.{Tables, view, none, jobShape, arcShape, queueShape, bucketShape, MADE, RESERVED}
+use Rattle.words.specs.Layout.{LABEL, COUNT, FIRST, LAST, DEPENDENT, AFTER, PUT, LIST-COUNT, sizesFit}
+use Rattle.words.specs.Words.{putCell, newArc, countersOk}
 use Rattle.words.specs.declared.Plan.{Plan}
 use Rattle.words.specs.declared.Plan.the-variants.{Refuse, Quit, Pass, Enter, Tally, LinkFirst, LinkAfter, Settle}
 use Rattle.words.specs.declared.Plan.the-variants.{SettleQueue, Mark, Notify, NotifyQueue}
@@ -67,7 +66,10 @@ stored-alike (Quit n i) t r = alike start refl refl refl refl
 stored-alike Pass t r = alike start refl refl refl refl
 stored-alike (Enter j k h x) t r =
     alike (job-made (job-record start j (recordJob r h)) (j + 1))
-    (length-putHeader (t .arcs) RESERVED (x + getD r 3 0)) (length-put bucketShape (t .buckets) k 0 j) refl refl
+    (length-putHeader (t .arcs) RESERVED (x + getD r LIST-COUNT 0))
+    (length-put bucketShape (t .buckets) k 0 j)
+    refl
+    refl
 stored-alike Tally t r = alike start refl refl refl refl
 stored-alike (LinkFirst p x j) t r =
     alike (job-put (job-put start p FIRST x) p LAST x) (arc-long (t .arcs) x j) refl refl refl
@@ -116,7 +118,8 @@ stored-made (Refuse n) t r e = refl
 stored-made (Quit n i) t r e = refl
 stored-made Pass t r e = refl
 stored-made Tally t r e = refl
-stored-made (LinkFirst p x j) t r e = made-put (put jobShape (t .jobs) p FIRST x) p LAST x ∙ made-put (t .jobs) p FIRST x
+stored-made (LinkFirst p x j) t r e =
+    made-put (put jobShape (t .jobs) p FIRST x) p LAST x ∙ made-put (t .jobs) p FIRST x
 stored-made (LinkAfter p y x j) t r e = made-put (t .jobs) p LAST x
 stored-made (Settle j c) t r e = made-put (t .jobs) j COUNT c
 stored-made (SettleQueue j c q) t r e = made-put (t .jobs) j COUNT c

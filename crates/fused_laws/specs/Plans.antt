@@ -1,15 +1,14 @@
 -- The plan of a step, read from a worker's record alone: as a list of 42 words, stored or not. Follows docs/RULES.md,
 -- "Steps". Assumes nothing.
-use mathlib.Core.Path.{_≡_, refl, sym, ap, _∙_}
-use mathlib.Core.Bool.{Bool, true, false, _&&_}
-use mathlib.Core.List.{List, [], _∷_}
-use Prim.Native.Nat.{ℕ, _+_, _≤_, _<_}
+use mathlib.Core.Path.{_≡_, refl, ap, _∙_}
+use mathlib.Core.Bool.{Bool, _&&_}
+use mathlib.Core.List.{List}
+use Prim.Native.Nat.{ℕ, _+_}
 use lib.Dec.{ltb, leb, eqb}
-use lib.ListN.{length, getD}
+use lib.ListN.{getD}
 use Rattle.basics.specs.Limits.{mostNames, mostClass, mostGrower}
 use Rattle.basics.specs.Base.{pick}
 use Rattle.terms.specs.declared.Sizes.{Sizes}
-use Rattle.words.specs.Columns.{columns}
 use Rattle.words.specs.Layout.{View, PHASE, HELD, OWN-NAME, LIST-COUNT, OWN-CLASS, OWN-GROWER, TALLY, PLACE, OWN-JOB}
 use Rattle.words.specs.Layout.{OWN-ARC, NAMES, LOOKING, LINKING, MARKING, NOTIFYING}
 use Rattle.words.specs.Words.{placeOk, ownOk, findOf, planLookUp, planEnter, planAppend, planLink, withCell, planSettle}

@@ -1,42 +1,60 @@
 -- The posts of an admitted worker, by their tests: halfDone first, then what the call itself asks, then the counters. A
 -- refused post leaves the tables. Follows docs/RULES.md, "Turned-away calls". Assumes nothing.
-use mathlib.Core.Path.{_≡_, refl, sym, ap, _∙_}
-use mathlib.Core.Bool.{Bool, true, false, _&&_, _||_}
+use mathlib.Core.Path.{_≡_, refl, ap, _∙_}
+use mathlib.Core.Bool.{Bool, true, false, _&&_}
 use mathlib.Core.List.{List}
-use Prim.Native.Nat.{ℕ, zero, suc, _<_}
-use lib.Dec.{ltb, leb, eqb}
+use Prim.Native.Nat.{ℕ, suc}
+use lib.Dec.{ltb, leb}
 use borrow.Author.Tests.{lt-ltb, ltb-true}
 use Rattle.basics.specs.Limits.{mostNames, mostClass, mostGrower}
 use Rattle.basics.specs.Base.{pick}
-use Rattle.basics.specs.Laws.{and-left, and-right, pick-by}
+use Rattle.basics.specs.Laws.{and-left, and-right}
 use Rattle.terms.specs.Terms.{Arguments, argumentsWrong, wrongSizes, noSuchWorker, halfDone, wrongArguments, damaged}
 use Rattle.terms.specs.Terms.{notHeld}
 use Rattle.terms.specs.Runs.{Outcome, outcome}
 use Rattle.terms.specs.declared.Sizes.{Sizes}
 use Rattle.terms.specs.declared.Answer.the-variants.{Posted, Refused}
-use Rattle.words.specs.Layout.{Tables, View, view, HELD, MARKING, LOOKING, none, bareWorker, sizesFit, PHASE}
+use Rattle.words.specs.Layout.{Tables, view, HELD, MARKING, LOOKING, none, bareWorker, sizesFit, PHASE}
 use Rattle.words.specs.Layout.{LIST-COUNT, OWN-CLASS, OWN-GROWER, TALLY, PLACE, OWN-JOB, OWN-ARC, NOTIFYING}
 use Rattle.words.specs.Words.{placeOk, countersOk, ownOk, admitted, holdsName, posted, refusal, judgedAdd, judgedFinish}
 use Rattle.words.specs.Words.{addWords, finishWords}
 use Rattle.fused_words.specs.FusedWorker.{Admitted, isIdle, holdOf, withWorker, addWorker}
 
 -- ---- who is admitted, and who is not
+by-test : {A : Type 0} (b : Bool) {x y z u : A} → (b ≡ true → x ≡ y) → z ≡ u → pick b x z ≡ pick b y u
+by-test true f g = f refl
+by-test false f g = g
+
 pub admitted-as : {A : Type 0} (s : Sizes) (t : Tables) (w : ℕ) (refuse : ℕ → A) (x : A) → Admitted s t w
     → admitted s t w refuse x ≡ x
 unfolding admitted
 admitted-as s t w refuse x a = rw (a .sizes, lt-ltb w (s .workers) (a .worker), a .own)
 
--- what holds of the refusals, and of an admitted worker, holds of the answer
-pub admitted-by : {A : Type 0} (Q : A → Type 0) (s : Sizes) (t : Tables) (w : ℕ) (refuse : ℕ → A) (x : A)
-    → (Admitted s t w → Q x) → ((n : ℕ) → Q (refuse n)) → Q (admitted s t w refuse x)
+-- the same of every worker, where it is so of the refusals and of an admitted worker
+pub admitted-each : {A : Type 0} (s : Sizes) (t : Tables) (w : ℕ) (f g : ℕ → A) (x y : A)
+    → ((n : ℕ) → f (suc n) ≡ g (suc n)) → (Admitted s t w → x ≡ y) → admitted s t w f x ≡ admitted s t w g y
 unfolding admitted
-admitted-by Q s t w refuse x f g =
-    pick-by Q (sizesFit s t)
-    (λ a. pick-by Q (ltb w (s .workers))
-    (λ b. pick-by Q (ownOk s (view t) w) (λ c. f (record { sizes = a; worker = ltb-true w (s .workers) b; own = c }))
-    (λ _. g damaged))
-    (λ _. g noSuchWorker))
-    (λ _. g wrongSizes)
+admitted-each s t w f g x y e h =
+    by-test (sizesFit s t)
+    (λ a. by-test (ltb w (s .workers))
+    (λ b. by-test (ownOk s (view t) w)
+    (λ c. h (record { sizes = a; worker = ltb-true w (s .workers) b; own = c }))
+    (e 8))
+    (e 1))
+    (e 0)
+
+pub admitted-map : {A B : Type 0} (h : A → B) (s : Sizes) (t : Tables) (w : ℕ) (f : ℕ → A) (x : A)
+    → h (admitted s t w f x) ≡ admitted s t w (λ n. h (f n)) (h x)
+unfolding admitted
+admitted-map h s t w f x = go (sizesFit s t) (ltb w (s .workers)) (ownOk s (view t) w)
+  where
+    go : (a b c : Bool)
+        → h (pick a (pick b (pick c x (f damaged)) (f noSuchWorker)) (f wrongSizes))
+        ≡ pick a (pick b (pick c (h x) (h (f damaged))) (h (f noSuchWorker))) (h (f wrongSizes))
+    go true true true = refl
+    go true true false = refl
+    go true false c = refl
+    go false b c = refl
 
 -- the hold of an admitted worker is a place in use, or none
 own-hold : (a b c d e f g h i : Bool) → (a && b && c && d && e && f && g && h && i) ≡ true → b ≡ true

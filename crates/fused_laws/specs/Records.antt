@@ -13,7 +13,7 @@ use lib.ListN.{length, getD, set, length-set, List·getD-eq-default}
 use lib.Seq.{sets, length-sets, set-set, set-comm, getD-set-same, getD-set-other}
 use borrow.Author.Tests.{lt-ltb, le-ltb, ltb-true}
 use Rattle.basics.specs.Base.{pick}
-use Rattle.words.specs.Columns.{Shape, place, rows, Rows, columns, put, inside}
+use Rattle.words.specs.Columns.{place, rows, Rows, columns, put, inside}
 use Rattle.words.specs.Layout.{workerShape}
 use Rattle.words.specs.Words.{putWorker, putField}
 
@@ -103,7 +103,8 @@ module _ (R : ℕ) (l : List ℕ) (w : ℕ) (r : List ℕ) (whole : length r ≡
           → pick b (getD (putWorker l w r) (place workerShape v k) 0) 0 ≡ pick b (getD l (place workerShape v k) 0) 0
       go false e = refl
       go true e = let h = ltb-true k (workerShape .width) e in elim (decLt v w) [
-        | yes z ↦ sets-off r l (place workerShape w 0) (place workerShape v k) (λ y. absurd (omega (arith, before v w z)))
-        | no z ↦ sets-off r l (place workerShape w 0) (place workerShape v k)
-            (λ y. omega (arith, before w v (omega arith)))
+        | yes z ↦
+            sets-off r l (place workerShape w 0) (place workerShape v k) (λ y. absurd (omega (arith, before v w z)))
+        | no z ↦
+            sets-off r l (place workerShape w 0) (place workerShape v k) (λ y. omega (arith, before w v (omega arith)))
       ]

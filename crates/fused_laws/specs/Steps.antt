@@ -1,11 +1,11 @@
 -- A step of a worker whose whole record was stored: its plan is that of the record, and what it stores is the record as
 -- the plan leaves it, and the other tables. Follows docs/RULES.md, "Steps". Assumes nothing.
-use mathlib.Core.Path.{_≡_, refl, sym, ap, _∙_}
+use mathlib.Core.Path.{_≡_, refl, ap, _∙_}
 use mathlib.Core.Bool.{Bool, true, false, _&&_}
-use mathlib.Core.List.{List, [], _∷_}
-use Prim.Native.Nat.{ℕ, _+_, _≤_, _<_, _^_}
+use mathlib.Core.List.{List}
+use Prim.Native.Nat.{ℕ, _+_, _<_, _^_}
 use native.Mathlib.Omega.{arith}
-use lib.Dec.{ltb, leb, eqb}
+use lib.Dec.{leb, eqb}
 use lib.ListN.{length, getD, set, length-set}
 use borrow.Author.Tests.{lt-ltb}
 use Rattle.basics.specs.Base.{pick}
@@ -14,11 +14,13 @@ use Rattle.terms.specs.Terms.{withinLimits}
 use Rattle.terms.specs.Runs.{outcome}
 use Rattle.terms.specs.declared.Sizes.{Sizes}
 use Rattle.words.specs.Columns.{rows, Rows}
-use Rattle.words.specs.Layout.{Tables, tables, view, none, need, jobShape, arcShape, bucketShape, queueShape, workerShape}
+use Rattle.words.specs.Layout.{Tables, tables, view, none, need, jobShape, arcShape, bucketShape, queueShape}
+use Rattle.words.specs.Layout.{workerShape}
 use Rattle.words.specs.Layout.{PHASE, HELD, OWN-NAME, LIST-COUNT, OWN-CLASS, OWN-GROWER, TALLY, PLACE, OWN-JOB, OWN-ARC}
 use Rattle.words.specs.Layout.{IDLE, LINKING, NOTIFYING, bareWorker, longEnough, sizesKept, roomFor, sizesFit}
 use Rattle.words.specs.Words.{countersOk, ownOk, planCall, planPhase, admitted, planStep, answerOf, putWorker, putField}
-use Rattle.words.specs.Words.{firstArc, idleWorker, nextPlace, arcsFrom, markedWorker, enteredWorker, applied, stepWords}
+use Rattle.words.specs.Words.{firstArc, idleWorker, nextPlace, arcsFrom, markedWorker, enteredWorker, applied}
+use Rattle.words.specs.Words.{stepWords}
 use Rattle.words.specs.declared.Plan.{Plan}
 use Rattle.words.specs.declared.Plan.the-variants.{Refuse, Quit, Pass, Enter, Tally, LinkFirst, LinkAfter, Settle}
 use Rattle.words.specs.declared.Plan.the-variants.{SettleQueue, Mark, Notify, NotifyQueue}
@@ -144,7 +146,9 @@ module _ (s : Sizes) (t : Tables) (w : ℕ) (r : List ℕ) (fit : sizesFit s t �
       (busy : eqb (getD r PHASE 0) IDLE ≡ false) where
     planned : planStep s (withWorker t w r) w ≡ recordPlan s (view t) r
     unfolding admitted planPhase
-    planned = rw (with-worker-fits s t w r, fit, lt-ltb w (s .workers) known, worker-ok, own, worker-word PHASE, busy, counters) worker-plan
+    planned =
+        rw (with-worker-fits s t w r, fit, lt-ltb w (s .workers) known, worker-ok, own)
+        (rw (worker-word PHASE, busy, counters) worker-plan)
 
     pub step-by-record : stepWords s (withWorker t w r) w
         ≡ outcome (answerOf (recordPlan s (view t) r))
