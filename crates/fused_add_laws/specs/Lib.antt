@@ -7,3 +7,4 @@ pub mod Halfway
 pub mod LinkPlans
 pub mod Linking
 pub mod Settling
+pub mod Links
