@@ -8,3 +8,4 @@ pub mod LinkPlans
 pub mod Linking
 pub mod Settling
 pub mod Links
+pub mod Looks
