@@ -9,3 +9,5 @@ pub mod Linking
 pub mod Settling
 pub mod Links
 pub mod Looks
+pub mod Adds
+pub mod Sheets
