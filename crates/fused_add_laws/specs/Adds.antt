@@ -2,21 +2,23 @@
 -- answers that it goes on. Follows docs/RULES.md, "Whole calls". Assumes nothing.
 use mathlib.Core.Path.{_≡_, refl, sym, ap, _∙_}
 use mathlib.Core.Bool.{Bool, true, false}
-use Prim.Native.Nat.{ℕ, suc, _+_, _*_, _<_}
+use Prim.Native.Nat.{ℕ, _+_, _*_}
 use native.Mathlib.Omega.{arith}
 use lib.Dec.{ltb}
 use borrow.Author.Tests.{ltb-true}
 use Rattle.basics.specs.Base.{pick}
-use Rattle.terms.specs.Terms.{Arguments, listed, argumentsWrong, halfDone, wrongArguments, damaged}
+use Rattle.basics.specs.Laws.{pick-by}
+use Rattle.terms.specs.Terms.{Arguments, listed, argumentsWrong, wrongSizes, noSuchWorker, halfDone, wrongArguments}
+use Rattle.terms.specs.Terms.{damaged}
 use Rattle.terms.specs.Runs.{Outcome, outcome}
 use Rattle.terms.specs.declared.Sizes.{Sizes}
 use Rattle.terms.specs.declared.Answer.the-variants.{Posted, Refused}
-use Rattle.words.specs.Layout.{Tables, view, none, LOOKING, sizesFit}
-use Rattle.words.specs.Words.{countersOk, ownOk, admitted, posted, addWords}
+use Rattle.words.specs.Layout.{Tables, view, none, HELD, LOOKING, sizesFit}
+use Rattle.words.specs.Words.{countersOk, ownOk, admitted, refusal, judgedAdd, addingWorker, posted, addWords}
 use Rattle.whole_words.specs.Whole.{andThen, stepsOf, wholeAdd}
 use Rattle.fused_words.specs.FusedWorker.{Admitted, isIdle, holdOf, withWorker, addWorker}
 use Rattle.fused_words.specs.FusedAdd.{lookUps, lookIn, addIn, addIfIdle}
-use Rattle.fused_laws.specs.Posts.{admitted-as, admitted-by, add-posted}
+use Rattle.fused_laws.specs.Posts.{admitted-as, admitted-each, admitted-map, add-posted}
 use Rattle.fused_add_laws.specs.Listed.{right}
 use Rattle.fused_add_laws.specs.Halfway.{Told, refused, Run, run-on, run-ends}
 use Rattle.fused_add_laws.specs.Looks.{looked-run}
@@ -63,22 +65,32 @@ still-admitted s t w a A = add-run s t w a A .admitted
 -- ---- the add of any worker
 pub whole-add : (s : Sizes) (t : Tables) (w : ℕ) (a : Arguments)
     → wholeAdd s t w a ≡ admitted s t w (λ n. outcome (Refused n 0) t) (addIfIdle s t w a)
-unfolding admitted wholeAdd addWords posted
-whole-add s t w a = go (sizesFit s t) refl (ltb w (s .workers)) refl (ownOk s (view t) w) refl
+unfolding wholeAdd addWords posted
+whole-add s t w a =
+    admitted-map H s t w refusal J
+    ∙ admitted-each s t w H (λ n. outcome (Refused n 0) t) (H J) (addIfIdle s t w a) (λ n. refl)
+    (λ A. sym (ap H (admitted-as s t w refusal J A)) ∙ fused-add s t w a A)
   where
-    go : (x : Bool) → sizesFit s t ≡ x → (y : Bool) → ltb w (s .workers) ≡ y → (z : Bool) → ownOk s (view t) w ≡ z
-        → wholeAdd s t w a ≡ admitted s t w (λ n. outcome (Refused n 0) t) (addIfIdle s t w a)
-    go true e true f true g =
-        let A : Admitted s t w = record { sizes = e; worker = ltb-true w (s .workers) f; own = g } in
-        fused-add s t w a A ∙ sym (admitted-as s t w (λ n. outcome (Refused n 0) t) (addIfIdle s t w a) A)
-    go true e true f false g = rw (e, f, g)
-    go true e false f z g = rw (e, f)
-    go false e y f z g = rw e
+    J : ℕ
+    J = judgedAdd s (view t) w a
+
+    H : ℕ → Outcome Tables
+    H n =
+        let o = posted n t w (addingWorker (view t .worker HELD w) a) in
+        andThen (o .answer) (o .state) (stepsOf (2 * a .count + 2) s w)
 
 -- ---- what it answers: that it ended, or a refusal
 pub add-answers : (s : Sizes) (t : Tables) (w : ℕ) (a : Arguments) → Told (wholeAdd s t w a .answer)
+unfolding admitted
 add-answers s t w a =
     rw (whole-add s t w a)
-    (admitted-by (λ (o : Outcome Tables). Told (o .answer)) s t w (λ n. outcome (Refused n 0) t) (addIfIdle s t w a)
-    (λ A. add-run s t w a A .told)
-    (λ n. refused n 0))
+    (pick-by Q (sizesFit s t)
+    (λ e. pick-by Q (ltb w (s .workers))
+    (λ f. pick-by Q (ownOk s (view t) w)
+    (λ g. add-run s t w a (record { sizes = e; worker = ltb-true w (s .workers) f; own = g }) .told)
+    (λ _. refused damaged 0))
+    (λ _. refused noSuchWorker 0))
+    (λ _. refused wrongSizes 0))
+  where
+    Q : Outcome Tables → Type 0
+    Q o = Told (o .answer)

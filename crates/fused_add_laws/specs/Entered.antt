@@ -1,31 +1,29 @@
 -- The tables with a job entered: a stage for the links. Follows docs/RULES.md, "Steps": entering makes the job at the
 -- head of its bucket and reserves its arcs. Assumes nothing.
-use mathlib.Core.Path.{_≡_, refl, sym, ap, _∙_}
-use mathlib.Core.Logic.{_≢_}
-use mathlib.Core.Bool.{Bool, true, false}
+use mathlib.Core.Path.{_≡_, refl, ap, _∙_}
+use mathlib.Core.Bool.{true}
 use mathlib.Core.List.{List, [], _∷_}
-use Prim.Native.Nat.{ℕ, zero, suc, _+_, _^_, _≤_, _<_}
+use Prim.Native.Nat.{ℕ, suc, _+_, _^_, _<_}
 use native.Mathlib.Omega.{arith}
-use lib.Dec.{eqb}
-use lib.ListN.{length, set}
-use lib.Seq.{sets, length-sets}
-use borrow.Author.Tests.{lt-ltb, ne-eqb}
+use lib.ListN.{set}
+use lib.Seq.{sets}
 use Rattle.basics.specs.Base.{update}
 use Rattle.basics.specs.Laws.{update-same, update-other}
 use Rattle.bucket.specs.Bucket.{bucketOf}
 use Rattle.bucket.specs.Laws.{below}
 use Rattle.terms.specs.Terms.{Arguments}
 use Rattle.terms.specs.declared.Sizes.{Sizes}
-use Rattle.words.specs.Columns.{Shape, place, rows, Rows, columns, header, put, putHeader, store, columns-put}
-use Rattle.words.specs.Columns.{columns-putHeader, rows-put, header-putHeader, header-other, header-put, stores}
+use Rattle.words.specs.Columns.{Shape, place, Rows, columns, put, store, columns-put, columns-putHeader}
+use Rattle.words.specs.Columns.{header-putHeader, stores}
 use Rattle.words.specs.Layout.{Tables, View, view, none, jobShape, arcShape, bucketShape, MADE, RESERVED, NAME, LABEL}
-use Rattle.words.specs.Layout.{COUNT, CLASS, GROWER, FIRST, LAST, NEXT, sizesFit}
-use Rattle.words.specs.Words.{findOf}
-use Rattle.words.specs.declared.Found.the-variants.{At}
+use Rattle.words.specs.Layout.{COUNT, CLASS, GROWER, FIRST, LAST, NEXT, LOOKING, sizesFit}
+use Rattle.words.specs.declared.Plan.the-variants.{Enter}
+use Rattle.fused_words.specs.FusedWorker.{addWorker}
 use Rattle.fused_words.specs.FusedAdd.{newRecord, enteredTables}
-use Rattle.fused_laws.specs.Fits.{Alike, alike-fits, length-put, length-putHeader, header-record}
+use Rattle.fused_laws.specs.Deeds.{storedBy}
+use Rattle.fused_laws.specs.Kept.{stored-fits}
 use Rattle.fused_add_laws.specs.FindStable.{find-entered}
-use Rattle.fused_add_laws.specs.Room.{Room, room}
+use Rattle.fused_add_laws.specs.Room.{room}
 use Rattle.fused_add_laws.specs.Stage.{Stage}
 
 -- ---- a record stored at once is its fields stored one after the other
@@ -40,10 +38,6 @@ record-puts s l i k (x ∷ r) =
     ap (λ n. sets (set l (place s i k) x) n r) {x = suc (place s i k)} {y = place s i (suc k)} (omega arith)
     ∙ record-puts s (put s l i k x) i (suc k) r
 
--- what is stored at i is not read at another place
-store-off : (f : ℕ → ℕ) (i x q : ℕ) → q < i → update f i x q ≡ f q
-store-off f i x q h = update-other f i x q (omega arith)
-
 module _ (s : Sizes) (t : Tables) (a : Arguments) (fit : sizesFit s t ≡ true) (more : view t .made < s .jobs) where
   abbrev v : View
   v = view t
@@ -54,9 +48,6 @@ module _ (s : Sizes) (t : Tables) (a : Arguments) (fit : sizesFit s t ≡ true) 
   abbrev head : ℕ
   head = v .bucket 0 k
 
-  abbrev u : Tables
-  u = enteredTables s t a
-
   -- the jobs with the new job's record
   stored : List ℕ
   stored = sets (t .jobs) (place jobShape (v .made) 0) (newRecord a head)
@@ -65,33 +56,21 @@ module _ (s : Sizes) (t : Tables) (a : Arguments) (fit : sizesFit s t ≡ true) 
   unfolding stored
   stored-puts = record-puts jobShape (t .jobs) (v .made) 0 (newRecord a head)
 
-  alike : Alike t (enteredTables s t a)
-  unfolding stored
-  alike = record {
-    jobs = length-putHeader stored MADE (v .made + 1) ∙ length-sets (t .jobs) _ (newRecord a head);
-    arcs = length-putHeader (t .arcs) RESERVED _;
-    buckets = length-put bucketShape (t .buckets) k 0 (v .made);
-    queue = refl;
-    workers = refl;
-    kept = λ q h.
-        header-other stored MADE (v .made + 1) q (ne-eqb q MADE (omega arith))
-        ∙ header-record jobShape (t .jobs) (v .made) (newRecord a head) q (omega arith);
-  }
-
-  long : Rows jobShape (s .jobs) (t .jobs)
-  long = room s t fit .jobs
+  fits : sizesFit s (enteredTables s t a) ≡ sizesFit s t
+  unfolding storedBy
+  fits = stored-fits s (Enter (v .made) k head (v .reserved)) t (addWorker LOOKING 0 a 0 0 0 0)
 
   stored-columns : columns jobShape stored
       ≡ store (store (store (store (store (store (store (store (v .job) (v .made) NAME (a .name)) (v .made) LABEL 0)
       (v .made) COUNT (a .count)) (v .made) CLASS (a .class)) (v .made) GROWER (a .grower)) (v .made) FIRST none)
       (v .made) LAST none) (v .made) NEXT head
   stored-columns =
-      let r = long in
+      let r = room s t fit .jobs in
       rw stored-puts (simp (columns-put jobShape (s .jobs), stores, r))
 
   stored-long : Rows jobShape (s .jobs) stored
   stored-long =
-      let r = long in
+      let r = room s t fit .jobs in
       rw stored-puts (simp (stores, r))
 
   job-columns : view (enteredTables s t a) .job ≡ columns jobShape stored
@@ -132,15 +111,16 @@ module _ (s : Sizes) (t : Tables) (a : Arguments) (fit : sizesFit s t ≡ true) 
 
   off : (q x : ℕ) → view (enteredTables s t a) .job q ≡ update (v .job q) (v .made) x
       → (i : ℕ) → i < v .made → view (enteredTables s t a) .job q i ≡ v .job q i
-  off q x e i h = ap (λ (f : ℕ → ℕ). f i) e ∙ store-off (v .job q) (v .made) x i h
+  off q x e i h = ap (λ (f : ℕ → ℕ). f i) e ∙ update-other (v .job q) (v .made) x i (omega arith)
 
   pub entered-stage : Stage s (view t) a (enteredTables s t a)
   entered-stage = record {
-    sizes = alike-fits s t (enteredTables s t a) alike ∙ fit;
+    sizes = fits ∙ fit;
     made = entered-made;
     reserved = entered-reserved;
     count = at COUNT (a .count) counts;
-    finds = find-entered s v (view (enteredTables s t a)) (a .name) (omega (arith, room s t fit .few)) entered-made heads
+    finds = find-entered s v (view (enteredTables s t a)) (a .name) (omega (arith, room s t fit .few)) entered-made
+        heads
         (off NAME (a .name) names)
         (off NEXT head nexts)
         (at NAME (a .name) names)

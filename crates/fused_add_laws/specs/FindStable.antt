@@ -6,14 +6,13 @@ use mathlib.Core.Bool.{Bool, true, false}
 use Prim.Native.Nat.{ℕ, zero, suc, _+_, _≤_, _<_}
 use native.Mathlib.Omega.{arith}
 use lib.Dec.{ltb, eqb}
-use borrow.Author.Tests.{eq-eqb, ne-eqb, lt-ltb, ltb-true, eqb-true, eqb-false}
+use borrow.Author.Tests.{ne-eqb, lt-ltb, ltb-true, eqb-true, eqb-false}
 use Rattle.basics.specs.Base.{pick, update}
 use Rattle.basics.specs.Laws.{never, update-at, update-other}
 use Rattle.bucket.specs.Bucket.{bucketOf}
 use Rattle.terms.specs.declared.Sizes.{Sizes}
 use Rattle.words.specs.Layout.{none, NAME, NEXT, View}
 use Rattle.words.specs.Words.{walk, findOf}
-use Rattle.words.specs.declared.Found.{Found}
 use Rattle.words.specs.declared.Found.the-variants.{At, Missing, Damaged}
 
 -- ---- what a walk found was made
@@ -44,7 +43,8 @@ module _ (f : ℕ → ℕ → ℕ) (made name p : ℕ) where
       named false z = z
 
       go : (b : Bool) → eqb at none ≡ b → (c : Bool) → ltb at made ≡ c
-          → pick b Missing (pick c (pick (eqb (f NAME at) name) (At at) (walk k f made name (f NEXT at))) Damaged) ≡ At p
+          → pick b Missing (pick c (pick (eqb (f NAME at) name) (At at) (walk k f made name (f NEXT at))) Damaged)
+          ≡ At p
           → OneOn k at
       go true x c y z = never (cc)
       go false x true y z =
@@ -118,8 +118,14 @@ module _ (s : Sizes) (v u : View) (own : ℕ) (room : v .made < none) (made : u 
       past : bucketOf n (s .bits) ≡ bucketOf own (s .bits)
           → walk (suc (v .made)) (u .job) (v .made + 1) n (v .made) ≡ At p
       past z =
-          rw (ne-eqb (v .made) none (omega arith), lt-ltb (v .made) (v .made + 1) (omega arith), name,
-            ne-eqb own n (λ y. other (sym y)), next, ← z)
+          rw (
+            ne-eqb (v .made) none (omega arith),
+            lt-ltb (v .made) (v .made + 1) (omega arith),
+            name,
+            ne-eqb own n (λ y. other (sym y)),
+            next,
+            ← z,
+          )
           (on (v .made) (omega arith))
 
       go : (b : Bool) → eqb (bucketOf n (s .bits)) (bucketOf own (s .bits)) ≡ b

@@ -1,25 +1,17 @@
 -- An add half done, its words stored whole: its words are sound, so that it may be stepped, and so may the worker once
 -- it is idle again. How a call run whole ends. Follows docs/RULES.md, "Steps". Assumes nothing.
-use mathlib.Core.Path.{_≡_, refl, sym, ap, _∙_}
-use mathlib.Core.Bool.{Bool, true, false, _&&_, _||_}
-use mathlib.Core.List.{List, [], _∷_, _++_}
-use Prim.Native.Nat.{ℕ, zero, suc, _+_, _≤_, _<_}
+use mathlib.Core.Path.{_≡_, refl, ap, _∙_}
+use mathlib.Core.Bool.{true, false}
+use Prim.Native.Nat.{ℕ, suc, _≤_, _<_}
 use native.Mathlib.Omega.{arith}
-use lib.Dec.{ltb, leb, eqb}
-use lib.ListN.{length, getD, take}
-use lib.Seq.{getD-append-add}
-use borrow.Author.Tests.{le-leb}
-use Rattle.basics.specs.Limits.{mostNames, mostClass, mostGrower}
-use Rattle.basics.specs.Base.{pick, prefix}
-use Rattle.basics.specs.Laws.{length-prefix}
-use Rattle.terms.specs.Terms.{Arguments, listed}
+use lib.Dec.{eqb}
+use Rattle.terms.specs.Terms.{Arguments}
 use Rattle.terms.specs.Runs.{Outcome, outcome}
 use Rattle.terms.specs.declared.Sizes.{Sizes}
 use Rattle.terms.specs.declared.Answer.{Answer}
 use Rattle.terms.specs.declared.Answer.the-variants.{Ended, Refused}
-use Rattle.words.specs.Layout.{Tables, tables, View, view, none, workerShape, NAMES, IDLE, NOTIFYING, bareWorker}
-use Rattle.words.specs.Layout.{sizesFit, PHASE}
-use Rattle.words.specs.Words.{placeOk, countersOk, ownOk, stepWords, answerOf}
+use Rattle.words.specs.Layout.{Tables, view, IDLE, NOTIFYING, bareWorker, sizesFit}
+use Rattle.words.specs.Words.{placeOk, countersOk, answerOf}
 use Rattle.words.specs.declared.Plan.{Plan}
 use Rattle.whole_words.specs.Whole.{andThen, stepsOf}
 use Rattle.fused_words.specs.FusedWorker.{Admitted, withWorker, idledWith, addWorker}
@@ -27,6 +19,7 @@ use Rattle.fused_laws.specs.Plans.{recordOk, recordPlan}
 use Rattle.fused_laws.specs.Deeds.{recordBy, storedBy}
 use Rattle.fused_laws.specs.Fits.{with-worker-fits}
 use Rattle.fused_laws.specs.Steps.{worker-ok, step-by-record}
+use Rattle.fused_laws.specs.Calls.{bare-ok, add-whole, add-ok}
 use Rattle.fused_add_laws.specs.Listed.{Right}
 
 -- ---- how a call run whole ends: never on the way
@@ -48,25 +41,6 @@ pub run-ends : {s : Sizes} {w : ℕ} {o : Outcome Tables} (x : Answer) (t : Tabl
     → Run s w o (outcome x t)
 run-ends x t e A T = record { same = e; admitted = A; told = T }
 
--- ---- the words of an add half done
-pub add-whole : (ph held : ℕ) (a : Arguments) (k i j x : ℕ)
-    → length (addWorker ph held a k i j x) ≡ workerShape .width
-add-whole ph held a k i j x = omega (arith, length-prefix mostNames (listed a))
-
-getD-prefix : (n : ℕ) (r : List ℕ) (q : ℕ) → q < n → getD (prefix n r) q 0 ≡ getD r q 0
-unfolding prefix
-getD-prefix zero r q h = absurd (omega arith)
-getD-prefix (suc n) [] zero h = refl
-getD-prefix (suc n) [] (suc q) h = getD-prefix n [] q (omega arith)
-getD-prefix (suc n) (x ∷ r) zero h = refl
-getD-prefix (suc n) (x ∷ r) (suc q) h = getD-prefix n r q (omega arith)
-
-pub add-name : (ph held : ℕ) (a : Arguments) (k i j x q : ℕ) → q < mostNames
-    → getD (addWorker ph held a k i j x) (NAMES + q) 0 ≡ getD (listed a) q 0
-add-name ph held a k i j x q h =
-    getD-append-add (take NAMES (addWorker ph held a k i j x)) (prefix mostNames (listed a)) q 0
-    ∙ getD-prefix mostNames (listed a) q h
-
 -- ---- tables in which worker w, that holds `held`, is in an add of a
 pub record Open (s : Sizes) (held : ℕ) (t : Tables) : Type 0 where
   pub sizes : sizesFit s t ≡ true
@@ -78,34 +52,23 @@ module _ (s : Sizes) (w : ℕ) (known : w < s .workers) (held : ℕ) (t : Tables
   idle-admitted = record {
     sizes = with-worker-fits s t w (bareWorker IDLE held) ∙ O .sizes;
     worker = known;
-    own = worker-ok s t w (bareWorker IDLE held) (O .sizes) known refl ∙ bare;
+    own =
+        worker-ok s t w (bareWorker IDLE held) (O .sizes) known refl
+        ∙ bare-ok s (view t) IDLE held (omega arith) (O .hold);
   }
-    where
-      bare : recordOk s (view t) (bareWorker IDLE held) ≡ true
-      bare = rw (O .hold)
 
-  module _ (a : Arguments) (fine : Right a) (ph k i j x : ℕ) (phase : leb ph NOTIFYING ≡ true) (hk : k ≤ a .count)
+  module _ (a : Arguments) (fine : Right a) (ph k i j x : ℕ) (phase : ph ≤ NOTIFYING) (hk : k ≤ a .count)
       (hi : i ≤ a .count) (job : placeOk j (view t .made) (s .jobs) ≡ true)
       (arc : placeOk x (view t .reserved) (s .arcs) ≡ true) where
-    add-ok : recordOk s (view t) (addWorker ph held a k i j x) ≡ true
-    add-ok =
-        rw (
-          phase,
-          O .hold,
-          le-leb (a .count) mostNames (fine .count),
-          le-leb (a .class) mostClass (fine .class),
-          le-leb (a .grower) mostGrower (fine .grower),
-          le-leb k (a .count) hk,
-          le-leb i (a .count) hi,
-          job,
-          arc,
-        )
+    sound : recordOk s (view t) (addWorker ph held a k i j x) ≡ true
+    sound =
+        add-ok s (view t) held a k i j x ph phase (O .hold) (fine .count) (fine .class) (fine .grower) hk hi job arc
 
     pub add-admitted : Admitted s (withWorker t w (addWorker ph held a k i j x)) w
     add-admitted = record {
       sizes = with-worker-fits s t w (addWorker ph held a k i j x) ∙ O .sizes;
       worker = known;
-      own = worker-ok s t w (addWorker ph held a k i j x) (O .sizes) known (add-whole ph held a k i j x) ∙ add-ok;
+      own = worker-ok s t w (addWorker ph held a k i j x) (O .sizes) known (add-whole ph held a k i j x) ∙ sound;
     }
 
     -- its step, and the steps after it
@@ -118,5 +81,5 @@ module _ (s : Sizes) (w : ℕ) (known : w < s .workers) (held : ℕ) (t : Tables
     add-step busy p e n =
         let r = addWorker ph held a k i j x in
         ap (λ (o : Outcome Tables). andThen (o .answer) (o .state) (stepsOf n s w))
-        (step-by-record s t w r (O .sizes) known (add-whole ph held a k i j x) add-ok (O .counters) busy
+        (step-by-record s t w r (O .sizes) known (add-whole ph held a k i j x) sound (O .counters) busy
         ∙ ap (λ q. outcome (answerOf q) (withWorker (storedBy q t r) w (recordBy q r))) e)

@@ -1,24 +1,25 @@
 -- An add that has entered its job: its words are sound at each place and tally, and it may be stepped. Follows
 -- docs/RULES.md, "Steps". Assumes nothing.
-use mathlib.Core.Path.{_≡_, refl, sym, ap, _∙_}
+use mathlib.Core.Path.{_≡_, refl}
 use mathlib.Core.Bool.{Bool, true, false, _&&_, _||_}
 use mathlib.Core.List.{List}
 use Prim.Native.Nat.{ℕ, suc, _+_, _≤_, _<_}
 use native.Mathlib.Omega.{arith}
-use lib.Dec.{ltb, leb, eqb}
+use lib.Dec.{ltb, eqb}
 use borrow.Author.Tests.{ne-eqb, lt-ltb, le-leb, eqb-false, ltb-true}
 use Rattle.basics.specs.Base.{pick}
+use Rattle.basics.specs.Laws.{never}
 use Rattle.terms.specs.Terms.{Arguments}
 use Rattle.terms.specs.declared.Sizes.{Sizes}
 use Rattle.words.specs.Layout.{Tables, View, view, none, LINKING}
-use Rattle.words.specs.Words.{placeOk, countersOk, firstArc, answerOf}
+use Rattle.words.specs.Words.{placeOk, firstArc, answerOf}
 use Rattle.words.specs.declared.Plan.{Plan}
 use Rattle.whole_words.specs.Whole.{andThen, stepsOf}
 use Rattle.fused_words.specs.FusedWorker.{Admitted, withWorker, addWorker}
 use Rattle.fused_laws.specs.Plans.{recordPlan}
 use Rattle.fused_laws.specs.Deeds.{recordBy, storedBy}
 use Rattle.fused_add_laws.specs.Listed.{Right}
-use Rattle.fused_add_laws.specs.Room.{Room, room}
+use Rattle.fused_add_laws.specs.Room.{room}
 use Rattle.fused_add_laws.specs.Stage.{Stage}
 use Rattle.fused_add_laws.specs.Halfway.{Open, add-admitted, add-step}
 
@@ -33,7 +34,7 @@ place-grows p m n size h e = go (eqb p none) (ltb p m) refl e
     go : (b c : Bool) → ltb p m ≡ c → b || (c && ltb p size) ≡ true → b || (ltb p n && ltb p size) ≡ true
     go true c z y = refl
     go false true z y = rw (lt-ltb p n (omega (arith, ltb-true p m z))) y
-    go false false z y = let q : _≡_ {A = ℕ} 0 1 = cc in absurd (omega arith)
+    go false false z y = never (cc)
 
 -- an add of a that found its names in tables with the view v, and had room there
 module _ (s : Sizes) (v : View) (w : ℕ) (known : w < s .workers) (a : Arguments) (fine : Right a) (held : ℕ)
@@ -61,8 +62,7 @@ module _ (s : Sizes) (v : View) (w : ℕ) (known : w < s .workers) (a : Argument
     own-place = ne-eqb j none (omega (arith, room s u (S .sizes) .few))
 
     job-ok : placeOk j (view u .made) (s .jobs) ≡ true
-    job-ok =
-        rw (S .made, own-place, lt-ltb j (j + 1) (omega arith), lt-ltb j (s .jobs) more)
+    job-ok = rw (S .made, own-place, lt-ltb j (j + 1) (omega arith), lt-ltb j (s .jobs) more)
 
     arc-ok : placeOk firstOwn (view u .reserved) (s .arcs) ≡ true
     arc-ok = rw (S .reserved) (go (eqb (a .count) 0) refl)
@@ -71,15 +71,22 @@ module _ (s : Sizes) (v : View) (w : ℕ) (known : w < s .workers) (a : Argument
         go true e = refl
         go false e =
             let d : 0 < a .count = omega (arith, eqb-false (a .count) 0 e) in
-            rw (ne-eqb x none (omega (arith, room s u (S .sizes) .short)), lt-ltb x (x + a .count) (omega arith),
-              lt-ltb x (s .arcs) (omega arith))
+            rw (
+              ne-eqb x none (omega (arith, room s u (S .sizes) .short)),
+              lt-ltb x (x + a .count) (omega arith),
+              lt-ltb x (s .arcs) (omega arith),
+            )
 
     -- a step of this add
     module _ (k i : ℕ) (hk : k ≤ a .count) (hi : i ≤ a .count) where
       pub linking-stays : Admitted s (withWorker u w (linkWords v a held k i)) w
-      linking-stays = add-admitted s w known held u linking-open a fine LINKING k i j firstOwn refl hk hi job-ok arc-ok
+      linking-stays =
+          add-admitted s w known held u linking-open a fine LINKING k i j firstOwn (omega arith) hk hi job-ok arc-ok
 
       pub linking-steps : (p : Plan) → recordPlan s (view u) (linkWords v a held k i) ≡ p → (n : ℕ)
           → stepsOf (suc n) s w (withWorker u w (linkWords v a held k i))
-          ≡ andThen (answerOf p) (withWorker (storedBy p u (linkWords v a held k i)) w (recordBy p (linkWords v a held k i))) (stepsOf n s w)
-      linking-steps = add-step s w known held u linking-open a fine LINKING k i j firstOwn refl hk hi job-ok arc-ok refl
+          ≡ andThen (answerOf p)
+          (withWorker (storedBy p u (linkWords v a held k i)) w (recordBy p (linkWords v a held k i)))
+          (stepsOf n s w)
+      linking-steps =
+          add-step s w known held u linking-open a fine LINKING k i j firstOwn (omega arith) hk hi job-ok arc-ok refl

@@ -1,33 +1,34 @@
 -- The links and the settling of an add, step by step, are its links and its settling in one go. Follows docs/RULES.md,
 -- "Steps": link. Assumes nothing.
-use mathlib.Core.Path.{_≡_, refl, sym, ap, _∙_}
-use mathlib.Core.Bool.{Bool, true, false, _&&_, _||_}
+use mathlib.Core.Path.{_≡_, refl, ap, _∙_}
+use mathlib.Core.Bool.{true}
 use mathlib.Core.List.{List, [], _∷_}
 use Prim.Native.Nat.{ℕ, zero, suc, _+_, _≤_, _<_}
 use native.Mathlib.Omega.{arith}
 use native.Mathlib.Numerals.{add-one}
 use lib.ListN.{length, getD}
-use borrow.Author.Tests.{ne-eqb, lt-ltb}
+use borrow.Author.Tests.{ne-eqb}
 use Rattle.terms.specs.Terms.{Arguments, listed, damaged}
 use Rattle.terms.specs.declared.Sizes.{Sizes}
 use Rattle.terms.specs.declared.Answer.the-variants.{Refused}
-use Rattle.words.specs.Layout.{Tables, View, view, LINKING}
+use Rattle.words.specs.Layout.{Tables, View, view}
 use Rattle.words.specs.Words.{placeOk, findOf, planLink, firstArc, answerOf}
 use Rattle.words.specs.declared.Found.the-variants.{At}
 use Rattle.words.specs.declared.Plan.{Plan}
 use Rattle.words.specs.declared.Plan.the-variants.{Refuse, Tally, LinkFirst, LinkAfter}
 use Rattle.whole_words.specs.Whole.{andThen, stepsOf}
 use Rattle.fused_words.specs.FusedWorker.{withWorker}
-use Rattle.fused_words.specs.FusedAdd.{Links, lookUps, jobFound, jobsFound, linkBy, links, linksTo, settleIn}
-use Rattle.fused_words.specs.FusedAdd.{firstLinked, afterLinked}
+use Rattle.fused_words.specs.FusedAdd.{Links, lookUps, jobFound, jobsFound, linkBy, links, settleIn, firstLinked}
+use Rattle.fused_words.specs.FusedAdd.{afterLinked}
 use Rattle.fused_words.specs.declared.LookUps.the-variants.{All}
 use Rattle.fused_laws.specs.Plans.{recordPlan}
 use Rattle.fused_laws.specs.Deeds.{recordBy, storedBy}
+use Rattle.fused_laws.specs.Calls.{link-plan}
 use Rattle.fused_add_laws.specs.FindStable.{find-below}
-use Rattle.fused_add_laws.specs.Listed.{Right, Rest, rest-more, rest-first, rest-next, FirstFound, first-found}
+use Rattle.fused_add_laws.specs.Listed.{Right, Rest, rest-more, rest-first, rest-next, first-found}
 use Rattle.fused_add_laws.specs.Stage.{Stage, stage-same, first-same, after-same}
-use Rattle.fused_add_laws.specs.Halfway.{refused, Run, run-on, run-ends, add-name}
-use Rattle.fused_add_laws.specs.LinkPlans.{LinkPlan, tallied, first, after, stopped, link-plan}
+use Rattle.fused_add_laws.specs.Halfway.{refused, Run, run-on, run-ends}
+use Rattle.fused_add_laws.specs.LinkPlans.{LinkPlan, tallied, first, after, stopped, link-plans}
 use Rattle.fused_add_laws.specs.Linking.{linkWords, linking-stays, linking-steps}
 use Rattle.fused_add_laws.specs.Settling.{settle-run}
 
@@ -53,14 +54,9 @@ module _ (s : Sizes) (v : View) (w : ℕ) (known : w < s .workers) (a : Argument
     plan = planLink s (view u) (v .reserved + i) (v .made) (At p)
 
     planned : recordPlan s (view u) (linkWords v a held k i) ≡ planLink s (view u) (v .reserved + i) (v .made) (At p)
-    unfolding recordPlan
     planned =
-        rw (
-          lt-ltb i (a .count) hi,
-          ne-eqb (a .count) 0 (omega arith),
-          add-name LINKING held a k i (v .made) (v .reserved) i (omega (arith, fine .count)),
-          found,
-        )
+        link-plan s (view u) held a k i (v .made) (firstArc (a .count) (v .reserved)) (fine .count) hi
+        ∙ rw (ne-eqb (a .count) 0 (omega arith), found)
 
     module _ (n : ℕ) (next : Tables → ℕ → Links)
         (on : (m : Tables) (q : ℕ) → q ≤ suc i → Stage s v a m → Ends n m q (suc i) (next m q)) where
@@ -91,7 +87,7 @@ module _ (s : Sizes) (v : View) (w : ℕ) (known : w < s .workers) (a : Argument
       link-run =
           run-on
           (linking-steps s v w known a fine held hold more arcs u S k i (omega arith) (omega arith) plan planned n)
-          (after-plan (v .reserved + i) plan (link-plan s (view u) p (v .reserved + i) (v .made)))
+          (after-plan (v .reserved + i) plan (link-plans s (view u) p (v .reserved + i) (v .made)))
 
   -- ---- the links of the names l from place i on, and the settling
   pub links-run : (l : List ℕ) (i k : ℕ) (u : Tables) → Rest a l i → k ≤ i → Stage s v a u → lookUps s v l i ≡ All

@@ -2,7 +2,7 @@
 -- are left from a place on. Follows docs/RULES.md, "Turned-away calls" (number 5). Assumes nothing.
 use mathlib.Core.Path.{_≡_, refl, sym, ap, _∙_}
 use mathlib.Core.Logic.{_≢_}
-use mathlib.Core.Bool.{Bool, true, false, _||_}
+use mathlib.Core.Bool.{Bool, false, _||_}
 use mathlib.Core.List.{List, [], _∷_}
 use Prim.Native.Nat.{ℕ, zero, suc, _+_, _≤_, _<_}
 use native.Mathlib.Omega.{arith}
@@ -10,7 +10,7 @@ use lib.Dec.{ltb, eqb}
 use lib.ListN.{length, getD}
 use borrow.Author.Tests.{ltb-false, eqb-false}
 use Rattle.basics.specs.Limits.{mostNames, mostClass, mostGrower}
-use Rattle.basics.specs.Base.{contains, repeats, prefix}
+use Rattle.basics.specs.Base.{contains, repeats}
 use Rattle.basics.specs.Laws.{never, or-left, or-right, length-prefix}
 use Rattle.terms.specs.Terms.{Arguments, listed, argumentsWrong}
 use Rattle.terms.specs.declared.Sizes.{Sizes}
@@ -19,8 +19,7 @@ use Rattle.words.specs.Words.{findOf}
 use Rattle.words.specs.declared.Found.{Found}
 use Rattle.words.specs.declared.Found.the-variants.{At, Missing, Damaged}
 use Rattle.fused_words.specs.FusedAdd.{orOn, lookUps, jobFound}
-use Rattle.fused_words.specs.declared.LookUps.{LookUps}
-use Rattle.fused_words.specs.declared.LookUps.the-variants.{All, Unknown, Broken}
+use Rattle.fused_words.specs.declared.LookUps.the-variants.{All}
 
 -- ---- number 5
 not-in : (x : ℕ) (l : List ℕ) → contains x l ≡ false → (q : ℕ) → q < length l → getD l q 0 ≢ x

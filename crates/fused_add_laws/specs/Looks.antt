@@ -1,14 +1,14 @@
 -- The look-ups of an add and its entering, step by step, are those of the add in one go. Follows docs/RULES.md,
 -- "Steps": look-up, enter. Assumes nothing.
-use mathlib.Core.Path.{_≡_, refl, sym, ap, _∙_}
-use mathlib.Core.Bool.{Bool, true, false, _&&_, _||_}
+use mathlib.Core.Path.{_≡_, refl, ap, _∙_}
+use mathlib.Core.Bool.{Bool, true, false, _||_}
 use mathlib.Core.List.{List, [], _∷_}
 use Prim.Native.Nat.{ℕ, zero, suc, _+_, _≤_, _<_}
 use native.Mathlib.Omega.{arith}
 use native.Mathlib.Numerals.{add-one}
 use lib.Dec.{ltb, leb}
 use lib.ListN.{length, getD}
-use borrow.Author.Tests.{lt-ltb, le-ltb, leb-false, ltb-false}
+use borrow.Author.Tests.{leb-false, ltb-false}
 use Rattle.basics.specs.Base.{pick}
 use Rattle.basics.specs.Laws.{or-left, or-right, length-prefix}
 use Rattle.bucket.specs.Bucket.{bucketOf}
@@ -17,7 +17,7 @@ use Rattle.terms.specs.Runs.{outcome}
 use Rattle.terms.specs.declared.Sizes.{Sizes}
 use Rattle.terms.specs.declared.Answer.the-variants.{Refused}
 use Rattle.words.specs.Layout.{Tables, View, view, none, LOOKING}
-use Rattle.words.specs.Words.{placeOk, countersOk, findOf, planLookUp, planEnter, answerOf}
+use Rattle.words.specs.Words.{countersOk, findOf, planLookUp, planEnter, answerOf}
 use Rattle.words.specs.declared.Found.{Found}
 use Rattle.words.specs.declared.Found.the-variants.{At, Missing, Damaged}
 use Rattle.words.specs.declared.Plan.{Plan}
@@ -29,10 +29,11 @@ use Rattle.fused_words.specs.declared.LookUps.the-variants.{All}
 use Rattle.fused_laws.specs.Plans.{recordPlan}
 use Rattle.fused_laws.specs.Deeds.{recordBy, storedBy}
 use Rattle.fused_laws.specs.Posts.{hold-ok}
+use Rattle.fused_laws.specs.Calls.{look-plan, enter-plan}
 use Rattle.fused_add_laws.specs.Listed.{Right, Rest, rest-all, rest-more, rest-first, rest-next}
 use Rattle.fused_add_laws.specs.Entered.{entered-stage}
 use Rattle.fused_add_laws.specs.Halfway.{refused, Run, run-on, run-ends, Open, idle-admitted, add-admitted}
-use Rattle.fused_add_laws.specs.Halfway.{add-step, add-name}
+use Rattle.fused_add_laws.specs.Halfway.{add-step}
 use Rattle.fused_add_laws.specs.Links.{links-run}
 
 module _ (s : Sizes) (t : Tables) (w : ℕ) (A : Admitted s t w) (a : Arguments) (fine : Right a)
@@ -52,19 +53,17 @@ module _ (s : Sizes) (t : Tables) (w : ℕ) (A : Admitted s t w) (a : Arguments)
   module _ (i : ℕ) (hi : i ≤ a .count) where
     stays : Admitted s (withWorker t w (words i)) w
     stays =
-        add-admitted s w (A .worker) (holdOf t w) t O a fine LOOKING 0 i none none refl (omega arith) hi refl refl
+        add-admitted s w (A .worker) (holdOf t w) t O a fine LOOKING 0 i none none (omega arith) (omega arith) hi refl
+        refl
 
     steps : (p : Plan) → recordPlan s (view t) (words i) ≡ p → (n : ℕ)
         → stepsOf (suc n) s w (withWorker t w (words i))
         ≡ andThen (answerOf p) (withWorker (storedBy p t (words i)) w (recordBy p (words i))) (stepsOf n s w)
-    steps = add-step s w (A .worker) (holdOf t w) t O a fine LOOKING 0 i none none refl (omega arith) hi refl refl refl
+    steps =
+        add-step s w (A .worker) (holdOf t w) t O a fine LOOKING 0 i none none (omega arith) (omega arith) hi refl refl
+        refl
 
   -- ---- entering
-  enter-plan : recordPlan s (view t) (words (a .count))
-      ≡ planEnter s (view t) (a .name) (a .count) (findOf s (view t) (a .name))
-  unfolding recordPlan
-  enter-plan = rw (le-ltb (a .count) (a .count) (omega arith))
-
   -- no room is left, and the plan where it is not, or is
   abbrev full : Bool
   full = leb (s .jobs) (v .made) || ltb (s .arcs) (v .reserved + a .count)
@@ -108,14 +107,17 @@ module _ (s : Sizes) (t : Tables) (w : ℕ) (A : Admitted s t w) (a : Arguments)
     enter-run : Run s w (stepsOf (suc n) s w (withWorker t w (words (a .count))))
         (enterIn s t w a (findOf s (view t) (a .name)))
     enter-run =
-        run-on (steps (a .count) (omega arith) _ enter-plan n) (after-plan (findOf s (view t) (a .name)))
+        run-on
+        (steps (a .count) (omega arith) _
+        (enter-plan s (view t) (holdOf t w) a 0 (a .count) none none (omega arith)) n)
+        (after-plan (findOf s (view t) (a .name)))
 
   -- ---- the look-up at place i
-  look-plan : (i x : ℕ) → i < a .count → getD (listed a) i 0 ≡ x
+  planned : (i x : ℕ) → i < a .count → getD (listed a) i 0 ≡ x
       → recordPlan s (view t) (words i) ≡ planLookUp i (findOf s (view t) x)
-  unfolding recordPlan
-  look-plan i x h e =
-      rw (lt-ltb i (a .count) h, add-name LOOKING (holdOf t w) a 0 i none none i (omega (arith, fine .count)), e)
+  planned i x h e =
+      look-plan s (view t) (holdOf t w) a 0 i none none (fine .count) h
+      ∙ ap (λ n. planLookUp i (findOf s (view t) n)) e
 
   -- the rest of the look-ups, from place i on with the names l
   looks-run : (l : List ℕ) (i : ℕ) → Rest a l i → lookUps s (view t) (listed a) 0 ≡ lookUps s (view t) l i
@@ -127,7 +129,7 @@ module _ (s : Sizes) (t : Tables) (w : ℕ) (A : Admitted s t w) (a : Arguments)
       let e : i ≡ a .count = omega (arith, R .ends) in
       rw e (enter-run n (omega arith) E)
   looks-run (x ∷ l) i R E (suc n) h =
-      run-on (steps i (omega (arith, rest-more R)) _ (look-plan i x (rest-more R) (rest-first R)) n)
+      run-on (steps i (omega (arith, rest-more R)) _ (planned i x (rest-more R) (rest-first R)) n)
       (go (findOf s (view t) x) refl
       (λ e. looks-run l (suc i) (rest-next R) (E ∙ e) n (omega arith)))
     where

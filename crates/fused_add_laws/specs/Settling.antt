@@ -1,20 +1,19 @@
 -- The settling step of an add is the settling of the add in one go: the job's count falls by the tally, and the job is
 -- queued or not. Follows docs/RULES.md, "Steps": settle. Assumes nothing.
-use mathlib.Core.Path.{_≡_, refl, sym, ap, _∙_}
-use mathlib.Core.Bool.{Bool, true, false, _&&_, _||_}
+use mathlib.Core.Path.{_≡_, refl, _∙_}
+use mathlib.Core.Bool.{Bool, true, false}
 use mathlib.Core.List.{List}
 use Prim.Native.Nat.{ℕ, suc, _+_, _-_, _≤_, _<_}
 use native.Mathlib.Omega.{arith}
-use lib.Dec.{ltb, leb, eqb}
-use borrow.Author.Tests.{le-ltb, le-leb}
+use borrow.Author.Tests.{le-leb}
 use Rattle.basics.specs.Limits.{mostNames}
 use Rattle.basics.specs.Base.{pick}
 use Rattle.terms.specs.Terms.{settles, Arguments, damaged}
-use Rattle.terms.specs.Runs.{Outcome, outcome}
+use Rattle.terms.specs.Runs.{outcome}
 use Rattle.terms.specs.declared.Sizes.{Sizes}
 use Rattle.terms.specs.declared.Answer.the-variants.{Ended, Refused}
-use Rattle.words.specs.Layout.{Tables, View, view, COUNT}
-use Rattle.words.specs.Words.{placeOk, countersOk, planSettle, withCell, answerOf}
+use Rattle.words.specs.Layout.{Tables, View, view}
+use Rattle.words.specs.Words.{placeOk, planSettle, withCell, firstArc, answerOf}
 use Rattle.words.specs.declared.Plan.{Plan}
 use Rattle.words.specs.declared.Plan.the-variants.{Refuse, Settle, SettleQueue}
 use Rattle.whole_words.specs.Whole.{andThen, stepsOf}
@@ -23,6 +22,7 @@ use Rattle.fused_words.specs.FusedAdd.{linksTo, cellFree, settleIn, settledTabl
 use Rattle.fused_laws.specs.Plans.{recordPlan}
 use Rattle.fused_laws.specs.Deeds.{recordBy, storedBy}
 use Rattle.fused_laws.specs.Kept.{entersNone, stored-fits, stored-made, stored-counters}
+use Rattle.fused_laws.specs.Calls.{settle-plan}
 use Rattle.fused_add_laws.specs.Listed.{Right}
 use Rattle.fused_add_laws.specs.Stage.{Stage}
 use Rattle.fused_add_laws.specs.Halfway.{ended, refused, Run, run-on, run-ends, Open, idle-admitted}
@@ -47,14 +47,15 @@ module _ (s : Sizes) (v : View) (w : ℕ) (known : w < s .workers) (a : Argument
   c = a .count - k
 
   abbrev settlePlan : Bool → Bool → Plan
-  settlePlan queues free = pick queues (pick free (SettleQueue (v .made) c (view u .put)) (Refuse damaged)) (Settle (v .made) c)
+  settlePlan queues free =
+      pick queues (pick free (SettleQueue (v .made) c (view u .put)) (Refuse damaged)) (Settle (v .made) c)
 
-  settle-plan : recordPlan s (view u) (linkWords v a held k (a .count))
+  planned : recordPlan s (view u) (linkWords v a held k (a .count))
       ≡ settlePlan (settles c k (a .count)) (cellFree s (view u))
-  unfolding recordPlan planSettle withCell
-  settle-plan =
-      rw (
-        le-ltb (a .count) (a .count) (omega arith),
+  unfolding planSettle withCell
+  planned =
+      settle-plan s (view u) held a k (a .count) (v .made) (firstArc (a .count) (v .reserved)) (omega arith)
+      ∙ rw (
         S .count,
         own-place s v w known a fine held hold more arcs u S,
         le-leb (a .count) mostNames (fine .count),
@@ -93,5 +94,5 @@ module _ (s : Sizes) (v : View) (w : ℕ) (known : w < s .workers) (a : Argument
   settle-run n =
       run-on
       (linking-steps s v w known a fine held hold more arcs u S k (a .count) hk (omega arith)
-      (settlePlan (settles c k (a .count)) (cellFree s (view u))) settle-plan n)
+      (settlePlan (settles c k (a .count)) (cellFree s (view u))) planned n)
       (after-plan n (settles c k (a .count)) (cellFree s (view u)))

@@ -1,13 +1,12 @@
 -- A sheet's adds in one go are its adds, each run whole, for an admitted worker. Follows docs/RULES.md, "Whole calls".
 -- Assumes nothing.
-use mathlib.Core.Path.{_≡_, refl, sym, ap, _∙_}
+use mathlib.Core.Path.{_≡_, refl, ap, _∙_}
 use mathlib.Core.List.{List, [], _∷_}
 use Prim.Native.Nat.{ℕ}
 use Rattle.terms.specs.Terms.{Arguments}
 use Rattle.terms.specs.Runs.{Outcome}
 use Rattle.terms.specs.declared.Sizes.{Sizes}
 use Rattle.words.specs.Layout.{Tables}
-use Rattle.whole_words.specs.Whole.{wholeAdd}
 use Rattle.whole_words.specs.Sheet.{SheetOutcome, sheetOutcome, addEach}
 use Rattle.fused_words.specs.FusedWorker.{Admitted}
 use Rattle.fused_words.specs.FusedAdd.{addIfIdle}

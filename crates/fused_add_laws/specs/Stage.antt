@@ -1,25 +1,23 @@
 -- The tables of an add that has entered its job: what the links need of them, and that each link keeps it. Follows
 -- docs/RULES.md, "Steps": link. Assumes nothing.
-use mathlib.Core.Path.{_≡_, refl, sym, ap, _∙_}
+use mathlib.Core.Path.{_≡_, refl, ap, _∙_}
 use mathlib.Core.Logic.{_≢_}
-use mathlib.Core.Bool.{Bool, true, false}
-use mathlib.Core.List.{List, [], _∷_}
-use Prim.Native.Nat.{ℕ, zero, suc, _+_, _≤_, _<_}
-use native.Mathlib.Omega.{arith}
-use lib.ListN.{length}
-use borrow.Author.Tests.{lt-ltb}
-use Rattle.bucket.specs.Bucket.{bucketOf}
+use mathlib.Core.Bool.{true}
+use mathlib.Core.List.{[]}
+use Prim.Native.Nat.{ℕ, _+_, _<_}
 use Rattle.terms.specs.Terms.{Arguments}
 use Rattle.terms.specs.declared.Sizes.{Sizes}
-use Rattle.words.specs.Columns.{columns, columns-put, header, put, store, rows-put, header-put, stores}
-use Rattle.words.specs.Layout.{Tables, View, view, jobShape, arcShape, MADE, RESERVED, NAME, COUNT, FIRST, LAST, NEXT}
-use Rattle.words.specs.Layout.{AFTER, sizesFit}
-use Rattle.words.specs.Words.{findOf, newArc}
+use Rattle.words.specs.Columns.{columns, columns-put, put, store, stores}
+use Rattle.words.specs.Layout.{Tables, View, view, jobShape, NAME, COUNT, FIRST, LAST, NEXT, sizesFit}
+use Rattle.words.specs.Words.{findOf}
 use Rattle.words.specs.declared.Found.the-variants.{At}
+use Rattle.words.specs.declared.Plan.the-variants.{LinkFirst, LinkAfter}
 use Rattle.fused_words.specs.FusedAdd.{firstLinked, afterLinked}
-use Rattle.fused_laws.specs.Fits.{Alike, alike-fits, length-put}
+use Rattle.fused_laws.specs.Fits.{Alike, alike-fits}
+use Rattle.fused_laws.specs.Deeds.{storedBy}
+use Rattle.fused_laws.specs.Kept.{stored-alike, stored-made, stored-reserved}
 use Rattle.fused_add_laws.specs.FindStable.{walk-reads}
-use Rattle.fused_add_laws.specs.Room.{Room, room}
+use Rattle.fused_add_laws.specs.Room.{room}
 
 -- ---- after the job of a was entered in tables with the view v
 pub record Stage (s : Sizes) (v : View) (a : Arguments) (u : Tables) : Type 0 where
@@ -66,17 +64,11 @@ module _ (s : Sizes) (u : Tables) (p x j : ℕ) (fit : sizesFit s u ≡ true) (h
   after-columns = columns-put jobShape (s .jobs) (u .jobs) p LAST x refl (room s u fit .jobs) hp
 
   pub first-same : Same u (firstLinked u p x j)
+  unfolding storedBy
   first-same = record {
-    alike = record {
-      jobs = simp length-put;
-      arcs = simp length-put;
-      buckets = refl;
-      queue = refl;
-      workers = refl;
-      kept = λ k h. let e = lt-ltb k 5 (omega arith) in simp (header-put, e);
-    };
-    made = simp stores;
-    reserved = simp stores;
+    alike = stored-alike (LinkFirst p x j) u [];
+    made = stored-made (LinkFirst p x j) u [] refl;
+    reserved = stored-reserved (LinkFirst p x j) u [] refl;
     buckets = refl;
     names = ap (λ (f : ℕ → ℕ → ℕ). f NAME) first-columns;
     nexts = ap (λ (f : ℕ → ℕ → ℕ). f NEXT) first-columns;
@@ -84,17 +76,11 @@ module _ (s : Sizes) (u : Tables) (p x j : ℕ) (fit : sizesFit s u ≡ true) (h
   }
 
   pub after-same : (l : ℕ) → Same u (afterLinked u p l x j)
+  unfolding storedBy
   after-same l = record {
-    alike = record {
-      jobs = simp length-put;
-      arcs = simp length-put;
-      buckets = refl;
-      queue = refl;
-      workers = refl;
-      kept = λ k h. let e = lt-ltb k 5 (omega arith) in simp (header-put, e);
-    };
-    made = simp stores;
-    reserved = simp stores;
+    alike = stored-alike (LinkAfter p l x j) u [];
+    made = stored-made (LinkAfter p l x j) u [] refl;
+    reserved = stored-reserved (LinkAfter p l x j) u [] refl;
     buckets = refl;
     names = ap (λ (f : ℕ → ℕ → ℕ). f NAME) after-columns;
     nexts = ap (λ (f : ℕ → ℕ → ℕ). f NEXT) after-columns;
