@@ -41,7 +41,7 @@ pub run-ends : {s : Sizes} {w : ℕ} {o : Outcome Tables} (x : Answer) (t : Tabl
     → Run s w o (outcome x t)
 run-ends x t e A T = record { same = e; admitted = A; told = T }
 
--- ---- tables in which worker w, that holds `held`, is in an add of a
+-- ---- tables over which a worker that holds `held` may be half way through an add
 pub record Open (s : Sizes) (held : ℕ) (t : Tables) : Type 0 where
   pub sizes : sizesFit s t ≡ true
   pub counters : countersOk s (view t) ≡ true
