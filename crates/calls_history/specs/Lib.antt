@@ -1,0 +1,3 @@
+pub mod WordsCalls
+pub mod Joined
+pub mod Worth
