@@ -6,3 +6,4 @@ pub mod Noting
 pub mod StepsRead
 pub mod AddsRead
 pub mod FinishesRead
+pub mod CallsRead
