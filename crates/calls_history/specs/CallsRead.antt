@@ -10,7 +10,8 @@ use Rattle.terms.specs.declared.Answer.{Answer}
 use Rattle.terms.specs.declared.Answer.the-variants.{Laid, Posted, Ended, Refused}
 use Rattle.words.specs.Layout.{Tables, view, HELD, MARKING, bareWorker}
 use Rattle.words.specs.Words.{addingWorker, posted, addWords, finishWords, perform, layOut}
-use Rattle.linearization.specs.Calls.{idle, adding, finishing, Reading, becomes, noteAdd, noteFinish, note, readOn}
+use Rattle.linearization.specs.Calls.{Pending, idle, adding, finishing, Reading, becomes, noteAdd, noteFinish, note}
+use Rattle.linearization.specs.Calls.{readOn}
 use Rattle.host_calls.specs.HostCalls.{HostCall, single, wholeAdd, wholeFinish, sheet, one, each, lastAnswer, callMade}
 use Rattle.host_calls.specs.HostCalls.{addMade, finishMade, addsMade, lastOf, addsAnswer, sheetWorth, sheetReply, worth}
 use Rattle.host_calls.specs.HostCalls.{replyWorth}
@@ -40,6 +41,19 @@ finish-posts : (x : Tables) (q : Sizes) (w : ℕ) (f : Finish) → Post (perform
 unfolding perform finishWords
 finish-posts x q w f = posted-or-not _ x w (bareWorker MARKING (view x .worker HELD w))
 
+-- ---- a call that came and went
+module _ (r : Reading) (w : ℕ) where
+  back : (p : Pending) → r .pending w ≡ idle → becomes (becomes r w p) w idle ≡ r
+  back p free = becomes-again r w p idle ∙ becomes-back r w free
+
+  add-over : (a : Arguments) (x : Answer) → r .pending w ≡ idle
+      → noteWholeAdd (becomes (becomes r w (adding a 0)) w idle) w a x ≡ noteWholeAdd r w a x
+  add-over a x free = ap (λ q. noteWholeAdd q w a x) (back (adding a 0) free)
+
+  finish-over : (f : Finish) → r .pending w ≡ idle
+      → noteWholeFinish (becomes (becomes r w (finishing f 0)) w idle) w f Ended ≡ noteWholeFinish r w f Ended
+  finish-over f free = ap (λ q. noteWholeFinish q w f Ended) (back (finishing f 0) free)
+
 module _ (s : Sizes) (t : Tables) (laid : layOut s t .answer ≡ Laid) where
   -- ---- an add
   taken-add : {x : Tables} {r : Reading} → Now s t laid x r → (w : ℕ) (a : Arguments)
@@ -54,8 +68,7 @@ module _ (s : Sizes) (t : Tables) (laid : layOut s t .answer ≡ Laid) where
       let fuel : 2 * a .count + 2 ≡ suc (2 * a .count + 1) = omega arith in
       let L = looks s t laid w a (2 * a .count + 1) u q M 0 (becomes-now r w (adding a 0)) (omega arith) (omega arith)
       Posted in
-      let back : becomes q w idle ≡ r = becomes-again r w (adding a 0) idle ∙ becomes-back r w free in
-      rw (E, fuel, L .reads .answer) (L .reads .read ∙ ap (λ q. noteWholeAdd q w a (L .end)) back)
+      rw (E, fuel, L .reads .answer, ← (add-over r w a (L .end) free)) (L .reads .read)
 
   pub add-read : {x : Tables} {r : Reading} → Now s t laid x r → (q : Sizes) (w : ℕ) (a : Arguments)
       → readOn r (events perform x (addMade perform q w a x))
@@ -83,8 +96,7 @@ module _ (s : Sizes) (t : Tables) (laid : layOut s t .answer ≡ Laid) where
       let M : Now s t laid u q = rw E at (next s t laid N (postFinish s w f)) in
       let fuel : s .arcs + 1 ≡ suc (s .arcs) = omega arith in
       let L = arcs s t laid w f (s .arcs) u q M 0 (becomes-now r w (finishing f 0)) (omega arith) Posted in
-      let back : becomes q w idle ≡ r = becomes-again r w (finishing f 0) idle ∙ becomes-back r w free in
-      rw (E, fuel, L .answer) (L .read ∙ ap (λ q. noteWholeFinish q w f Ended) back)
+      rw (E, fuel, L .answer, ← (finish-over r w f free)) (L .read)
 
   pub finish-read : {x : Tables} {r : Reading} → Now s t laid x r → (q : Sizes) (w : ℕ) (f : Finish)
       → readOn r (events perform x (finishMade perform q w f x))

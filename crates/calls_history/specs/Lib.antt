@@ -7,3 +7,4 @@ pub mod StepsRead
 pub mod AddsRead
 pub mod FinishesRead
 pub mod CallsRead
+pub mod Entered
