@@ -8,3 +8,5 @@ pub mod AddsRead
 pub mod FinishesRead
 pub mod CallsRead
 pub mod Entered
+pub mod Turned
+pub mod Theorem
