@@ -1,2 +1,5 @@
 pub mod HostCalls
 pub mod CallsDemand
+pub mod WrongCalls
+pub mod WrongSheets
+pub mod WrongWhole
