@@ -17,7 +17,7 @@ use Rattle.host_calls.specs.HostCalls.{addMade, finishMade, addsMade, lastOf, a
 use Rattle.host_calls.specs.HostCalls.{replyWorth}
 use Rattle.host_calls.specs.CallsDemand.{noteWholeAdd, noteWholeFinish, noteAdds, noteCall}
 use Rattle.calls_history.specs.WordsCalls.{turnedWords}
-use Rattle.calls_history.specs.Joined.{reads-joined}
+use Rattle.host_calls.specs.Joined.{reads-joined}
 use Rattle.calls_history.specs.Now.{Now, on, next, add-taken, finish-taken}
 use Rattle.calls_history.specs.Noting.{becomes-again, becomes-back, becomes-now, refused-add, refused-finish}
 use Rattle.calls_history.specs.AddsRead.{looks}

@@ -29,7 +29,7 @@ use Rattle.words_history.specs.Theorem.{after-items}
 use Rattle.host_calls.specs.HostCalls.{HostCall, single, wholeAdd, wholeFinish, sheet, whereGoing, stepsMade, callMade}
 use Rattle.host_calls.specs.HostCalls.{addMade, addsMade, sheetWorth, worth}
 use Rattle.calls_history.specs.WordsCalls.{turnedWords}
-use Rattle.calls_history.specs.Joined.{after-joined, entries-joined}
+use Rattle.host_calls.specs.Joined.{after-joined, entries-joined}
 use Rattle.calls_history.specs.Now.{Now, on, next}
 
 abbrev isGet : Item → Bool

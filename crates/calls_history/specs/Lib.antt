@@ -1,5 +1,4 @@
 pub mod WordsCalls
-pub mod Joined
 pub mod Worth
 pub mod Now
 pub mod Noting
@@ -10,3 +9,4 @@ pub mod CallsRead
 pub mod Entered
 pub mod Turned
 pub mod Theorem
+pub mod Example

@@ -23,7 +23,7 @@ use Rattle.linearizability.specs.Ends.{AddStep, FinishStep, FinishOf}
 use Rattle.words_refine_rules.specs.Own.{same-sizes}
 use Rattle.words_history.specs.Theorem.{demand}
 use Rattle.words_history.specs.Lifted.{add-ends, finish-ends, arcs-fit}
-use Rattle.calls_history.specs.Joined.{after-joined, reads-joined}
+use Rattle.host_calls.specs.Joined.{after-joined, reads-joined}
 
 pub is-idle : (p : Pending) → isIdle p ≡ true → p ≡ idle
 is-idle idle e = refl

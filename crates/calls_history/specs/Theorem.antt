@@ -15,7 +15,7 @@ use Rattle.words_history.specs.Theorem.{demand}
 use Rattle.host_calls.specs.HostCalls.{HostCall, Replied, Reply, worth, replyWorth, afterCalls, callEntries}
 use Rattle.host_calls.specs.CallsDemand.{noteCall, SameReading, allWorth, readCalls, CallsDemand}
 use Rattle.calls_history.specs.WordsCalls.{turnedWords, answerWords}
-use Rattle.calls_history.specs.Joined.{after-joined, entries-joined, reads-joined}
+use Rattle.host_calls.specs.Joined.{after-joined, entries-joined, reads-joined}
 use Rattle.calls_history.specs.Worth.{whole-is-worth}
 use Rattle.calls_history.specs.Now.{Now, at-start, on}
 use Rattle.calls_history.specs.CallsRead.{call-read}

@@ -24,7 +24,7 @@ use Rattle.whole_words.specs.Sheet.{SheetOutcome, sheetOutcome, addEach, judged
 use Rattle.host_calls.specs.HostCalls.{HostCall, single, wholeAdd, wholeFinish, sheet, one, each, Replied, replied}
 use Rattle.host_calls.specs.HostCalls.{whereGoing, lastAnswer, stepsMade, callMade, addMade, finishMade, addsMade}
 use Rattle.host_calls.specs.HostCalls.{lastOf, addsAnswer, sheetWorth, sheetReply, worth, replyWorth}
-use Rattle.calls_history.specs.Joined.{after-joined}
+use Rattle.host_calls.specs.Joined.{after-joined}
 use Rattle.calls_history.specs.WordsCalls.{turnedWords, repliedOne, repliedEach, answerWords}
 
 -- ---- a step never answers as a post does

@@ -1,5 +1,7 @@
 pub mod HostCalls
 pub mod CallsDemand
+pub mod Joined
 pub mod WrongCalls
 pub mod WrongSheets
 pub mod WrongWhole
+pub mod RightCalls
