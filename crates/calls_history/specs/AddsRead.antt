@@ -7,15 +7,14 @@ use Prim.Native.Nat.{ℕ, zero, suc, _+_, _*_, _≤_, _<_}
 use native.Mathlib.Omega.{arith}
 use borrow.Author.Tests.{eq-eqb, ne-eqb, le-ltb, lt-leb}
 use Rattle.terms.specs.Terms.{Arguments, unknownName, namePresent, tablesFull}
-use Rattle.terms.specs.Runs.{step, after, events}
+use Rattle.terms.specs.Runs.{step, events}
 use Rattle.terms.specs.declared.Sizes.{Sizes}
 use Rattle.terms.specs.declared.Answer.{Answer}
 use Rattle.terms.specs.declared.Answer.the-variants.{Laid, Going, Ended, Refused}
 use Rattle.words.specs.Layout.{Tables}
 use Rattle.words.specs.Words.{perform, layOut}
 use Rattle.sequential_model.specs.Book.{add, accepted}
-use Rattle.linearization.specs.Calls.{idle, adding, Reading, becomes, decided, addEnded, endsCall, noteStep}
-use Rattle.linearization.specs.Calls.{readOn}
+use Rattle.linearization.specs.Calls.{idle, adding, Reading, becomes, decided, addEnded, endsCall, noteStep, readOn}
 use Rattle.linearizability.specs.Ends.{AddStep, looked-up, unknown, entered, present, no-room, linked, settled}
 use Rattle.host_calls.specs.HostCalls.{lastAnswer, stepsMade}
 use Rattle.host_calls.specs.CallsDemand.{noteWholeAdd}

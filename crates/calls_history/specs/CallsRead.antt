@@ -4,7 +4,7 @@ use mathlib.Core.List.{List, [], _∷_}
 use Prim.Native.Nat.{ℕ, zero, suc, _+_, _*_}
 use native.Mathlib.Omega.{arith}
 use Rattle.terms.specs.Terms.{Arguments, Finish}
-use Rattle.terms.specs.Runs.{Item, postAdd, postFinish, after, events}
+use Rattle.terms.specs.Runs.{Item, postAdd, postFinish, events}
 use Rattle.terms.specs.declared.Sizes.{Sizes}
 use Rattle.terms.specs.declared.Answer.{Answer}
 use Rattle.terms.specs.declared.Answer.the-variants.{Laid, Posted, Ended, Refused}
@@ -12,8 +12,8 @@ use Rattle.words.specs.Layout.{Tables, view, HELD, MARKING, bareWorker}
 use Rattle.words.specs.Words.{addingWorker, posted, addWords, finishWords, perform, layOut}
 use Rattle.linearization.specs.Calls.{Pending, idle, adding, finishing, Reading, becomes, noteAdd, noteFinish, note}
 use Rattle.linearization.specs.Calls.{readOn}
-use Rattle.host_calls.specs.HostCalls.{HostCall, single, wholeAdd, wholeFinish, sheet, one, each, lastAnswer, callMade}
-use Rattle.host_calls.specs.HostCalls.{addMade, finishMade, addsMade, lastOf, addsAnswer, sheetWorth, sheetReply, worth}
+use Rattle.host_calls.specs.HostCalls.{HostCall, single, wholeAdd, wholeFinish, sheet, lastAnswer, callMade, addMade}
+use Rattle.host_calls.specs.HostCalls.{finishMade, addsMade, lastOf, addsAnswer, sheetWorth, sheetReply, worth}
 use Rattle.host_calls.specs.HostCalls.{replyWorth}
 use Rattle.host_calls.specs.CallsDemand.{noteWholeAdd, noteWholeFinish, noteAdds, noteCall}
 use Rattle.calls_history.specs.WordsCalls.{turnedWords}

@@ -1,6 +1,6 @@
--- Posts and steps never take a job out of the queue, so that the entries by the items of a call run whole are those from
--- before the call to after it. Assumes nothing.
-use mathlib.Core.Path.{_≡_, refl, sym, ap, _∙_}
+-- Posts and steps never take a job out of the queue, so that the entries by the items of a call run whole are those
+-- from before the call to after it. Assumes nothing.
+use mathlib.Core.Path.{_≡_, refl}
 use mathlib.Core.Bool.{Bool, true, false, true≢false}
 use mathlib.Core.List.{List, [], _∷_, _++_}
 use Prim.Native.Nat.{ℕ, zero, suc, _+_, _-_, _*_, _≤_}
@@ -9,7 +9,7 @@ use lib.Dec.{eqb}
 use lib.ListN.{getD}
 use Rattle.basics.specs.Base.{occurrences}
 use Rattle.terms.specs.Terms.{Arguments, settles}
-use Rattle.terms.specs.Runs.{Item, postAdd, postFinish, step, get, after, events, entries}
+use Rattle.terms.specs.Runs.{Item, postAdd, postFinish, step, get, after, entries}
 use Rattle.terms.specs.declared.Sizes.{Sizes}
 use Rattle.terms.specs.declared.Answer.{Answer}
 use Rattle.terms.specs.declared.Answer.the-variants.{Laid, Posted, Going, Ended, NoneReady, Handed, Refused}
@@ -19,7 +19,7 @@ use Rattle.words.specs.Observed.{waiting}
 use Rattle.rules.specs.Rules.{Graph, job, enqueue, empty}
 use Rattle.rules.specs.Rules as rules
 use Rattle.rules_cases.specs.Deed as by
-use Rattle.rules_cases.specs.Deed.{Stepped, Made, Deed}
+use Rattle.rules_cases.specs.Deed.{Stepped, Deed}
 use Rattle.rules_cases.specs.Deeds.{deed}
 use Rattle.linearization.specs.Calls.{Reading}
 use Rattle.rules_invariant.specs.Base.{occurrences-append}

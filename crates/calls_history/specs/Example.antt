@@ -1,5 +1,5 @@
--- A list of every kind of call on small tables that were laid out over old words: what the words' machine replies, which
--- is computed, and that the claim holds of it. Assumes nothing.
+-- A list of every kind of call on small tables that were laid out over old words: what the words' machine replies,
+-- which is computed, and that the claim holds of it. Assumes nothing.
 use mathlib.Core.Path.{_≡_, refl}
 use Prim.Native.Nat.{_^_}
 use lib.ListN.{replicate}
@@ -13,8 +13,8 @@ use Rattle.words.specs.Layout.{Tables, tables, need, jobShape, arcShape, bucket
 use Rattle.words.specs.Layout.{longEnough, sizesKept, repeated, freshTables}
 use Rattle.words.specs.Words.{perform, ownOk, walk, findOf, planLookUp, planEnter, planAppend, planLink, withCell}
 use Rattle.words.specs.Words.{planSettle, planMark, planNotify, planAdd, planLinks, planCall, planPhase, admitted}
-use Rattle.words.specs.Words.{applied, stepWords, planTake, planQueue, planGet, appliedGet, getWords, posted}
-use Rattle.words.specs.Words.{addWords, finishWords, layOut}
+use Rattle.words.specs.Words.{applied, stepWords, planTake, planQueue, planGet, appliedGet, getWords, posted, addWords}
+use Rattle.words.specs.Words.{finishWords, layOut}
 use Rattle.words.specs.Observed.{seen}
 use Rattle.whole_words.specs.Whole.{stepsOf, wholeAdd, wholeFinish}
 use Rattle.whole_words.specs.Sheet.{addEach, served, sheetWords}
@@ -39,8 +39,8 @@ pub replies-so : repliesTo answerWords (layOut S old .state) everyKind ≡ itsRe
 unfolding contains repeats prefix argumentsWrong withinLimits productOf bucketOf columns header put putHeader longEnough
     sizesKept repeated freshTables perform ownOk walk findOf planLookUp planEnter planAppend planLink withCell
     planSettle planMark planNotify planAdd planLinks planCall planPhase admitted applied stepWords planTake planQueue
-    planGet appliedGet getWords posted addWords finishWords layOut stepsOf wholeAdd wholeFinish addEach served sheetWords
-    answerWords repliesTo
+    planGet appliedGet getWords posted addWords finishWords layOut stepsOf wholeAdd wholeFinish addEach served
+    sheetWords answerWords repliesTo
 replies-so = refl
 
 pub example-holds : CallsDemand perform turnedWords answerWords seen S (layOut S old .state) everyKind

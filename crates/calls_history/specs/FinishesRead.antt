@@ -1,6 +1,7 @@
--- What is read of the steps of a finish run whole: its first step decides it, and no later one refuses. Assumes nothing.
+-- What is read of the steps of a finish run whole: its first step decides it, and no later one refuses. Assumes
+-- nothing.
 use mathlib.Core.Path.{_≡_, refl, ap, _∙_}
-use Prim.Native.Nat.{ℕ, zero, suc, _+_, _≤_, _<_}
+use Prim.Native.Nat.{ℕ, zero, suc, _+_, _≤_}
 use native.Mathlib.Omega.{arith}
 use lib.Dec.{eqb}
 use borrow.Author.Tests.{ne-eqb}
@@ -47,7 +48,7 @@ module _ (s : Sizes) (t : Tables) (laid : layOut s t .answer ≡ Laid) (w : ℕ)
       let R = rest (perform x (step s w) .state) q (onward s w p E N) (becomes-now (marked k r) w (finishing f (suc k)))
       in
       let before : becomes (finishEnded (marked (suc k) q) (f .name)) w idle
-          ≡ becomes (finishEnded q (f .name)) w idle =
+      ≡ becomes (finishEnded q (f .name)) w idle =
       ap (λ q. becomes (finishEnded q (f .name)) w idle) (marked-before k q) in
       one-step s w p E (suc n) y
       (record {

@@ -1,5 +1,5 @@
 -- Laws of what is noted: a worker's call half done that comes and goes, and a post that is refused. Assumes nothing.
-use mathlib.Core.Path.{_≡_, refl, sym, ap, _∙_, fun-ext}
+use mathlib.Core.Path.{_≡_, fun-ext}
 use mathlib.Core.Bool.{Bool, true, false}
 use mathlib.Core.List.{[], _∷_, _++_, append-nil}
 use Prim.Native.Nat.{ℕ}
@@ -8,7 +8,7 @@ use Rattle.basics.specs.Base.{pick, update}
 use Rattle.basics.specs.Laws.{update-same, update-other}
 use Rattle.terms.specs.Terms.{Arguments, Finish}
 use Rattle.terms.specs.declared.Answer.the-variants.{Refused}
-use Rattle.sequential_model.specs.Book.{Call, add, finish, End, refused}
+use Rattle.sequential_model.specs.Book.{add, finish, refused}
 use Rattle.linearization.specs.Calls.{Pending, idle, Reading, becomes, decidedIf, endsCall, noteAdd, noteFinish}
 use Rattle.host_calls.specs.CallsDemand.{noteWholeAdd, noteWholeFinish}
 

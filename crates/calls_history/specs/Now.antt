@@ -3,7 +3,7 @@
 use mathlib.Core.Path.{_≡_, refl, sym, ap, _∙_}
 use mathlib.Core.Bool.{Bool, true, false}
 use mathlib.Core.List.{List, [], _∷_, _++_}
-use Prim.Native.Nat.{ℕ, _≤_, _<_}
+use Prim.Native.Nat.{ℕ, _≤_}
 use native.Mathlib.Omega.{arith}
 use lib.Dec.{ltb}
 use lib.ListN.{length}
@@ -13,13 +13,13 @@ use Rattle.terms.specs.Terms.{Arguments, Finish, sameSizes, noSuchWorker, wrong
 use Rattle.terms.specs.Runs.{Item, postAdd, postFinish, step, after, events}
 use Rattle.terms.specs.declared.Sizes.{Sizes}
 use Rattle.terms.specs.declared.Answer.{Answer}
-use Rattle.terms.specs.declared.Answer.the-variants.{Laid, Posted, Refused}
+use Rattle.terms.specs.declared.Answer.the-variants.{Laid, Posted}
 use Rattle.words.specs.Layout.{Tables}
 use Rattle.words.specs.Words.{perform, layOut}
 use Rattle.words.specs.Observed.{seen}
 use Rattle.linearization.specs.Calls.{Pending, idle, adding, finishing, Reading, note, unread, readOn, reading}
 use Rattle.linearizability.specs.Demand.{isIdle, turningAway, turnedAwayBy}
-use Rattle.linearizability.specs.Ends.{AddStep, FinishStep, FinishOf}
+use Rattle.linearizability.specs.Ends.{AddStep, FinishStep}
 use Rattle.words_refine_rules.specs.Own.{same-sizes}
 use Rattle.words_history.specs.Theorem.{demand}
 use Rattle.words_history.specs.Lifted.{add-ends, finish-ends, arcs-fit}

@@ -1,9 +1,8 @@
 -- Demand 3 of every list of calls, from tables that were laid out: single items, adds and finishes run whole, and
 -- sheets, mixed in any order. Follows docs/RULES.md, "Whole calls". Assumes nothing.
-use mathlib.Core.Path.{_≡_, refl, sym, ap, _∙_}
+use mathlib.Core.Path.{_≡_, refl, ap}
 use mathlib.Core.List.{List, [], _∷_}
 use Prim.Native.Nat.{ℕ}
-use native.Mathlib.Omega.{arith}
 use Rattle.terms.specs.Runs.{Item, after, events, entries}
 use Rattle.terms.specs.declared.Sizes.{Sizes}
 use Rattle.terms.specs.declared.Answer.the-variants.{Laid}
@@ -12,8 +11,8 @@ use Rattle.words.specs.Words.{perform, layOut}
 use Rattle.words.specs.Observed.{waiting, seen}
 use Rattle.linearization.specs.Calls.{Reading, unread, readOn}
 use Rattle.words_history.specs.Theorem.{demand}
-use Rattle.host_calls.specs.HostCalls.{HostCall, Replied, Reply, worth, replyWorth, afterCalls, callEntries}
-use Rattle.host_calls.specs.CallsDemand.{noteCall, SameReading, allWorth, readCalls, CallsDemand}
+use Rattle.host_calls.specs.HostCalls.{HostCall, Replied, worth, replyWorth, afterCalls, callEntries}
+use Rattle.host_calls.specs.CallsDemand.{allWorth, readCalls, CallsDemand}
 use Rattle.calls_history.specs.WordsCalls.{turnedWords, answerWords}
 use Rattle.host_calls.specs.Joined.{after-joined, entries-joined, reads-joined}
 use Rattle.calls_history.specs.Worth.{whole-is-worth}
@@ -57,12 +56,17 @@ module _ (s : Sizes) (t : Tables) (laid : layOut s t .answer ≡ Laid) where
   all-enter [] N j = refl
   all-enter (c ∷ cs) {x} {r} N j =
       let is : List Item = worth perform turnedWords x c in
-      rw (leaves-worth x c, call-enters s t laid j N c, entries-joined perform waiting x is,
-      all-enter cs (on s t laid N is) j)
+      rw (
+        leaves-worth x c,
+        call-enters s t laid j N c,
+        entries-joined perform waiting x is,
+        all-enter cs (on s t laid N is) j,
+      )
 
   -- ---- the claim
   module _ (calls : List HostCall) where
-    at : Now s t laid (afterCalls answerWords T calls) (readCalls perform turnedWords answerWords seen s T unread T calls)
+    at : Now s t laid (afterCalls answerWords T calls)
+        (readCalls perform turnedWords answerWords seen s T unread T calls)
     at = rw (all-leave calls T, all-read calls (at-start s t laid)) (on s t laid (at-start s t laid) (made T calls))
 
     pub calls-demand : CallsDemand perform turnedWords answerWords seen s T calls

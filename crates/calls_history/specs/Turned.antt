@@ -1,6 +1,6 @@
--- A sheet is turned away exactly if it must be: by 1, 2 and 3 as any post, and then by 16 ("looked at after 3 and before
--- any entry"). Assumes nothing.
-use mathlib.Core.Path.{_≡_, refl, sym, ap, _∙_}
+-- A sheet is turned away exactly if it must be: by 1, 2 and 3 as any post, and then by 16 ("looked at after 3 and
+-- before any entry"). Assumes nothing.
+use mathlib.Core.Path.{_≡_, refl}
 use mathlib.Core.Bool.{Bool, true, false}
 use mathlib.Core.List.{List}
 use mathlib.Core.Option.{Option, none, some}
@@ -15,7 +15,7 @@ use Rattle.terms.specs.Runs.{after, events}
 use Rattle.terms.specs.declared.Sizes.{Sizes}
 use Rattle.terms.specs.declared.Answer.the-variants.{Laid}
 use Rattle.words.specs.Layout.{Tables, view, PHASE, IDLE}
-use Rattle.words.specs.Words.{admitted, ownOk, perform, layOut}
+use Rattle.words.specs.Words.{admitted, ownOk, layOut}
 use Rattle.rules.specs.Rules.{Call, idle, looking, linking, marking, notifying, Graph, empty}
 use Rattle.rules.specs.Rules as rules
 use Rattle.rules.specs.Sound.{Sound}

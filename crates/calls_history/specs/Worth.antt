@@ -1,29 +1,29 @@
 -- A call over the words replies what its posts and steps answer, and leaves what they leave, for ALL tables and
--- arguments ("equal to post and steps"; a sheet's "answers and the tables afterwards equal those of the single adds with
--- no other worker's step between"). Assumes nothing.
-use mathlib.Core.Path.{_≡_, refl, sym, ap, _∙_}
+-- arguments ("equal to post and steps"; a sheet's "answers and the tables afterwards equal those of the single adds
+-- with no other worker's step between"). Assumes nothing.
+use mathlib.Core.Path.{_≡_, refl, ap}
 use mathlib.Core.Bool.{Bool, true, false}
-use mathlib.Core.List.{List, [], _∷_, _++_}
+use mathlib.Core.List.{List, [], _∷_}
 use Prim.Native.Nat.{ℕ, zero, suc, _+_, _*_, _<_}
 use native.Mathlib.Omega.{arith}
 use lib.Dec.{eqb}
 use Rattle.basics.specs.Laws.{never}
 use Rattle.terms.specs.Terms.{Arguments, Finish}
-use Rattle.terms.specs.Runs.{Item, postAdd, postFinish, step, Outcome, outcome, after, events}
+use Rattle.terms.specs.Runs.{Item, postAdd, postFinish, Outcome, outcome, after, events}
 use Rattle.terms.specs.declared.Sizes.{Sizes}
 use Rattle.terms.specs.declared.Answer.{Answer}
 use Rattle.terms.specs.declared.Answer.the-variants.{Laid, Posted, Going, Ended, NoneReady, Handed, Refused}
 use Rattle.words.specs.Layout.{none, Tables}
-use Rattle.words.specs.Words.{answerOf, goingUnless, planStep, stepWords, addWords, finishWords, perform}
+use Rattle.words.specs.Words.{answerOf, goingUnless, planStep, stepWords, perform}
 use Rattle.words.specs.declared.Plan.{Plan}
 use Rattle.words.specs.declared.Plan.the-variants.{Refuse, Quit, Pass, Enter, Tally, LinkFirst, LinkAfter, Settle}
 use Rattle.words.specs.declared.Plan.the-variants.{SettleQueue, Mark, Notify, NotifyQueue}
 use Rattle.whole_words.specs.Whole.{andThen, stepsOf}
 use Rattle.whole_words.specs.Whole as whole
-use Rattle.whole_words.specs.Sheet.{SheetOutcome, sheetOutcome, addEach, judgedSheet, served, sheetWords}
-use Rattle.host_calls.specs.HostCalls.{HostCall, single, wholeAdd, wholeFinish, sheet, one, each, Replied, replied}
-use Rattle.host_calls.specs.HostCalls.{whereGoing, lastAnswer, stepsMade, callMade, addMade, finishMade, addsMade}
-use Rattle.host_calls.specs.HostCalls.{lastOf, addsAnswer, sheetWorth, sheetReply, worth, replyWorth}
+use Rattle.whole_words.specs.Sheet.{sheetOutcome, addEach, served, sheetWords}
+use Rattle.host_calls.specs.HostCalls.{HostCall, single, wholeAdd, wholeFinish, sheet, replied, whereGoing, lastAnswer}
+use Rattle.host_calls.specs.HostCalls.{stepsMade, callMade, addMade, finishMade, addsMade, addsAnswer, sheetWorth}
+use Rattle.host_calls.specs.HostCalls.{sheetReply, worth, replyWorth}
 use Rattle.host_calls.specs.Joined.{after-joined}
 use Rattle.calls_history.specs.WordsCalls.{turnedWords, repliedOne, repliedEach, answerWords}
 

@@ -1,8 +1,7 @@
--- Demand 3 of lists in which single items stand beside adds and finishes run whole and sheets: what is read off calls and
--- replies alone, and the claim, of any machine. (WrongCalls.antt has machines that do not meet it.) Follows
--- docs/RULES.md, "Whole calls". Assumes nothing.
+-- Demand 3 of lists in which single items stand beside adds and finishes run whole and sheets: what is read off calls
+-- and replies alone, and the claim, of any machine. (WrongSheets.antt, WrongTurned.antt and WrongWhole.antt have
+-- machines that do not meet it.) Follows docs/RULES.md, "Whole calls". Assumes nothing.
 use mathlib.Core.Path.{_≡_}
-use mathlib.Core.Bool.{Bool, true, false}
 use mathlib.Core.List.{List, [], _∷_, _++_}
 use Prim.Native.Nat.{ℕ}
 use lib.Dec.{ltb, leb}

@@ -1,10 +1,9 @@
 -- Two lists of items, one after the other: the state left, the answers, the entries and what is read. Of any machine.
 -- Assumes nothing.
-use mathlib.Core.Path.{_≡_, refl, ap}
+use mathlib.Core.Path.{_≡_, refl}
 use mathlib.Core.List.{List, [], _∷_, _++_}
 use Prim.Native.Nat.{ℕ, _+_, _-_}
 use native.Mathlib.Omega.{arith}
-use Rattle.basics.specs.Base.{occurrences}
 use Rattle.terms.specs.Runs.{Item, Outcome, Event, after, events, entries}
 use Rattle.linearization.specs.Calls.{Reading, note, readOn}
 

@@ -1,5 +1,5 @@
 -- A right machine on a list of every kind of call: what it replies, and the clauses for the lists by which the wrong
--- machines of WrongSheets.antt and WrongWhole.antt are refuted. All of it is computed. Assumes nothing.
+-- machines of WrongSheets.antt, WrongTurned.antt and WrongWhole.antt are refuted. Assumes nothing.
 use mathlib.Core.Path.{_≡_, refl}
 use mathlib.Core.List.{List, [], _∷_, _++_}
 use Prim.Native.Nat.{ℕ}
@@ -24,9 +24,9 @@ module _ {X : Type 0} (answer : X → HostCall → Replied X) where
   repliesTo x [] = []
   repliesTo x (c ∷ cs) = answer x c .reply ∷ repliesTo (answer x c .state) cs
 
--- worker 0 brings a sheet of 4 needing 1, which 6 refuses, of 1, and of 4 again; worker 1 posts an add of 5, and a sheet
--- of 65 that it brings meanwhile is refused by 3; it steps its add to the end; worker 0 gets 1 and finishes it; 1 is
--- there already; a sheet of 65 is refused by 16; and one with no entry is served
+-- worker 0 brings a sheet of 4 needing 1, which 6 refuses, of 1, and of 4 again; worker 1 posts an add of 5, and a
+-- sheet of 65 that it brings meanwhile is refused by 3; it steps its add to the end; worker 0 gets 1 and finishes it; 1
+-- is there already; a sheet of 65 is refused by 16; and one with no entry is served
 abbrev pub everyKind : List HostCall
 everyKind =
     sheet S 0 (job 4 (1 ∷ []) ∷ job 1 [] ∷ job 4 (1 ∷ []) ∷ []) ∷ single (postAdd S 1 (job 5 [])) ∷ sheet S 1 tooMany

@@ -1,7 +1,8 @@
--- How a machine of calls is shown to be wrong: the clauses of the claim one by one, and the rules' machine of calls with
--- one part put otherwise. The machines stand in WrongSheets.antt and WrongWhole.antt. Assumes nothing.
+-- How a machine of calls is shown to be wrong: the clauses of the claim one by one, and the rules' machine of calls
+-- with one part put otherwise. The machines stand in WrongSheets.antt, WrongTurned.antt and WrongWhole.antt. Assumes
+-- nothing.
 use mathlib.Core.Path.{_≡_, refl}
-use mathlib.Core.List.{List, [], _∷_}
+use mathlib.Core.List.{List}
 use Prim.Native.Nat.{ℕ}
 use lib.Dec.{ltb, leb}
 use lib.ListN.{length}
@@ -19,8 +20,8 @@ use Rattle.host_calls.specs.HostCalls.{HostCall, single, wholeAdd, whole
 use Rattle.host_calls.specs.HostCalls.{lastAnswer, stepsMade, callMade, addMade, finishMade, addsMade, lastOf}
 use Rattle.host_calls.specs.HostCalls.{addsAnswer, sheetWorth, sheetReply, worth, replyWorth, afterCalls}
 use Rattle.host_calls.specs.HostCalls.{callEntries}
-use Rattle.host_calls.specs.CallsDemand.{noteAdds, noteCall, allWorth, readCalls, items, Replies, TurnsAway, Leaves}
-use Rattle.host_calls.specs.CallsDemand.{Reads, Enters, CallsDemand}
+use Rattle.host_calls.specs.CallsDemand.{noteAdds, noteCall, allWorth, readCalls, items, Replies, TurnsAway}
+use Rattle.host_calls.specs.CallsDemand.{Leaves, Reads, Enters, CallsDemand}
 
 -- ---- the rules' machine of calls, from a fresh graph of R 4, A 4, b 2 and P 2
 abbrev pub acts : Graph → Item → Outcome Graph

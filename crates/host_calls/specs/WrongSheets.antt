@@ -1,13 +1,13 @@
 -- Sheets that are served wrongly, each with a list of calls for which a clause of the claim does not hold. Assumes
 -- nothing.
-use mathlib.Core.Path.{_≡_, refl}
+use mathlib.Core.Path.{refl}
 use mathlib.Core.List.{List, [], _∷_, _++_, map}
 use Prim.Native.Nat.{ℕ, zero, suc}
-use lib.Dec.{ltb, leb, eqb}
-use lib.ListN.{length, getD, take, replicate}
+use lib.Dec.{eqb}
+use lib.ListN.{length, getD, replicate}
 use Rattle.basics.specs.Base.{pick}
-use Rattle.terms.specs.Terms.{Arguments, Finish, sameSizes, mostEntries, wrongSizes, noSuchWorker, tooManyEntries}
-use Rattle.terms.specs.Runs.{Item, postAdd, step, after}
+use Rattle.terms.specs.Terms.{Arguments}
+use Rattle.terms.specs.Runs.{postAdd, step, after}
 use Rattle.terms.specs.Starred.{S, job}
 use Rattle.terms.specs.declared.Sizes.{Sizes}
 use Rattle.terms.specs.declared.Answer.{Answer}
@@ -15,11 +15,10 @@ use Rattle.terms.specs.declared.Answer.the-variants.{Laid, Posted, Going, Ended
 use Rattle.rules.specs.Rules.{Graph, Call, idle, looking, linking, marking, notifying, withCall}
 use Rattle.rules.specs.Rules as rules
 use Rattle.linearizability.specs.Wrong.{apart}
-use Rattle.host_calls.specs.HostCalls.{HostCall, single, wholeAdd, wholeFinish, sheet, Reply, one, each, Replied}
-use Rattle.host_calls.specs.HostCalls.{replied, addMade, lastOf}
-use Rattle.host_calls.specs.HostCalls.{addsAnswer, addsMade}
-use Rattle.host_calls.specs.WrongCalls.{acts, Turning, Answering, ofIdle, turning, rightly, adds, finishes, sheets}
-use Rattle.host_calls.specs.WrongCalls.{machine, Lacks, replies, turns-away, leaves, reads, calling}
+use Rattle.host_calls.specs.HostCalls.{single, sheet, each, Replied, replied, addMade, lastOf, addsAnswer}
+use Rattle.host_calls.specs.HostCalls.{addsMade}
+use Rattle.host_calls.specs.WrongCalls.{acts, Answering, turning, adds, finishes, sheets, machine, Lacks, leaves}
+use Rattle.host_calls.specs.WrongCalls.{reads, calling}
 
 -- a sheet of 4 needing 1, which 6 refuses, and then of 2; one of 1 and 2; one with an entry too many
 abbrev pub refusedFirst : List Arguments
@@ -154,65 +153,3 @@ accepts = serving (λ g s w l.
 pub accepts-all : Lacks turning accepts (sheet S 0 refusedFirst ∷ []) reads
 unfolding calling
 accepts-all r = apart (λ (l : List ℕ). length l) refl (r .added)
-
--- ---- 16 is looked at before 3
-abbrev pub countsFirst : Turning
-countsFirst g s w l =
-    pick (sameSizes s S)
-    (pick (ltb w (S .workers))
-    (pick (leb (length l) mostEntries) (ofIdle (g .workers w .call) 0) tooManyEntries)
-    noSuchWorker)
-    wrongSizes
-
--- `turns-away`: worker 0 has posted an add
-pub counts-first : Lacks countsFirst (rightly countsFirst) (single (postAdd S 0 (job 1 [])) ∷ []) turns-away
-unfolding calling
-counts-first t = apart (λ n. n) refl (t S 0 tooMany)
-
--- ---- the first 64 entries of 65 are taken
-abbrev pub countsNever : Turning
-countsNever g s w l = turning g s w (take mostEntries l)
-
-abbrev pub takesFirst : Answering
-takesFirst g (single i) = rightly countsNever g (single i)
-takesFirst g (wholeAdd s w a) = rightly countsNever g (wholeAdd s w a)
-takesFirst g (wholeFinish s w f) = rightly countsNever g (wholeFinish s w f)
-takesFirst g (sheet s w l) = rightly countsNever g (sheet s w (take mostEntries l))
-
--- `turns-away`: nothing turns 65 entries away
-pub takes-first : Lacks countsNever takesFirst [] turns-away
-unfolding calling
-takes-first t = apart (λ n. n) refl (t S 0 tooMany)
-
--- ---- 16 leaves the worker in the first entry's add
-abbrev pub postsFirst : Answering
-postsFirst = machine adds finishes otherwise
-  where
-    otherwise : ℕ → Graph → Sizes → ℕ → List Arguments → Replied Graph
-    otherwise zero g s w l = sheets 0 g s w l
-    otherwise (suc n) g s w l = replied (each (suc n) []) (half l g w)
-
--- `leaves`: worker 0 is in a call
-pub posts-first : Lacks turning postsFirst (sheet S 0 tooMany ∷ []) leaves
-unfolding calling
-posts-first e = apart (λ (g : Graph). callNumber (g .workers 0 .call)) refl e
-
--- ---- a sheet that is turned away answers for each entry
-abbrev pub answersEach : Answering
-answersEach = machine adds finishes otherwise
-  where
-    otherwise : ℕ → Graph → Sizes → ℕ → List Arguments → Replied Graph
-    otherwise zero g s w l = sheets 0 g s w l
-    otherwise (suc n) g s w l = replied (each (suc n) (map (λ (a : Arguments). Refused (suc n) 0) l)) g
-
--- `replies`: nobody's step answered so
-abbrev pub answered : Replied Graph → ℕ
-answered o = count (o .reply)
-  where
-    count : Reply → ℕ
-    count (one x) = 1
-    count (each n xs) = length xs
-
-pub answers-each : Lacks turning answersEach [] replies
-unfolding calling
-answers-each r = apart answered refl (r (sheet S 0 tooMany))

@@ -1,6 +1,6 @@
 -- Adds and finishes run whole wrongly, each with a list of calls for which a clause of the claim does not hold. Assumes
 -- nothing.
-use mathlib.Core.Path.{_≡_, refl}
+use mathlib.Core.Path.{refl}
 use mathlib.Core.List.{List, [], _∷_, _++_}
 use Prim.Native.Nat.{ℕ, _+_}
 use lib.ListN.{length}
