@@ -6,18 +6,20 @@ use mathlib.Core.List.{append-nil}
 use Prim.Native.Nat.{ℕ, zero, suc, _+_, _*_, _≤_, _<_}
 use native.Mathlib.Omega.{arith}
 use borrow.Author.Tests.{eq-eqb, ne-eqb, le-ltb, lt-leb}
-use Rattle.terms.specs.Terms.{Arguments, unknownName, namePresent, tablesFull}
+use Rattle.terms.specs.Terms.{Arguments, wrongArguments, unknownName, namePresent, tablesFull}
 use Rattle.terms.specs.Runs.{step, events}
 use Rattle.terms.specs.declared.Sizes.{Sizes}
 use Rattle.terms.specs.declared.Answer.{Answer}
 use Rattle.terms.specs.declared.Answer.the-variants.{Laid, Going, Ended, Refused}
 use Rattle.words.specs.Layout.{Tables}
 use Rattle.words.specs.Words.{perform, layOut}
-use Rattle.sequential_model.specs.Book.{add, accepted}
+use Rattle.sequential_model.specs.Book.{add}
+use Rattle.sequential_model.specs.Book as book
 use Rattle.linearization.specs.Calls.{idle, adding, Reading, becomes, decided, addEnded, endsCall, noteStep, readOn}
 use Rattle.linearizability.specs.Ends.{AddStep, looked-up, unknown, entered, present, no-room, linked, settled}
 use Rattle.host_calls.specs.HostCalls.{lastAnswer, stepsMade}
 use Rattle.host_calls.specs.CallsDemand.{noteWholeAdd}
+use Rattle.host_calls.specs.CallEnds.{AddAnswer, accepted, refused}
 use Rattle.calls_history.specs.Now.{Now, add-step}
 use Rattle.calls_history.specs.Noting.{becomes-again, becomes-now}
 use Rattle.calls_history.specs.StepsRead.{Reads, one-step, onward}
@@ -34,7 +36,7 @@ module _ (r : Reading) (w : ℕ) (a : Arguments) where
 
   -- the entering step, and a step that refuses
   enters : noteStep r w (adding a (a .count)) Going
-      ≡ becomes (decided r (add w a) accepted) w (adding a (suc (a .count)))
+      ≡ becomes (decided r (add w a) book.accepted) w (adding a (suc (a .count)))
   unfolding noteStep
   enters = rw (eq-eqb (a .count) (a .count) refl)
 
@@ -84,6 +86,7 @@ module _ (s : Sizes) (t : Tables) (laid : layOut s t .answer ≡ Laid) (w : ℕ)
   -- ---- the look-ups, and the entering step
   pub record Looked (n : ℕ) (x : Tables) (r : Reading) (y : Answer) : Type 0 where
     pub end : Answer
+    pub ends : AddAnswer end
     pub reads : Reads y r x (stepsMade perform (suc n) s w x) end (noteWholeAdd (becomes r w idle) w a end)
 
   abbrev Onward : ℕ → ℕ → Type 0
@@ -93,10 +96,11 @@ module _ (s : Sizes) (t : Tables) (laid : layOut s t .answer ≡ Laid) (w : ℕ)
       → Looked n u q Going
 
   refused-so : (n : ℕ) {x : Tables} {r : Reading} {k : ℕ} → r .pending w ≡ adding a k → k ≤ a .count → (y : Answer)
-      → (m i : ℕ) → endsCall m ≡ true → perform x (step s w) .answer ≡ Refused m i → Looked n x r y
+      → (m i : ℕ) → wrongArguments ≤ m → m ≤ tablesFull → endsCall m ≡ true → perform x (step s w) .answer ≡ Refused m i → Looked n x r y
   unfolding lastAnswer events readOn
-  refused-so n {x} {r} {k} p l y m i z E = record {
+  refused-so n {x} {r} {k} p l y m i h u z E = record {
     end = Refused m i;
+    ends = refused m i h u;
     reads = one-step s w p E n y (record { answer = refl; read = refuses r w a k m i l z });
   }
 
@@ -108,6 +112,7 @@ module _ (s : Sizes) (t : Tables) (laid : layOut s t .answer ≡ Laid) (w : ℕ)
       let back = ap (λ q. noteWholeAdd q w a (R .end)) (becomes-again r w (adding a (suc k)) idle) in
       record {
         end = R .end;
+        ends = R .ends;
         reads = one-step s w p E (suc n) y
             (record { answer = R .reads .answer; read = rw so (R .reads .read ∙ back) });
       }
@@ -120,22 +125,23 @@ module _ (s : Sizes) (t : Tables) (laid : layOut s t .answer ≡ Laid) (w : ℕ)
       looked-on n p h y E
       (rest h (perform x (step s w) .state) (becomes r w (adding a (suc k)))
       (rw (passes r w a k (λ z. omega arith)) at (onward s w p E N)) (becomes-now r w (adding a (suc k))))
-  one-look n {x} {r} N {k} p l e y rest E (unknown h) = refused-so n p l y unknownName k refl E
-  one-look n {x} {r} N p l e y rest E present = refused-so n p l y namePresent 0 refl E
-  one-look n {x} {r} N p l e y rest E no-room = refused-so n p l y tablesFull 0 refl E
+  one-look n {x} {r} N {k} p l e y rest E (unknown h) = refused-so n p l y unknownName k (omega arith) (omega arith) refl E
+  one-look n {x} {r} N p l e y rest E present = refused-so n p l y namePresent 0 (omega arith) (omega arith) refl E
+  one-look n {x} {r} N p l e y rest E no-room = refused-so n p l y tablesFull 0 (omega arith) (omega arith) refl E
   one-look zero N p l e y rest E entered = absurd (omega arith)
   one-look (suc n) {x} {r} N p l e y rest E entered =
       let k : ℕ = suc (a .count) in
-      let R = links n (perform x (step s w) .state) (becomes (decided r (add w a) accepted) w (adding a k))
+      let R = links n (perform x (step s w) .state) (becomes (decided r (add w a) book.accepted) w (adding a k))
       (rw (enters r w a) at (onward s w p E N)) k
-      (becomes-now (decided r (add w a) accepted) w (adding a k)) (omega arith) (omega arith) Going in
+      (becomes-now (decided r (add w a) book.accepted) w (adding a k)) (omega arith) (omega arith) Going in
       record {
         end = Ended;
+        ends = accepted;
         reads = one-step s w p E (suc n) y
             (record {
               answer = R .answer;
               read = rw (enters r w a)
-                  (R .read ∙ becomes-again (addEnded (decided r (add w a) accepted) (a .name)) w (adding a k) idle);
+                  (R .read ∙ becomes-again (addEnded (decided r (add w a) book.accepted) (a .name)) w (adding a k) idle);
             });
       }
   one-look n N p l e y rest E (linked h m) = absurd (omega arith)

@@ -20,8 +20,8 @@ use Rattle.calls_history.specs.WordsCalls.{turnedWords}
 use Rattle.host_calls.specs.Joined.{reads-joined}
 use Rattle.calls_history.specs.Now.{Now, on, next, add-taken, finish-taken}
 use Rattle.calls_history.specs.Noting.{becomes-again, becomes-back, becomes-now, refused-add, refused-finish}
-use Rattle.calls_history.specs.AddsRead.{looks}
-use Rattle.calls_history.specs.FinishesRead.{arcs}
+use Rattle.calls_history.specs.AddsRead.{Looked, looks}
+use Rattle.calls_history.specs.FinishesRead.{Finished, arcs}
 
 -- ---- a post is taken or refused
 data Post : Answer → Type 0 where
@@ -56,18 +56,22 @@ module _ (r : Reading) (w : ℕ) where
 
 module _ (s : Sizes) (t : Tables) (laid : layOut s t .answer ≡ Laid) where
   -- ---- an add
+  pub looked : {x : Tables} {r : Reading} → Now s t laid x r → (w : ℕ) (a : Arguments)
+      → perform x (postAdd s w a) .answer ≡ Posted
+      → Looked s t laid w a (2 * a .count + 1) (perform x (postAdd s w a) .state) (becomes r w (adding a 0)) Posted
+  unfolding note noteAdd
+  looked {x} {r} N w a E =
+      looks s t laid w a (2 * a .count + 1) _ _ (rw E at (next s t laid N (postAdd s w a))) 0
+      (becomes-now r w (adding a 0)) (omega arith) (omega arith) Posted
+
   taken-add : {x : Tables} {r : Reading} → Now s t laid x r → (w : ℕ) (a : Arguments)
       → perform x (postAdd s w a) .answer ≡ Posted → r .pending w ≡ idle
       → readOn r (events perform x (addMade perform s w a x))
       ≡ noteWholeAdd r w a (lastOf perform (addMade perform s w a x) x)
   unfolding callMade events lastAnswer readOn note noteAdd
   taken-add {x} {r} N w a E free =
-      let u : Tables = perform x (postAdd s w a) .state in
-      let q : Reading = becomes r w (adding a 0) in
-      let M : Now s t laid u q = rw E at (next s t laid N (postAdd s w a)) in
       let fuel : 2 * a .count + 2 ≡ suc (2 * a .count + 1) = omega arith in
-      let L = looks s t laid w a (2 * a .count + 1) u q M 0 (becomes-now r w (adding a 0)) (omega arith) (omega arith)
-      Posted in
+      let L = looked N w a E in
       rw (E, fuel, L .reads .answer, ← (add-over r w a (L .end) free)) (L .reads .read)
 
   pub add-read : {x : Tables} {r : Reading} → Now s t laid x r → (q : Sizes) (w : ℕ) (a : Arguments)
@@ -85,17 +89,22 @@ module _ (s : Sizes) (t : Tables) (laid : layOut s t .answer ≡ Laid) where
       of (turned n i) E = rw E (refused-add r w a n i)
 
   -- ---- a finish
+  pub marked : {x : Tables} {r : Reading} → Now s t laid x r → (w : ℕ) (f : Finish)
+      → perform x (postFinish s w f) .answer ≡ Posted
+      → Finished s t laid w f 0 (s .arcs) (perform x (postFinish s w f) .state) (becomes r w (finishing f 0)) Posted
+  unfolding note noteFinish
+  marked {x} {r} N w f E =
+      arcs s t laid w f (s .arcs) _ _ (rw E at (next s t laid N (postFinish s w f))) 0
+      (becomes-now r w (finishing f 0)) (omega arith) Posted
+
   taken-finish : {x : Tables} {r : Reading} → Now s t laid x r → (w : ℕ) (f : Finish)
       → perform x (postFinish s w f) .answer ≡ Posted → r .pending w ≡ idle
       → readOn r (events perform x (finishMade perform s w f x))
       ≡ noteWholeFinish r w f (lastOf perform (finishMade perform s w f x) x)
   unfolding callMade events lastAnswer readOn note noteFinish
   taken-finish {x} {r} N w f E free =
-      let u : Tables = perform x (postFinish s w f) .state in
-      let q : Reading = becomes r w (finishing f 0) in
-      let M : Now s t laid u q = rw E at (next s t laid N (postFinish s w f)) in
       let fuel : s .arcs + 1 ≡ suc (s .arcs) = omega arith in
-      let L = arcs s t laid w f (s .arcs) u q M 0 (becomes-now r w (finishing f 0)) (omega arith) Posted in
+      let L = marked N w f E in
       rw (E, fuel, L .answer, ← (finish-over r w f free)) (L .read)
 
   pub finish-read : {x : Tables} {r : Reading} → Now s t laid x r → (q : Sizes) (w : ℕ) (f : Finish)

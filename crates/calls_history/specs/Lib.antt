@@ -9,4 +9,6 @@ pub mod CallsRead
 pub mod Entered
 pub mod Turned
 pub mod Theorem
+pub mod CallsEnd
+pub mod NoneCutShort
 pub mod Example

@@ -25,7 +25,7 @@ use Rattle.calls_history.specs.Turned.{sheet-turned}
 leaves-worth : (x : Tables) (c : HostCall) → answerWords x c .state ≡ after perform x (worth perform turnedWords x c)
 leaves-worth x c = ap (λ (o : Replied Tables). o .state) (whole-is-worth x c)
 
-replies-worth : (x : Tables) (c : HostCall) → answerWords x c .reply ≡ replyWorth perform turnedWords x c
+pub replies-worth : (x : Tables) (c : HostCall) → answerWords x c .reply ≡ replyWorth perform turnedWords x c
 replies-worth x c = ap (λ (o : Replied Tables). o .reply) (whole-is-worth x c)
 
 module _ (s : Sizes) (t : Tables) (laid : layOut s t .answer ≡ Laid) where
@@ -65,14 +65,14 @@ module _ (s : Sizes) (t : Tables) (laid : layOut s t .answer ≡ Laid) where
 
   -- ---- the claim
   module _ (calls : List HostCall) where
-    at : Now s t laid (afterCalls answerWords T calls)
+    pub at-calls : Now s t laid (afterCalls answerWords T calls)
         (readCalls perform turnedWords answerWords seen s T unread T calls)
-    at = rw (all-leave calls T, all-read calls (at-start s t laid)) (on s t laid (at-start s t laid) (made T calls))
+    at-calls = rw (all-leave calls T, all-read calls (at-start s t laid)) (on s t laid (at-start s t laid) (made T calls))
 
     pub calls-demand : CallsDemand perform turnedWords answerWords seen s T calls
     calls-demand = record {
       replies = whole-is-worth (afterCalls answerWords T calls);
-      turns-away = sheet-turned s t laid at;
+      turns-away = sheet-turned s t laid at-calls;
       leaves = all-leave calls T;
       reads = let e = all-read calls (at-start s t laid) in record {
         pending = λ w. ap (λ (r : Reading). r .pending w) e;
