@@ -96,7 +96,8 @@ module _ (s : Sizes) (t : Tables) (laid : layOut s t .answer ≡ Laid) (w : ℕ)
       → Looked n u q Going
 
   refused-so : (n : ℕ) {x : Tables} {r : Reading} {k : ℕ} → r .pending w ≡ adding a k → k ≤ a .count → (y : Answer)
-      → (m i : ℕ) → wrongArguments ≤ m → m ≤ tablesFull → endsCall m ≡ true → perform x (step s w) .answer ≡ Refused m i → Looked n x r y
+      → (m i : ℕ) → wrongArguments ≤ m → m ≤ tablesFull → endsCall m ≡ true
+      → perform x (step s w) .answer ≡ Refused m i → Looked n x r y
   unfolding lastAnswer events readOn
   refused-so n {x} {r} {k} p l y m i h u z E = record {
     end = Refused m i;
@@ -125,9 +126,9 @@ module _ (s : Sizes) (t : Tables) (laid : layOut s t .answer ≡ Laid) (w : ℕ)
       looked-on n p h y E
       (rest h (perform x (step s w) .state) (becomes r w (adding a (suc k)))
       (rw (passes r w a k (λ z. omega arith)) at (onward s w p E N)) (becomes-now r w (adding a (suc k))))
-  one-look n {x} {r} N {k} p l e y rest E (unknown h) = refused-so n p l y unknownName k (omega arith) (omega arith) refl E
-  one-look n {x} {r} N p l e y rest E present = refused-so n p l y namePresent 0 (omega arith) (omega arith) refl E
-  one-look n {x} {r} N p l e y rest E no-room = refused-so n p l y tablesFull 0 (omega arith) (omega arith) refl E
+  one-look n N {k} p l e y rest E (unknown h) = refused-so n p l y unknownName k (omega arith) (omega arith) refl E
+  one-look n N p l e y rest E present = refused-so n p l y namePresent 0 (omega arith) (omega arith) refl E
+  one-look n N p l e y rest E no-room = refused-so n p l y tablesFull 0 (omega arith) (omega arith) refl E
   one-look zero N p l e y rest E entered = absurd (omega arith)
   one-look (suc n) {x} {r} N p l e y rest E entered =
       let k : ℕ = suc (a .count) in
@@ -141,7 +142,8 @@ module _ (s : Sizes) (t : Tables) (laid : layOut s t .answer ≡ Laid) (w : ℕ)
             (record {
               answer = R .answer;
               read = rw (enters r w a)
-                  (R .read ∙ becomes-again (addEnded (decided r (add w a) book.accepted) (a .name)) w (adding a k) idle);
+                  (R .read
+                  ∙ becomes-again (addEnded (decided r (add w a) book.accepted) (a .name)) w (adding a k) idle);
             });
       }
   one-look n N p l e y rest E (linked h m) = absurd (omega arith)

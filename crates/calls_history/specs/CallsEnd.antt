@@ -1,5 +1,5 @@
--- No call run whole is cut short: an add, a finish and a sheet that an idle worker calls end as CallEnds.antt (host_calls)
--- says, after any list of calls. Assumes nothing.
+-- No call run whole is cut short: an add, a finish and the adds of a sheet that an idle worker calls end as CallEnds.antt
+-- of host_calls says. Assumes nothing.
 use mathlib.Core.Path.{_≡_, refl, ap, _∙_}
 use mathlib.Core.List.{List, [], _∷_}
 use Prim.Native.Nat.{ℕ, suc, _+_, _*_, _<_}
@@ -71,11 +71,13 @@ module _ (s : Sizes) (t : Tables) (laid : layOut s t .answer ≡ Laid) where
 
     module _ (w : ℕ) (h : w < s .workers) (free : r .pending w ≡ idle) where
       add-post : (a : Arguments) → AddPost (perform x (postAdd s w a) .answer)
-      add-post a = rw (says (postAdd s w a)) (made-add (own-made s g (postAdd s w a) (own-sizes s) h refl (rests w free)))
+      add-post a =
+          rw (says (postAdd s w a)) (made-add (own-made s g (postAdd s w a) (own-sizes s) h refl (rests w free)))
 
       finish-post : (f : Finish) → FinishPost (perform x (postFinish s w f) .answer)
       finish-post f =
-          rw (says (postFinish s w f)) (made-finish (own-made s g (postFinish s w f) (own-sizes s) h refl (rests w free)))
+          rw (says (postFinish s w f))
+          (made-finish (own-made s g (postFinish s w f) (own-sizes s) h refl (rests w free)))
 
       -- ---- a call run whole
       pub add-ends : (a : Arguments) → AddAnswer (lastOf perform (addMade perform s w a x) x)

@@ -67,7 +67,8 @@ module _ (s : Sizes) (t : Tables) (laid : layOut s t .answer ≡ Laid) where
   module _ (calls : List HostCall) where
     pub at-calls : Now s t laid (afterCalls answerWords T calls)
         (readCalls perform turnedWords answerWords seen s T unread T calls)
-    at-calls = rw (all-leave calls T, all-read calls (at-start s t laid)) (on s t laid (at-start s t laid) (made T calls))
+    at-calls =
+        rw (all-leave calls T, all-read calls (at-start s t laid)) (on s t laid (at-start s t laid) (made T calls))
 
     pub calls-demand : CallsDemand perform turnedWords answerWords seen s T calls
     calls-demand = record {
