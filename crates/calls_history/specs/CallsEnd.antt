@@ -1,5 +1,5 @@
--- No call run whole is cut short: an add, a finish and the adds of a sheet that an idle worker calls end as CallEnds.antt
--- of host_calls says. Assumes nothing.
+-- No call run whole is cut short: an add, a finish and the adds of a sheet that an idle worker calls end as
+-- CallEnds.antt of host_calls says. Assumes nothing.
 use mathlib.Core.Path.{_≡_, refl, ap, _∙_}
 use mathlib.Core.List.{List, [], _∷_}
 use Prim.Native.Nat.{ℕ, suc, _+_, _*_, _<_}

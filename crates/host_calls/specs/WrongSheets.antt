@@ -1,9 +1,9 @@
 -- Sheets that are served wrongly, each with a list of calls for which a clause of the claim does not hold. Assumes
 -- nothing.
 use mathlib.Core.Path.{refl}
+use mathlib.Core.Bool.{Bool, true, false}
 use mathlib.Core.List.{List, [], _∷_, _++_, map}
 use Prim.Native.Nat.{ℕ, zero, suc}
-use lib.Dec.{eqb}
 use lib.ListN.{length, getD, replicate}
 use Rattle.basics.specs.Base.{pick}
 use Rattle.terms.specs.Terms.{Arguments}
@@ -62,17 +62,24 @@ unfolding calling upToRefused
 stops-at-refusal e = apart (λ (g : Graph). length (g .jobs)) refl e
 
 -- ---- a sheet with a refused entry leaves nothing of the others, and answers as if it had
-abbrev pub unlessRefused : ℕ → ℕ → Graph → Graph → Graph
-unlessRefused m n g h = pick (eqb m n) h g
+unfoldable pub allAccepted : List Answer → Bool
+allAccepted [] = true
+allAccepted (Ended ∷ l) = allAccepted l
+allAccepted (Refused n i ∷ l) = false
+allAccepted (Laid ∷ l) = false
+allAccepted (Posted ∷ l) = false
+allAccepted (Going ∷ l) = false
+allAccepted (NoneReady ∷ l) = false
+allAccepted (Handed h ∷ l) = false
 
 abbrev pub allOrNothing : Answering
 allOrNothing = serving (λ g s w l.
     replied (each 0 (addsAnswer acts s w l g))
-    (unlessRefused (length (upToRefused g s w l)) (length l) g (after acts g (addsMade acts s w l g))))
+    (pick (allAccepted (addsAnswer acts s w l g)) (after acts g (addsMade acts s w l g)) g))
 
 -- `leaves`: 2 was not added
 pub all-or-nothing : Lacks turning allOrNothing (sheet S 0 refusedFirst ∷ []) leaves
-unfolding calling upToRefused
+unfolding calling allAccepted
 all-or-nothing e = apart (λ (g : Graph). length (g .jobs)) refl e
 
 -- ---- a sheet that runs the second entry first

@@ -68,7 +68,7 @@ answersEach = machine adds finishes otherwise
     otherwise zero g s w l = sheets 0 g s w l
     otherwise (suc n) g s w l = replied (each (suc n) (map (λ (a : Arguments). Refused (suc n) 0) l)) g
 
--- `replies`: nobody's step answered so
+-- `replies`: 16 comes before any entry, so that there is no answer of one
 abbrev pub answered : Replied Graph → ℕ
 answered o = count (o .reply)
   where
@@ -79,3 +79,19 @@ answered o = count (o .reply)
 pub answers-each : Lacks turning answersEach [] replies
 unfolding calling
 answers-each r = apart answered refl (r (sheet S 0 tooMany))
+
+-- ---- a sheet that is served whatever number should turn it away, the first 64 entries of it
+abbrev pub servesAll : Answering
+servesAll = machine adds finishes (λ n g s w l. sheets 0 g s w (take mostEntries l))
+
+-- `replies`: 65 entries are turned away by 16
+abbrev pub numberSaid : Replied Graph → ℕ
+numberSaid o = number (o .reply)
+  where
+    number : Reply → ℕ
+    number (one x) = 0
+    number (each n xs) = n
+
+pub serves-all : Lacks turning servesAll [] replies
+unfolding calling
+serves-all r = apart numberSaid refl (r (sheet S 0 tooMany))
