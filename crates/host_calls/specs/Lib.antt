@@ -1,2 +1,9 @@
 pub mod HostCalls
 pub mod CallsDemand
+pub mod CallEnds
+pub mod Joined
+pub mod WrongCalls
+pub mod WrongSheets
+pub mod WrongTurned
+pub mod WrongWhole
+pub mod RightCalls
