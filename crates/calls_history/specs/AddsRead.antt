@@ -19,7 +19,7 @@ use Rattle.linearization.specs.Calls.{idle, adding, Reading, becomes, decided, 
 use Rattle.linearizability.specs.Ends.{AddStep, looked-up, unknown, entered, present, no-room, linked, settled}
 use Rattle.host_calls.specs.HostCalls.{lastAnswer, stepsMade}
 use Rattle.host_calls.specs.CallsDemand.{noteWholeAdd}
-use Rattle.host_calls.specs.CallEnds.{AddAnswer, accepted, refused}
+use Rattle.whole_words.specs.CallEnds.{AddAnswer, accepted, refused}
 use Rattle.calls_history.specs.Now.{Now, add-step}
 use Rattle.calls_history.specs.Noting.{becomes-again, becomes-now}
 use Rattle.calls_history.specs.StepsRead.{Reads, one-step, onward}

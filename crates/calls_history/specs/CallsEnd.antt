@@ -25,8 +25,8 @@ use Rattle.rules_invariant.specs.Sound.{sound}
 use Rattle.words_refine_rules.specs.Items.{item}
 use Rattle.words_history.specs.Theorem.{after-items, same-events}
 use Rattle.host_calls.specs.HostCalls.{lastAnswer, callMade, addMade, finishMade, lastOf, addsAnswer}
-use Rattle.host_calls.specs.CallEnds.{AddAnswer, refused, FinishAnswer, AddAnswers, none, more}
-use Rattle.host_calls.specs.CallEnds as ends
+use Rattle.whole_words.specs.CallEnds.{AddAnswer, refused, FinishAnswer, AddAnswers, none, more}
+use Rattle.whole_words.specs.CallEnds as ends
 use Rattle.calls_history.specs.Now.{Now, on}
 use Rattle.calls_history.specs.CallsRead.{looked, marked, add-read}
 

@@ -16,7 +16,7 @@ use Rattle.rules_cases.specs.Own.{own-sizes}
 use Rattle.linearization.specs.Calls.{idle, Reading}
 use Rattle.host_calls.specs.HostCalls.{HostCall, wholeAdd, wholeFinish, sheet, one, each, replyWorth, sheetReply}
 use Rattle.host_calls.specs.CallsDemand.{read, at-end}
-use Rattle.host_calls.specs.CallEnds.{AddAnswer, FinishAnswer, AddAnswers}
+use Rattle.whole_words.specs.CallEnds.{AddAnswer, FinishAnswer, AddAnswers}
 use Rattle.calls_history.specs.WordsCalls.{turnedWords, answerWords}
 use Rattle.calls_history.specs.Theorem.{replies-worth, at-calls}
 use Rattle.calls_history.specs.Turned.{sheet-turned}

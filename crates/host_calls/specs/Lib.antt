@@ -1,6 +1,5 @@
 pub mod HostCalls
 pub mod CallsDemand
-pub mod CallEnds
 pub mod Joined
 pub mod WrongCalls
 pub mod WrongSheets
