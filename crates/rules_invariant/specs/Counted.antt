@@ -51,17 +51,17 @@ module _ (s : Sizes) (g : Graph) (r : Reading) (x : State) (K : Kept s g r x) (I
     none-unserved p = elim (decLt 0 (occurrences p (x .prerequisites j))) [
       | yes h ↦ let o = place-of p (x .prerequisites j) h in
           rw (← (o .there)) (prerequisite-served (o .place) (o .within))
-      | no h ↦ omega (arith, I .arcs-within p j)
+      | no h ↦ omega (arith, I .counts .arcs-within p j)
     ]
 
     pub entered-once : x .entries j ≡ 1
     entered-once =
         omega (
           arith,
-          I .entry j,
-          I .balance j,
-          I .adder-done j no-adder,
-          I .gate-settled j (omega (arith, K .size)) no-adder,
+          I .gates .entry j,
+          I .counts .balance j,
+          I .counts .adder-done j no-adder,
+          I .gates .gate-settled j (omega (arith, K .size)) no-adder,
           sum-zero (x .size) (λ p. unserved x p j) none-unserved,
         )
 

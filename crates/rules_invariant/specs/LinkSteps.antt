@@ -111,7 +111,7 @@ module _ (s : Sizes) (g : Graph) (r : Reading) (x : State) (K : Kept s g r x) (I
           let y : State = linkDependent x j p in
           let d : List ℕ = x .dependents p ++ (j ∷ []) in
           let there : p < length (g .jobs) =
-          omega (arith, K .size, I .prerequisites-there j .at (x .linked j) room-left) in
+          omega (arith, K .size, I .places .prerequisites-there j .at (x .linked j) room-left) in
           let z : Job = withDependent (job g p) j in
           let further : Extends (g .jobs) (set (g .jobs) p z) = extends-set (g .jobs) p z refl refl in
           let longer : length (set (g .jobs) p z) ≡ length (g .jobs) = length-set (g .jobs) p z in
@@ -178,7 +178,7 @@ module _ (s : Sizes) (g : Graph) (r : Reading) (x : State) (K : Kept s g r x) (I
     settling h =
         let b : Bool = settles (job g j .count - t) t (a .count) in
         let full : x .linked j ≡ length (x .prerequisites j) =
-        omega (arith, own-link .place, long-list, I .linked-within j) in
+        omega (arith, own-link .place, long-list, I .counts .linked-within j) in
         let left : ℕ = x .count j - x .tally j in
         let y : State = settle x w j b in
         let z : Job = withCount (job g j) (job g j .count - t) in
