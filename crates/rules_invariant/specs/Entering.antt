@@ -7,7 +7,7 @@ use native.Mathlib.Omega.{arith}
 use native.Mathlib.Decide.{ℕ-discrete}
 use lib.ListN.{length}
 use lib.Seq.{drop-nil}
-use Rattle.basics.specs.Base.{occurrences}
+use Rattle.basics.specs.Base.{update, occurrences}
 use Rattle.basics.specs.Laws.{update-same, update-at, update-other}
 use Rattle.rules_invariant.specs.Base.{occurrences-nil, sum-suc}
 use Rattle.rules_invariant.specs.Own.{owns-frame, owns-take}
@@ -28,6 +28,10 @@ module _ (s : State) (I : Invariant s) where
 
     fresh-linked : s .linked fresh ≡ 0
     fresh-linked = omega (arith, I .counts .linked-within fresh, fresh-list)
+
+    fresh-gate : (k : ℕ) → k ≡ fresh
+        → update (s .gate) fresh (1 - length ps) k ≡ 1 - length (update (s .prerequisites) fresh ps k)
+    fresh-gate k e = rw (update-at (s .gate) fresh (1 - length ps) k e, update-at (s .prerequisites) fresh ps k e)
 
     pub enter-keeps : Invariant (enter s w ps)
     enter-keeps = record {
@@ -135,31 +139,17 @@ module _ (s : State) (I : Invariant s) where
           )
         ];
         gate-within = λ k. elim (ℕ-discrete k fresh) [
-          | yes e ↦ rw e (omega (
-            arith,
-            update-same (s .gate) fresh (1 - length ps),
-            ap length (update-same (s .prerequisites) fresh ps),
-          ))
-          | no e ↦ omega (
-            arith,
-            update-other (s .gate) fresh (1 - length ps) k e,
-            ap length (update-other (s .prerequisites) fresh ps k e),
-            I .gates .gate-within k,
-          )
+          | yes e ↦ omega (arith, fresh-gate k e)
+          | no e ↦
+              rw (update-other (s .gate) fresh (1 - length ps) k e, update-other (s .prerequisites) fresh ps k e)
+              (I .gates .gate-within k)
         ];
         gate-new = λ k l. update-other (s .gate) fresh (1 - length ps) k (omega arith) ∙ I .gates .gate-new k (omega arith);
         gate-adding = λ k v a. elim (ℕ-discrete k fresh) [
-          | yes e ↦ rw e (omega (
-            arith,
-            update-same (s .gate) fresh (1 - length ps),
-            ap length (update-same (s .prerequisites) fresh ps),
-          ))
-          | no e ↦ omega (
-            arith,
-            update-other (s .gate) fresh (1 - length ps) k e,
-            ap length (update-other (s .prerequisites) fresh ps k e),
-            I .gates .gate-adding k v (sym (update-other (s .adder) fresh (some w) k e) ∙ a),
-          )
+          | yes e ↦ fresh-gate k e
+          | no e ↦
+              rw (update-other (s .gate) fresh (1 - length ps) k e, update-other (s .prerequisites) fresh ps k e)
+              (I .gates .gate-adding k v (sym (update-other (s .adder) fresh (some w) k e) ∙ a))
         ];
         gate-settled = λ k l a. elim (ℕ-discrete k fresh) [
           | yes e ↦ absurd (Option·none-ne-some w (cc (update-at (s .adder) fresh (some w) k e)))

@@ -103,6 +103,20 @@ module _ (s : State) (I : Invariant s) where
       arcs-off : (r k : ℕ) → r ≢ place → unserved after r k ≡ unserved s r k
       arcs-off r k e = rw (update-other (s .dependents) place (s .dependents place ++ (j ∷ [])) r e) refl
 
+      arcs-after : (r k : ℕ) → s .label r ≢ finished
+          → unserved after r k ≡ occurrences r (take (s .linked k + hit k j) (s .prerequisites k))
+      arcs-after r k u = elim (ℕ-discrete r place) [
+        | yes e ↦ elim (ℕ-discrete k j) [
+          | yes z ↦ rw (e, z)
+              (omega (arith, arcs-at j, reach-at place, hit-same j, hit-same place, I .arcs place j unready))
+          | no z ↦ rw e (omega (arith, arcs-at k, reach-off place k z, hit-other k j z, I .arcs place k unready))
+        ]
+        | no e ↦ elim (ℕ-discrete k j) [
+          | yes z ↦ rw z (omega (arith, arcs-off r j e, reach-at r, hit-other r place e, I .arcs r j u))
+          | no z ↦ omega (arith, arcs-off r k e, reach-off r k z, I .arcs r k u)
+        ]
+      ]
+
       pub link-dependent-keeps : Invariant after
       link-dependent-keeps = record {
         adders = I .adders;
@@ -120,18 +134,11 @@ module _ (s : State) (I : Invariant s) where
             sum-at (s .size) (λ r. unserved s r k) (λ r. unserved after r k) place below (λ r e. arcs-off r k e),
           );
           arcs-within = λ r k. elim (ℕ-discrete r place) [
-            | yes e ↦ elim (ℕ-discrete k j) [
-              | yes z ↦ rw (e, z) (omega (
-                arith,
-                arcs-at j,
-                reach-at place,
-                hit-same j,
-                hit-same place,
-                I .arcs place j unready,
-                occurrences-take-le place (s .prerequisites j) (s .linked j + hit j j),
-              ))
-              | no z ↦ rw e (omega (arith, arcs-at k, hit-other k j z, I .counts .arcs-within place k))
-            ]
+            | yes e ↦ rw e (omega (
+              arith,
+              arcs-after place k unready,
+              occurrences-take-le place (s .prerequisites k) (s .linked k + hit k j),
+            ))
             | no e ↦ omega (arith, arcs-off r k e, I .counts .arcs-within r k)
           ];
           linked-within = linked-further;
@@ -161,23 +168,7 @@ module _ (s : State) (I : Invariant s) where
               (omega (arith, I .served-within place))
           | no e ↦ rw (update-other (s .dependents) place (s .dependents place ++ (j ∷ [])) r e) (I .served-within r)
         ];
-        arcs = λ r k u. elim (ℕ-discrete r place) [
-          | yes e ↦ elim (ℕ-discrete k j) [
-            | yes z ↦ rw (e, z) (omega (
-              arith,
-              arcs-at j,
-              reach-at place,
-              hit-same j,
-              hit-same place,
-              I .arcs place j unready,
-            ))
-            | no z ↦ rw e (omega (arith, arcs-at k, reach-off place k z, hit-other k j z, I .arcs place k unready))
-          ]
-          | no e ↦ elim (ℕ-discrete k j) [
-            | yes z ↦ rw z (omega (arith, arcs-off r j e, reach-at r, hit-other r place e, I .arcs r j u))
-            | no z ↦ omega (arith, arcs-off r k e, reach-off r k z, I .arcs r k u)
-          ]
-        ];
+        arcs = arcs-after;
       }
 
   -- ---- settling
