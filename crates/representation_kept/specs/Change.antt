@@ -3,12 +3,11 @@
 -- laid out. Follows docs/RULES.md, "Tables and their measures". Assumes nothing.
 use mathlib.Core.Path.{_≡_, refl, sym, ap, _∙_}
 use mathlib.Core.Logic.{_≢_}
-use mathlib.Core.Bool.{Bool, true, false}
 use mathlib.Core.List.{List, [], _∷_, _++_}
 use Prim.Native.Nat.{ℕ, zero, suc, _+_, _<_}
 use native.Mathlib.Omega.{arith}
-use borrow.Author.Tests.{eqb-true}
-use lib.Dec.{eqb}
+use native.Mathlib.Decide.{ℕ-discrete}
+use borrow.Author.Tests.{eq-eqb, ne-eqb}
 use lib.ListN.{length, getD, set, length-set}
 use Rattle.basics.specs.Laws.{set-all, update-other}
 use Rattle.terms.specs.declared.Sizes.{Sizes}
@@ -24,25 +23,27 @@ pub kept-put : (s : Sizes) (l : List ℕ) (i k x : ℕ) → sizesKept s (put job
 unfolding sizesKept
 kept-put s l i k x = simp stores
 
--- a store at job j leaves the rows of the others
-module _ (f : ℕ → ℕ → ℕ) (j q x k : ℕ) (h : k ≢ j) where
-  by-test : (r : ℕ) (b : Bool) → eqb r q ≡ b → store f j q x r k ≡ f r k
-  by-test r true e = rw (e, eqb-true r q e) (update-other (f q) j x k h)
-  by-test r false e = rw e refl
+-- ---- a store in one row
+pub store-off : (f : ℕ → ℕ → ℕ) (i k x q u : ℕ) → u ≢ i → store f i k x q u ≡ f q u
+store-off f i k x q u e = elim (ℕ-discrete q k) [
+  | yes z ↦ rw (eq-eqb q k z) (update-other (f k) i x u e ∙ ap (λ y. f y u) (sym z))
+  | no z ↦ rw (ne-eqb q k z)
+]
 
-  same : (r : ℕ) → store f j q x r k ≡ f r k
-  same r = by-test r (eqb r q) refl
-
-  pub row-other : {l : List ℕ} {y : Job} → Row f k l y → Row (store f j q x) k l y
-  row-other o = record {
-    name = same NAME ∙ o .name;
-    label = same LABEL ∙ o .label;
-    count = same COUNT ∙ o .count;
-    class = same CLASS ∙ o .class;
-    grower = same GROWER ∙ o .grower;
-    first = same FIRST ∙ o .first;
-    last = same LAST ∙ o .last;
-  }
+-- leaves the rows of the other jobs
+pub row-other : (f : ℕ → ℕ → ℕ) (j q x k : ℕ) → k ≢ j → {l : List ℕ} {y : Job} → Row f k l y
+    → Row (store f j q x) k l y
+row-other f j q x k h o =
+    let same : (r : ℕ) → store f j q x r k ≡ f r k = λ r. store-off f j q x r k h in
+    record {
+      name = same NAME ∙ o .name;
+      label = same LABEL ∙ o .label;
+      count = same COUNT ∙ o .count;
+      class = same CLASS ∙ o .class;
+      grower = same GROWER ∙ o .grower;
+      first = same FIRST ∙ o .first;
+      last = same LAST ∙ o .last;
+    }
 
 -- the tables after a store of x in field k of job j, and with another queue q
 pub job-stands : (s : Sizes) (t : Tables) (g : Graph) (G : Ghost) → Stands s t g G → (j k x : ℕ) (q l : List ℕ) (h : Graph)
