@@ -51,7 +51,7 @@ module _ (s : Sizes) (g : Graph) (r : Reading) (x : State) (K : Kept s g r x) (I
     none-unserved p = elim (decLt 0 (occurrences p (x .prerequisites j))) [
       | yes h ↦ let o = place-of p (x .prerequisites j) h in
           rw (← (o .there)) (prerequisite-served (o .place) (o .within))
-      | no h ↦ omega (arith, I .counts .arcs-within p j)
+      | no h ↦ omega (arith, I .arcs-within p j)
     ]
 
     pub entered-once : x .entries j ≡ 1

@@ -43,15 +43,6 @@ module _ (s : State) (I : Invariant s) where
       served-within = I .served-within;
       queued = I .queued;
       counts = record {
-        arcs-within = λ p k. elim (ℕ-discrete k fresh) [
-          | yes e ↦ rw e (omega (
-            arith,
-            I .counts .arcs-within p fresh,
-            ap (occurrences p) (I .places .new-prerequisites fresh (omega arith)),
-            occurrences-nil p,
-          ))
-          | no e ↦ rw (update-other (s .prerequisites) fresh ps k e) (I .counts .arcs-within p k)
-        ];
         balance = λ k. elim (ℕ-discrete k fresh) [
           | yes e ↦ rw e (omega (
             arith,
@@ -99,6 +90,15 @@ module _ (s : State) (I : Invariant s) where
           )
         ];
       };
+      arcs-within = λ p k. elim (ℕ-discrete k fresh) [
+        | yes e ↦ rw e (omega (
+          arith,
+          I .arcs-within p fresh,
+          ap (occurrences p) (I .places .new-prerequisites fresh (omega arith)),
+          occurrences-nil p,
+        ))
+        | no e ↦ rw (update-other (s .prerequisites) fresh ps k e) (I .arcs-within p k)
+      ];
       places = record {
         dependents-there = λ p. record { at = λ i l. omega (arith, I .places .dependents-there p .at i l) };
         prerequisites-there = λ k. record {

@@ -42,6 +42,7 @@ module _ (s : State) (I : Invariant s) where
       finishers = I .finishers;
       served-within = I .served-within;
       counts = I .counts;
+      arcs-within = I .arcs-within;
       places = I .places;
       gates = I .gates;
       held-executing = λ v i e. elim (ℕ-discrete v w) [
@@ -109,6 +110,7 @@ module _ (s : State) (I : Invariant s) where
     mark-keeps = record {
       served-within = I .served-within;
       counts = I .counts;
+      arcs-within = I .arcs-within;
       places = I .places;
       gates = I .gates;
       adders = owns-frame adding (s .stage) (s .adder) (I .adders) w (finishing p)
@@ -186,12 +188,12 @@ module _ (s : State) (I : Invariant s) where
         linked-within = I .counts .linked-within;
         adder-done = I .counts .adder-done;
         balance = λ k. omega (arith, I .counts .balance k, I .counts .linked-within k, arcs-sum k);
-        arcs-within = λ r k. elim (ℕ-discrete r p) [
-          | yes z ↦ rw z (omega (arith, arcs-at k, I .counts .arcs-within p k))
-          | no z ↦ omega (arith, arcs-off r k z, I .counts .arcs-within r k)
-        ];
         count-within = λ k. omega (arith, I .counts .count-within k);
       };
+      arcs-within = λ r k. elim (ℕ-discrete r p) [
+        | yes z ↦ rw z (omega (arith, arcs-at k, I .arcs-within p k))
+        | no z ↦ omega (arith, arcs-off r k z, I .arcs-within r k)
+      ];
       gates = record {
         gate-within = I .gates .gate-within;
         gate-new = I .gates .gate-new;
@@ -225,6 +227,7 @@ module _ (s : State) (I : Invariant s) where
     served-none = I .served-none;
     served-within = I .served-within;
     counts = I .counts;
+    arcs-within = I .arcs-within;
     places = I .places;
     arcs = I .arcs;
     gates = I .gates;

@@ -33,7 +33,6 @@ pub record Counts (size : ℕ) (count linked tally served : ℕ → ℕ) (prereq
     (adder : ℕ → Option ℕ) : Type 0 where
   pub balance : (j : ℕ)
       → count j + linked j ≡ length (prerequisites j) + tally j + sum size (λ p. waiting served dependents p j)
-  pub arcs-within : (p j : ℕ) → waiting served dependents p j ≤ occurrences p (prerequisites j)
   pub count-within : (j : ℕ) → count j ≤ length (prerequisites j)
   pub linked-within : (j : ℕ) → linked j ≤ length (prerequisites j)
   pub adder-done : (j : ℕ) → adder j ≡ none → (linked j ≡ length (prerequisites j)) × (tally j ≡ 0)
@@ -71,9 +70,10 @@ pub record Invariant (s : State) : Type 0 where
   pub finisher-done : (p : ℕ) → s .finisher p ≡ none → s .label p ≡ finished → s .served p ≡ length (s .dependents p)
   pub served-none : (p : ℕ) → s .label p ≢ finished → s .served p ≡ 0
   pub served-within : (p : ℕ) → s .served p ≤ length (s .dependents p)
-  -- the arcs of a job that is not finished
+  -- the arcs that are linked and not served
   pub arcs : (p j : ℕ) → s .label p ≢ finished
       → unserved s p j ≡ occurrences p (take (s .linked j) (s .prerequisites j))
+  pub arcs-within : (p j : ℕ) → unserved s p j ≤ occurrences p (s .prerequisites j)
   -- what has entered the queue is there or was handed out
   pub queued : (j : ℕ) → occurrences j (s .queue) + startedBy (s .label j) ≡ s .entries j
 

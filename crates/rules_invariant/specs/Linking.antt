@@ -70,12 +70,12 @@ module _ (s : State) (I : Invariant s) where
       held-by = I .held-by;
       finisher-finished = I .finisher-finished;
       counts = record {
-        arcs-within = I .counts .arcs-within;
         count-within = I .counts .count-within;
         balance = λ k. omega (arith, I .counts .balance k);
         linked-within = linked-further;
         adder-done = λ k e. omega (arith, hit-other k j (busy k e), I .counts .adder-done k e);
       };
+      arcs-within = I .arcs-within;
       places = I .places;
       finisher-done = I .finisher-done;
       served-none = I .served-none;
@@ -133,17 +133,17 @@ module _ (s : State) (I : Invariant s) where
             arcs-at k,
             sum-at (s .size) (λ r. unserved s r k) (λ r. unserved after r k) place below (λ r e. arcs-off r k e),
           );
-          arcs-within = λ r k. elim (ℕ-discrete r place) [
-            | yes e ↦ rw e (omega (
-              arith,
-              arcs-after place k unready,
-              occurrences-take-le place (s .prerequisites k) (s .linked k + hit k j),
-            ))
-            | no e ↦ omega (arith, arcs-off r k e, I .counts .arcs-within r k)
-          ];
           linked-within = linked-further;
           adder-done = λ k e. omega (arith, hit-other k j (busy k e), I .counts .adder-done k e);
         };
+        arcs-within = λ r k. elim (ℕ-discrete r place) [
+          | yes e ↦ rw e (omega (
+            arith,
+            arcs-after place k unready,
+            occurrences-take-le place (s .prerequisites k) (s .linked k + hit k j),
+          ))
+          | no e ↦ omega (arith, arcs-off r k e, I .arcs-within r k)
+        ];
         places = record {
           prerequisites-there = I .places .prerequisites-there;
           new-prerequisites = I .places .new-prerequisites;
@@ -183,7 +183,6 @@ module _ (s : State) (I : Invariant s) where
     served-within = I .served-within;
     arcs = I .arcs;
     counts = record {
-      arcs-within = I .counts .arcs-within;
       linked-within = I .counts .linked-within;
       balance = λ k. elim (ℕ-discrete k j) [
         | yes e ↦ rw e (omega (
@@ -212,6 +211,7 @@ module _ (s : State) (I : Invariant s) where
         )
       ];
     };
+    arcs-within = I .arcs-within;
     places = record {
       dependents-there = I .places .dependents-there;
       prerequisites-there = I .places .prerequisites-there;

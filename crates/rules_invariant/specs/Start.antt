@@ -52,11 +52,11 @@ blank-invariant = record {
   served-within = λ p. omega arith;
   counts = record {
     balance = λ j. omega arith;
-    arcs-within = λ p j. omega (arith, occurrences-nil j);
     count-within = λ j. omega arith;
     linked-within = λ j. omega arith;
     adder-done = λ j e. (refl, refl);
   };
+  arcs-within = λ p j. omega (arith, occurrences-nil j);
   arcs = λ p j u. simp occurrences-nil;
   places = record {
     prerequisites-there = λ j. record { at = λ i h. omega arith };
