@@ -1,4 +1,4 @@
--- Digits one by one, a list from a place on after a store there, and texts and lines one after the other. Assumes nothing.
+-- Digits one by one, a list from a place on after a store there, and texts one after the other. Assumes nothing.
 use mathlib.Core.Path.{_≡_, refl, _∙_}
 use mathlib.Core.List.{List, [], _∷_, _++_}
 use Prim.Native.Nat.{ℕ, zero, suc, _+_, _≤_, _<_, _/_, _%_}
@@ -42,6 +42,6 @@ next limit p q r a b e f = f ∙ rw e (print-append limit p a b)
 pub left-out : (limit : ℕ) (p : Page) (text : List ℕ) → mostPlace < p .place → p ≡ printLine limit p text
 left-out limit p text h = rw (lt-leb (p .place) mostPlace h)
 
-pub printed : (limit : ℕ) (p q r : Page) (a b : List ℕ) → p .place ≤ mostPlace → q ≡ print limit p a → r ≡ print limit q b
-    → r ≡ printLine limit p (a ++ b)
+pub printed : (limit : ℕ) (p q r : Page) (a b : List ℕ) → p .place ≤ mostPlace → q ≡ print limit p a
+    → r ≡ print limit q b → r ≡ printLine limit p (a ++ b)
 printed limit p q r a b h e f = rw (le-leb (p .place) mostPlace h) (next limit p q r a b e f)

@@ -1,6 +1,6 @@
 -- Marking and getting: a label stored, and for a get the first job taken from the queue. Follows docs/RULES.md,
 -- "Steps": the mark of a finish, and get. Assumes nothing.
-use mathlib.Core.Path.{_≡_, refl, sym, ap, _∙_}
+use mathlib.Core.Path.{_≡_, refl, sym, ap}
 use mathlib.Core.Logic.{_≢_}
 use mathlib.Core.List.{List, _∷_}
 use Prim.Native.Nat.{ℕ, _+_, _<_}

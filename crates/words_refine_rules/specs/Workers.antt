@@ -1,18 +1,17 @@
 -- The workers' words: what the stores of a call leave of the words of its own worker, and that they leave those of
 -- every other worker. Follows docs/RULES.md, "Tables and their measures". Assumes nothing.
-use mathlib.Core.Path.{_≡_, refl, sym, ap, _∙_}
+use mathlib.Core.Path.{_≡_, refl, ap, _∙_}
 use mathlib.Core.Logic.{_≢_}
 use mathlib.Core.Bool.{true}
 use mathlib.Core.List.{List, [], _∷_}
 use Prim.Native.Nat.{ℕ, zero, suc, _+_, _≤_, _<_}
 use native.Mathlib.Omega.{arith}
-use native.Mathlib.Decide.{ℕ-discrete}
 use lib.Dec.{ltb}
 use lib.ListN.{length, getD, length-replicate, take}
-use borrow.Author.Tests.{eq-eqb, ne-eqb, ltb-true}
+use borrow.Author.Tests.{ne-eqb, ltb-true}
 use Rattle.basics.specs.Limits.{mostNames}
 use Rattle.basics.specs.Base.{prefix}
-use Rattle.basics.specs.Laws.{update-same, update-other, length-prefix}
+use Rattle.basics.specs.Laws.{update-same, length-prefix}
 use Rattle.terms.specs.Terms.{Arguments, listed}
 use Rattle.words.specs.Columns.{Rows, columns, columns-put, rows-put, store}
 use Rattle.words.specs.Layout.{none, workerShape, PHASE, HELD, TALLY, PLACE, OWN-JOB, OWN-ARC, NAMES, LOOKING, LINKING}

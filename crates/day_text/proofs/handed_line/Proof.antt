@@ -19,9 +19,10 @@ emit-requires c κs =
 emit-two-requires : tie.Need-emit-two-requires
 emit-two-requires c κs =
     let c3 = c .before .before .before in
+    let c7 = c3 .before .before .before .before in
     omega (
       arith,
-      numbered _ _ _ _ (c3 .before .before .before .before .emit-number .ensures),
+      numbered _ _ _ _ (c7 .emit-number .ensures),
       placed _ _ _ _ (c3 .emit .ensures),
     )
 
