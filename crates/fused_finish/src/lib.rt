@@ -29,8 +29,9 @@ use words::Plan;
 fn put_notifying(workers: &mut [u32], worker: u32, arc: u32)
     ensures { λ _. ⌜ now (workers .exit) ≡ putWorker (now (workers .entry)) worker (notifyWorker arc) ⌝ }
 {
+    let names = [0u32; 32];
     put_call(
-        workers, worker, NOTIFYING, NONE, 0, [0u32; 32], 0, 0, 0, 0, 0, NONE, arc,
+        workers, worker, NOTIFYING, NONE, 0, &names, 0, 0, 0, 0, 0, NONE, arc,
     );
 }
 

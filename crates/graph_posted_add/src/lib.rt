@@ -15,6 +15,7 @@ use graph_words::layout::*;
 use graph_words::numbers::*;
 use graph_words::put_word;
 use graph_words::put_worker;
+use graph_words::word;
 
 // A worker's phase, its hold, and the arguments of its call.
 fn put_arguments(
@@ -69,15 +70,15 @@ fn listed_of(count: u32) -> usize
 }
 
 // The listed names, and 0 past them.
-fn put_names(workers: &mut [u32], worker: u32, names: [u32; 32], count: u32)
+fn put_names(workers: &mut [u32], worker: u32, names: &[u32], count: u32)
     ensures { λ _. ⌜ now (workers .exit)
-        ≡ sets (now (workers .entry)) (place workerShape worker NAMES) (prefix mostNames (prefix count names)) ⌝ }
+        ≡ sets (now (workers .entry)) (place workerShape worker NAMES) (prefix mostNames (prefix count (now (names .entry)))) ⌝ }
 {
     let from = names_at(worker);
     let listed = listed_of(count);
     let mut i = 0;
     while i < listed {
-        put_word(workers, from + i, names[i]);
+        put_word(workers, from + i, word(names, i));
         i += 1;
     }
     fill(workers, from + listed, (MOST_NAMES as usize) - listed, 0);
@@ -90,7 +91,7 @@ pub fn put_call(
     phase: u32,
     held: u32,
     name: u32,
-    names: [u32; 32],
+    names: &[u32],
     count: u32,
     class: u32,
     grower: u32,
@@ -102,7 +103,7 @@ pub fn put_call(
     ensures { λ _. ⌜ now (workers .exit)
         ≡ putWorker (now (workers .entry)) worker
         (phase ∷ held ∷ name ∷ count ∷ class ∷ grower ∷ tally ∷ position ∷ job ∷ arc
-        ∷ prefix mostNames (prefix count names)) ⌝ }
+        ∷ prefix mostNames (prefix count (now (names .entry)))) ⌝ }
 {
     put_arguments(workers, worker, phase, held, name, count, class, grower);
     put_reached(workers, worker, tally, position, job, arc);
@@ -130,7 +131,7 @@ pub fn put_adding_worker(
         LOOKING,
         held,
         name,
-        names,
+        &names,
         count,
         class,
         grower,

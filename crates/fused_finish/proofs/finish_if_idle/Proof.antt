@@ -1,3 +1,4 @@
+use mathlib.Core.List.{[]}
 use Rattle.fused_finish.proofs.Laws.{goes}
 use Rattle.fused_words.specs.FusedFinish.{finishIn, finishIfIdle}
 use borrow.Author.Needs.{needs}
@@ -101,7 +102,7 @@ returns-4 c =
     let c16 = c12 .before .before .before .before in
     let c20 = c16 .before .before .before .before in
     goes _ _ _ _ (c20 .before .before .worker-word .ensures) (c20 .before .if1 .taken) (c16 .before .before .before .worker-word2 .ensures) (c16 .before .before .if2 .left)
-    (c16 .job-word .ensures) (c12 .before .before .before .if3 .taken) (c12 .counters-ok .ensures _ _ _) (c8 .before .before .before .if4 .taken)
+    (c16 .job-word .ensures) (c12 .before .before .before .if3 .taken) (c12 .counters-ok .ensures [] [] []) (c8 .before .before .before .if4 .taken)
     (c4 .before .before .mark-and-tell .ensures (c16 .before .before .before .worker-word2 .ensures) _)
 
 -- src/lib.rt:103:1

@@ -26,7 +26,7 @@ returns c =
     let c4 = c .before .before .before .before in
     let c8 = c4 .before .before .before .before in
     let c12 = c8 .before .before .before .before in
-    let a = c12 .before .args in
+    let a = c12 .before .before .args in
     rw (
       c .before .before .put-names .ensures,
       c4 .before .before .put-reached .ensures,
@@ -35,7 +35,7 @@ returns c =
     (worker-record (a .workers .now) (a .worker)
     (a .phase ∷ a .held ∷ a .name ∷ a .count ∷ a .class ∷ a .grower ∷ [])
     (a .tally ∷ a .position ∷ a .job ∷ a .arc ∷ [])
-    (prefix mostNames (prefix (a .count) (a .names)))
+    (prefix mostNames (prefix (a .count) (a .names .now)))
     refl
     refl)
 
