@@ -1,3 +1,8 @@
+use Rattle.terms.specs.Runs.{Outcome}
+use Rattle.words.specs.Layout.{Tables, LINKING}
+use Rattle.words.specs.Words.{firstArc}
+use Rattle.fused_words.specs.FusedWorker.{addWorker, halted}
+use Rattle.fused_words.specs.FusedAdd.{settleIn}
 use borrow.Author.Needs.{needs}
 use Rattle.fused_settle.proofs.settle_add.Statement.{statement}
 use Rattle.fused_settle.proofs.settle_add.Tie as tie
@@ -22,7 +27,11 @@ same-length c = search needs
 
 -- src/lib.rt:85:9
 returns : tie.Need-returns
-returns c = ?
+unfolding settleIn
+returns c =
+    λ arcs buckets.
+    let c4 = c .before .before .before .before in
+    rw (c4 .if1 .left, c .before .before .stop .ensures, c4 .before .first-arc .ensures)
 
 -- src/lib.rt:89:9
 settle-requires : tie.Need-settle-requires
@@ -50,7 +59,19 @@ same-length-4 c = search needs
 
 -- src/lib.rt:57:1
 returns-2 : tie.Need-returns-2
-returns-2 c = ?
+unfolding settleIn
+returns-2 c =
+    λ arcs buckets.
+    let c4 = c .before .before .before .before in
+    let c8 = c4 .before .before .before .before in
+    let c12 = c8 .before .before .before .before in
+    let c16 = c12 .before .before .before .before in
+    let a = c16 .before .before .args in
+    let stopped : Tables → Outcome Tables = λ t. halted t (a .worker) (addWorker LINKING (a .held)
+    (record { name = a .name; count = a .count; names = a .names .now; class = a .class; grower = a .grower })
+    (a .linked .tally) (a .linked .place) (a .job) (firstArc (a .count) (a .arc))) in
+    rw (c12 .if1 .taken, c .before .before .put-bare-worker .ensures)
+    (rw (c4 .if2 .taken) at (c8 .before .settle .ensures arcs buckets (a .workers .now) (a .worker) (a .held) stopped))
 
 -- src/lib.rt:57:1
 same-length-5 : tie.Need-same-length-5
@@ -66,7 +87,19 @@ same-length-7 c = search needs
 
 -- src/lib.rt:57:1
 returns-3 : tie.Need-returns-3
-returns-3 c = ?
+unfolding settleIn
+returns-3 c =
+    λ arcs buckets.
+    let c4 = c .before .before .before .before in
+    let c8 = c4 .before .before .before .before in
+    let c12 = c8 .before .before .before .before in
+    let c16 = c12 .before .before .before .before in
+    let a = c16 .before .before .args in
+    let stopped : Tables → Outcome Tables = λ t. halted t (a .worker) (addWorker LINKING (a .held)
+    (record { name = a .name; count = a .count; names = a .names .now; class = a .class; grower = a .grower })
+    (a .linked .tally) (a .linked .place) (a .job) (firstArc (a .count) (a .arc))) in
+    rw (c12 .if1 .taken, c .before .before .stop2 .ensures, c12 .before .first-arc .ensures)
+    (rw (c4 .if2 .left) at (c8 .before .settle .ensures arcs buckets (a .workers .now) (a .worker) (a .held) stopped))
 
 pub settle-add-spec : {M : Type 1} → statement M
 settle-add-spec =
