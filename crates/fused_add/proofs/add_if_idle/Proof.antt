@@ -1,3 +1,6 @@
+use Rattle.fused_words.specs.FusedAdd.{addIn, addIfIdle}
+use mathlib.Core.List.{[]}
+use Rattle.fused_add.proofs.Laws.{short, goes}
 use borrow.Author.Needs.{needs}
 use Rattle.fused_add.proofs.add_if_idle.Statement.{statement}
 use Rattle.fused_add.proofs.add_if_idle.Tie as tie
@@ -18,7 +21,11 @@ same-length c = search needs
 
 -- src/lib.rt:169:9
 returns : tie.Need-returns
-returns c = ?
+unfolding addIfIdle addIn
+returns c =
+    rw
+    (← c .before .worker-word .ensures,
+    c .if1 .left)
 
 -- src/lib.rt:174:9
 arguments-wrong-requires : tie.Need-arguments-wrong-requires
@@ -30,7 +37,13 @@ same-length-2 c = search needs
 
 -- src/lib.rt:176:9
 returns-2 : tie.Need-returns-2
-returns-2 c = ?
+unfolding addIfIdle addIn
+returns-2 c =
+    rw
+    (← c .before .before .before .worker-word .ensures,
+    c .before .before .if1 .taken,
+    ← c .before .arguments-wrong .ensures,
+    c .if2 .taken)
 
 -- src/lib.rt:181:9
 counters-ok-requires : tie.Need-counters-ok-requires
@@ -66,7 +79,16 @@ same-length-7 c = search needs
 
 -- src/lib.rt:149:1
 returns-3 : tie.Need-returns-3
-returns-3 c = ?
+returns-3 c =
+    let c4 = c .before .before .before .before in
+    let c8 = c4 .before .before .before .before in
+    let c12 = c8 .before .before .before .before in
+    let c16 = c12 .before .before .before .before in
+    let c20 = c16 .before .before .before .before in
+    let c24 = c20 .before .before .before .before in
+    goes _ _ _ _ (c24 .worker-word .ensures) (c20 .before .before .before .if1 .taken) (c20 .before .before .arguments-wrong .ensures) (c20 .before .if2 .left)
+    (c16 .before .before .counters-ok .ensures [] [] []) (c16 .before .if3 .taken)
+    (c8 .before .before .look-up-all .ensures (short _ (c20 .before .before .arguments-wrong .ensures) (c20 .before .if2 .left)))
 
 -- src/lib.rt:149:1
 same-length-8 : tie.Need-same-length-8
@@ -82,7 +104,15 @@ same-length-10 c = search needs
 
 -- src/lib.rt:149:1
 returns-4 : tie.Need-returns-4
-returns-4 c = ?
+unfolding addIfIdle addIn
+returns-4 c =
+    rw
+    (← c .before .before .before .before .before .before .before .worker-word .ensures,
+    c .before .before .before .before .before .before .if1 .taken,
+    ← c .before .before .before .before .before .arguments-wrong .ensures,
+    c .before .before .before .before .if2 .left,
+    ← c .before .counters-ok .ensures,
+    c .if3 .left)
 
 pub add-if-idle-spec : {M : Type 1} → statement M
 add-if-idle-spec =
