@@ -1,11 +1,11 @@
--- `graph_posted_add::put_start` meets its contract: stores field by field are one run.
+-- `graph_posted_add::put_reached` meets its contract: stores field by field are one run.
 -- Assumes nothing.
 use mathlib.Core.List.{[], _∷_}
 use Rattle.words.specs.Layout.{workerShape, TALLY}
 use Rattle.graph_records.proofs.Laws.{puts-sets}
 use borrow.Author.Needs.{needs}
-use Rattle.graph_posted_add.proofs.put_start.Statement.{statement}
-use Rattle.graph_posted_add.proofs.put_start.Tie as tie
+use Rattle.graph_posted_add.proofs.put_reached.Statement.{statement}
+use Rattle.graph_posted_add.proofs.put_reached.Tie as tie
 
 put-worker-requires : tie.Need-put-worker-requires
 put-worker-requires c κs = search needs
@@ -35,8 +35,8 @@ returns c =
     )
     (puts-sets workerShape _ _ TALLY (_ ∷ _ ∷ _ ∷ _ ∷ []))
 
-pub put-start-spec : {M : Type 1} → statement M
-put-start-spec =
+pub put-reached-spec : {M : Type 1} → statement M
+put-reached-spec =
     tie.close
     (tie.spec put-worker-requires put-worker-requires-2 put-worker-requires-3 put-worker-requires-4 same-length
     returns)

@@ -1,20 +1,19 @@
--- `graph_posted_add::put_adding_worker` meets its contract: a worker's record is stored in three runs.
+-- `graph_posted_add::put_call` meets its contract: a worker's record is stored in three runs.
 -- Assumes nothing.
 use mathlib.Core.List.{[], _∷_}
 use mathlib.Core.Path.{refl}
 use Rattle.basics.specs.Limits.{mostNames}
 use Rattle.basics.specs.Base.{prefix}
-use Rattle.words.specs.Layout.{none, LOOKING}
 use Rattle.graph_posted_add.proofs.Laws.{worker-record}
 use borrow.Author.Needs.{needs}
-use Rattle.graph_posted_add.proofs.put_adding_worker.Statement.{statement}
-use Rattle.graph_posted_add.proofs.put_adding_worker.Tie as tie
+use Rattle.graph_posted_add.proofs.put_call.Statement.{statement}
+use Rattle.graph_posted_add.proofs.put_call.Tie as tie
 
 put-arguments-requires : tie.Need-put-arguments-requires
 put-arguments-requires c κs = search needs
 
-put-start-requires : tie.Need-put-start-requires
-put-start-requires c κs = search needs
+put-reached-requires : tie.Need-put-reached-requires
+put-reached-requires c κs = search needs
 
 put-names-requires : tie.Need-put-names-requires
 put-names-requires c κs = search needs
@@ -27,20 +26,20 @@ returns c =
     let c4 = c .before .before .before .before in
     let c8 = c4 .before .before .before .before in
     let c12 = c8 .before .before .before .before in
-    let a = c12 .before .args in
+    let a = c12 .before .before .args in
     rw (
       c .before .before .put-names .ensures,
-      c4 .before .before .put-start .ensures,
+      c4 .before .before .put-reached .ensures,
       c8 .before .before .put-arguments .ensures,
     )
     (worker-record (a .workers .now) (a .worker)
-    (LOOKING ∷ a .held ∷ a .name ∷ a .count ∷ a .class ∷ a .grower ∷ [])
-    (0 ∷ 0 ∷ none ∷ none ∷ [])
-    (prefix mostNames (prefix (a .count) (a .names)))
+    (a .phase ∷ a .held ∷ a .name ∷ a .count ∷ a .class ∷ a .grower ∷ [])
+    (a .tally ∷ a .position ∷ a .job ∷ a .arc ∷ [])
+    (prefix mostNames (prefix (a .count) (a .names .now)))
     refl
     refl)
 
-pub put-adding-worker-spec : {M : Type 1} → statement M
-put-adding-worker-spec =
+pub put-call-spec : {M : Type 1} → statement M
+put-call-spec =
     tie.close
-    (tie.spec put-arguments-requires put-start-requires put-names-requires same-length returns)
+    (tie.spec put-arguments-requires put-reached-requires put-names-requires same-length returns)
