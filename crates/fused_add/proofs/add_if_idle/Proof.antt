@@ -23,9 +23,10 @@ same-length c = search needs
 returns : tie.Need-returns
 unfolding addIfIdle addIn
 returns c =
-    rw
-    (← c .before .worker-word .ensures,
-    c .if1 .left)
+    rw (
+      ← c .before .worker-word .ensures,
+      c .if1 .left,
+    )
 
 -- src/lib.rt:174:9
 arguments-wrong-requires : tie.Need-arguments-wrong-requires
@@ -39,11 +40,12 @@ same-length-2 c = search needs
 returns-2 : tie.Need-returns-2
 unfolding addIfIdle addIn
 returns-2 c =
-    rw
-    (← c .before .before .before .worker-word .ensures,
-    c .before .before .if1 .taken,
-    ← c .before .arguments-wrong .ensures,
-    c .if2 .taken)
+    rw (
+      ← c .before .before .before .worker-word .ensures,
+      c .before .before .if1 .taken,
+      ← c .before .arguments-wrong .ensures,
+      c .if2 .taken,
+    )
 
 -- src/lib.rt:181:9
 counters-ok-requires : tie.Need-counters-ok-requires
@@ -106,13 +108,14 @@ same-length-10 c = search needs
 returns-4 : tie.Need-returns-4
 unfolding addIfIdle addIn
 returns-4 c =
-    rw
-    (← c .before .before .before .before .before .before .before .worker-word .ensures,
-    c .before .before .before .before .before .before .if1 .taken,
-    ← c .before .before .before .before .before .arguments-wrong .ensures,
-    c .before .before .before .before .if2 .left,
-    ← c .before .counters-ok .ensures,
-    c .if3 .left)
+    rw (
+      ← c .before .before .before .before .before .before .before .worker-word .ensures,
+      c .before .before .before .before .before .before .if1 .taken,
+      ← c .before .before .before .before .before .arguments-wrong .ensures,
+      c .before .before .before .before .if2 .left,
+      ← c .before .counters-ok .ensures,
+      c .if3 .left,
+    )
 
 pub add-if-idle-spec : {M : Type 1} → statement M
 add-if-idle-spec =

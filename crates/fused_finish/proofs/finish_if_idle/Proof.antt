@@ -23,9 +23,10 @@ same-length c = search needs
 returns : tie.Need-returns
 unfolding finishIfIdle finishIn
 returns c =
-    rw
-    (← c .before .worker-word .ensures,
-    c .if1 .left)
+    rw (
+      ← c .before .worker-word .ensures,
+      c .if1 .left,
+    )
 
 -- src/lib.rt:123:9
 worker-word-requires-2 : tie.Need-worker-word-requires-2
@@ -39,11 +40,12 @@ same-length-2 c = search needs
 returns-2 : tie.Need-returns-2
 unfolding finishIfIdle finishIn
 returns-2 c =
-    rw
-    (← c .before .before .before .before .worker-word .ensures,
-    c .before .before .before .if1 .taken,
-    ← c .before .worker-word2 .ensures,
-    c .if2 .taken)
+    rw (
+      ← c .before .before .before .before .worker-word .ensures,
+      c .before .before .before .if1 .taken,
+      ← c .before .worker-word2 .ensures,
+      c .if2 .taken,
+    )
 
 -- src/lib.rt:131:17
 job-word-requires : tie.Need-job-word-requires
@@ -61,13 +63,14 @@ same-length-4 c = search needs
 returns-3 : tie.Need-returns-3
 unfolding finishIfIdle finishIn
 returns-3 c =
-    rw
-    (← c .before .before .before .before .before .before .before .worker-word .ensures,
-    c .before .before .before .before .before .before .if1 .taken,
-    ← c .before .before .before .before .worker-word2 .ensures,
-    c .before .before .before .if2 .left,
-    ← c .before .job-word .ensures,
-    c .if3 .left)
+    rw (
+      ← c .before .before .before .before .before .before .before .worker-word .ensures,
+      c .before .before .before .before .before .before .if1 .taken,
+      ← c .before .before .before .before .worker-word2 .ensures,
+      c .before .before .before .if2 .left,
+      ← c .before .job-word .ensures,
+      c .if3 .left,
+    )
 
 -- src/lib.rt:138:9
 counters-ok-requires : tie.Need-counters-ok-requires
@@ -121,15 +124,16 @@ same-length-11 c = search needs
 returns-5 : tie.Need-returns-5
 unfolding finishIfIdle finishIn
 returns-5 c =
-    rw
-    (← c .before .before .before .before .before .before .before .before .before .before .before .worker-word .ensures,
-    c .before .before .before .before .before .before .before .before .before .before .if1 .taken,
-    ← c .before .before .before .before .before .before .before .before .worker-word2 .ensures,
-    c .before .before .before .before .before .before .before .if2 .left,
-    ← c .before .before .before .before .before .job-word .ensures,
-    c .before .before .before .before .if3 .taken,
-    ← c .before .counters-ok .ensures,
-    c .if4 .left)
+    rw (
+      ← c .before .before .before .before .before .before .before .before .before .before .before .worker-word .ensures,
+      c .before .before .before .before .before .before .before .before .before .before .if1 .taken,
+      ← c .before .before .before .before .before .before .before .before .worker-word2 .ensures,
+      c .before .before .before .before .before .before .before .if2 .left,
+      ← c .before .before .before .before .before .job-word .ensures,
+      c .before .before .before .before .if3 .taken,
+      ← c .before .counters-ok .ensures,
+      c .if4 .left,
+    )
 
 pub finish-if-idle-spec : {M : Type 1} → statement M
 finish-if-idle-spec =

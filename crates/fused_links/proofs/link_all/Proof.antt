@@ -103,8 +103,7 @@ loop-again c =
     let c8 = c4 .before .before .before .before in
     let c12 = c8 .before .before .before .before in
     let l = c8 .before .before .before .loop in
-    let a = c12 .before .before .before .args in
-    (
+    let a = c12 .before .before .before .args in (
       omega arith,
       omega (arith, c4 .before .before .link-one .ensures .0),
       c4 .before .before .link-one .kept .1 .0 ∙ l .inv .2,

@@ -69,15 +69,17 @@ same-length-4 c = search needs
 returns-2 : tie.Need-returns-2
 returns-2 c =
     let c4 = c .before .before .before .before in
-    let c8 = c4 .before .before .before .before in
-    (omega arith, λ buckets queue workers i k next.
-    rw (
-      ← c8 .before .before .before .plan-link .ensures,
-      c8 .before .plan .given .1,
-      c .before .before .new-arc .ensures,
-      c4 .before .before .put-only-arc .ensures,
-      add-zero k,
-    ))
+    let c8 = c4 .before .before .before .before in (
+      omega arith,
+      λ buckets queue workers i k next.
+          rw (
+            ← c8 .before .before .before .plan-link .ensures,
+            c8 .before .plan .given .1,
+            c .before .before .new-arc .ensures,
+            c4 .before .before .put-only-arc .ensures,
+            add-zero k,
+          ),
+    )
 
 -- src/lib.rt:39:1
 same-length-5 : tie.Need-same-length-5
@@ -91,15 +93,17 @@ same-length-6 c = search needs
 returns-3 : tie.Need-returns-3
 returns-3 c =
     let c4 = c .before .before .before .before in
-    let c8 = c4 .before .before .before .before in
-    (omega arith, λ buckets queue workers i k next.
-    rw (
-      ← c8 .before .before .before .plan-link .ensures,
-      c8 .before .plan2 .given .1,
-      c .before .before .append-arc .ensures,
-      c4 .before .before .put-job .ensures,
-      add-zero k,
-    ))
+    let c8 = c4 .before .before .before .before in (
+      omega arith,
+      λ buckets queue workers i k next.
+          rw (
+            ← c8 .before .before .before .plan-link .ensures,
+            c8 .before .plan2 .given .1,
+            c .before .before .append-arc .ensures,
+            c4 .before .before .put-job .ensures,
+            add-zero k,
+          ),
+    )
 
 -- src/lib.rt:39:1
 same-length-7 : tie.Need-same-length-7
@@ -111,10 +115,12 @@ same-length-8 c = search needs
 
 -- src/lib.rt:39:1
 returns-4 : tie.Need-returns-4
-returns-4 c =
-    (omega arith, λ buckets queue workers i k next.
-    rw (← c .before .plan-link .ensures)
-    (ends (c .before .plan-link .result) (c .match .keys4) _ i k next))
+returns-4 c = (
+  omega arith,
+  λ buckets queue workers i k next.
+      rw (← c .before .plan-link .ensures)
+      (ends (c .before .plan-link .result) (c .match .keys4) _ i k next),
+)
 
 pub link-one-spec : {M : Type 1} → statement M
 link-one-spec =
