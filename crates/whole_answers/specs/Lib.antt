@@ -1,0 +1,5 @@
+pub mod Worker
+pub mod AddEnds
+pub mod FinishEnds
+pub mod Numbers
+pub mod Left
