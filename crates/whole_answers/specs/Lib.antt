@@ -3,3 +3,5 @@ pub mod AddEnds
 pub mod FinishEnds
 pub mod Numbers
 pub mod Left
+pub mod SheetAdds
+pub mod Sheets
