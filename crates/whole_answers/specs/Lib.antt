@@ -5,3 +5,6 @@ pub mod Numbers
 pub mod Left
 pub mod SheetAdds
 pub mod Sheets
+pub mod InC
+pub mod Requests
+pub mod ReadRows
