@@ -8,3 +8,5 @@ pub mod Sheets
 pub mod InC
 pub mod Requests
 pub mod ReadRows
+pub mod Within
+pub mod SheetWithin
