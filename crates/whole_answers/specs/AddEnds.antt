@@ -1,13 +1,13 @@
 -- How an add run whole ends and what it leaves, case by case, for ALL tables and arguments: ended, turned away with
 -- nothing changed, refused with the worker idle, or half done. Follows docs/RULES.md, "Whole calls" and "Turned-away
 -- calls". Assumes nothing.
-use mathlib.Core.Path.{_≡_, refl, ap, _∙_}
+use mathlib.Core.Path.{_≡_, refl}
 use mathlib.Core.Bool.{true, false, _||_}
 use mathlib.Core.List.{List, [], _∷_}
 use Prim.Native.Nat.{ℕ, suc, _+_, _-_, _<_}
 use native.Mathlib.Omega.{arith}
 use lib.Dec.{ltb, leb, eqb}
-use lib.ListN.{length, getD}
+use lib.ListN.{length}
 use Rattle.basics.specs.Base.{contains}
 use Rattle.basics.specs.Laws.{never, pick-by, length-prefix}
 use Rattle.terms.specs.Terms.{settles, Arguments, listed, argumentsWrong, halfDone, wrongArguments, unknownName}
@@ -16,7 +16,7 @@ use Rattle.terms.specs.Runs.{Outcome, outcome}
 use Rattle.terms.specs.declared.Sizes.{Sizes}
 use Rattle.terms.specs.declared.Answer.{Answer}
 use Rattle.terms.specs.declared.Answer.the-variants.{Ended, Refused}
-use Rattle.words.specs.Layout.{Tables, View, view, none, workerShape, PHASE, IDLE, LOOKING, LINKING}
+use Rattle.words.specs.Layout.{Tables, View, view, none, IDLE, LOOKING, LINKING}
 use Rattle.words.specs.Words.{countersOk, findOf, planLink, firstArc}
 use Rattle.words.specs.declared.Found.{Found}
 use Rattle.words.specs.declared.Found.the-variants.{At, Missing, Damaged}
@@ -25,8 +25,8 @@ use Rattle.words.specs.declared.Plan.the-variants.{Refuse, Quit, Pass, Enter, T
 use Rattle.words.specs.declared.Plan.the-variants.{SettleQueue, Mark, Notify, NotifyQueue}
 use Rattle.whole_words.specs.Whole.{wholeAdd}
 use Rattle.fused_words.specs.FusedWorker.{Admitted, isIdle, holdOf, idledWith, addWorker, halted}
-use Rattle.fused_words.specs.FusedAdd.{orOn, lookUps, jobsFound, enteredTables, Links, linkBy, links, cellFree, settleIn}
-use Rattle.fused_words.specs.FusedAdd.{settledTables, queuedTables, enterIn, lookIn, addIn, addIfIdle}
+use Rattle.fused_words.specs.FusedAdd.{orOn, lookUps, jobsFound, enteredTables, Links, linkBy, links, cellFree}
+use Rattle.fused_words.specs.FusedAdd.{settleIn, settledTables, queuedTables, enterIn, lookIn, addIn, addIfIdle}
 use Rattle.fused_words.specs.declared.LookUps.{LookUps}
 use Rattle.fused_words.specs.declared.LookUps.the-variants.{All, Unknown, Broken}
 use Rattle.fused_laws.specs.Calls.{add-whole}

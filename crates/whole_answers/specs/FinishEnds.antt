@@ -1,7 +1,7 @@
 -- How a finish run whole ends and what it leaves, case by case, for ALL tables: ended, still going (more arcs than
 -- there can be), turned away with nothing changed, or half done. Follows docs/RULES.md, "Whole calls" and "Turned-away
 -- calls". Assumes nothing.
-use mathlib.Core.Path.{_≡_, refl, _∙_}
+use mathlib.Core.Path.{_≡_, refl}
 use mathlib.Core.Bool.{true, false}
 use mathlib.Core.List.{List, [], _∷_}
 use Prim.Native.Nat.{ℕ, zero, suc}

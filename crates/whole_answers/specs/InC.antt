@@ -1,9 +1,9 @@
--- A sheet's numbers and places as C has them are those of its adds as C has them, and 0 past its entries; words that make
--- no whole rows are 1. For ALL tables. Follows docs/RULES.md, "Whole calls". Assumes nothing.
+-- A sheet's numbers and places as C has them are those of its adds as C has them, and 0 past its entries; words that
+-- make no whole rows are 1. For ALL tables. Follows docs/RULES.md, "Whole calls". Assumes nothing.
 use mathlib.Core.Path.{_≡_, refl, sym, ap, subst, _∙_}
 use mathlib.Core.Logic.{_≢_}
 use mathlib.Core.List.{List, [], map}
-use Prim.Native.Nat.{ℕ, zero, suc, _+_, _%_, _≤_, _<_}
+use Prim.Native.Nat.{ℕ, zero, suc, _+_, _/_, _%_, _≤_, _<_}
 use native.Mathlib.Omega.{arith}
 use native.Mathlib.Decide.{decLt, ℕ-discrete}
 use lib.Dec.{eqb}
@@ -11,7 +11,6 @@ use lib.ListN.{length, getD, take, drop, replicate, length-replicate, length-map
 use lib.ListN.{List·getD-append, List·getD-map}
 use lib.Seq.{sets, sets-eq}
 use borrow.Author.Tests.{eq-eqb, ne-eqb}
-use Rattle.basics.specs.Base.{pick}
 use Rattle.basics.specs.Laws.{pick-by}
 use Rattle.terms.specs.Terms.{Arguments, noArguments, mostEntries, wrongSizes}
 use Rattle.terms.specs.declared.Sizes.{Sizes}
@@ -19,9 +18,11 @@ use Rattle.terms.specs.declared.Answer.{Answer}
 use Rattle.terms.specs.declared.Answer.the-variants.{Laid, Posted, Going, Ended, NoneReady, Handed, Refused}
 use Rattle.words.specs.Layout.{Tables}
 use Rattle.sheet_format.specs.Decode.{rowWords}
+use Rattle.sheet_format.specs.Write.{entriesFrom, entriesOf}
 use Rattle.whole_words.specs.Whole.{wholeAdd}
 use Rattle.whole_words.specs.Sheet.{SheetOutcome, sheetOutcome, sheetWords}
-use Rattle.sheet_rows.specs.SheetRows.{addsOf, rowsWords, numberOf, placeOf, sheetAdded, noEntries}
+use Rattle.sheet_rows.specs.Arguments.{argumentsOf}
+use Rattle.sheet_rows.specs.SheetRows.{addsOf, rowsWords, numberOf, placeOf, sheetAdded}
 use Rattle.taskgraph_answer.specs.Answers.{graphAnswer}
 use Rattle.fused_laws.specs.Records.{sets-off}
 use Rattle.whole_answers.specs.SheetAdds.{afterAdds}
@@ -90,6 +91,11 @@ few s t w l = elim (ℕ-discrete (sheetWords s t w l .number) 0) [
   | no d ↦ rw (sheet-turned-away s t w l d) (omega arith)
 ]
 
+length-entries : (rows : List ℕ) (i n : ℕ) → length (entriesFrom rows i n) ≡ n
+unfolding entriesFrom
+length-entries rows i zero = refl
+length-entries rows i (suc n) = ap suc (length-entries rows (i + 1) n)
+
 module _ (s : Sizes) (t : Tables) (w : ℕ) (rows : List ℕ) where
   -- "Words that make no whole rows are 1", with nothing changed
   pub rows-cut : length rows % rowWords ≢ 0 → rowsWords s t w rows ≡ sheetOutcome wrongSizes [] t
@@ -99,6 +105,28 @@ module _ (s : Sizes) (t : Tables) (w : ℕ) (rows : List ℕ) where
   pub rows-whole : length rows % rowWords ≡ 0 → rowsWords s t w rows ≡ sheetWords s t w (addsOf rows)
   unfolding rowsWords
   rows-whole e = rw (eq-eqb (length rows % rowWords) 0 e)
+
+  -- a sheet that was not turned away has whole rows; each of them is an entry
+  pub rows-served : rowsWords s t w rows .number ≡ 0
+      → (length rows % rowWords ≡ 0) × (rowsWords s t w rows ≡ sheetWords s t w (addsOf rows))
+  rows-served z = elim (ℕ-discrete (length rows % rowWords) 0) [
+    | yes e ↦ (e, rows-whole e)
+    | no d ↦ let o = ap (λ (o : SheetOutcome). o .number) (rows-cut d) in absurd (omega arith)
+  ]
+
+  pub rows-count : rowsWords s t w rows .number ≡ 0
+      → length (rowsWords s t w rows .answers) ≡ length rows / rowWords
+  rows-count z =
+      let q = rows-served z .1 in
+      rw q (sheet-count s t w (addsOf rows) (rw q at z) ∙ length-map (entriesOf rows) argumentsOf
+      ∙ length-entries rows 0 (length rows / rowWords))
+
+  pub rows-turned-away : rowsWords s t w rows .number ≢ 0
+      → rowsWords s t w rows ≡ sheetOutcome (rowsWords s t w rows .number) [] t
+  rows-turned-away d = elim (ℕ-discrete (length rows % rowWords) 0) [
+    | yes e ↦ rw (rows-whole e) (sheet-turned-away s t w (addsOf rows) (rw (rows-whole e) at d))
+    | no n ↦ rw (rows-cut n)
+  ]
 
   few-rows : length (rowsWords s t w rows .answers) ≤ mostEntries
   unfolding rowsWords
@@ -119,11 +147,11 @@ module _ (s : Sizes) (t : Tables) (w : ℕ) (rows : List ℕ) where
       (e .number, e .place)
 
   -- an entry that was served: what the add run whole, after those before it, answers in C
-  pub rows-as-adds : length rows % rowWords ≡ 0 → rowsWords s t w rows .number ≡ 0 → (i : ℕ)
-      → i < length (addsOf rows)
+  pub rows-as-adds : rowsWords s t w rows .number ≡ 0 → (i : ℕ) → i < length (addsOf rows)
       → EntryTold (rowsWords s t w rows) i
       (wholeAdd s (afterAdds s w (take i (addsOf rows)) t) w (getD (addsOf rows) i noArguments) .answer)
-  rows-as-adds e z i h =
-      let q = rows-whole e in
+  rows-as-adds z i h =
+      let q = rows-served z .1 in
       let a = sheet-answer s t w (addsOf rows) (rw q at z) i h in
-      subst (EntryTold (rowsWords s t w rows) i) (ap (λ (o : SheetOutcome). getD (o .answers) i Laid) q ∙ a) (rows-told i)
+      subst (EntryTold (rowsWords s t w rows) i) (ap (λ (o : SheetOutcome). getD (o .answers) i Laid) q ∙ a)
+      (rows-told i)

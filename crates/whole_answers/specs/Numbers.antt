@@ -1,8 +1,8 @@
--- The numbers of calls run whole, for ALL tables and arguments: what turns an add, a finish or a sheet away, and that an
--- add's number is 0 just if it ended. Follows docs/RULES.md, "Whole calls" and "Turned-away calls". Assumes nothing.
+-- The numbers of calls run whole, for ALL tables and arguments: what turns an add, a finish or a sheet away, and that
+-- an add's number is 0 just if it ended. Follows docs/RULES.md, "Whole calls" and "Turned-away calls". Assumes nothing.
 use mathlib.Core.Path.{_≡_, refl, ap, subst}
 use mathlib.Core.Logic.{_↔_, _≢_}
-use mathlib.Core.Bool.{true, false}
+use mathlib.Core.Bool.{true}
 use mathlib.Core.List.{List, [], _∷_, _++_}
 use Prim.Native.Nat.{ℕ, zero, suc, _%_, _<_}
 use lib.Dec.{leb, eqb}
@@ -25,17 +25,21 @@ use Rattle.whole_answers.specs.Worker.{orderNumbers, by-admission, conta
 use Rattle.whole_answers.specs.AddEnds as add
 use Rattle.whole_answers.specs.AddEnds.{AddEnds, add-ends, addAway, addUnfit}
 use Rattle.whole_answers.specs.FinishEnds as finish
-use Rattle.whole_answers.specs.FinishEnds.{FinishEnds, finish-ends, finishAway}
+use Rattle.whole_answers.specs.FinishEnds.{FinishEnds, finish-ends}
 
 -- ---- an add
 abbrev pub addNumbers : List ℕ
 addNumbers =
     wrongSizes ∷ noSuchWorker ∷ damaged ∷ halfDone ∷ wrongArguments ∷ unknownName ∷ namePresent ∷ tablesFull ∷ []
 
--- "answers how the add ended": 6 alone has a place, one of its list
+-- all but 6, which alone has a place
+abbrev pub addPlaceless : List ℕ
+addPlaceless = wrongSizes ∷ noSuchWorker ∷ damaged ∷ halfDone ∷ wrongArguments ∷ namePresent ∷ tablesFull ∷ []
+
+-- "answers how the add ended"; the place of 6 is one of its list
 pub data AddAnswer (a : Arguments) : Answer → Type 0 where
   ended : AddAnswer a Ended
-  refused : {n : ℕ} → contains n addNumbers ≡ true → AddAnswer a (Refused n 0)
+  refused : {n : ℕ} → contains n addPlaceless ≡ true → AddAnswer a (Refused n 0)
   unknown : {i : ℕ} → i < a .count → AddAnswer a (Refused unknownName i)
 
 pub add-answer : (s : Sizes) (t : Tables) (w : ℕ) (a : Arguments) → AddAnswer a (wholeAdd s t w a .answer)
@@ -44,10 +48,8 @@ add-answer s t w a = go (add-ends s t w a)
   where
     go : {x : Answer} {u : Tables} → AddEnds t w a x u → AddAnswer a x
     go (add.ended b) = ended
-    go (add.turned-away {n} c) = refused (contains-left n addAway (unknownName ∷ addUnfit) c)
-    go (add.unfit {n} c b) =
-        refused (contains-right n (wrongSizes ∷ noSuchWorker ∷ damaged ∷ halfDone ∷ wrongArguments ∷ unknownName ∷ [])
-        addUnfit c)
+    go (add.turned-away {n} c) = refused (contains-left n addAway addUnfit c)
+    go (add.unfit {n} c b) = refused (contains-right n addAway addUnfit c)
     go (add.unknown h b) = unknown h
     go (add.half-done h) = refused refl
 
@@ -55,12 +57,17 @@ add-answer s t w a = go (add-ends s t w a)
 pub add-number : (s : Sizes) (t : Tables) (w : ℕ) (a : Arguments) (n i : ℕ) → wholeAdd s t w a .answer ≡ Refused n i
     → contains n addNumbers ≡ true
 unfolding contains
-add-number s t w a n i = go (add-answer s t w a)
+add-number s t w a n i = go (add-ends s t w a)
   where
-    go : {x : Answer} → AddAnswer a x → x ≡ Refused n i → contains n addNumbers ≡ true
-    go ended e = never (cc)
-    go (refused {n = m} c) e = subst (λ k. contains k addNumbers ≡ true) {x = m} {y = n} (cc) c
-    go (unknown h) e = let z : unknownName ≡ n = cc in rw (← z)
+    by : (m j : ℕ) → contains m addNumbers ≡ true → Refused m j ≡ Refused n i → contains n addNumbers ≡ true
+    by m j c e = subst (λ k. contains k addNumbers ≡ true) {x = m} {y = n} (cc) c
+
+    go : {x : Answer} {u : Tables} → AddEnds t w a x u → x ≡ Refused n i → contains n addNumbers ≡ true
+    go (add.ended b) e = never (cc)
+    go (add.turned-away {n = m} c) e = by m 0 (contains-left m addAway (unknownName ∷ addUnfit) c) e
+    go (add.unfit {n = m} c b) e = by m 0 (contains-right m (addAway ++ (unknownName ∷ [])) addUnfit c) e
+    go (add.unknown {i = j} h b) e = by unknownName j refl e
+    go (add.half-done h) e = by damaged 0 refl e
 
 pub add-place : (s : Sizes) (t : Tables) (w : ℕ) (a : Arguments) (n i : ℕ) → wholeAdd s t w a .answer ≡ Refused n i
     → n ≢ unknownName → i ≡ 0
@@ -71,6 +78,19 @@ add-place s t w a n i = go (add-answer s t w a)
     go (refused c) e d = cc
     go (unknown h) e d = absurd (d (cc))
 
+-- "6 ... place in the list from 0"
+pub add-listed : (s : Sizes) (t : Tables) (w : ℕ) (a : Arguments) (i : ℕ)
+    → wholeAdd s t w a .answer ≡ Refused unknownName i
+    → i < a .count
+unfolding contains
+add-listed s t w a i = go (add-answer s t w a)
+  where
+    go : {x : Answer} → AddAnswer a x → x ≡ Refused unknownName i → i < a .count
+    go ended e = never (cc)
+    go (refused {n} c) e =
+        let d = subst (λ k. contains k addPlaceless ≡ true) {x = n} {y = unknownName} (cc) c in never (cc)
+    go (unknown {i = j} h) e = subst (λ k. k < a .count) {x = j} {y = i} (cc) h
+
 pub add-accepted : (s : Sizes) (t : Tables) (w : ℕ) (a : Arguments)
     → (numberOf (wholeAdd s t w a .answer) ≡ 0) ↔ (wholeAdd s t w a .answer ≡ Ended)
 unfolding contains
@@ -78,7 +98,7 @@ add-accepted s t w a = (go (add-answer s t w a), λ e. ap numberOf e)
   where
     go : {x : Answer} → AddAnswer a x → numberOf x ≡ 0 → x ≡ Ended
     go ended e = refl
-    go (refused {n} c) e = let d = subst (λ k. contains k addNumbers ≡ true) e c in never (cc)
+    go (refused {n} c) e = let d = subst (λ k. contains k addPlaceless ≡ true) e c in never (cc)
     go (unknown h) e = never (cc)
 
 -- ---- a finish

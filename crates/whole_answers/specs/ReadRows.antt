@@ -4,17 +4,14 @@ use mathlib.Core.Path.{_≡_, refl, ap, _∙_}
 use mathlib.Core.List.{List, [], _∷_, _++_, map}
 use Prim.Native.Nat.{ℕ, _*_, _/_, _%_, _≤_}
 use native.Mathlib.Omega.{arith}
-use lib.ListN.{length, take, replicate}
-use lib.Seq.{sets}
+use lib.ListN.{length, take}
 use borrow.Author.Tests.{le-leb}
 use Rattle.basics.specs.Base.{prefix}
-use Rattle.terms.specs.Terms.{Arguments}
-use Rattle.terms.specs.Seen.{Request, request}
+use Rattle.terms.specs.Seen.{request}
 use Rattle.terms.specs.declared.Sizes.{Sizes}
 use Rattle.words.specs.Layout.{Tables}
 use Rattle.sheet_format.specs.Job.{Job, Valid}
 use Rattle.sheet_format.specs.Decode.{jobs, decodeSheet, readSheet, entryOf, rowWords, rowsOf}
-use Rattle.sheet_format.specs.Write.{entriesOf}
 use Rattle.sheet_format.specs.NumberLaws.{Bytes}
 use Rattle.sheet_format.specs.SheetTrip.{Each, sheet-back}
 use Rattle.sheet_format.specs.WriteTrip.{sets-front}
@@ -64,7 +61,7 @@ module _ (bytes : List ℕ) (js : List Job) (rows : List ℕ) (all : Bytes bytes
       let enough : length (rowsOf js) ≤ length rows = omega arith in
       rw (read, le-leb _ _ room, ← k) (sets-front (rowsOf js) rows enough)
 
-  -- the adds of the rows are those of the jobs' entries: name, count, class, grower, and the names with 0 past the count
+  -- the adds of the rows are those of the jobs' entries: name, count, class, grower, and the names, 0 past the count
   pub read-adds : addsOf (take (rowWords * length js) (readSheet (decodeSheet bytes) rows .rows))
       ≡ map row.argumentsOf (map entryOf js)
   read-adds =

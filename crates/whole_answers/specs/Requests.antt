@@ -34,7 +34,8 @@ cut-add : (s : Sizes) (t : Tables) (w : ℕ) (a : Arguments)
 unfolding withNames wholeAdd addWords argumentsWrong
 cut-add s t w a = rw (prefix-again (a .count) (a .names))
 
-of-request : (s : Sizes) (t : Tables) (w : ℕ) (a : Arguments) → wholeAdd s t w a ≡ wholeAdd s t w (ofRequest (request a))
+of-request : (s : Sizes) (t : Tables) (w : ℕ) (a : Arguments)
+    → wholeAdd s t w a ≡ wholeAdd s t w (ofRequest (request a))
 unfolding withNames ofRequest
 of-request s t w a =
     sym (cut-add s t w a)

@@ -1,6 +1,6 @@
--- A sheet is its adds: the i-th answer is that of the i-th add run whole on the tables after the adds before it, and the
--- tables left are those after all of them. Follows docs/RULES.md, "Whole calls". Assumes nothing.
-use mathlib.Core.Path.{_≡_, refl, ap, _∙_}
+-- A sheet is its adds: the i-th answer is that of the i-th add run whole on the tables after the adds before it, and
+-- the tables left are those after all of them. Follows docs/RULES.md, "Whole calls". Assumes nothing.
+use mathlib.Core.Path.{_≡_, refl, ap}
 use mathlib.Core.List.{List, [], _∷_, _++_, foldl}
 use Prim.Native.Nat.{ℕ, zero, suc, _<_}
 use native.Mathlib.Omega.{arith}

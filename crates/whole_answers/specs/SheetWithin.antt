@@ -15,7 +15,7 @@ use Rattle.terms.specs.declared.Sizes.{Sizes}
 use Rattle.terms.specs.declared.Answer.{Answer}
 use Rattle.words.specs.Layout.{Tables, view, HELD, sizesFit}
 use Rattle.words.specs.Words.{ownOk, admitted, addingWorker, posted, addWords, perform}
-use Rattle.locality.specs.Parts.{needed, rest, lengths}
+use Rattle.locality.specs.Parts.{needed}
 use Rattle.sheet_format.specs.Decode.{rowWords}
 use Rattle.whole_words.specs.Whole.{wholeAdd}
 use Rattle.whole_words.specs.Sheet.{SheetOutcome, sheetOutcome, addEach, judgedSheet, served, sheetWords}

@@ -2,10 +2,9 @@
 -- tables. Follows docs/RULES.md, "Tables and their measures": "words past a table's need are never touched". Assumes
 -- nothing.
 use mathlib.Core.Path.{_≡_, refl, ap, _∙_}
-use mathlib.Core.List.{List}
 use Prim.Native.Nat.{ℕ, zero, suc, _+_, _*_}
 use Rattle.terms.specs.Terms.{Arguments, finishOf}
-use Rattle.terms.specs.Runs.{Item, postAdd, postFinish, step, sizesOf, Outcome, outcome}
+use Rattle.terms.specs.Runs.{Item, postAdd, postFinish, step, sizesOf, Outcome}
 use Rattle.terms.specs.declared.Sizes.{Sizes}
 use Rattle.terms.specs.declared.Answer.{Answer}
 use Rattle.terms.specs.declared.Answer.the-variants.{Laid, Posted, Going, Ended, NoneReady, Handed, Refused}
