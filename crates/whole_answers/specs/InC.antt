@@ -1,7 +1,7 @@
 -- A sheet's numbers and places as C has them are those of its adds as C has them, and 0 past its entries; words that
 -- make no whole rows are 1. For ALL tables. Follows docs/RULES.md, "Whole calls". Assumes nothing.
 use mathlib.Core.Path.{_≡_, refl, sym, ap, subst, _∙_}
-use mathlib.Core.Logic.{_≢_}
+use mathlib.Core.Logic.{_↔_, _≢_}
 use mathlib.Core.List.{List, [], map}
 use Prim.Native.Nat.{ℕ, zero, suc, _+_, _/_, _%_, _≤_, _<_}
 use native.Mathlib.Omega.{arith}
@@ -25,6 +25,7 @@ use Rattle.sheet_rows.specs.Arguments.{argumentsOf}
 use Rattle.sheet_rows.specs.SheetRows.{addsOf, rowsWords, numberOf, placeOf, sheetAdded}
 use Rattle.taskgraph_answer.specs.Answers.{graphAnswer}
 use Rattle.fused_laws.specs.Records.{sets-off}
+use Rattle.whole_answers.specs.Numbers.{add-accepted}
 use Rattle.whole_answers.specs.SheetAdds.{afterAdds}
 use Rattle.whole_answers.specs.Sheets.{sheet-turned-away, sheet-fits, sheet-count, sheet-answer}
 
@@ -87,7 +88,7 @@ told o h i = record {
 -- at most 64 answers
 few : (s : Sizes) (t : Tables) (w : ℕ) (l : List Arguments) → length (sheetWords s t w l .answers) ≤ mostEntries
 few s t w l = elim (ℕ-discrete (sheetWords s t w l .number) 0) [
-  | yes e ↦ omega (arith, sheet-count s t w l e, sheet-fits s t w l e .1)
+  | yes e ↦ omega (arith, sheet-count s t w l e, sheet-fits s t w l e .2)
   | no d ↦ rw (sheet-turned-away s t w l d) (omega arith)
 ]
 
@@ -95,6 +96,11 @@ length-entries : (rows : List ℕ) (i n : ℕ) → length (entriesFrom rows i n)
 unfolding entriesFrom
 length-entries rows i zero = refl
 length-entries rows i (suc n) = ap suc (length-entries rows (i + 1) n)
+
+-- an entry for each row
+pub adds-of-rows : (rows : List ℕ) → length (addsOf rows) ≡ length rows / rowWords
+adds-of-rows rows =
+    length-map (entriesOf rows) argumentsOf ∙ length-entries rows 0 (length rows / rowWords)
 
 module _ (s : Sizes) (t : Tables) (w : ℕ) (rows : List ℕ) where
   -- "Words that make no whole rows are 1", with nothing changed
@@ -118,8 +124,7 @@ module _ (s : Sizes) (t : Tables) (w : ℕ) (rows : List ℕ) where
       → length (rowsWords s t w rows .answers) ≡ length rows / rowWords
   rows-count z =
       let q = rows-served z .1 in
-      rw q (sheet-count s t w (addsOf rows) (rw q at z) ∙ length-map (entriesOf rows) argumentsOf
-      ∙ length-entries rows 0 (length rows / rowWords))
+      rw q (sheet-count s t w (addsOf rows) (rw q at z) ∙ adds-of-rows rows)
 
   pub rows-turned-away : rowsWords s t w rows .number ≢ 0
       → rowsWords s t w rows ≡ sheetOutcome (rowsWords s t w rows .number) [] t
@@ -155,3 +160,14 @@ module _ (s : Sizes) (t : Tables) (w : ℕ) (rows : List ℕ) where
       let a = sheet-answer s t w (addsOf rows) (rw q at z) i h in
       subst (EntryTold (rowsWords s t w rows) i) (ap (λ (o : SheetOutcome). getD (o .answers) i Laid) q ∙ a)
       (rows-told i)
+
+  -- "0 and 0 where it was accepted": an entry's number is 0 just if its add ended
+  pub rows-accepted : rowsWords s t w rows .number ≡ 0 → (i : ℕ) → i < length (addsOf rows)
+      → (getD (sheetAdded (rowsWords s t w rows) .numbers) i 0 ≡ 0)
+      ↔ (wholeAdd s (afterAdds s w (take i (addsOf rows)) t) w (getD (addsOf rows) i noArguments) .answer ≡ Ended)
+  rows-accepted z i h =
+      let u = afterAdds s w (take i (addsOf rows)) t in
+      let a = getD (addsOf rows) i noArguments in
+      let e = rows-as-adds z i h .number ∙ sym (number-in-c (wholeAdd s u w a .answer)) in
+      let f = add-accepted s u w a in
+      (λ n. f .0 (sym e ∙ n), λ d. e ∙ f .1 d)

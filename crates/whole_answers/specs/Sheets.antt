@@ -2,7 +2,7 @@
 -- the worker half done every later answer is 3 and the tables stay. For ALL tables. Follows docs/RULES.md, "Whole
 -- calls". Assumes nothing.
 use mathlib.Core.Path.{_≡_, refl, sym, ap, subst, _∙_}
-use mathlib.Core.Logic.{_≢_}
+use mathlib.Core.Logic.{_↔_, _≢_}
 use mathlib.Core.Bool.{true, false}
 use mathlib.Core.List.{List, [], _∷_, _++_}
 use Prim.Native.Nat.{ℕ, zero, suc, _-_, _≤_, _<_}
@@ -10,7 +10,7 @@ use native.Mathlib.Omega.{arith}
 use lib.Dec.{leb}
 use lib.ListN.{length, getD, take, drop, replicate, take-append-drop, length-drop}
 use lib.Seq.{drop-at, length-take-le}
-use borrow.Author.Tests.{leb-true}
+use borrow.Author.Tests.{leb-true, le-leb}
 use Rattle.basics.specs.Base.{contains}
 use Rattle.basics.specs.Laws.{never, pick-by}
 use Rattle.terms.specs.Terms.{Arguments, noArguments, mostEntries, halfDone}
@@ -23,10 +23,11 @@ use Rattle.whole_words.specs.Whole.{wholeAdd}
 use Rattle.whole_words.specs.Sheet.{SheetOutcome, sheetOutcome, addEach, judgedSheet, served, sheetWords}
 use Rattle.fused_words.specs.FusedWorker.{Admitted, isIdle}
 use Rattle.fused_words.specs.FusedAdd.{addIfIdle}
+use Rattle.fused_laws.specs.Posts.{admitted-as}
 use Rattle.fused_add_laws.specs.Adds.{fused-add}
 use Rattle.fused_add_laws.specs.Sheets.{fused-sheet, sheet-admitted}
 use Rattle.whole_answers.specs.Worker.{orderNumbers, by-admission}
-use Rattle.whole_answers.specs.Numbers.{served-number}
+use Rattle.whole_answers.specs.Numbers.{served-number, AddAnswer, add-answer}
 use Rattle.whole_answers.specs.SheetAdds.{afterAdds, adds-state, adds-count, adds-answer, adds-append}
 
 -- ---- a sheet that was turned away, and one that was not
@@ -48,18 +49,28 @@ module _ (s : Sizes) (t : Tables) (w : ℕ) (l : List Arguments) where
   unfolding sheetWords served
   sheet-served e = ap (λ n. served n s t w l) (judged-zero e)
 
-  -- its worker is admitted, and it has at most 64 entries
-  pub sheet-fits : sheetWords s t w l .number ≡ 0 → Admitted s t w × (length l ≤ mostEntries)
+  -- just then its worker is admitted and idle, and it has at most 64 entries
+  abbrev Taken : Type 0
+  Taken = Admitted s t w × (isIdle t w ≡ true) × (length l ≤ mostEntries)
+
+  pub sheet-fits : sheetWords s t w l .number ≡ 0 → Admitted s t w × (isIdle t w ≡ true) × (length l ≤ mostEntries)
   unfolding contains
   sheet-fits e =
-      by-admission (λ m. m ≡ 0 → Admitted s t w × (length l ≤ mostEntries)) s t w refusal _
+      by-admission (λ m. m ≡ 0 → Taken) s t w refusal _
       (λ m c z. let d = subst (λ k. contains k orderNumbers ≡ true) z c in never (cc))
-      (λ A. pick-by (λ m. m ≡ 0 → Admitted s t w × (length l ≤ mostEntries)) (isIdle t w)
-      (λ _. pick-by (λ m. m ≡ 0 → Admitted s t w × (length l ≤ mostEntries)) (leb (length l) mostEntries)
-      (λ h _. (A, leb-true (length l) mostEntries h))
+      (λ A. pick-by (λ m. m ≡ 0 → Taken) (isIdle t w)
+      (λ i. pick-by (λ m. m ≡ 0 → Taken) (leb (length l) mostEntries)
+      (λ h _. (A, i, leb-true (length l) mostEntries h))
       (λ _ z. absurd (omega arith)))
       (λ _ z. absurd (omega arith)))
       (judged-zero e)
+
+  pub sheet-accepted : (sheetWords s t w l .number ≡ 0)
+      ↔ (Admitted s t w × (isIdle t w ≡ true) × (length l ≤ mostEntries))
+  sheet-accepted = (
+    sheet-fits,
+    λ f. served-number s t w l ∙ admitted-as s t w refusal _ (f .0) ∙ rw (f .1, le-leb (length l) mostEntries (f .2)),
+  )
 
   pub sheet-count : sheetWords s t w l .number ≡ 0 → length (sheetWords s t w l .answers) ≡ length l
   sheet-count e = rw (sheet-served e) (adds-count s w l t)
@@ -71,6 +82,12 @@ module _ (s : Sizes) (t : Tables) (w : ℕ) (l : List Arguments) where
       → getD (sheetWords s t w l .answers) i Laid
       ≡ wholeAdd s (afterAdds s w (take i l) t) w (getD l i noArguments) .answer
   sheet-answer e i h = rw (sheet-served e) (adds-answer s w l t i h)
+
+  -- each ended, or was refused by a number of an add
+  pub sheet-answered : sheetWords s t w l .number ≡ 0 → (i : ℕ) → i < length l
+      → AddAnswer (getD l i noArguments) (getD (sheetWords s t w l .answers) i Laid)
+  sheet-answered e i h =
+      rw (sheet-answer e i h) (add-answer s (afterAdds s w (take i l) t) w (getD l i noArguments))
 
 -- ---- "Where damage stops an add half done, each later entry gets what its post would get, 3"
 stuck-add : (s : Sizes) (t : Tables) (w : ℕ) (a : Arguments) → Admitted s t w → isIdle t w ≡ false
