@@ -1,0 +1,13 @@
+pub mod FindStable
+pub mod Listed
+pub mod Room
+pub mod Stage
+pub mod Entered
+pub mod Halfway
+pub mod LinkPlans
+pub mod Linking
+pub mod Settling
+pub mod Links
+pub mod Looks
+pub mod Adds
+pub mod Sheets

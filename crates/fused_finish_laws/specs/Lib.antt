@@ -1,0 +1,2 @@
+pub mod Notices
+pub mod Finish

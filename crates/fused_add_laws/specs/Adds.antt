@@ -1,0 +1,96 @@
+-- An add in one go is its post and its steps, for ALL tables; it leaves an admitted worker admitted, and it never
+-- answers that it goes on. Follows docs/RULES.md, "Whole calls". Assumes nothing.
+use mathlib.Core.Path.{_≡_, refl, sym, ap, _∙_}
+use mathlib.Core.Bool.{Bool, true, false}
+use Prim.Native.Nat.{ℕ, _+_, _*_}
+use native.Mathlib.Omega.{arith}
+use lib.Dec.{ltb}
+use borrow.Author.Tests.{ltb-true}
+use Rattle.basics.specs.Base.{pick}
+use Rattle.basics.specs.Laws.{pick-by}
+use Rattle.terms.specs.Terms.{Arguments, listed, argumentsWrong, wrongSizes, noSuchWorker, halfDone, wrongArguments}
+use Rattle.terms.specs.Terms.{damaged}
+use Rattle.terms.specs.Runs.{Outcome, outcome}
+use Rattle.terms.specs.declared.Sizes.{Sizes}
+use Rattle.terms.specs.declared.Answer.the-variants.{Posted, Refused}
+use Rattle.words.specs.Layout.{Tables, view, none, HELD, LOOKING, sizesFit}
+use Rattle.words.specs.Words.{countersOk, ownOk, admitted, refusal, judgedAdd, addingWorker, posted, addWords}
+use Rattle.whole_words.specs.Whole.{andThen, stepsOf, wholeAdd}
+use Rattle.fused_words.specs.FusedWorker.{Admitted, isIdle, holdOf, withWorker, addWorker}
+use Rattle.fused_words.specs.FusedAdd.{lookUps, lookIn, addIn, addIfIdle}
+use Rattle.fused_laws.specs.Posts.{admitted-as, admitted-each, admitted-map, add-posted}
+use Rattle.fused_add_laws.specs.Listed.{right}
+use Rattle.fused_add_laws.specs.Halfway.{Told, refused, Run, run-on, run-ends}
+use Rattle.fused_add_laws.specs.Looks.{looked-run}
+
+-- ---- the add of an admitted worker
+module _ (s : Sizes) (t : Tables) (w : ℕ) (a : Arguments) (A : Admitted s t w) where
+  -- what follows a post
+  abbrev then : Outcome Tables → Outcome Tables
+  then o = andThen (o .answer) (o .state) (stepsOf (2 * a .count + 2) s w)
+
+  turned-away : (n : ℕ) → Run s w (outcome (Refused n 0) t) (outcome (Refused n 0) t)
+  turned-away n = run-ends (Refused n 0) t refl A (refused n 0)
+
+  after-post : (idle wrong sound : Bool) → argumentsWrong a ≡ wrong → countersOk s (view t) ≡ sound
+      → Run s w
+      (then (pick idle
+      (pick wrong (outcome (Refused wrongArguments 0) t)
+      (pick sound (outcome Posted (withWorker t w (addWorker LOOKING (holdOf t w) a 0 0 none none)))
+      (outcome (Refused damaged 0) t)))
+      (outcome (Refused halfDone 0) t)))
+      (pick idle
+      (pick wrong (outcome (Refused wrongArguments 0) t)
+      (pick sound (lookIn s t w a (lookUps s (view t) (listed a) 0)) (outcome (Refused damaged 0) t)))
+      (outcome (Refused halfDone 0) t))
+  after-post true true sound e f = turned-away wrongArguments
+  after-post true false true e f = looked-run s t w A a (right a e) f (2 * a .count + 2) (omega arith)
+  after-post true false false e f = turned-away damaged
+  after-post false wrong sound e f = turned-away halfDone
+
+  add-run : Run s w (wholeAdd s t w a) (addIfIdle s t w a)
+  unfolding wholeAdd addIfIdle addIn
+  add-run =
+      run-on (ap then (add-posted s t w a A))
+      (after-post (isIdle t w) (argumentsWrong a) (countersOk s (view t)) refl refl)
+
+pub fused-add : (s : Sizes) (t : Tables) (w : ℕ) (a : Arguments) → Admitted s t w
+    → wholeAdd s t w a ≡ addIfIdle s t w a
+fused-add s t w a A = add-run s t w a A .same
+
+pub still-admitted : (s : Sizes) (t : Tables) (w : ℕ) (a : Arguments) → Admitted s t w
+    → Admitted s (addIfIdle s t w a .state) w
+still-admitted s t w a A = add-run s t w a A .admitted
+
+-- ---- the add of any worker
+pub whole-add : (s : Sizes) (t : Tables) (w : ℕ) (a : Arguments)
+    → wholeAdd s t w a ≡ admitted s t w (λ n. outcome (Refused n 0) t) (addIfIdle s t w a)
+unfolding wholeAdd addWords posted
+whole-add s t w a =
+    admitted-map H s t w refusal J
+    ∙ admitted-each s t w H (λ n. outcome (Refused n 0) t) (H J) (addIfIdle s t w a) (λ n. refl)
+    (λ A. sym (ap H (admitted-as s t w refusal J A)) ∙ fused-add s t w a A)
+  where
+    J : ℕ
+    J = judgedAdd s (view t) w a
+
+    H : ℕ → Outcome Tables
+    H n =
+        let o = posted n t w (addingWorker (view t .worker HELD w) a) in
+        andThen (o .answer) (o .state) (stepsOf (2 * a .count + 2) s w)
+
+-- ---- what it answers: that it ended, or a refusal
+pub add-answers : (s : Sizes) (t : Tables) (w : ℕ) (a : Arguments) → Told (wholeAdd s t w a .answer)
+unfolding admitted
+add-answers s t w a =
+    rw (whole-add s t w a)
+    (pick-by Q (sizesFit s t)
+    (λ e. pick-by Q (ltb w (s .workers))
+    (λ f. pick-by Q (ownOk s (view t) w)
+    (λ g. add-run s t w a (record { sizes = e; worker = ltb-true w (s .workers) f; own = g }) .told)
+    (λ _. refused damaged 0))
+    (λ _. refused noSuchWorker 0))
+    (λ _. refused wrongSizes 0))
+  where
+    Q : Outcome Tables → Type 0
+    Q o = Told (o .answer)

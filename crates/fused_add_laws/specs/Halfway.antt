@@ -1,0 +1,85 @@
+-- An add half done, its words stored whole: its words are sound, so that it may be stepped, and so may the worker once
+-- it is idle again. How a call run whole ends. Follows docs/RULES.md, "Steps". Assumes nothing.
+use mathlib.Core.Path.{_≡_, refl, ap, _∙_}
+use mathlib.Core.Bool.{true, false}
+use Prim.Native.Nat.{ℕ, suc, _≤_, _<_}
+use native.Mathlib.Omega.{arith}
+use lib.Dec.{eqb}
+use Rattle.terms.specs.Terms.{Arguments}
+use Rattle.terms.specs.Runs.{Outcome, outcome}
+use Rattle.terms.specs.declared.Sizes.{Sizes}
+use Rattle.terms.specs.declared.Answer.{Answer}
+use Rattle.terms.specs.declared.Answer.the-variants.{Ended, Refused}
+use Rattle.words.specs.Layout.{Tables, view, IDLE, NOTIFYING, bareWorker, sizesFit}
+use Rattle.words.specs.Words.{placeOk, countersOk, answerOf}
+use Rattle.words.specs.declared.Plan.{Plan}
+use Rattle.whole_words.specs.Whole.{andThen, stepsOf}
+use Rattle.fused_words.specs.FusedWorker.{Admitted, withWorker, idledWith, addWorker}
+use Rattle.fused_laws.specs.Plans.{recordOk, recordPlan}
+use Rattle.fused_laws.specs.Deeds.{recordBy, storedBy}
+use Rattle.fused_laws.specs.Fits.{with-worker-fits}
+use Rattle.fused_laws.specs.Steps.{worker-ok, step-by-record}
+use Rattle.fused_laws.specs.Calls.{bare-ok, add-whole, add-ok}
+use Rattle.fused_add_laws.specs.Listed.{Right}
+
+-- ---- how a call run whole ends: never on the way
+pub data Told : Answer → Type 0 where
+  ended : Told Ended
+  refused : (n i : ℕ) → Told (Refused n i)
+
+-- a run o of worker w is r, which leaves the worker's own words sound
+pub record Run (s : Sizes) (w : ℕ) (o r : Outcome Tables) : Type 0 where
+  pub same : o ≡ r
+  pub admitted : Admitted s (r .state) w
+  pub told : Told (r .answer)
+
+pub run-on : {s : Sizes} {w : ℕ} {o q r : Outcome Tables} → o ≡ q → Run s w q r → Run s w o r
+run-on e R = record { same = e ∙ R .same; admitted = R .admitted; told = R .told }
+
+pub run-ends : {s : Sizes} {w : ℕ} {o : Outcome Tables} (x : Answer) (t : Tables) → o ≡ outcome x t → Admitted s t w
+    → Told x
+    → Run s w o (outcome x t)
+run-ends x t e A T = record { same = e; admitted = A; told = T }
+
+-- ---- tables over which a worker that holds `held` may be half way through an add
+pub record Open (s : Sizes) (held : ℕ) (t : Tables) : Type 0 where
+  pub sizes : sizesFit s t ≡ true
+  pub counters : countersOk s (view t) ≡ true
+  pub hold : placeOk held (view t .made) (s .jobs) ≡ true
+
+module _ (s : Sizes) (w : ℕ) (known : w < s .workers) (held : ℕ) (t : Tables) (O : Open s held t) where
+  pub idle-admitted : Admitted s (idledWith t w held) w
+  idle-admitted = record {
+    sizes = with-worker-fits s t w (bareWorker IDLE held) ∙ O .sizes;
+    worker = known;
+    own =
+        worker-ok s t w (bareWorker IDLE held) (O .sizes) known refl
+        ∙ bare-ok s (view t) IDLE held (omega arith) (O .hold);
+  }
+
+  module _ (a : Arguments) (fine : Right a) (ph k i j x : ℕ) (phase : ph ≤ NOTIFYING) (hk : k ≤ a .count)
+      (hi : i ≤ a .count) (job : placeOk j (view t .made) (s .jobs) ≡ true)
+      (arc : placeOk x (view t .reserved) (s .arcs) ≡ true) where
+    sound : recordOk s (view t) (addWorker ph held a k i j x) ≡ true
+    sound =
+        add-ok s (view t) held a k i j x ph phase (O .hold) (fine .count) (fine .class) (fine .grower) hk hi job arc
+
+    pub add-admitted : Admitted s (withWorker t w (addWorker ph held a k i j x)) w
+    add-admitted = record {
+      sizes = with-worker-fits s t w (addWorker ph held a k i j x) ∙ O .sizes;
+      worker = known;
+      own = worker-ok s t w (addWorker ph held a k i j x) (O .sizes) known (add-whole ph held a k i j x) ∙ sound;
+    }
+
+    -- its step, and the steps after it
+    pub add-step : eqb ph IDLE ≡ false → (p : Plan) → recordPlan s (view t) (addWorker ph held a k i j x) ≡ p → (n : ℕ)
+        → stepsOf (suc n) s w (withWorker t w (addWorker ph held a k i j x))
+        ≡ andThen (answerOf p)
+        (withWorker (storedBy p t (addWorker ph held a k i j x)) w (recordBy p (addWorker ph held a k i j x)))
+        (stepsOf n s w)
+    unfolding stepsOf
+    add-step busy p e n =
+        let r = addWorker ph held a k i j x in
+        ap (λ (o : Outcome Tables). andThen (o .answer) (o .state) (stepsOf n s w))
+        (step-by-record s t w r (O .sizes) known (add-whole ph held a k i j x) sound (O .counters) busy
+        ∙ ap (λ q. outcome (answerOf q) (withWorker (storedBy q t r) w (recordBy q r))) e)

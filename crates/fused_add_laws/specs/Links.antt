@@ -1,0 +1,111 @@
+-- The links and the settling of an add, step by step, are its links and its settling in one go. Follows docs/RULES.md,
+-- "Steps": link. Assumes nothing.
+use mathlib.Core.Path.{_≡_, refl, ap, _∙_}
+use mathlib.Core.Bool.{true}
+use mathlib.Core.List.{List, [], _∷_}
+use Prim.Native.Nat.{ℕ, zero, suc, _+_, _≤_, _<_}
+use native.Mathlib.Omega.{arith}
+use native.Mathlib.Numerals.{add-one}
+use lib.ListN.{length, getD}
+use borrow.Author.Tests.{ne-eqb}
+use Rattle.terms.specs.Terms.{Arguments, listed, damaged}
+use Rattle.terms.specs.declared.Sizes.{Sizes}
+use Rattle.terms.specs.declared.Answer.the-variants.{Refused}
+use Rattle.words.specs.Layout.{Tables, View, view}
+use Rattle.words.specs.Words.{placeOk, findOf, planLink, firstArc, answerOf}
+use Rattle.words.specs.declared.Found.the-variants.{At}
+use Rattle.words.specs.declared.Plan.{Plan}
+use Rattle.words.specs.declared.Plan.the-variants.{Refuse, Tally, LinkFirst, LinkAfter}
+use Rattle.whole_words.specs.Whole.{andThen, stepsOf}
+use Rattle.fused_words.specs.FusedWorker.{withWorker}
+use Rattle.fused_words.specs.FusedAdd.{Links, lookUps, jobFound, jobsFound, linkBy, links, settleIn, firstLinked}
+use Rattle.fused_words.specs.FusedAdd.{afterLinked}
+use Rattle.fused_words.specs.declared.LookUps.the-variants.{All}
+use Rattle.fused_laws.specs.Plans.{recordPlan}
+use Rattle.fused_laws.specs.Deeds.{recordBy, storedBy}
+use Rattle.fused_laws.specs.Calls.{link-plan}
+use Rattle.fused_add_laws.specs.FindStable.{find-below}
+use Rattle.fused_add_laws.specs.Listed.{Right, Rest, rest-more, rest-first, rest-next, first-found}
+use Rattle.fused_add_laws.specs.Stage.{Stage, stage-same, first-same, after-same}
+use Rattle.fused_add_laws.specs.Halfway.{refused, Run, run-on, run-ends}
+use Rattle.fused_add_laws.specs.LinkPlans.{LinkPlan, tallied, first, after, stopped, link-plans}
+use Rattle.fused_add_laws.specs.Linking.{linkWords, linking-stays, linking-steps}
+use Rattle.fused_add_laws.specs.Settling.{settle-run}
+
+module _ (s : Sizes) (v : View) (w : ℕ) (known : w < s .workers) (a : Arguments) (fine : Right a) (held : ℕ)
+    (hold : placeOk held (v .made) (s .jobs) ≡ true) (more : v .made < s .jobs)
+    (arcs : v .reserved + a .count ≤ s .arcs) where
+  -- the run from tables u with k tallied at place i on ends as the links r do
+  abbrev Ends : ℕ → Tables → ℕ → ℕ → Links → Type 0
+  Ends n u k i r =
+      Run s w (stepsOf n s w (withWorker u w (linkWords v a held k i))) (settleIn s w a held (v .made) (v .reserved) r)
+
+  -- the words with the place and the tally one more, as the code adds
+  one-more : (n k i : ℕ) (u : Tables) (r : Links) → Ends n u k (suc i) r → Ends n u k (i + 1) r
+  one-more n k i u r E = run-on (ap (λ m. stepsOf n s w (withWorker u w (linkWords v a held k m))) (add-one i)) E
+
+  tally-more : (n k i : ℕ) (u : Tables) (r : Links) → Ends n u (suc k) i r → Ends n u (k + 1) i r
+  tally-more n k i u r E = run-on (ap (λ m. stepsOf n s w (withWorker u w (linkWords v a held m i))) (add-one k)) E
+
+  -- ---- one link, of the job p that the name at place i has
+  module _ (u : Tables) (S : Stage s v a u) (k i p : ℕ) (hk : k ≤ i) (hi : i < a .count) (hp : p < v .made)
+      (found : findOf s (view u) (getD (listed a) i 0) ≡ At p) where
+    abbrev plan : Plan
+    plan = planLink s (view u) (v .reserved + i) (v .made) (At p)
+
+    planned : recordPlan s (view u) (linkWords v a held k i) ≡ planLink s (view u) (v .reserved + i) (v .made) (At p)
+    planned =
+        link-plan s (view u) held a k i (v .made) (firstArc (a .count) (v .reserved)) (fine .count) hi
+        ∙ rw (ne-eqb (a .count) 0 (omega arith), found)
+
+    module _ (n : ℕ) (next : Tables → ℕ → Links)
+        (on : (m : Tables) (q : ℕ) → q ≤ suc i → Stage s v a m → Ends n m q (suc i) (next m q)) where
+      after-plan : (x : ℕ) (P : Plan) → LinkPlan p x (v .made) P
+          → Run s w
+          (andThen (answerOf P)
+          (withWorker (storedBy P u (linkWords v a held k i)) w (recordBy P (linkWords v a held k i)))
+          (stepsOf n s w))
+          (settleIn s w a held (v .made) (v .reserved) (linkBy P u i k next))
+      unfolding storedBy settleIn
+      after-plan x Tally tallied =
+          tally-more n k (i + 1) u (next u (suc k))
+          (one-more n (suc k) i u (next u (suc k)) (on u (suc k) (omega arith) S))
+      after-plan x (LinkFirst q y j) first =
+          one-more n k i (firstLinked u q y j) (next (firstLinked u q y j) k)
+          (on (firstLinked u q y j) k (omega arith)
+          (stage-same s v a u (firstLinked u q y j) S (first-same s u q y j (S .sizes) (omega arith))))
+      after-plan x (LinkAfter q l y j) (after _) =
+          one-more n k i (afterLinked u q l y j) (next (afterLinked u q l y j) k)
+          (on (afterLinked u q l y j) k (omega arith)
+          (stage-same s v a u (afterLinked u q l y j) S (after-same s u q y j (S .sizes) (omega arith) l)))
+      after-plan x (Refuse d) stopped =
+          run-ends (Refused damaged 0) _ refl
+          (linking-stays s v w known a fine held hold more arcs u S k i (omega arith) (omega arith))
+          (refused damaged 0)
+
+      link-run : Ends (suc n) u k i (linkBy plan u i k next)
+      link-run =
+          run-on
+          (linking-steps s v w known a fine held hold more arcs u S k i (omega arith) (omega arith) plan planned n)
+          (after-plan (v .reserved + i) plan (link-plans s (view u) p (v .reserved + i) (v .made)))
+
+  -- ---- the links of the names l from place i on, and the settling
+  pub links-run : (l : List ℕ) (i k : ℕ) (u : Tables) → Rest a l i → k ≤ i → Stage s v a u → lookUps s v l i ≡ All
+      → (n : ℕ) → length l < n
+      → Run s w (stepsOf n s w (withWorker u w (linkWords v a held k i)))
+      (settleIn s w a held (v .made) (v .reserved) (links s (v .made) (v .reserved) (jobsFound s v l) i u k))
+  unfolding links jobsFound
+  links-run l i k u R hk S L zero h = absurd (omega arith)
+  links-run [] i k u R hk S L (suc n) h =
+      let e : i ≡ a .count = omega (arith, R .ends) in
+      rw e (settle-run s v w known a fine held hold more arcs u S k (omega arith) n)
+  links-run (y ∷ l) i k u R hk S L (suc n) h =
+      let F = first-found s v y l i L in
+      let m = rest-more R in
+      let p = jobFound (findOf s v y) in
+      let o = fine .others i m in
+      link-run u S k i p hk m (find-below s v y p (F .first))
+      (rw (rest-first R) (S .finds y p (rw (rest-first R) at o) (F .first)))
+      n
+      (links s (v .made) (v .reserved) (jobsFound s v l) (suc i))
+      (λ t q z T. links-run l (suc i) q t (rest-next R) z T (F .more) n (omega arith))

@@ -1,0 +1,98 @@
+-- The settling step of an add is the settling of the add in one go: the job's count falls by the tally, and the job is
+-- queued or not. Follows docs/RULES.md, "Steps": settle. Assumes nothing.
+use mathlib.Core.Path.{_≡_, refl, _∙_}
+use mathlib.Core.Bool.{Bool, true, false}
+use mathlib.Core.List.{List}
+use Prim.Native.Nat.{ℕ, suc, _+_, _-_, _≤_, _<_}
+use native.Mathlib.Omega.{arith}
+use borrow.Author.Tests.{le-leb}
+use Rattle.basics.specs.Limits.{mostNames}
+use Rattle.basics.specs.Base.{pick}
+use Rattle.terms.specs.Terms.{settles, Arguments, damaged}
+use Rattle.terms.specs.Runs.{outcome}
+use Rattle.terms.specs.declared.Sizes.{Sizes}
+use Rattle.terms.specs.declared.Answer.the-variants.{Ended, Refused}
+use Rattle.words.specs.Layout.{Tables, View, view}
+use Rattle.words.specs.Words.{placeOk, planSettle, withCell, firstArc, answerOf}
+use Rattle.words.specs.declared.Plan.{Plan}
+use Rattle.words.specs.declared.Plan.the-variants.{Refuse, Settle, SettleQueue}
+use Rattle.whole_words.specs.Whole.{andThen, stepsOf}
+use Rattle.fused_words.specs.FusedWorker.{withWorker, idledWith, halted}
+use Rattle.fused_words.specs.FusedAdd.{linksTo, cellFree, settleIn, settledTables, queuedTables}
+use Rattle.fused_laws.specs.Plans.{recordPlan}
+use Rattle.fused_laws.specs.Deeds.{recordBy, storedBy}
+use Rattle.fused_laws.specs.Kept.{entersNone, stored-fits, stored-made, stored-counters}
+use Rattle.fused_laws.specs.Calls.{settle-plan}
+use Rattle.fused_add_laws.specs.Listed.{Right}
+use Rattle.fused_add_laws.specs.Stage.{Stage}
+use Rattle.fused_add_laws.specs.Halfway.{ended, refused, Run, run-on, run-ends, Open, idle-admitted}
+use Rattle.fused_add_laws.specs.Linking.{linkWords, linking-open, linking-stays, linking-steps, own-place}
+
+-- a plan that enters nothing keeps the tables open to the add
+open-stored : (s : Sizes) (held : ℕ) (t : Tables) (p : Plan) (r : List ℕ) → entersNone p ≡ true → Open s held t
+    → Open s held (storedBy p t r)
+open-stored s held t p r e O = record {
+  sizes = stored-fits s p t r ∙ O .sizes;
+  counters = stored-counters s p t r e ∙ O .counters;
+  hold = rw (stored-made p t r e) (O .hold);
+}
+
+module _ (s : Sizes) (v : View) (w : ℕ) (known : w < s .workers) (a : Arguments) (fine : Right a) (held : ℕ)
+    (hold : placeOk held (v .made) (s .jobs) ≡ true) (more : v .made < s .jobs)
+    (arcs : v .reserved + a .count ≤ s .arcs) (u : Tables) (S : Stage s v a u) (k : ℕ) (hk : k ≤ a .count) where
+  abbrev r : List ℕ
+  r = linkWords v a held k (a .count)
+
+  abbrev c : ℕ
+  c = a .count - k
+
+  abbrev settlePlan : Bool → Bool → Plan
+  settlePlan queues free =
+      pick queues (pick free (SettleQueue (v .made) c (view u .put)) (Refuse damaged)) (Settle (v .made) c)
+
+  planned : recordPlan s (view u) (linkWords v a held k (a .count))
+      ≡ settlePlan (settles c k (a .count)) (cellFree s (view u))
+  unfolding planSettle withCell
+  planned =
+      settle-plan s (view u) held a k (a .count) (v .made) (firstArc (a .count) (v .reserved)) (omega arith)
+      ∙ rw (
+        S .count,
+        own-place s v w known a fine held hold more arcs u S,
+        le-leb (a .count) mostNames (fine .count),
+        le-leb k (a .count) hk,
+      )
+
+  O : Open s held u
+  O = linking-open s v w known a fine held hold more arcs u S
+
+  after-plan : (n : ℕ) (queues free : Bool)
+      → Run s w
+      (andThen (answerOf (settlePlan queues free))
+      (withWorker (storedBy (settlePlan queues free) u r) w (recordBy (settlePlan queues free) r)) (stepsOf n s w))
+      (pick queues
+      (pick free (outcome Ended (idledWith (queuedTables u (v .made) c (view u .put)) w held)) (halted u w r))
+      (outcome Ended (idledWith (settledTables u (v .made) c) w held)))
+  unfolding storedBy
+  after-plan n true true =
+      run-ends Ended _ refl
+      (idle-admitted s w known held (queuedTables u (v .made) c (view u .put))
+      (open-stored s held u (SettleQueue (v .made) c (view u .put)) r refl O))
+      ended
+  after-plan n true false =
+      run-ends (Refused damaged 0) _ refl
+      (linking-stays s v w known a fine held hold more arcs u S k (a .count) hk (omega arith))
+      (refused damaged 0)
+  after-plan n false free =
+      run-ends Ended _ refl
+      (idle-admitted s w known held (settledTables u (v .made) c) (open-stored s held u (Settle (v .made) c) r refl O))
+      ended
+
+  pub settle-run : (n : ℕ)
+      → Run s w (stepsOf (suc n) s w (withWorker u w (linkWords v a held k (a .count))))
+      (settleIn s w a held (v .made) (v .reserved) (linksTo u (a .count) k true))
+  unfolding settleIn
+  settle-run n =
+      run-on
+      (linking-steps s v w known a fine held hold more arcs u S k (a .count) hk (omega arith)
+      (settlePlan (settles c k (a .count)) (cellFree s (view u))) planned n)
+      (after-plan n (settles c k (a .count)) (cellFree s (view u)))

@@ -1,0 +1,90 @@
+-- The notices of a finish, each a step, are those of a finish in one go: as long as the counters and the next arc are
+-- sound, a step reads of the worker's words just that arc. Follows docs/RULES.md, "Steps". Assumes nothing.
+use mathlib.Core.Path.{_≡_, refl, ap, _∙_}
+use mathlib.Core.Bool.{Bool, true, false, _&&_}
+use mathlib.Core.List.{List}
+use Prim.Native.Nat.{ℕ, zero, suc, _-_, _<_}
+use lib.Dec.{ltb, leb, eqb}
+use Rattle.basics.specs.Limits.{mostNames}
+use Rattle.basics.specs.Base.{pick}
+use Rattle.basics.specs.Laws.{and-left, and-right, pick-by}
+use Rattle.terms.specs.Terms.{damaged}
+use Rattle.terms.specs.Runs.{outcome}
+use Rattle.terms.specs.declared.Sizes.{Sizes}
+use Rattle.terms.specs.declared.Answer.the-variants.{Ended}
+use Rattle.words.specs.Layout.{Tables, View, view, none, COUNT, DEPENDENT, AFTER, IDLE, bareWorker, sizesFit}
+use Rattle.words.specs.Words.{placeOk, isPlace, countersOk, withCell, planNotify, goingUnless, answerOf, stepWords}
+use Rattle.words.specs.declared.Plan.{Plan}
+use Rattle.words.specs.declared.Plan.the-variants.{Refuse, Notify, NotifyQueue}
+use Rattle.whole_words.specs.Whole.{andThen, stepsOf}
+use Rattle.fused_words.specs.FusedWorker.{withWorker, idledWith, notifyWorker}
+use Rattle.fused_words.specs.FusedFinish.{toldTables, toldQueued, notifyBy, notifyIn}
+use Rattle.fused_laws.specs.Deeds.{recordBy, storedBy}
+use Rattle.fused_laws.specs.Steps.{step-by-record}
+use Rattle.fused_laws.specs.Kept.{stored-fits, stored-counters}
+use Rattle.fused_laws.specs.Calls.{notify-plan}
+
+-- ---- the plans of a notice: 9, or with the next arc in use or none
+third : (a b c d e : Bool) → (a && b && c && d && e) ≡ true → c ≡ true
+third a b c d e h = and-right (a && b) c (and-left (a && b && c) d (and-left (a && b && c && d) e h))
+
+module _ (s : Sizes) (v : View) (Q : Plan → Type 0) (refuses : Q (Refuse damaged))
+    (notifies : (j c y : ℕ) → placeOk y (v .reserved) (s .arcs) ≡ true → Q (Notify j c y))
+    (queues : (j c y q : ℕ) → placeOk y (v .reserved) (s .arcs) ≡ true → Q (NotifyQueue j c y q)) where
+  notice-plans : (x : ℕ) → Q (planNotify s v x)
+  unfolding planNotify withCell
+  notice-plans x =
+      let j = v .arc DEPENDENT x in
+      let y = v .arc AFTER x in
+      pick-by Q
+      (isPlace x && ltb j (v .made) && placeOk y (v .reserved) (s .arcs) && leb 1 (v .job COUNT j)
+      && leb (v .job COUNT j) mostNames)
+      (λ e. let ok = third (isPlace x) (ltb j (v .made)) (placeOk y (v .reserved) (s .arcs)) (leb 1 (v .job COUNT j))
+      (leb (v .job COUNT j) mostNames) e in
+      pick-by Q (eqb (v .job COUNT j) 1)
+      (λ _. pick-by Q (leb (v .taken) (v .put) && ltb (v .put) (s .jobs))
+      (λ _. queues j (v .job COUNT j - 1) y (v .put) ok)
+      (λ _. refuses))
+      (λ _. notifies j (v .job COUNT j - 1) y ok))
+      (λ _. refuses)
+
+module _ (s : Sizes) (w : ℕ) (known : w < s .workers) where
+  -- the last notice ends the finish, and any other goes on
+  pub on-or-end : (n : ℕ) (y : ℕ) (u : Tables) (b : Bool)
+      → stepsOf n s w (withWorker u w (notifyWorker y)) ≡ notifyIn n s w y u
+      → andThen (goingUnless b) (withWorker u w (pick b (bareWorker IDLE none) (notifyWorker y))) (stepsOf n s w)
+      ≡ pick b (outcome Ended (idledWith u w none)) (notifyIn n s w y u)
+  on-or-end n y u true e = refl
+  on-or-end n y u false e = e
+
+  -- one step along arc x
+  one-notice : (t : Tables) (x : ℕ) → sizesFit s t ≡ true → countersOk s (view t) ≡ true
+      → placeOk x (view t .reserved) (s .arcs) ≡ true
+      → stepWords s (withWorker t w (notifyWorker x)) w
+      ≡ outcome (answerOf (planNotify s (view t) x))
+      (withWorker (storedBy (planNotify s (view t) x) t (notifyWorker x)) w
+      (recordBy (planNotify s (view t) x) (notifyWorker x)))
+  one-notice t x fit counters ok =
+      step-by-record s t w (notifyWorker x) fit known refl ok counters refl
+      ∙ ap (λ p. outcome (answerOf p) (withWorker (storedBy p t (notifyWorker x)) w (recordBy p (notifyWorker x))))
+      (notify-plan s (view t) x)
+
+  pub notices : (n x : ℕ) (t : Tables) → sizesFit s t ≡ true → countersOk s (view t) ≡ true
+      → placeOk x (view t .reserved) (s .arcs) ≡ true
+      → stepsOf n s w (withWorker t w (notifyWorker x)) ≡ notifyIn n s w x t
+  unfolding stepsOf notifyIn storedBy
+  notices zero x t fit counters ok = refl
+  notices (suc n) x t fit counters ok =
+      ap (λ o. andThen (o .answer) (o .state) (stepsOf n s w)) (one-notice t x fit counters ok)
+      ∙ notice-plans s (view t)
+      (λ p. andThen (answerOf p) (withWorker (storedBy p t r) w (recordBy p r)) (stepsOf n s w)
+      ≡ notifyBy p x w t (notifyIn n s w))
+      refl
+      (λ j c y e. on-or-end n y (toldTables t j c) (eqb y none) (notices n y (toldTables t j c)
+      (stored-fits s (Notify j c y) t r ∙ fit) (stored-counters s (Notify j c y) t r refl ∙ counters) e))
+      (λ j c y q e. on-or-end n y (toldQueued t j c q) (eqb y none) (notices n y (toldQueued t j c q)
+      (stored-fits s (NotifyQueue j c y q) t r ∙ fit) (stored-counters s (NotifyQueue j c y q) t r refl ∙ counters) e))
+      x
+    where
+      r : List ℕ
+      r = notifyWorker x

@@ -1,0 +1,88 @@
+-- The records that an add and a finish in one go would have between their steps: they are sound, and the plan of each.
+-- Follows docs/RULES.md, "Steps". Assumes nothing.
+use mathlib.Core.Path.{_≡_, refl, ap, _∙_}
+use mathlib.Core.Bool.{true}
+use mathlib.Core.List.{List, [], _∷_, _++_}
+use Prim.Native.Nat.{ℕ, zero, suc, _+_, _≤_, _<_}
+use native.Mathlib.Omega.{arith}
+use lib.ListN.{length, getD, take}
+use borrow.Author.Tests.{lt-ltb, le-ltb, le-leb}
+use Rattle.basics.specs.Limits.{mostNames, mostClass, mostGrower}
+use Rattle.basics.specs.Base.{prefix}
+use Rattle.basics.specs.Laws.{length-prefix}
+use Rattle.terms.specs.Terms.{Arguments, listed}
+use Rattle.terms.specs.declared.Sizes.{Sizes}
+use Rattle.words.specs.Layout.{View, workerShape, NAMES, LOOKING, LINKING, MARKING, NOTIFYING, bareWorker}
+use Rattle.words.specs.Words.{placeOk, findOf, planLookUp, planEnter, planLink, planSettle, planMark, planNotify}
+use Rattle.fused_words.specs.FusedWorker.{addWorker, notifyWorker}
+use Rattle.fused_laws.specs.Plans.{recordOk, recordPlan, recordName}
+
+-- ---- a finish
+module _ (s : Sizes) (v : View) where
+  pub bare-ok : (phase held : ℕ) → phase ≤ NOTIFYING → placeOk held (v .made) (s .jobs) ≡ true
+      → recordOk s v (bareWorker phase held) ≡ true
+  bare-ok phase held h e = rw (le-leb phase NOTIFYING h, e)
+
+  pub notify-ok : (x : ℕ) → recordOk s v (notifyWorker x) ≡ placeOk x (v .reserved) (s .arcs)
+  notify-ok x = refl
+
+  pub mark-plan : (held : ℕ) → recordPlan s v (bareWorker MARKING held) ≡ planMark s v held
+  unfolding recordPlan
+  mark-plan held = refl
+
+  pub notify-plan : (x : ℕ) → recordPlan s v (notifyWorker x) ≡ planNotify s v x
+  unfolding recordPlan
+  notify-plan x = refl
+
+-- ---- an add
+pub add-whole : (phase held : ℕ) (a : Arguments) (k i j x : ℕ)
+    → length (addWorker phase held a k i j x) ≡ workerShape .width
+add-whole phase held a k i j x = omega (arith, length-prefix mostNames (listed a))
+
+getD-past : (l k : List ℕ) (m : ℕ) → getD (l ++ k) (length l + m) 0 ≡ getD k m 0
+getD-past [] k m = ap (λ z. getD k z 0) {x = 0 + m} {y = m} (omega arith)
+getD-past (x ∷ l) k m =
+    ap (λ z. getD (x ∷ (l ++ k)) z 0) {x = suc (length l) + m} {y = suc (length l + m)} (omega arith) ∙ getD-past l k m
+
+getD-prefix : (n : ℕ) (r : List ℕ) (q : ℕ) → q < n → getD (prefix n r) q 0 ≡ getD r q 0
+unfolding prefix
+getD-prefix zero r q h = absurd (omega arith)
+getD-prefix (suc n) [] zero h = refl
+getD-prefix (suc n) [] (suc q) h = getD-prefix n [] q (omega arith)
+getD-prefix (suc n) (x ∷ r) zero h = refl
+getD-prefix (suc n) (x ∷ r) (suc q) h = getD-prefix n r q (omega arith)
+
+module _ (s : Sizes) (v : View) (held : ℕ) (a : Arguments) (k i j x : ℕ) where
+  -- the name at the place
+  name-at : (phase : ℕ) → i < mostNames → recordName (addWorker phase held a k i j x) ≡ getD (listed a) i 0
+  name-at phase h =
+      getD-past (take NAMES (addWorker phase held a k i j x)) (prefix mostNames (listed a)) i
+      ∙ getD-prefix mostNames (listed a) i h
+
+  pub add-ok : (phase : ℕ) → phase ≤ NOTIFYING → placeOk held (v .made) (s .jobs) ≡ true
+      → a .count ≤ mostNames → a .class ≤ mostClass → a .grower ≤ mostGrower → k ≤ a .count → i ≤ a .count
+      → placeOk j (v .made) (s .jobs) ≡ true → placeOk x (v .reserved) (s .arcs) ≡ true
+      → recordOk s v (addWorker phase held a k i j x) ≡ true
+  add-ok phase p h c d g m n y z =
+      rw (le-leb phase NOTIFYING p, h, le-leb (a .count) mostNames c, le-leb (a .class) mostClass d)
+      (rw (le-leb (a .grower) mostGrower g, le-leb k (a .count) m, le-leb i (a .count) n, y, z))
+
+  module _ (few : a .count ≤ mostNames) (more : i < a .count) where
+    pub look-plan : recordPlan s v (addWorker LOOKING held a k i j x) ≡ planLookUp i (findOf s v (getD (listed a) i 0))
+    unfolding recordPlan
+    look-plan = rw (lt-ltb i (a .count) more, name-at LOOKING (omega arith))
+
+    pub link-plan : recordPlan s v (addWorker LINKING held a k i j x)
+        ≡ planLink s v (x + i) j (findOf s v (getD (listed a) i 0))
+    unfolding recordPlan
+    link-plan = rw (lt-ltb i (a .count) more, name-at LINKING (omega arith))
+
+  pub enter-plan : a .count ≤ i
+      → recordPlan s v (addWorker LOOKING held a k i j x)
+      ≡ planEnter s v (a .name) (a .count) (findOf s v (a .name))
+  unfolding recordPlan
+  enter-plan h = rw (le-ltb i (a .count) h)
+
+  pub settle-plan : a .count ≤ i → recordPlan s v (addWorker LINKING held a k i j x) ≡ planSettle s v j k (a .count)
+  unfolding recordPlan
+  settle-plan h = rw (le-ltb i (a .count) h)
