@@ -3,8 +3,8 @@
 
 use compare_sheets::case::differ;
 use second_implementation::{
-    graph::Sizes,
-    history::Item,
+    graph::{Refusal, Sizes},
+    history::{Item, Told},
     refusal,
     sheet::{Entry, MAX_CLASS},
 };
@@ -121,6 +121,18 @@ pub fn beside_single_calls(
         let words = Tables::difference(&library.tables, after);
         words.map(|words| format!("after a whole call; single calls leave the first: {words}"))
     })
+}
+
+/// How many calls a whole one counts as for the book, where no word is damaged: none if 1 to 3 or 16 turns it away, and
+/// else one, or one for each entry.
+pub fn decided(item: &Item, told: &Told) -> usize {
+    let turned_away = |refusal: &Refusal| refusal.number <= refusal::HALF_DONE;
+    match (item, told) {
+        (Item::AddSheet { entries, .. }, Told::Each(Ok(_))) => entries.len(),
+        (_, Told::One(Ok(_))) => 1,
+        (_, Told::One(Err(refusal))) => usize::from(!turned_away(refusal)),
+        _ => 0,
+    }
 }
 
 /// How a whole call was answered: what it is, and the number, where 0 is accepted and `HALF_LEFT` a finish that goes

@@ -261,7 +261,11 @@ impl World {
         if let (true, Item::Get { .. }, Told::One(Ok(reply))) = (quiet, &call.item, &expected) {
             self.check_none_ready(*reply)?;
         }
+        let decided = self.history.calls().len() + whole::decided(&call.item, &expected);
         self.history.take(&call.item, &expected);
+        if is_whole(&call.item) {
+            none_or_err(differ("the calls that a whole one counts as", self.history.calls().len(), decided))?;
+        }
         self.check_drained()?;
         self.check_history()
     }
