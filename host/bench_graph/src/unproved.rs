@@ -134,11 +134,6 @@ impl<'a> Graph<'a> {
         &mut self.jobs[at..at + JOB_WORDS]
     }
 
-    fn job_read(&self, number: u32) -> &[u32] {
-        let at = JOBS_HEADER + JOB_WORDS * number as usize;
-        &self.jobs[at..at + JOB_WORDS]
-    }
-
     fn arc(&mut self, number: u32) -> &mut [u32] {
         let at = ARCS_HEADER + ARC_WORDS * number as usize;
         &mut self.arcs[at..at + ARC_WORDS]
@@ -215,33 +210,6 @@ impl<'a> Graph<'a> {
         own[worker::NAMES..].fill(0);
     }
 
-    /// The words of a worker that has posted an add.
-    #[inline(always)]
-    fn store_add(&mut self, at: usize, entry: &Entry, list: &[u32]) {
-        let own = &mut self.workers[at..at + WORKER_WORDS];
-        own[worker::PHASE] = phase::LOOKING_UP;
-        let call = [entry.name, entry.count, entry.class, entry.grower, 0, 0, NONE, NONE];
-        own[worker::NAME..worker::NAMES].copy_from_slice(&call);
-        let (listed, rest) = own[worker::NAMES..].split_at_mut(list.len());
-        listed.copy_from_slice(list);
-        rest.fill(0);
-    }
-
-    /// A step of a worker that is not idle.
-    #[inline(always)]
-    fn step(&mut self, at: usize) -> Outcome<Answer> {
-        let own = &self.workers[at..at + worker::NAMES];
-        let more = own[worker::PLACE] < own[worker::COUNT];
-        match (own[worker::PHASE], more) {
-            (phase::LOOKING_UP, true) => self.look_up(at),
-            (phase::LOOKING_UP, false) => self.enter(at),
-            (phase::LINKING, true) => self.link(at),
-            (phase::LINKING, false) => self.settle(at),
-            (phase::MARKING, _) => self.mark(at),
-            _ => self.notify(at),
-        }
-    }
-
     fn look_up(&mut self, at: usize) -> Outcome<Answer> {
         let place = self.workers[at + worker::PLACE];
         let name = self.workers[at + worker::NAMES + place as usize];
@@ -263,7 +231,11 @@ impl<'a> Graph<'a> {
             self.clear(at);
             return Err((if present { 7 } else { 8 }, 0));
         }
-        self.make_job(name, count, class, grower);
+        let bucket = self.bucket(name);
+        let head = self.buckets[bucket];
+        self.job(made).copy_from_slice(&[name, UNEXECUTED, count, class, grower, NONE, NONE, head]);
+        self.buckets[bucket] = made;
+        self.jobs[4] = made + 1;
         self.arcs[0] = reserved + count;
         let own = &mut self.workers[at..at + worker::NAMES];
         own[worker::PHASE] = phase::LINKING;
@@ -271,16 +243,6 @@ impl<'a> Graph<'a> {
         own[worker::JOB] = made;
         own[worker::ARC] = if count == 0 { NONE } else { reserved };
         Ok(answer(kind::GOING_ON))
-    }
-
-    /// Makes the next job, at the head of its bucket.
-    #[inline(always)]
-    fn make_job(&mut self, name: u32, count: u32, class: u32, grower: u32) {
-        let (bucket, made) = (self.bucket(name), self.made());
-        let head = self.buckets[bucket];
-        self.job(made).copy_from_slice(&[name, UNEXECUTED, count, class, grower, NONE, NONE, head]);
-        self.buckets[bucket] = made;
-        self.jobs[4] = made + 1;
     }
 
     fn link(&mut self, at: usize) -> Outcome<Answer> {
@@ -362,13 +324,6 @@ impl<'a> Graph<'a> {
         if arc == NONE {
             return Err(DAMAGED);
         }
-        let next = self.tell(arc)?;
-        Ok(self.go_on(at, next))
-    }
-
-    /// Lowers the count of an arc's dependent, and gives the next arc.
-    #[inline(always)]
-    fn tell(&mut self, arc: u32) -> Outcome<u32> {
         let (dependent, next) = (self.arc(arc)[0], self.arc(arc)[1]);
         if dependent >= self.made() || !self.arc_fits(next) {
             return Err(DAMAGED);
@@ -382,7 +337,7 @@ impl<'a> Graph<'a> {
             self.enqueue(dependent);
         }
         self.job(dependent)[job::COUNT] = count - 1;
-        Ok(next)
+        Ok(self.go_on(at, next))
     }
 
     /// A finish goes on with an arc, or ends where there is none.
@@ -433,29 +388,31 @@ pub fn lay_out(sizes: Sizes, tables: &mut Tables) -> Answer {
     }))
 }
 
-/// The list of an entry, or number 5.
-fn judged_list(entry: &Entry) -> Outcome<&[u32]> {
+fn arguments_fit(entry: &Entry) -> bool {
     if entry.class > MAX_CLASS || entry.grower > MAX_GROWER || entry.count > MAX_NAMES {
-        return Err((5, 0));
+        return false;
     }
     let list = &entry.names[..entry.count as usize];
-    let fits = list.iter().enumerate().all(|(place, name)| *name != entry.name && !list[..place].contains(name));
-    if fits {
-        Ok(list)
-    } else {
-        Err((5, 0))
-    }
+    list.iter().enumerate().all(|(place, name)| *name != entry.name && !list[..place].contains(name))
 }
 
 #[inline(never)]
 pub fn post_add(sizes: Sizes, tables: &mut Tables, worker: u32, entry: Entry) -> Answer {
-    answered(Graph::admitted(sizes, tables, worker).and_then(|(mut graph, at)| {
+    answered(Graph::admitted(sizes, tables, worker).and_then(|(graph, at)| {
         if graph.workers[at + worker::PHASE] != phase::IDLE {
             return Err((3, 0));
         }
-        let list = judged_list(&entry)?;
+        if !arguments_fit(&entry) {
+            return Err((5, 0));
+        }
         graph.judge_counters()?;
-        graph.store_add(at, &entry, list);
+        let own = &mut graph.workers[at..at + WORKER_WORDS];
+        own[worker::PHASE] = phase::LOOKING_UP;
+        let call = [entry.name, entry.count, entry.class, entry.grower, 0, 0, NONE, NONE];
+        own[worker::NAME..worker::NAMES].copy_from_slice(&call);
+        let (listed, rest) = own[worker::NAMES..].split_at_mut(entry.count as usize);
+        listed.copy_from_slice(&entry.names[..listed.len()]);
+        rest.fill(0);
         Ok(answer(kind::POSTED))
     }))
 }
@@ -480,11 +437,21 @@ pub fn post_finish(sizes: Sizes, tables: &mut Tables, worker: u32, name: u32) ->
 #[inline(never)]
 pub fn step(sizes: Sizes, tables: &mut Tables, worker: u32) -> Answer {
     answered(Graph::admitted(sizes, tables, worker).and_then(|(mut graph, at)| {
-        if graph.workers[at + worker::PHASE] == phase::IDLE {
+        let own = &graph.workers[at..at + worker::NAMES];
+        let more = own[worker::PLACE] < own[worker::COUNT];
+        let phase = own[worker::PHASE];
+        if phase == phase::IDLE {
             return Err((4, 0));
         }
         graph.judge_counters()?;
-        graph.step(at)
+        match (phase, more) {
+            (phase::LOOKING_UP, true) => graph.look_up(at),
+            (phase::LOOKING_UP, false) => graph.enter(at),
+            (phase::LINKING, true) => graph.link(at),
+            (phase::LINKING, false) => graph.settle(at),
+            (phase::MARKING, _) => graph.mark(at),
+            _ => graph.notify(at),
+        }
     }))
 }
 

@@ -1,10 +1,13 @@
 //! Calls run whole, and sheets. An add reads all that its steps would read and then stores; where it meets damage,
 //! nothing is stored yet, and it runs by steps, which leave what they must. A finish stores as it goes.
 
-use compare_graph::layout::{job, phase, worker, NONE};
+use compare_graph::layout::{job, phase, worker, JOBS_HEADER, JOB_WORDS, NONE, WORKER_WORDS};
 use taskgraph::raw::{kind, Answer, Entry, SheetAdded, Sizes, Tables, ENTRY_WORDS, MAX_ENTRIES};
 
-use super::{answer, answered, judged_list, Graph, Outcome, DAMAGED, EXECUTING, FINISHED, MAX_NAMES};
+use super::{
+    answer, answered, arguments_fit, post_add, step, Graph, Outcome, DAMAGED, EXECUTING, FINISHED, MAX_NAMES,
+    UNEXECUTED,
+};
 
 /// What an add found, if it met no damage.
 enum Found {
@@ -80,11 +83,14 @@ impl Graph<'_> {
     #[inline(always)]
     fn add(&mut self, at: usize, entry: &Entry, cleared: &mut bool) -> Outcome<Answer> {
         self.judge_idle(at)?;
-        let list = judged_list(entry)?;
+        if !arguments_fit(entry) {
+            return Err((5, 0));
+        }
+        let list = &entry.names[..entry.count as usize];
         self.judge_counters()?;
         let found = match self.look(entry, list) {
             Ok(found) => found,
-            Err(_) => return self.add_by_steps(at, entry, list),
+            Err(_) => return self.add_by_steps(at, entry),
         };
         if !*cleared {
             self.clear(at);
@@ -139,9 +145,13 @@ impl Graph<'_> {
     /// All that the add stores but the worker's words.
     #[inline(always)]
     fn store(&mut self, entry: &Entry, prerequisites: &[u32], tally: u32) {
-        let (made, reserved) = (self.made(), self.reserved());
-        self.make_job(entry.name, entry.count - tally, entry.class, entry.grower);
-        self.arcs[0] = reserved + entry.count;
+        let (made, reserved, bucket) = (self.made(), self.reserved(), self.bucket(entry.name));
+        let Entry { name, count, class, grower, .. } = *entry;
+        let head = self.buckets[bucket];
+        self.job(made).copy_from_slice(&[name, UNEXECUTED, count - tally, class, grower, NONE, NONE, head]);
+        self.buckets[bucket] = made;
+        self.jobs[4] = made + 1;
+        self.arcs[0] = reserved + count;
         for (place, prerequisite) in prerequisites.iter().enumerate() {
             let words = self.job_read(*prerequisite);
             if words[job::LABEL] != FINISHED {
@@ -149,20 +159,24 @@ impl Graph<'_> {
                 self.append(*prerequisite, last, reserved + place as u32, made);
             }
         }
-        if tally == entry.count {
+        if tally == count {
             self.enqueue(made);
         }
     }
 
     #[cold]
-    fn add_by_steps(&mut self, at: usize, entry: &Entry, list: &[u32]) -> Outcome<Answer> {
-        self.store_add(at, entry, list);
-        loop {
-            let answer = self.step(at)?;
-            if answer.kind != kind::GOING_ON {
-                return Ok(answer);
-            }
+    fn add_by_steps(&mut self, at: usize, entry: &Entry) -> Outcome<Answer> {
+        let (sizes, worker) = (self.sizes, (at / WORKER_WORDS) as u32);
+        let Graph { jobs, arcs, buckets, queue, workers, .. } = self;
+        let mut tables = Tables { jobs, arcs, buckets, queue, workers };
+        let mut answer = post_add(sizes, &mut tables, worker, *entry);
+        while answer.kind == kind::POSTED || answer.kind == kind::GOING_ON {
+            answer = step(sizes, &mut tables, worker);
         }
+        if answer.kind == kind::REFUSED {
+            return Err((answer.number, answer.place));
+        }
+        Ok(answer)
     }
 
     /// A finish by an idle worker whose own words fit.
@@ -205,6 +219,30 @@ impl Graph<'_> {
         }
         self.leave_half_done(at, arc);
         Ok(answer(kind::GOING_ON))
+    }
+
+    /// Lowers the count of an arc's dependent, and gives the next arc.
+    #[inline(always)]
+    fn tell(&mut self, arc: u32) -> Outcome<u32> {
+        let (dependent, next) = (self.arc(arc)[0], self.arc(arc)[1]);
+        if dependent >= self.made() || !self.arc_fits(next) {
+            return Err(DAMAGED);
+        }
+        let count = self.job_read(dependent)[job::COUNT];
+        if count == 0 || count > MAX_NAMES {
+            return Err(DAMAGED);
+        }
+        if count == 1 {
+            self.judge_room()?;
+            self.enqueue(dependent);
+        }
+        self.job(dependent)[job::COUNT] = count - 1;
+        Ok(next)
+    }
+
+    fn job_read(&self, number: u32) -> &[u32] {
+        let at = JOBS_HEADER + JOB_WORDS * number as usize;
+        &self.jobs[at..at + JOB_WORDS]
     }
 
     #[cold]
