@@ -159,7 +159,7 @@ impl Worker {
                 Err(refusal) => return Err(refusal.into()),
             }
         }
-        Ok(self.shared.lock()?.set_busy(self.number, !self.claimed.is_empty())?)
+        self.shared.lock()?.set_busy(self.number, !self.claimed.is_empty())
     }
 
     /// Gives a job up if the prerequisite that it lacks will never be there.
