@@ -1,5 +1,5 @@
-/* A host in C: reads the job sheet of docs/RULES.md, adds its jobs, and lets two workers take and finish them in turn.
- * It prints what the day list prints. */
+/* A host in C: reads the job sheet of docs/RULES.md, adds its jobs, up to 64 in one call, and lets two workers take and
+ * finish them in turn. It prints what the day list prints. */
 #include <stdio.h>
 #include <stdlib.h>
 #include "taskgraph.h"
@@ -20,13 +20,34 @@ static uint32_t *table(size_t words) {
     return memory;
 }
 
-/* Steps a posted call to its end. A host with several processes takes its lock round each call of tg_step. */
-static tg_answer run(uint32_t worker, tg_answer posted) {
-    tg_answer answer = posted;
-    if (posted.kind != TG_POSTED) return posted;
-    do answer = tg_step(sizes, TABLES, worker);
-    while (answer.kind == TG_GOING_ON);
-    return answer;
+/* The rows of a sheet, and in `entries` how many there are; a sheet that cannot be read ends the program. */
+static uint32_t *read_rows(const uint8_t *sheet, size_t len, size_t *entries) {
+    tg_sheet read = tg_scan_sheet(sheet, len);
+    if (read.number) {
+        printf("broken %zu %u\n", read.at, read.number);
+        exit(1);
+    }
+    *entries = read.entries;
+    uint32_t *rows = table(read.entries * TG_ENTRY_WORDS + 1);
+    tg_read_sheet(sheet, len, rows, read.entries * TG_ENTRY_WORDS);
+    return rows;
+}
+
+/* Adds the entries of all rows, as many in one call as it takes; how many entered. A host with several processes takes
+ * its lock round each call of tg_add_sheet. */
+static unsigned add_rows(uint32_t worker, const uint32_t *rows, size_t entries) {
+    unsigned added = 0;
+    for (size_t from = 0, part; from < entries; from += part) {
+        part = entries - from < TG_MAX_ENTRIES ? entries - from : TG_MAX_ENTRIES;
+        tg_sheet_added answer =
+            tg_add_sheet(sizes, TABLES, worker, rows + from * TG_ENTRY_WORDS, part * TG_ENTRY_WORDS);
+        for (size_t i = 0; i < part; i++) {
+            uint32_t number = answer.number ? answer.number : answer.numbers[i];
+            if (number) printf("refused %zu %u\n", from + i, number);
+            added += !number;
+        }
+    }
+    return added;
 }
 
 int main(void) {
@@ -43,17 +64,9 @@ int main(void) {
         return 1;
     }
 
-    unsigned added = 0;
-    for (size_t at = 0;;) {
-        tg_reading r = tg_read_entry(sheet, sizeof sheet, at);
-        if (r.number) {
-            printf("broken %zu %u\n", r.at, r.number);
-            return 1;
-        }
-        if (!r.found) break;
-        added += run(0, tg_post_add(sizes, TABLES, 0, r.entry)).kind == TG_ENDED;
-        at = r.at;
-    }
+    size_t entries;
+    const uint32_t *rows = read_rows(sheet, sizeof sheet, &entries);
+    unsigned added = add_rows(0, rows, entries);
     printf("jobs %u workers %u\n", added, sizes.workers);
 
     unsigned handed = 0, finished = 0;
@@ -69,7 +82,7 @@ int main(void) {
         if (!any) break;
         for (uint32_t w = 0; w < 2; w++)
             if (held[w].kind == TG_HANDED_OUT)
-                finished += run(w, tg_post_finish(sizes, TABLES, w, held[w].name)).kind == TG_ENDED;
+                finished += tg_finish(sizes, TABLES, w, held[w].name).kind == TG_ENDED;
     }
     printf("left %u\n", added - finished);
     return 0;

@@ -13,15 +13,12 @@ SHEET = bytes.fromhex("0101000000" "0102000000" "0103000000" "030400000002010000
 
 
 def add_all(graph, sheet):
-    """Worker 0 adds every entry. Answers how many entered, and prints those that were refused."""
-    added = 0
-    for place, entry in enumerate(read_sheet(sheet)):
-        try:
-            graph.add(0, entry)
-            added += 1
-        except Refusal as refusal:
+    """Worker 0 adds every entry, up to 64 in one call. Answers how many entered, and prints those that were refused."""
+    answers = graph.add_all(0, read_sheet(sheet))
+    for place, refusal in enumerate(answers):
+        if refusal is not None:
             print("refused", place, refusal.number)
-    return added
+    return answers.count(None)
 
 
 def work(graph):

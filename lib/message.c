@@ -19,6 +19,7 @@ static const char *const texts[] = {
     [TG_MAP] = "wrong map byte",
     [TG_VALUE] = "a field's value is off its limits",
     [TG_NO_ROOM] = "the output lacks room",
+    [TG_ENTRIES] = "more entries than one call takes",
 };
 
 const char *tg_message(uint32_t number)

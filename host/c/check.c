@@ -36,6 +36,10 @@ _Static_assert(offsetof(tg_answer, place) == 8, "tg_answer.place");
 _Static_assert(offsetof(tg_answer, job) == 12, "tg_answer.job");
 _Static_assert(offsetof(tg_answer, name) == 16, "tg_answer.name");
 _Static_assert(sizeof(tg_need) == 48, "tg_need");
+_Static_assert(sizeof(tg_sheet_added) == 4 * (1 + 2 * TG_MAX_ENTRIES), "tg_sheet_added");
+_Static_assert(offsetof(tg_sheet_added, numbers) == 4, "tg_sheet_added.numbers");
+_Static_assert(offsetof(tg_sheet_added, places) == 4 + 4 * TG_MAX_ENTRIES, "tg_sheet_added.places");
+_Static_assert(TG_MAX_ENTRIES == 64, "64 entries in one call");
 _Static_assert(sizeof(tg_holding) == 24, "tg_holding");
 _Static_assert(offsetof(tg_holding, holds) == 4, "tg_holding.holds");
 _Static_assert(offsetof(tg_holding, job) == 8, "tg_holding.job");
@@ -396,6 +400,178 @@ static void check_graph_refusals(void)
     answers("tg_get, label 3", tg_get(sizes, LENT, 0), refused(TG_DAMAGED, 0));
 }
 
+/* A copy of the five tables, to be compared after a call that changes nothing. */
+static uint32_t kept[LEN(jobs) + LEN(arcs) + LEN(buckets) + LEN(queue) + LEN(workers)];
+
+static void copy_tables(uint32_t *copy)
+{
+    memcpy(copy, jobs, sizeof jobs), copy += LEN(jobs);
+    memcpy(copy, arcs, sizeof arcs), copy += LEN(arcs);
+    memcpy(copy, buckets, sizeof buckets), copy += LEN(buckets);
+    memcpy(copy, queue, sizeof queue), copy += LEN(queue);
+    memcpy(copy, workers, sizeof workers);
+}
+
+static void unchanged(const char *what)
+{
+    static uint32_t now[LEN(kept)];
+    copy_tables(now);
+    same_bytes(what, now, kept, sizeof kept);
+}
+
+/* Jobs 1 and 2 needing 1: added, worked and finished by whole calls. */
+static void check_whole_calls(void)
+{
+    answers("tg_lay_out", tg_lay_out(sizes, LENT), laid_out);
+    const tg_entry first = {.name = 1}, second = {.name = 2, .count = 1, .class_ = 3, .grower = 9, .names = {1}};
+    answers("tg_add", tg_add(sizes, LENT, 0, first), ended);
+    answers("tg_add, job 2", tg_add(sizes, LENT, 0, second), ended);
+    const uint32_t words[8] = {2, 0, 1, 3, 9, UINT32_MAX, UINT32_MAX, UINT32_MAX};
+    same_bytes("tg_add: the words of job 2", jobs + 5 + 8, words, sizeof words);
+    answers("tg_get", tg_get(sizes, LENT, 1), handed_out(0, 1));
+    answers("tg_finish", tg_finish(sizes, LENT, 1, 1), ended);
+    answers("tg_get, the dependent", tg_get(sizes, LENT, 0), handed_out(1, 2));
+    answers("tg_add, by a holder", tg_add(sizes, LENT, 0, (tg_entry){.name = 3}), ended);
+    answers("tg_finish, without an arc", tg_finish(sizes, LENT, 0, 2), ended);
+    answers("tg_get, added by a holder", tg_get(sizes, LENT, 0), handed_out(2, 3));
+}
+
+static void check_whole_refusals(void)
+{
+    answers("tg_lay_out", tg_lay_out(sizes, LENT), laid_out);
+    const tg_sizes other = {.jobs = 8, .arcs = 8, .bits = 2, .workers = 1};
+    const tg_entry first = {.name = 1}, unknown = {.name = 2, .count = 2, .names = {1, 9}};
+    answers("tg_add", tg_add(sizes, LENT, 0, first), ended);
+    answers("tg_get", tg_get(sizes, LENT, 1), handed_out(0, 1));
+    copy_tables(kept);
+    answers("tg_add, other sizes", tg_add(other, LENT, 0, first), refused(TG_SIZE, 0));
+    answers("tg_add, worker 2", tg_add(sizes, LENT, 2, first), refused(TG_WORKER, 0));
+    answers("tg_add, 33 names", tg_add(sizes, LENT, 0, (tg_entry){.count = 33}), refused(TG_ARGUMENTS, 0));
+    answers("tg_add, unknown name", tg_add(sizes, LENT, 0, unknown), refused(TG_UNKNOWN_NAME, 1));
+    answers("tg_add, present name", tg_add(sizes, LENT, 0, first), refused(TG_NAME_PRESENT, 0));
+    answers("tg_finish, other sizes", tg_finish(other, LENT, 0, 1), refused(TG_SIZE, 0));
+    answers("tg_finish, worker 2", tg_finish(sizes, LENT, 2, 1), refused(TG_WORKER, 0));
+    answers("tg_finish, by another worker", tg_finish(sizes, LENT, 0, 1), refused(TG_NOT_HELD, 0));
+    answers("tg_finish, another name", tg_finish(sizes, LENT, 1, 2), refused(TG_NOT_HELD, 0));
+    unchanged("tg_add and tg_finish, refused: the tables");
+
+    arcs[0] = 8;
+    answers("tg_add, no arcs left", tg_add(sizes, LENT, 0, (tg_entry){.name = 2, .count = 1, .names = {1}}),
+            refused(TG_FULL, 0));
+    arcs[0] = 9;
+    answers("tg_add, more arcs reserved than there are", tg_add(sizes, LENT, 0, first), refused(TG_DAMAGED, 0));
+    answers("tg_finish, more arcs reserved than there are", tg_finish(sizes, LENT, 1, 1), refused(TG_DAMAGED, 0));
+    arcs[0] = 0;
+    unchanged("tg_add and tg_finish, full or damaged: the tables");
+    answers("tg_post_finish", tg_post_finish(sizes, LENT, 1, 1), posted);
+    answers("tg_add, half done", tg_add(sizes, LENT, 1, first), refused(TG_HALF_DONE, 0));
+    answers("tg_finish, half done", tg_finish(sizes, LENT, 1, 1), refused(TG_HALF_DONE, 0));
+    answers("tg_step, after these", tg_step(sizes, LENT, 1), ended);
+}
+
+/* Damage in the middle: an add stays half done, and a finish whose only arc is followed by itself uses up its steps. */
+static void check_whole_damaged(void)
+{
+    answers("tg_lay_out", tg_lay_out(sizes, LENT), laid_out);
+    answers("tg_add", tg_add(sizes, LENT, 0, (tg_entry){.name = 1}), ended);
+    jobs[5 + 1] = 3;
+    const tg_entry second = {.name = 2, .count = 1, .names = {1}};
+    answers("tg_add, label 3 in its middle", tg_add(sizes, LENT, 0, second), refused(TG_DAMAGED, 0));
+    answers("tg_add, after it", tg_add(sizes, LENT, 0, second), refused(TG_HALF_DONE, 0));
+    jobs[5 + 1] = 0;
+    answers("tg_step, put right", run_whole("a link and settling", 0, 2), ended);
+
+    arcs[1 + 1] = 0;
+    jobs[5 + 8 + 2] = 32;
+    answers("tg_get", tg_get(sizes, LENT, 0), handed_out(0, 1));
+    answers("tg_finish, arcs in a circle", tg_finish(sizes, LENT, 0, 1), going_on);
+    same("tg_finish: a mark, and a step for each of 8 arcs", jobs[5 + 8 + 2], 32 - 8);
+    arcs[1 + 1] = UINT32_MAX;
+    answers("tg_step, put right", tg_step(sizes, LENT, 0), ended);
+}
+
+/* What a sheet answers: its number, and each entry's number and place; all others are 0. */
+static void adds(const char *what, tg_sheet_added added, uint32_t number, const uint32_t (*wanted)[2], size_t entries)
+{
+    tg_sheet_added all = {.number = number};
+    for (size_t i = 0; i < entries; i++)
+        all.numbers[i] = wanted[i][0], all.places[i] = wanted[i][1];
+    same_bytes(what, &added, &all, sizeof all);
+}
+
+static tg_entry sheet[TG_MAX_ENTRIES + 1];
+
+#define ROWS(entries) (const uint32_t *)sheet, (entries) * TG_ENTRY_WORDS
+
+/* The entries of a sheet that was read, and refused ones of each kind among others. */
+static void check_add_sheet(void)
+{
+    answers("tg_lay_out", tg_lay_out(sizes, LENT), laid_out);
+    uint32_t rows[4 * TG_ENTRY_WORDS];
+    same("tg_read_sheet", tg_read_sheet(four_jobs, sizeof four_jobs, rows, LEN(rows)).entries, 4);
+    adds("tg_add_sheet, four jobs", tg_add_sheet(sizes, LENT, 0, rows, LEN(rows)), 0, NULL, 0);
+    same("tg_add_sheet, four jobs: made", jobs[4], 4);
+    same("tg_add_sheet, four jobs: put", queue[1], 3);
+    answers("tg_get", tg_get(sizes, LENT, 0), handed_out(0, 1));
+
+    const tg_entry mixed[8] = {
+        {.name = 5},  {.name = 6, .class_ = 16}, {.name = 6, .count = 2, .names = {5, 9}}, {.name = 5},
+        {.name = 6, .count = 6, .names = {1, 2, 3, 4, 5, 7}}, {.name = 6, .count = 5, .names = {1, 2, 3, 4, 5}},
+        {.name = 7, .count = 2, .names = {5, 6}}, {.name = 7, .count = 1, .names = {6}}};
+    const uint32_t wanted[8][2] = {{0, 0}, {5, 0}, {6, 1}, {7, 0}, {6, 5}, {0, 0}, {8, 0}, {0, 0}};
+    memcpy(sheet, mixed, sizeof mixed);
+    adds("tg_add_sheet, by a holder, with refused entries", tg_add_sheet(sizes, LENT, 0, ROWS(8)), 0, wanted, 8);
+    same("tg_add_sheet, with refused entries: made", jobs[4], 7);
+    same("tg_add_sheet, with refused entries: reserved", arcs[0], 8);
+    copy_tables(kept);
+    adds("tg_add_sheet, no entries", tg_add_sheet(sizes, LENT, 0, ROWS(0)), 0, NULL, 0);
+    unchanged("tg_add_sheet, no entries: the tables");
+}
+
+static void check_sheet_refusals(void)
+{
+    answers("tg_lay_out", tg_lay_out(sizes, LENT), laid_out);
+    const tg_sizes other = {.jobs = 8, .arcs = 8, .bits = 2, .workers = 1};
+    for (uint32_t i = 0; i <= TG_MAX_ENTRIES; i++)
+        sheet[i] = (tg_entry){.name = i};
+    answers("tg_post_add", tg_post_add(sizes, LENT, 1, (tg_entry){.name = 99}), posted);
+    copy_tables(kept);
+    adds("tg_add_sheet, no whole rows", tg_add_sheet(sizes, LENT, 2, ROWS(65) - 1), TG_SIZE, NULL, 0);
+    adds("tg_add_sheet, other sizes", tg_add_sheet(other, LENT, 2, ROWS(65)), TG_SIZE, NULL, 0);
+    adds("tg_add_sheet, worker 2", tg_add_sheet(sizes, LENT, 2, ROWS(65)), TG_WORKER, NULL, 0);
+    adds("tg_add_sheet, half done", tg_add_sheet(sizes, LENT, 1, ROWS(65)), TG_HALF_DONE, NULL, 0);
+    adds("tg_add_sheet, half done, no entries", tg_add_sheet(sizes, LENT, 1, ROWS(0)), TG_HALF_DONE, NULL, 0);
+    adds("tg_add_sheet, 65 entries", tg_add_sheet(sizes, LENT, 0, ROWS(65)), TG_ENTRIES, NULL, 0);
+    unchanged("tg_add_sheet, turned away: the tables");
+    workers[0] = 5;
+    adds("tg_add_sheet, phase 5", tg_add_sheet(sizes, LENT, 0, ROWS(65)), TG_DAMAGED, NULL, 0);
+    workers[0] = 0;
+    unchanged("tg_add_sheet, phase 5: the tables");
+    answers("tg_step, after these", run_whole("two steps", 1, 2), ended);
+
+    uint32_t full[TG_MAX_ENTRIES][2] = {{0}};
+    for (size_t i = 7; i < TG_MAX_ENTRIES; i++)
+        full[i][0] = TG_FULL;
+    adds("tg_add_sheet, 64 entries, room for 7", tg_add_sheet(sizes, LENT, 0, ROWS(64)), 0, full, 64);
+    same("tg_add_sheet, 64 entries: made", jobs[4], 8);
+}
+
+/* Damage that stops the second entry's add half done: each later entry gets what its post would get, 3. */
+static void check_sheet_damaged(void)
+{
+    answers("tg_lay_out", tg_lay_out(sizes, LENT), laid_out);
+    answers("tg_add", tg_add(sizes, LENT, 0, (tg_entry){.name = 1}), ended);
+    jobs[5 + 1] = 3;
+    const tg_entry four[4] = {
+        {.name = 2}, {.name = 3, .count = 1, .names = {1}}, {.name = 4}, {.name = 5, .class_ = 16}};
+    const uint32_t wanted[4][2] = {{0, 0}, {9, 0}, {3, 0}, {3, 0}};
+    memcpy(sheet, four, sizeof four);
+    adds("tg_add_sheet, label 3 in its middle", tg_add_sheet(sizes, LENT, 0, ROWS(4)), 0, wanted, 4);
+    same("tg_add_sheet, label 3 in its middle: made", jobs[4], 3);
+    jobs[5 + 1] = 0;
+    answers("tg_step, put right", run_whole("a link and settling", 0, 2), ended);
+}
+
 static void holds(const char *what, uint32_t worker, tg_holding wanted)
 {
     const tg_holding holding = tg_held(sizes, LENT, worker);
@@ -482,7 +658,8 @@ static void check_texts(void)
     same_text("tg_version", tg_version(), TG_VERSION);
     same_text("tg_message, 0", tg_message(TG_ACCEPTED), "accepted");
     same_text("tg_message, 15", tg_message(TG_NO_ROOM), "the output lacks room");
-    same_text("tg_message, 16", tg_message(TG_NO_ROOM + 1), "unknown number");
+    same_text("tg_message, 16", tg_message(TG_ENTRIES), "more entries than one call takes");
+    same_text("tg_message, 17", tg_message(TG_ENTRIES + 1), "unknown number");
     same_text("tg_message, the greatest", tg_message(UINT32_MAX), "unknown number");
 }
 
@@ -500,6 +677,12 @@ int main(void)
     check_lay_out();
     check_graph();
     check_graph_refusals();
+    check_whole_calls();
+    check_whole_refusals();
+    check_whole_damaged();
+    check_add_sheet();
+    check_sheet_refusals();
+    check_sheet_damaged();
     check_state();
     check_day_list();
     printf("%u passed, %u failed\n", passed, failed);

@@ -8,6 +8,7 @@ import ctypes as c
 from typing import Any
 
 MAX_NAMES = 32
+MAX_ENTRIES = 64
 REFUSED, GOING_ON, HANDED_OUT = 0, 3, 6
 
 
@@ -41,6 +42,10 @@ class tg_sizes(c.Structure):
 
 class tg_answer(c.Structure):
     _fields_ = _words("kind", "number", "place", "job", "name")
+
+
+class tg_sheet_added(c.Structure):
+    _fields_ = _words("number") + [("numbers", c.c_uint32 * MAX_ENTRIES), ("places", c.c_uint32 * MAX_ENTRIES)]
 
 
 class tg_need(c.Structure):
@@ -78,6 +83,9 @@ FUNCTIONS: dict[str, tuple[Any, list[Any]]] = {
     "tg_post_finish": (tg_answer, [*_GRAPH, c.c_uint32, c.c_uint32]),
     "tg_step": (tg_answer, [*_GRAPH, c.c_uint32]),
     "tg_get": (tg_answer, [*_GRAPH, c.c_uint32]),
+    "tg_add": (tg_answer, [*_GRAPH, c.c_uint32, tg_entry]),
+    "tg_finish": (tg_answer, [*_GRAPH, c.c_uint32, c.c_uint32]),
+    "tg_add_sheet": (tg_sheet_added, [*_GRAPH, c.c_uint32, *_ROWS]),
     "tg_held": (tg_holding, [*_GRAPH, c.c_uint32]),
     "tg_drained": (tg_drained_answer, [*_GRAPH]),
     "tg_totals_of_graph": (tg_totals, [tg_sizes, *_WORDS]),

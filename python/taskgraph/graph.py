@@ -4,16 +4,16 @@ from __future__ import annotations
 import ctypes
 import enum
 import mmap
-from collections.abc import Callable
+from collections.abc import Callable, Iterable
 from contextlib import AbstractContextManager, nullcontext
 from dataclasses import astuple, dataclass
 from typing import Any, NamedTuple, NoReturn
 
 from ._arguments import word
-from ._interface import GOING_ON, HANDED_OUT, REFUSED, tg_sizes
+from ._interface import GOING_ON, HANDED_OUT, MAX_ENTRIES, REFUSED, tg_sizes
 from ._library import library
 from .refusal import Refusal
-from .sheets import Entry, row
+from .sheets import Entry, row, rows
 
 
 @dataclass(frozen=True)
@@ -83,8 +83,8 @@ class Graph:
 
     memory  a bytearray, an mmap or the buffer of a SharedMemory; one process calls `lay_out` before the others
             use it. Without it the graph has memory of its own, and is laid out.
-    lock    held during each single call (a post, a step, a get, ..), and free between the steps of `add` and
-            `finish`. Graphs that several processes or threads use need one, the same for all of them.
+    lock    held during each call (a post, a step, a get, an add or a finish run whole, a sheet, ..), and free between
+            two calls. Graphs that several processes or threads use need one, the same for all of them.
 
     Each call may raise a Refusal. A worker number belongs to one process at a time.
     """
@@ -164,16 +164,38 @@ class Graph:
     # ---- whole calls
 
     def add(self, worker: int, entry: Entry) -> None:
-        """Posts an add and steps it to its end. Refused by 1, 2, 9, 3, 5, 6, 7 or 8."""
-        self.post_add(worker, entry)
-        while self.step(worker):
-            pass
+        """An add from its post to its end, in one call. Refused by 1, 2, 9, 3, 5, 6, 7 or 8."""
+        self._answer("tg_add", _worker(worker), row(entry))
 
     def finish(self, worker: int, name: int) -> None:
-        """Posts the finish of the held job and steps it to its end. Refused by 1, 2, 9, 3 or 11."""
-        self.post_finish(worker, name)
-        while self.step(worker):
-            pass
+        """The finish of the held job from its post to its end, in one call. Refused by 1, 2, 9, 3 or 11."""
+        answer = self._answer("tg_finish", _worker(worker), word(name, "the name"))
+        # only in damaged tables does a list of arcs run in a circle; the steps come to its end
+        goes_on = answer.kind == GOING_ON
+        while goes_on:
+            goes_on = self.step(worker)
+
+    def add_sheet(self, worker: int, entries: Iterable[Entry]) -> list[Refusal | None]:
+        """Adds at most 64 entries in one call, each as `add` does, in order; a refused one does not stop the next.
+
+        Answers for each entry None, or the refusal of its add. Before any entry, refused by 1, 2, 9, 3 or 16.
+        """
+        return self._added(_worker(worker), list(entries))
+
+    def add_all(self, worker: int, entries: Iterable[Entry]) -> list[Refusal | None]:
+        """Adds any number of entries, 64 in one call, with the lock free between two calls. Refused as the first call.
+
+        After damage in the middle of a call the next ones are turned away: each of their entries has that refusal.
+        """
+        number, listed = _worker(worker), list(entries)
+        answers = self._added(number, listed[:MAX_ENTRIES])
+        for start in range(MAX_ENTRIES, len(listed), MAX_ENTRIES):
+            part = listed[start : start + MAX_ENTRIES]
+            try:
+                answers += self._added(number, part)
+            except Refusal as refusal:
+                answers += [refusal] * len(part)
+        return answers
 
     # ---- the memory
 
@@ -203,8 +225,15 @@ class Graph:
     def _answer(self, name: str, *more: object) -> Any:
         answer = self._called(name, *more)
         if answer.kind == REFUSED:
-            raise Refusal(answer.number, place=answer.place if answer.number == 6 else None)
+            raise _refused(answer.number, answer.place)
         return answer
+
+    def _added(self, worker: int, entries: list[Entry]) -> list[Refusal | None]:
+        """One call of tg_add_sheet: for each entry its refusal, or None."""
+        added = self._called("tg_add_sheet", worker, *rows(entries))
+        if added.number:
+            raise Refusal(added.number)
+        return [_refusal(number, place) for number, place, _ in zip(added.numbers, added.places, entries)]
 
     def _read(self, name: str, *more: object) -> Any:
         """One call of a function that changes no word."""
@@ -212,6 +241,15 @@ class Graph:
         if answer.number:
             raise Refusal(answer.number)
         return answer
+
+
+def _refused(number: int, place: int) -> Refusal:
+    return Refusal(number, place=place if number == 6 else None)
+
+
+def _refusal(number: int, place: int) -> Refusal | None:
+    """What an entry of a sheet is answered."""
+    return _refused(number, place) if number else None
 
 
 def _worker(number: object) -> int:

@@ -49,15 +49,21 @@ def row(entry: object) -> tg_entry:
     return tg_entry(entry.name, len(entry.prerequisites), entry.class_, entry.grower, names)
 
 
+def rows(entries: Iterable[Entry]) -> tuple[ctypes.Array[tg_entry], int]:
+    """The entries as C has them, one after another, and how many words they are."""
+    listed = [row(entry) for entry in entries]
+    return (tg_entry * len(listed))(*listed), len(listed) * _ROW_WORDS
+
+
 def read_sheet(sheet: bytes | bytearray | memoryview) -> list[Entry]:
     """The entries of a whole sheet. Refused by 12, 13 or 14 with the offset."""
     data = octets(sheet, "a sheet")
     counted = library().tg_scan_sheet(data, len(data))
     if counted.number:
         raise Refusal(counted.number, offset=counted.at)
-    rows = (tg_entry * counted.entries)()
-    library().tg_read_sheet(data, len(data), rows, len(rows) * _ROW_WORDS)
-    return [Entry(row.name, tuple(row.names[: row.count]), row.class_, row.grower) for row in rows]
+    read = (tg_entry * counted.entries)()
+    library().tg_read_sheet(data, len(data), read, len(read) * _ROW_WORDS)
+    return [Entry(row.name, tuple(row.names[: row.count]), row.class_, row.grower) for row in read]
 
 
 def write_sheet(entries: Iterable[Entry], most: int | None = None) -> bytes:
@@ -65,13 +71,12 @@ def write_sheet(entries: Iterable[Entry], most: int | None = None) -> bytes:
 
     With `most`, a sheet that takes more bytes is refused by 15.
     """
-    rows = [row(entry) for entry in entries]
-    room = len(rows) * _ENTRY_BYTES
+    array, words = rows(entries)
+    room = len(array) * _ENTRY_BYTES
     if most is not None:
         room = min(room, word(most, "the most bytes"))
     out = ctypes.create_string_buffer(max(room, 1))
-    array = (tg_entry * len(rows))(*rows)
-    written = library().tg_write_sheet(array, len(rows) * _ROW_WORDS, out, room)
+    written = library().tg_write_sheet(array, words, out, room)
     if written.number == 14:
         raise Refusal(14, offset=written.at, entry=written.entry)
     if written.number:

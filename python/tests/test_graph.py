@@ -5,7 +5,7 @@ import pickle
 import unittest
 from multiprocessing.shared_memory import SharedMemory
 
-from support import SMALL
+from support import SMALL, put_word, random_entry, seeded, word_place
 from taskgraph import Call, Entry, Graph, Holding, Job, Refusal, Sizes, Words
 
 
@@ -97,6 +97,82 @@ class Calls(unittest.TestCase):
         self.assertEqual(caught.exception.number, 2)
 
 
+def numbers(answers):
+    """Of each entry's answer the number and the place."""
+    return [(refusal.number, refusal.place) if refusal else None for refusal in answers]
+
+
+class WholeSheets(unittest.TestCase):
+    def test_a_refused_entry_does_not_stop_the_next(self):
+        graph = Graph(SMALL)
+        sheet = [
+            Entry(1), Entry(2, class_=16), Entry(2, (1, 9)), Entry(1), Entry(2, (1,)), Entry(3, (1, 2)),
+            Entry(4, (1, 2)), Entry(4), Entry(5),
+        ]
+        answers = [None, (5, None), (6, 1), (7, None), None, None, (8, None), None, (8, None)]
+        self.assertEqual(numbers(graph.add_sheet(0, iter(sheet))), answers)
+        self.assertEqual(graph.get(0), Job(0, 1))
+        self.assertEqual(graph.add_sheet(0, []), [])
+        self.assertEqual(numbers(Graph(SMALL).add_all(0, sheet)), answers)
+
+    def test_the_words_are_those_of_single_adds(self):
+        source = seeded("sheets")
+        sizes = Sizes(jobs=50, arcs=60, bits=3, workers=2)
+        whole, single = bytearray(Graph.room(sizes)), bytearray(Graph.room(sizes))
+        graph, other = Graph(sizes, whole), Graph(sizes, single)
+        for count in [0, 1, 64, 20]:
+            graph.lay_out()
+            other.lay_out()
+            entries = [random_entry(source, 40) for _ in range(count)]
+            answers = []
+            for entry in entries:
+                try:
+                    other.post_add(1, entry)
+                    steps(other, 1)
+                    answers.append(None)
+                except Refusal as refusal:
+                    answers.append((refusal.number, refusal.place))
+            self.assertEqual(numbers(graph.add_sheet(1, entries)), answers)
+            self.assertEqual(whole, single)
+
+    def test_more_than_one_call_takes(self):
+        graph = Graph(Sizes(jobs=150, arcs=0, bits=8, workers=1))
+        with self.assertRaises(Refusal) as caught:
+            graph.add_sheet(0, map(Entry, range(65)))
+        self.assertEqual(caught.exception.number, 16)
+        self.assertEqual(sum(graph.totals().jobs), 0)
+        answers = graph.add_all(0, map(Entry, range(151)))
+        self.assertEqual(numbers(answers), [None] * 150 + [(8, None)])
+
+    def test_damage_in_the_middle(self):
+        sizes = Sizes(jobs=150, arcs=1, bits=8, workers=1)
+        memory = bytearray(Graph.room(sizes))
+        graph = Graph(sizes, memory)
+        graph.lay_out()
+        graph.add(0, Entry(1000))
+        put_word(memory, word_place(sizes, "jobs", 6), 3)  # the label of job 0
+        entries = [Entry(0), Entry(1, (1000,)), *map(Entry, range(2, 100))]
+        answers = graph.add_all(0, entries)
+        self.assertEqual(numbers(answers), [None, (9, None), *[(3, None)] * 98])
+        put_word(memory, word_place(sizes, "jobs", 6), 0)
+        self.assertEqual(graph.held(0), Holding(None, Call.ADD, 1))
+        self.assertEqual(steps(graph, 0), 2)
+        self.assertEqual(numbers(graph.add_all(0, entries[2:])), [None] * 98)
+
+    def test_a_finish_whose_arcs_run_in_a_circle(self):
+        memory = bytearray(Graph.room(SMALL))
+        graph = Graph(SMALL, memory)
+        graph.lay_out()
+        graph.add_sheet(0, [Entry(1), Entry(2, (1,))])
+        graph.get(0)
+        put_word(memory, word_place(SMALL, "arcs", 2), 0)  # the next arc of arc 0
+        put_word(memory, word_place(SMALL, "jobs", 5 + 8 + 2), 32)  # the remaining count of job 1
+        with self.assertRaises(Refusal) as caught:
+            graph.finish(0, 1)
+        self.assertEqual(caught.exception.number, 9)
+        self.assertEqual(graph.held(0), Holding(None, Call.FINISH, None))
+
+
 class Memory(unittest.TestCase):
     def test_room(self):
         self.assertEqual(Graph.words(SMALL), Words(5 + 8 * 4, 1 + 2 * 4, 4, 2 + 4, 42 * 2))
@@ -166,15 +242,18 @@ class Locking(unittest.TestCase):
         lock = Counter()
         graph = Graph(SMALL, lock=lock)
         self.assertEqual(lock.taken, 1)
-        graph.add(0, Entry(1))  # a post and 2 steps
+        graph.post_add(0, Entry(1))
+        steps(graph, 0)  # 2 steps
         self.assertEqual(lock.taken, 4)
-        graph.add(0, Entry(2, (1,)))  # a post and 4 steps
-        self.assertEqual(lock.taken, 9)
+        graph.add(0, Entry(2, (1,)))
         graph.get(1)
         graph.totals()
+        graph.finish(1, 1)
+        self.assertEqual(lock.taken, 8)
+        graph.add_sheet(0, [Entry(3), Entry(4)])
+        self.assertEqual(lock.taken, 9)
+        graph.add_all(0, [Entry(3)] * 65)
         self.assertEqual(lock.taken, 11)
-        graph.finish(1, 1)  # a post and 2 steps
-        self.assertEqual(lock.taken, 14)
 
     def test_free_after_a_refusal(self):
         lock = Counter()

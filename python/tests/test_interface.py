@@ -16,7 +16,7 @@ def header():
     text = re.sub(r"/\*.*?\*/", " ", text, flags=re.S)
     constants = dict(re.findall(r"\b(TG_\w+) = (\d+)", text))
     text = re.sub(r"^#(?:.*\\\n)*.*$", "", text, flags=re.M)
-    return text.replace("TG_MAX_NAMES]", constants["TG_MAX_NAMES"] + "]"), constants
+    return re.sub(r"\[(TG_\w+)\]", lambda length: f"[{constants[length[1]]}]", text), constants
 
 
 def fields(body):
@@ -65,6 +65,7 @@ class Interface(unittest.TestCase):
     def test_constants(self):
         _, constants = header()
         self.assertEqual(int(constants["TG_MAX_NAMES"]), _interface.MAX_NAMES)
+        self.assertEqual(int(constants["TG_MAX_ENTRIES"]), _interface.MAX_ENTRIES)
         self.assertEqual(int(constants["TG_ENTRY_WORDS"]) * 4, ctypes.sizeof(_interface.tg_entry))
         for name in ("REFUSED", "GOING_ON", "HANDED_OUT"):
             self.assertEqual(int(constants[f"TG_{name}"]), getattr(_interface, name))

@@ -26,6 +26,12 @@ def while_half_done():
     graph.get(0)
 
 
+def sheet_while_half_done():
+    graph = small()
+    graph.post_add(0, Entry(1))
+    graph.add_sheet(0, [Entry(1)] * 65)
+
+
 def with_damaged_words():
     memory = bytearray(Graph.room(SMALL))
     graph = Graph(SMALL, memory)
@@ -73,6 +79,8 @@ CASES = [
     (14, None, 10, 1, lambda: write_sheet([Entry(1), Entry(2, (1,), 16)])),
     (14, None, 5, 0, lambda: write_sheet([Entry(99, tuple(range(33)))], most=0)),
     (15, None, None, None, lambda: write_sheet([Entry(1), Entry(2)], most=9)),
+    (16, None, None, None, lambda: small().add_sheet(0, [Entry(1)] * 65)),
+    (3, None, None, None, sheet_while_half_done),
 ]
 
 
@@ -87,7 +95,7 @@ class Refusals(unittest.TestCase):
             self.assertTrue(str(found).startswith(f"refused by {number}: {found.message}"), str(found))
 
     def test_none_is_left_out(self):
-        self.assertEqual({number for number, *_ in CASES}, set(range(1, 16)))
+        self.assertEqual({number for number, *_ in CASES}, set(range(1, 17)))
 
     def test_text(self):
         self.assertEqual(str(Refusal(6, place=2)), f"refused by 6: {message(6)} (place 2)")
@@ -102,8 +110,8 @@ class Refusals(unittest.TestCase):
 
 class Messages(unittest.TestCase):
     def test_one_for_each_number(self):
-        self.assertEqual(sorted(refusal.MESSAGES), list(range(1, 16)))
-        self.assertEqual(len(set(refusal.MESSAGES.values())), 15)
+        self.assertEqual(sorted(refusal.MESSAGES), list(range(1, 17)))
+        self.assertEqual(len(set(refusal.MESSAGES.values())), 16)
 
     def test_are_those_of_the_library(self):
         library = _library.library()
@@ -114,4 +122,4 @@ class Messages(unittest.TestCase):
                     self.assertEqual(library.tg_message(number).decode(), text)
 
     def test_another_number(self):
-        self.assertEqual(message(16), "unknown number")
+        self.assertEqual(message(17), "unknown number")

@@ -1,5 +1,5 @@
-//! A host in Rust: reads the job sheet of `docs/RULES.md`, adds its jobs, and lets two workers take and finish them in
-//! turn. It prints what the day list prints.
+//! A host in Rust: reads the job sheet of `docs/RULES.md`, adds its jobs, up to 64 in one call, and lets two workers
+//! take and finish them in turn. It prints what the day list prints.
 
 use taskgraph::{read_sheet, Graph, Refusal, Sizes, TaskGraph};
 
@@ -9,10 +9,14 @@ const SHEET: [u8; 29] = [1, 1, 0, 0, 0, 1, 2, 0, 0, 0, 1, 3, 0, 0, 0, 3, 4, 0, 0
 fn main() -> Result<(), Refusal> {
     let mut graph = Graph::create(SIZES)?;
     let jobs = read_sheet(&SHEET)?;
-    for job in &jobs {
-        graph.add(0, job)?;
+    let answers = graph.add_all(0, &jobs)?;
+    for (entry, answer) in answers.iter().enumerate() {
+        if let Err(refusal) = answer {
+            println!("refused {entry} {}", refusal.number());
+        }
     }
-    println!("jobs {} workers {}", jobs.len(), SIZES.workers);
+    let added = answers.iter().filter(|answer| answer.is_ok()).count();
+    println!("jobs {added} workers {}", SIZES.workers);
 
     let mut handed_out = 0;
     loop {
@@ -32,6 +36,6 @@ fn main() -> Result<(), Refusal> {
         }
     }
     assert!(graph.drained()?);
-    println!("left {}", jobs.len() as u32 - graph.totals()?.finished.jobs);
+    println!("left {}", added as u32 - graph.totals()?.finished.jobs);
     Ok(())
 }

@@ -9,6 +9,8 @@ pub const MAX_NAMES: usize = 32;
 pub const ENTRY_WORDS: usize = 36;
 /// The longest entry of a sheet, in bytes.
 pub const MAX_ENTRY_BYTES: usize = 137;
+/// The entries that one call adds at most.
+pub const MAX_ENTRIES: usize = 64;
 /// The longest day list of two workers, in bytes.
 pub const MAX_DAY_LIST: usize = 97_979;
 /// The jobs that a day list has room for.
@@ -148,6 +150,24 @@ pub struct Need {
     pub workers: usize,
 }
 
+/// What adding the entries of a sheet answers.
+#[repr(C)]
+#[derive(Clone, Copy, Debug, PartialEq, Eq)]
+pub struct SheetAdded {
+    /// 0, or the number that turned the sheet away before any entry: 1, 2, 9, 3 or 16.
+    pub number: u32,
+    /// For each entry the number that refused its add, or 0.
+    pub numbers: [u32; MAX_ENTRIES],
+    /// For each entry refused by 6 the place in its list, else 0.
+    pub places: [u32; MAX_ENTRIES],
+}
+
+impl Default for SheetAdded {
+    fn default() -> SheetAdded {
+        SheetAdded { number: 0, numbers: [0; MAX_ENTRIES], places: [0; MAX_ENTRIES] }
+    }
+}
+
 /// What a worker holds, and the call that it has half done.
 #[repr(C)]
 #[derive(Clone, Copy, Debug, Default, PartialEq, Eq)]
@@ -196,6 +216,7 @@ const _: () = assert!(size_of::<Totals>() == 28);
 const _: () = assert!(size_of::<Sizes>() == 16);
 const _: () = assert!(size_of::<Answer>() == 20);
 const _: () = assert!(size_of::<Need>() == 48);
+const _: () = assert!(size_of::<SheetAdded>() == 4 + 8 * MAX_ENTRIES);
 const _: () = assert!(size_of::<Holding>() == 24);
 const _: () = assert!(size_of::<DrainedAnswer>() == 8);
 const _: () = assert!(size_of::<Day>() == 16);
@@ -301,6 +322,55 @@ extern "C" {
         workers_len: usize,
         worker: u32,
     ) -> Answer;
+    /// Adds a job, run whole.
+    pub fn tg_add(
+        sizes: Sizes,
+        jobs: *mut u32,
+        jobs_len: usize,
+        arcs: *mut u32,
+        arcs_len: usize,
+        buckets: *mut u32,
+        buckets_len: usize,
+        queue: *mut u32,
+        queue_len: usize,
+        workers: *mut u32,
+        workers_len: usize,
+        worker: u32,
+        entry: Entry,
+    ) -> Answer;
+    /// Finishes the held job, run whole.
+    pub fn tg_finish(
+        sizes: Sizes,
+        jobs: *mut u32,
+        jobs_len: usize,
+        arcs: *mut u32,
+        arcs_len: usize,
+        buckets: *mut u32,
+        buckets_len: usize,
+        queue: *mut u32,
+        queue_len: usize,
+        workers: *mut u32,
+        workers_len: usize,
+        worker: u32,
+        name: u32,
+    ) -> Answer;
+    /// Adds the entries of all rows, each run whole, in order.
+    pub fn tg_add_sheet(
+        sizes: Sizes,
+        jobs: *mut u32,
+        jobs_len: usize,
+        arcs: *mut u32,
+        arcs_len: usize,
+        buckets: *mut u32,
+        buckets_len: usize,
+        queue: *mut u32,
+        queue_len: usize,
+        workers: *mut u32,
+        workers_len: usize,
+        worker: u32,
+        rows: *const u32,
+        rows_len: usize,
+    ) -> SheetAdded;
     /// What a worker holds, and the call that it has half done.
     pub fn tg_held(
         sizes: Sizes,

@@ -1,7 +1,7 @@
 //! The task graph: its calls over any memory, and a graph in memory of its own.
 
 use crate::{
-    raw::{self, kind, Answer, Sizes, Tables, CALL_ADD, CALL_NONE},
+    raw::{self, kind, Answer, SheetAdded, Sizes, Tables, CALL_ADD, CALL_NONE, MAX_ENTRIES},
     Job, Refusal, Totals,
 };
 
@@ -72,23 +72,55 @@ pub trait TaskGraph {
     /// The tables, lent for a call.
     fn tables(&mut self) -> Tables<'_>;
 
-    /// Adds a job by a worker, all steps at once.
+    /// Adds a job by a worker, run whole in one call.
     ///
     /// # Errors
     /// 5 for wrong arguments, 6 for a prerequisite that no job has, 7 for a name that is there, 8 where it is full;
     /// 3 where the worker's call is half done.
     fn add(&mut self, worker: u32, job: &Job) -> Result<(), Refusal> {
-        self.post_add(worker, job)?;
-        self.run(worker)
+        accepted(raw::add(self.sizes(), &mut self.tables(), worker, job.to_entry())).map(drop)
     }
 
-    /// Finishes the job that the worker holds, all steps at once.
+    /// Finishes the job that the worker holds, run whole in one call.
     ///
     /// # Errors
     /// 11 where the worker holds no job of that name; 3 where its call is half done.
     fn finish(&mut self, worker: u32, name: u32) -> Result<(), Refusal> {
-        self.post_finish(worker, name)?;
-        self.run(worker)
+        let answer = accepted(raw::finish(self.sizes(), &mut self.tables(), worker, name))?;
+        // Only in damaged words does a list of arcs run in a circle; the steps come to its end.
+        if answer.kind == kind::GOING_ON {
+            return self.run(worker);
+        }
+        Ok(())
+    }
+
+    /// Adds at most [`MAX_ENTRIES`] jobs in one call, each run whole, in order, and answers how the add of each ended. A
+    /// refused one does not stop the next, so a job may list those before it.
+    ///
+    /// # Errors
+    /// Before any job, and with nothing changed: 16 for more jobs than one call takes, which
+    /// [`add_all`](TaskGraph::add_all) splits; 3 where the worker's call is half done.
+    ///
+    /// ```
+    /// # use taskgraph::{Graph, Job, Refusal, Sizes, TaskGraph};
+    /// let mut graph = Graph::create(Sizes { jobs: 16, arcs: 64, bits: 4, workers: 1 })?;
+    /// let sheet = [Job::new(1, &[]), Job::new(2, &[9]), Job::new(3, &[1])];
+    /// assert_eq!(graph.add_sheet(0, &sheet)?, [Ok(()), Err(Refusal::UnknownName { place: 0 }), Ok(())]);
+    /// assert_eq!(graph.add_sheet(0, &vec![Job::default(); 65]), Err(Refusal::Entries));
+    /// # Ok::<(), Refusal>(())
+    /// ```
+    fn add_sheet(&mut self, worker: u32, jobs: &[Job]) -> Result<Vec<Result<(), Refusal>>, Refusal> {
+        let rows: Vec<u32> = jobs.iter().flat_map(|job| job.to_entry().to_row()).collect();
+        each_of(raw::add_sheet(self.sizes(), &mut self.tables(), worker, &rows), jobs.len())
+    }
+
+    /// Adds any number of jobs, [`MAX_ENTRIES`] in one call, and answers how the add of each ended.
+    ///
+    /// # Errors
+    /// As [`add_sheet`](TaskGraph::add_sheet) for the first call, but for 16. A later call is turned away only after
+    /// damage in an earlier one; each of its jobs is then refused by that number.
+    fn add_all(&mut self, worker: u32, jobs: &[Job]) -> Result<Vec<Result<(), Refusal>>, Refusal> {
+        in_parts(jobs, |part| self.add_sheet(worker, part))
     }
 
     /// Takes the job that waits longest, or none where no job waits.
@@ -159,6 +191,44 @@ pub trait TaskGraph {
     /// 1 or 9, where the words are not those of a graph of these sizes.
     fn totals(&self) -> Result<Totals, Refusal> {
         Totals::of(raw::totals_of_graph(self.sizes(), self.words()[0]))
+    }
+}
+
+/// How the adds of a sheet of so many jobs ended, or why it was turned away.
+fn each_of(added: SheetAdded, jobs: usize) -> Result<Vec<Result<(), Refusal>>, Refusal> {
+    Refusal::unless_accepted(added.number, 0)?;
+    let answers = added.numbers.iter().zip(&added.places).take(jobs);
+    Ok(answers.map(|(number, place)| Refusal::unless_accepted(*number, *place as usize)).collect())
+}
+
+/// Adds parts of at most [`MAX_ENTRIES`] jobs; the first is also taken where there are no jobs.
+pub(crate) fn in_parts<E: TurnedAway>(
+    jobs: &[Job],
+    mut add: impl FnMut(&[Job]) -> Result<Vec<Result<(), Refusal>>, E>,
+) -> Result<Vec<Result<(), Refusal>>, E> {
+    let (first, rest) = jobs.split_at(jobs.len().min(MAX_ENTRIES));
+    let mut answers = add(first)?;
+    for part in rest.chunks(MAX_ENTRIES) {
+        match add(part) {
+            Ok(more) => answers.extend(more),
+            Err(error) => {
+                let refusal = error.turned_away()?;
+                answers.extend(part.iter().map(|_| Err(refusal)));
+            }
+        }
+    }
+    Ok(answers)
+}
+
+/// An error that may be a refusal.
+pub(crate) trait TurnedAway: Sized {
+    /// The refusal, or the error that is none.
+    fn turned_away(self) -> Result<Refusal, Self>;
+}
+
+impl TurnedAway for Refusal {
+    fn turned_away(self) -> Result<Refusal, Refusal> {
+        Ok(self)
     }
 }
 

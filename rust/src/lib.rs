@@ -13,9 +13,7 @@
 //! // Jobs 1 and 2, then 3 needing both, as a job sheet.
 //! let sheet = [1, 1, 0, 0, 0, 1, 2, 0, 0, 0, 3, 3, 0, 0, 0, 2, 1, 0, 0, 0, 2, 0, 0, 0];
 //! let mut graph = Graph::create(Sizes { jobs: 16, arcs: 64, bits: 4, workers: 2 })?;
-//! for job in read_sheet(&sheet)? {
-//!     graph.add(0, &job)?;
-//! }
+//! assert_eq!(graph.add_all(0, &read_sheet(&sheet)?)?, [Ok(()), Ok(()), Ok(())]);
 //! assert_eq!(graph.add(0, &Job::new(4, &[1, 9])), Err(Refusal::UnknownName { place: 1 }));
 //!
 //! // Worker 0 takes 1 and worker 1 takes 2; nobody gets 3 until both are finished.

@@ -6,8 +6,8 @@ use std::{ffi::CStr, os::raw::c_char};
 use crate::ffi;
 
 pub use crate::ffi::{
-    Answer, Day, DrainedAnswer, Entry, Holding, JobRecord, Need, Reading, Sheet, SheetWritten, Sizes, Totals, Written,
-    DAY_JOBS, ENTRY_WORDS, MAX_DAY_LIST, MAX_ENTRY_BYTES, MAX_NAMES,
+    Answer, Day, DrainedAnswer, Entry, Holding, JobRecord, Need, Reading, Sheet, SheetAdded, SheetWritten, Sizes,
+    Totals, Written, DAY_JOBS, ENTRY_WORDS, MAX_DAY_LIST, MAX_ENTRIES, MAX_ENTRY_BYTES, MAX_NAMES,
 };
 
 /// The kinds of an answer.
@@ -102,6 +102,21 @@ pub fn step(sizes: Sizes, tables: &mut Tables, worker: u32) -> Answer {
 /// Takes the job longest in the queue.
 pub fn get(sizes: Sizes, tables: &mut Tables, worker: u32) -> Answer {
     call!(tg_get, sizes, tables, worker)
+}
+
+/// Adds a job, run whole.
+pub fn add(sizes: Sizes, tables: &mut Tables, worker: u32, entry: Entry) -> Answer {
+    call!(tg_add, sizes, tables, worker, entry)
+}
+
+/// Finishes the held job of a name, run whole.
+pub fn finish(sizes: Sizes, tables: &mut Tables, worker: u32, name: u32) -> Answer {
+    call!(tg_finish, sizes, tables, worker, name)
+}
+
+/// Adds the entries of all rows, [`ENTRY_WORDS`] words each, run whole, in order.
+pub fn add_sheet(sizes: Sizes, tables: &mut Tables, worker: u32, rows: &[u32]) -> SheetAdded {
+    call!(tg_add_sheet, sizes, tables, worker, rows.as_ptr(), rows.len())
 }
 
 /// What a worker holds, and the call that it has half done; the tables are in the order of [`Tables`].

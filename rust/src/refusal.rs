@@ -6,7 +6,8 @@ use crate::raw;
 
 /// A number of the list of turned-away calls, with the place or offset where the list has one.
 ///
-/// A refused call changes nothing, save that after 6, 7 and 8 the worker is idle again.
+/// A refused call changes nothing, save that after 6, 7 and 8 the worker is idle again. After a 9 in the middle of a call
+/// run whole, which only damaged words give, that call is half done.
 #[derive(Clone, Copy, Debug, PartialEq, Eq, Hash)]
 #[non_exhaustive]
 pub enum Refusal {
@@ -52,6 +53,8 @@ pub enum Refusal {
     },
     /// 15: the output lacks room.
     NoRoom,
+    /// 16: more entries than one call takes.
+    Entries,
 }
 
 impl Refusal {
@@ -76,6 +79,7 @@ impl Refusal {
             13 => Refusal::Map { at },
             14 => Refusal::Value { at },
             15 => Refusal::NoRoom,
+            16 => Refusal::Entries,
             _ => panic!("the library answered {number}, which is no number of the list"),
         }
     }
@@ -106,6 +110,7 @@ impl Refusal {
             Refusal::Map { .. } => 13,
             Refusal::Value { .. } => 14,
             Refusal::NoRoom => 15,
+            Refusal::Entries => 16,
         }
     }
 }
@@ -129,7 +134,7 @@ mod tests {
 
     #[test]
     fn numbers_go_there_and_back() {
-        for number in 1..=15 {
+        for number in 1..=16 {
             assert_eq!(Refusal::of(number, 7).number(), number);
         }
         assert_eq!(Refusal::unless_accepted(0, 7), Ok(()));

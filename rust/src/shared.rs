@@ -10,6 +10,7 @@ use std::{fmt, marker::PhantomData, path::Path};
 use file::{SharedFile, TORN, WHOLE, WRITING};
 
 use crate::{
+    graph::{in_parts, TurnedAway},
     raw::{Sizes, Tables},
     HandedOut, Holding, Job, Progress, Refusal, TaskGraph, Totals,
 };
@@ -96,24 +97,39 @@ impl SharedGraph {
         Ok(call(&mut self.lock()?)?)
     }
 
-    /// Adds a job by a worker, with the lock round each step: other workers' steps may come between.
+    /// Adds a job by a worker, run whole under one lock.
     ///
-    /// `graph.lock()?.add(worker, job)` takes all steps under one lock.
+    /// Where the lock should be free between the steps, for a long list beside other workers, it is
+    /// `graph.lock()?.post_add(worker, job)?` and then [`run`](SharedGraph::run).
     ///
     /// # Errors
     /// As [`TaskGraph::add`], and as [`lock`](SharedGraph::lock).
     pub fn add(&self, worker: u32, job: &Job) -> Result<(), SharedError> {
-        self.call(|graph| graph.post_add(worker, job))?;
-        self.run(worker)
+        self.call(|graph| graph.add(worker, job))
     }
 
-    /// Finishes the job that the worker holds, with the lock round each step.
+    /// Finishes the job that the worker holds, run whole under one lock.
     ///
     /// # Errors
     /// As [`TaskGraph::finish`], and as [`lock`](SharedGraph::lock).
     pub fn finish(&self, worker: u32, name: u32) -> Result<(), SharedError> {
-        self.call(|graph| graph.post_finish(worker, name))?;
-        self.run(worker)
+        self.call(|graph| graph.finish(worker, name))
+    }
+
+    /// Adds at most [`MAX_ENTRIES`](crate::raw::MAX_ENTRIES) jobs in one call, each run whole, all under one lock.
+    ///
+    /// # Errors
+    /// As [`TaskGraph::add_sheet`], and as [`lock`](SharedGraph::lock).
+    pub fn add_sheet(&self, worker: u32, jobs: &[Job]) -> Result<Vec<Result<(), Refusal>>, SharedError> {
+        self.call(|graph| graph.add_sheet(worker, jobs))
+    }
+
+    /// Adds any number of jobs in parts, with the lock round each part: other workers' calls may come between.
+    ///
+    /// # Errors
+    /// As [`TaskGraph::add_all`], and as [`lock`](SharedGraph::lock).
+    pub fn add_all(&self, worker: u32, jobs: &[Job]) -> Result<Vec<Result<(), Refusal>>, SharedError> {
+        in_parts(jobs, |part| self.add_sheet(worker, part))
     }
 
     /// Steps the worker's call to its end, with the lock round each step; also a call that a process left half done.
@@ -155,6 +171,15 @@ impl SharedGraph {
     /// As [`TaskGraph::totals`], and as [`lock`](SharedGraph::lock).
     pub fn totals(&self) -> Result<Totals, SharedError> {
         self.call(|graph| graph.totals())
+    }
+}
+
+impl TurnedAway for SharedError {
+    fn turned_away(self) -> Result<Refusal, SharedError> {
+        match self {
+            SharedError::Refused(refusal) => Ok(refusal),
+            error => Err(error),
+        }
     }
 }
 

@@ -114,3 +114,93 @@ fn damage_is_found() {
     graph.tables().jobs[0] = 5;
     assert_eq!(graph.get(0), Err(Refusal::Size));
 }
+
+/// Jobs with these names and no lists.
+fn jobs(names: std::ops::Range<u32>) -> Vec<Job> {
+    names.map(|name| Job::new(name, &[])).collect()
+}
+
+#[test]
+fn sheets_with_refused_entries() {
+    let mut graph = fresh();
+    let sheet = [
+        Job::new(1, &[]),
+        Job { class: 16, ..Job::new(2, &[]) },
+        Job::new(2, &[1, 9]),
+        Job::new(1, &[]),
+        Job::new(2, &[1]),
+        Job::new(3, &[1, 2]),
+        Job::new(4, &[3]),
+        Job::new(4, &[]),
+        Job::new(5, &[]),
+    ];
+    let answers = vec![
+        Ok(()),
+        Err(Refusal::Arguments),
+        Err(Refusal::UnknownName { place: 1 }),
+        Err(Refusal::NamePresent),
+        Ok(()),
+        Ok(()),
+        Err(Refusal::Full),
+        Ok(()),
+        Err(Refusal::Full),
+    ];
+    assert_eq!(graph.clone().add_all(1, &sheet), Ok(answers.clone()));
+    assert_eq!(graph.add_sheet(0, &sheet), Ok(answers));
+    assert_eq!(graph.get(0), Ok(Some(HandedOut { job: 0, name: 1 })));
+    assert_eq!(graph.add_sheet(0, &[]), Ok(vec![]), "a holder may call, and no entries are nothing to do");
+    assert_eq!(graph.finish(0, 1), Ok(()));
+}
+
+#[test]
+fn sheets_that_are_turned_away() {
+    let mut graph = fresh();
+    assert_eq!(graph.add_sheet(2, &jobs(0..65)), Err(Refusal::Worker));
+    assert_eq!(graph.post_add(1, &Job::new(9, &[])), Ok(()));
+    assert_eq!(graph.add_sheet(1, &jobs(0..65)), Err(Refusal::HalfDone));
+    assert_eq!(graph.add_all(1, &[]), Err(Refusal::HalfDone));
+    let before = graph.words().map(<[u32]>::to_vec);
+    assert_eq!(graph.add_sheet(0, &jobs(0..65)), Err(Refusal::Entries));
+    assert_eq!(graph.words().map(<[u32]>::to_vec), before);
+    assert_eq!(Refusal::Entries.to_string(), "more entries than one call takes");
+}
+
+#[test]
+fn more_jobs_than_one_call_takes() {
+    let mut graph = Graph::create(Sizes { jobs: 200, arcs: 0, bits: 8, workers: 1 }).expect("within the limits");
+    let answers = graph.add_all(0, &jobs(0..201)).expect("the worker is idle");
+    assert_eq!(answers.len(), 201);
+    assert!(answers[..200].iter().all(Result::is_ok));
+    assert_eq!(answers[200], Err(Refusal::Full));
+    assert_eq!(graph.get(0), Ok(Some(HandedOut { job: 0, name: 0 })));
+    assert_eq!(graph.totals().map(|totals| totals.unexecuted.jobs), Ok(199));
+}
+
+/// The label of job 0 is off its range, which the second job's link meets: what follows gets 3, in later calls too.
+#[test]
+fn damage_in_the_middle_of_many_jobs() {
+    let mut graph = Graph::create(Sizes { jobs: 200, arcs: 1, bits: 8, workers: 1 }).expect("within the limits");
+    assert_eq!(graph.add(0, &Job::new(1_000, &[])), Ok(()));
+    graph.tables().jobs[6] = 3;
+    let mut all = jobs(0..100);
+    all[1].prerequisites.push(1_000);
+    let answers = graph.add_all(0, &all).expect("the first call is not turned away");
+    assert_eq!(answers[..2], [Ok(()), Err(Refusal::Damaged)]);
+    assert_eq!(answers[2..], vec![Err(Refusal::HalfDone); 98]);
+    graph.tables().jobs[6] = 0;
+    assert_eq!(graph.run(0), Ok(()));
+    assert_eq!(graph.add_all(0, &all[2..]), Ok(vec![Ok(()); 98]));
+}
+
+/// An arc that is followed by itself: a finish ends with 9, as its steps do, once the dependent's count is 0.
+#[test]
+fn a_finish_whose_arcs_run_in_a_circle() {
+    let mut graph = fresh();
+    assert_eq!(graph.add_sheet(0, &[Job::new(1, &[]), Job::new(2, &[1])]), Ok(vec![Ok(()), Ok(())]));
+    assert_eq!(graph.get(0), Ok(Some(HandedOut { job: 0, name: 1 })));
+    graph.tables().arcs[2] = 0;
+    // The remaining count of job 1.
+    graph.tables().jobs[5 + 8 + 2] = 32;
+    assert_eq!(graph.finish(0, 1), Err(Refusal::Damaged));
+    assert_eq!(graph.held(0), Ok(Holding { job: None, call: Some(HalfDone::Finish) }));
+}

@@ -83,12 +83,22 @@ fn a_part() {
     }
 }
 
-/// Adds a hundred jobs, each needing the one before, and takes and finishes jobs until none is ready.
+/// Adds a hundred jobs, each needing the one before, and takes and finishes jobs until none is ready. The adds are run
+/// whole, in steps with the lock free between, or by sheets.
 fn add_and_drain(graph: &SharedGraph, worker: u32) {
     let name = |number: u32| 1_000 * worker + number;
-    for number in 0..100_u32 {
+    let job = |number: u32| {
         let before: Vec<u32> = number.checked_sub(1).map(name).into_iter().collect();
-        graph.add(worker, &Job::new(name(number), &before)).expect("the add is accepted");
+        Job::new(name(number), &before)
+    };
+    let jobs: Vec<Job> = (0..100).map(job).collect();
+    match worker % 3 {
+        0 => jobs.iter().for_each(|job| graph.add(worker, job).expect("the add is accepted")),
+        1 => jobs.iter().for_each(|job| {
+            graph.lock().expect("the lock").post_add(worker, job).expect("the post is accepted");
+            graph.run(worker).expect("the add is accepted");
+        }),
+        _ => assert_eq!(graph.add_all(worker, &jobs).expect("the worker is idle"), vec![Ok(()); 100]),
     }
     while let Some(job) = graph.get(worker).expect("the worker holds no job") {
         graph.finish(worker, job.name).expect("the worker holds the job");
@@ -139,6 +149,20 @@ fn a_call_left_half_done_is_stepped_on() {
     graph.run(1).expect("the add goes on");
     graph.finish(0, 1).expect("worker 0 holds job 1");
     assert_eq!(graph.get(1).expect("worker 1 is idle"), Some(HandedOut { job: 1, name: 2 }));
+}
+
+#[test]
+fn sheets_of_a_shared_graph() {
+    let file = TestFile::new("sheets");
+    let graph = file.create();
+    let sheet = [Job::new(1, &[]), Job::new(2, &[9]), Job::new(3, &[1])];
+    let answers = graph.add_sheet(0, &sheet).expect("worker 0 is idle");
+    assert_eq!(answers, [Ok(()), Err(Refusal::UnknownName { place: 0 }), Ok(())]);
+    let many = vec![Job::new(4, &[]); 65];
+    assert!(matches!(graph.add_sheet(0, &many), Err(SharedError::Refused(Refusal::Entries))));
+    let answers = graph.add_all(0, &many).expect("worker 0 is idle");
+    assert_eq!((answers.len(), answers[0], answers[64]), (65, Ok(()), Err(Refusal::NamePresent)));
+    assert!(matches!(graph.add_all(4, &many), Err(SharedError::Refused(Refusal::Worker))));
 }
 
 #[test]

@@ -1,6 +1,6 @@
 //! Building and draining a graph by calls: of the proved library, or of the same rules in unproved Rust.
 
-use taskgraph::raw::{kind, Answer, Entry, Sizes, Tables};
+use taskgraph::raw::{kind, Answer, Entry, SheetAdded, Sizes, Tables, ENTRY_WORDS, MAX_ENTRIES};
 
 use crate::{shapes::Shape, unproved};
 
@@ -12,6 +12,9 @@ pub trait Calls {
     fn post_finish(sizes: Sizes, tables: &mut Tables, worker: u32, name: u32) -> Answer;
     fn step(sizes: Sizes, tables: &mut Tables, worker: u32) -> Answer;
     fn get(sizes: Sizes, tables: &mut Tables, worker: u32) -> Answer;
+    fn add(sizes: Sizes, tables: &mut Tables, worker: u32, entry: Entry) -> Answer;
+    fn finish(sizes: Sizes, tables: &mut Tables, worker: u32, name: u32) -> Answer;
+    fn add_sheet(sizes: Sizes, tables: &mut Tables, worker: u32, rows: &[u32]) -> SheetAdded;
 }
 
 /// A type whose calls are the functions of a module.
@@ -45,6 +48,21 @@ macro_rules! calls {
             fn get(sizes: Sizes, tables: &mut Tables, worker: u32) -> Answer {
                 use $module as module;
                 module::get(sizes, tables, worker)
+            }
+
+            fn add(sizes: Sizes, tables: &mut Tables, worker: u32, entry: Entry) -> Answer {
+                use $module as module;
+                module::add(sizes, tables, worker, entry)
+            }
+
+            fn finish(sizes: Sizes, tables: &mut Tables, worker: u32, name: u32) -> Answer {
+                use $module as module;
+                module::finish(sizes, tables, worker, name)
+            }
+
+            fn add_sheet(sizes: Sizes, tables: &mut Tables, worker: u32, rows: &[u32]) -> SheetAdded {
+                use $module as module;
+                module::add_sheet(sizes, tables, worker, rows)
             }
         }
     };
@@ -83,10 +101,41 @@ fn run_whole<C: Calls>(sizes: Sizes, tables: &mut Tables) -> usize {
     }
 }
 
+/// How a graph is built and drained.
+#[derive(Clone, Copy, Debug, PartialEq, Eq)]
+pub enum Manner {
+    /// Adds and finishes are posted and stepped.
+    Single,
+    /// Adds and finishes are run whole.
+    Whole,
+    /// Jobs are added by sheets, as many in one as it takes; finishes are run whole.
+    Sheets,
+}
+
+impl Manner {
+    pub const ALL: [Manner; 3] = [Manner::Single, Manner::Whole, Manner::Sheets];
+
+    pub fn name(self) -> &'static str {
+        match self {
+            Manner::Single => "single calls",
+            Manner::Whole => "whole calls",
+            Manner::Sheets => "sheets",
+        }
+    }
+}
+
 /// Lays out a graph and adds all jobs of a shape; the number of calls.
-pub fn build<C: Calls>(sizes: Sizes, tables: &mut Tables, shape: &Shape) -> usize {
+pub fn build<C: Calls>(manner: Manner, sizes: Sizes, tables: &mut Tables, shape: &Shape) -> usize {
     assert_eq!(C::lay_out(sizes, tables).kind, kind::LAID_OUT);
-    let mut calls = 1;
+    1 + match manner {
+        Manner::Single => add_by_steps::<C>(sizes, tables, shape),
+        Manner::Whole => add_whole::<C>(sizes, tables, shape),
+        Manner::Sheets => add_by_sheets::<C>(sizes, tables, shape),
+    }
+}
+
+fn add_by_steps<C: Calls>(sizes: Sizes, tables: &mut Tables, shape: &Shape) -> usize {
+    let mut calls = 0;
     for entry in &shape.entries {
         assert_eq!(C::post_add(sizes, tables, 0, *entry).kind, kind::POSTED);
         calls += 1 + run_whole::<C>(sizes, tables);
@@ -94,8 +143,25 @@ pub fn build<C: Calls>(sizes: Sizes, tables: &mut Tables, shape: &Shape) -> usiz
     calls
 }
 
+fn add_whole<C: Calls>(sizes: Sizes, tables: &mut Tables, shape: &Shape) -> usize {
+    for entry in &shape.entries {
+        assert_eq!(C::add(sizes, tables, 0, *entry).kind, kind::ENDED);
+    }
+    shape.entries.len()
+}
+
+fn add_by_sheets<C: Calls>(sizes: Sizes, tables: &mut Tables, shape: &Shape) -> usize {
+    let sheets = shape.rows.chunks(MAX_ENTRIES * ENTRY_WORDS);
+    let calls = sheets.len();
+    for rows in sheets {
+        let added = C::add_sheet(sizes, tables, 0, rows);
+        assert!(added.number == 0 && added.numbers == [0; MAX_ENTRIES]);
+    }
+    calls
+}
+
 /// Takes and finishes jobs until none is ready; the numbers of jobs and calls.
-pub fn drain<C: Calls>(sizes: Sizes, tables: &mut Tables) -> (usize, usize) {
+pub fn drain<C: Calls>(manner: Manner, sizes: Sizes, tables: &mut Tables) -> (usize, usize) {
     let (mut jobs, mut calls) = (0, 1);
     loop {
         let answer = C::get(sizes, tables, 0);
@@ -103,8 +169,18 @@ pub fn drain<C: Calls>(sizes: Sizes, tables: &mut Tables) -> (usize, usize) {
             assert_eq!(answer.kind, kind::NONE_READY);
             return (jobs, calls);
         }
-        assert_eq!(C::post_finish(sizes, tables, 0, answer.name).kind, kind::POSTED);
         jobs += 1;
-        calls += 2 + run_whole::<C>(sizes, tables);
+        calls += 1 + finish_job::<C>(manner, sizes, tables, answer.name);
+    }
+}
+
+/// Finishes the held job; the number of calls.
+fn finish_job<C: Calls>(manner: Manner, sizes: Sizes, tables: &mut Tables, name: u32) -> usize {
+    if manner == Manner::Single {
+        assert_eq!(C::post_finish(sizes, tables, 0, name).kind, kind::POSTED);
+        1 + run_whole::<C>(sizes, tables)
+    } else {
+        assert_eq!(C::finish(sizes, tables, 0, name).kind, kind::ENDED);
+        1
     }
 }

@@ -1,25 +1,26 @@
 //! The speed of the task graph.
 //!
-//! Without arguments: nanoseconds a job for building and draining graphs of several shapes, with the proved
-//! library through C, the same rules in unproved Rust, oneTBB's flow graph and Python's graphlib, all in this
-//! run and with one thread each. A peer that is not there is named and left out. Then the instructions of the
-//! first two, counted; it fails where the library takes more than `MOST` times what unproved Rust takes.
+//! Without arguments: nanoseconds a job for building and draining graphs of several shapes, by single calls, by whole
+//! calls and by sheets, with the proved library through C and the same rules in unproved Rust, and with oneTBB's flow
+//! graph and Python's graphlib, all in this run and with one thread each. A peer that is not there is named and left
+//! out. Then the instructions of the first two, counted; it fails where the library takes more than it may.
 //!
-//! With the arguments `count`, a side (`library` or `unproved`) and a shape's name: builds and drains that graph
-//! once, for callgrind to count.
+//! With the arguments `count`, a side (`library` or `unproved`), a manner and a shape's name: builds and drains that
+//! graph once, for callgrind to count.
 //!
 //! With the argument `steps`: nanoseconds a step by the numbers of jobs and of bucket bits, as a table that
-//! scripts/plot-steps draws.
+//! scripts/plot-steps draws. With the argument `longest`: how long a call holds the lock at most.
 
+mod longest;
 mod peers;
 
 use std::{env, process::ExitCode, time::Instant};
 
 use bench_graph::{
-    calls::{build, drain, Arena, Calls, Proved, Unproved},
+    calls::{build, drain, Arena, Calls, Manner, Proved, Unproved},
     shapes::{self, Shape},
 };
-use counting::Row;
+use counting::{Row, Table};
 use peers::Peer;
 use taskgraph::raw::Sizes;
 
@@ -29,8 +30,18 @@ const ROUNDS: usize = 100;
 /// After so many rounds it is the peers' turn, and then all begin again: a machine has slow seconds.
 const TURNS: usize = 3;
 
-/// The most instructions that the library may take, as a multiple of unproved Rust's (docs/SPEED.md).
+/// The most instructions that the library may take by single calls, as a multiple of unproved Rust's (docs/SPEED.md).
 const MOST: f64 = 1.2;
+
+/// The same by whole calls and by sheets.
+const MOST_WHOLE: f64 = 1.25;
+
+/// The most instructions by whole calls and by sheets, as a multiple of the library's own by single calls.
+const MOST_OF_SINGLE: f64 = 0.6;
+
+/// Whether the two limits above are judged. While whole calls are made of single steps they are not kept, and the rows
+/// are only shown; `true` switches the judgement on.
+const WHOLE_IS_JUDGED: bool = false;
 
 const BITS: u32 = 8;
 
@@ -38,11 +49,12 @@ fn main() -> ExitCode {
     let arguments: Vec<String> = env::args().skip(1).collect();
     match arguments.iter().map(String::as_str).collect::<Vec<_>>()[..] {
         [] => beside_others(),
-        ["count", "library", shape] => count::<Proved>(shape),
-        ["count", "unproved", shape] => count::<Unproved>(shape),
+        ["count", "library", manner, shape] => count::<Proved>(manner, shape),
+        ["count", "unproved", manner, shape] => count::<Unproved>(manner, shape),
         ["steps"] => steps(),
+        ["longest"] => longest::print(),
         _ => {
-            eprintln!("usage: bench_graph [count library|unproved SHAPE | steps]");
+            eprintln!("usage: bench_graph [count library|unproved MANNER SHAPE | steps | longest]");
             ExitCode::FAILURE
         }
     }
@@ -62,59 +74,130 @@ fn beside_others() -> ExitCode {
             println!("left out: {} ({why})", peer.name);
         }
     }
-    let rows: Vec<Row> = all_shapes().into_iter().map(|shape| row(measure(&shape, &peers), shape)).collect();
-    counting::judge(Unproved::NAME, &rows)
+    let measured: Vec<Measured> = all_shapes().into_iter().map(|shape| Measured::new(shape, &peers)).collect();
+    let beside_unproved = Manner::ALL.map(|manner| Table {
+        title: manner.name(),
+        library: Proved::NAME,
+        other: Unproved::NAME,
+        rows: measured.iter().map(|measured| measured.beside_unproved(manner)).collect(),
+    });
+    let beside_single = [Manner::Whole, Manner::Sheets].map(|manner| Table {
+        title: "beside single calls",
+        library: manner.name(),
+        other: Manner::Single.name(),
+        rows: measured.iter().map(|measured| measured.beside_single(manner)).collect(),
+    });
+    counting::judge(&beside_unproved.into_iter().chain(beside_single).collect::<Vec<_>>())
 }
 
-fn row(time: f64, shape: Shape) -> Row {
-    let instructions = |side: &str| counting::instructions(&["count", side, &shape.name]);
-    let (library, other) = (instructions("library"), instructions("unproved"));
-    Row { name: shape.name, library, other, most: MOST, time }
+/// Of each manner, in the order of `Manner::ALL`, the library's nanoseconds a job and unproved Rust's.
+type Times = [[f64; 2]; 3];
+
+/// What one shape takes.
+struct Measured {
+    shape: String,
+    times: Times,
+    /// The instructions, as the times.
+    counts: [[u64; 2]; 3],
+}
+
+impl Measured {
+    fn new(shape: Shape, peers: &[Peer]) -> Measured {
+        let times = measure(&shape, peers);
+        let counts = Manner::ALL.map(|manner| {
+            ["library", "unproved"].map(|side| counting::instructions(&["count", side, manner.name(), &shape.name]))
+        });
+        Measured { shape: shape.name, times, counts }
+    }
+
+    fn beside_unproved(&self, manner: Manner) -> Row {
+        let single = manner == Manner::Single;
+        let [library, other] = self.counts[manner as usize];
+        let [time, other_time] = self.times[manner as usize];
+        Row {
+            name: self.shape.clone(),
+            library,
+            other,
+            most: if single { MOST } else { MOST_WHOLE },
+            judged: single || WHOLE_IS_JUDGED,
+            time: time / other_time,
+        }
+    }
+
+    /// The library by whole calls or sheets beside itself by single calls.
+    fn beside_single(&self, manner: Manner) -> Row {
+        let single = Manner::Single as usize;
+        Row {
+            name: self.shape.clone(),
+            library: self.counts[manner as usize][0],
+            other: self.counts[single][0],
+            most: MOST_OF_SINGLE,
+            judged: WHOLE_IS_JUDGED,
+            time: self.times[manner as usize][0] / self.times[single][0],
+        }
+    }
 }
 
 /// Builds and drains a graph once, for callgrind to count.
-fn count<C: Calls>(name: &str) -> ExitCode {
-    let shape = all_shapes().into_iter().find(|shape| shape.name == name).expect("the name of a shape");
+fn count<C: Calls>(manner: &str, shape: &str) -> ExitCode {
+    let manner = Manner::ALL.into_iter().find(|known| known.name() == manner).expect("the name of a manner");
+    let shape = all_shapes().into_iter().find(|known| known.name == shape).expect("the name of a shape");
     let sizes = shape.sizes(BITS);
     let mut arena = Arena::new(sizes);
     let mut tables = arena.lent();
     counting::counted(&mut || {
-        build::<C>(sizes, &mut tables, &shape);
-        drain::<C>(sizes, &mut tables);
+        build::<C>(manner, sizes, &mut tables, &shape);
+        drain::<C>(manner, sizes, &mut tables);
     });
     ExitCode::SUCCESS
 }
 
-/// Prints the times of a shape, and gives the library's as a multiple of unproved Rust's.
-fn measure(shape: &Shape, peers: &[Peer]) -> f64 {
+/// Prints the times of a shape, and gives those of the library and of unproved Rust, in nanoseconds a job.
+fn measure(shape: &Shape, peers: &[Peer]) -> Times {
     println!("{}", shape.name);
     let sizes = shape.sizes(BITS);
     let mut arena = Arena::new(sizes);
-    let (mut proved, mut unproved) = (f64::INFINITY, f64::INFINITY);
+    let mut times = [[f64::INFINITY; 2]; 3];
     let mut theirs: Vec<Option<Result<f64, String>>> = vec![None; peers.len()];
+    let jobs = shape.lists.len() as f64;
     for _ in 0..TURNS {
         for _ in 0..rounds(ROUNDS, shape) {
-            proved = proved.min(round::<Proved>(sizes, &mut arena, shape).total());
-            unproved = unproved.min(round::<Unproved>(sizes, &mut arena, shape).total());
+            for (manner, best) in Manner::ALL.into_iter().zip(&mut times) {
+                best[0] = best[0].min(round::<Proved>(manner, sizes, &mut arena, shape).total() / jobs);
+                best[1] = best[1].min(round::<Unproved>(manner, sizes, &mut arena, shape).total() / jobs);
+            }
         }
         for (peer, best) in peers.iter().zip(&mut theirs) {
             *best = better(best.take(), peer.nanoseconds_a_job(shape));
         }
     }
-    let jobs = shape.lists.len() as f64;
-    let line = |name: &str, nanoseconds: f64| {
-        println!("  {name:<22} {nanoseconds:9.0} ns a job   {:6.2} times the library's", nanoseconds * jobs / proved);
+    print_times(times, peers, &theirs);
+    times
+}
+
+fn print_times(times: Times, peers: &[Peer], theirs: &[Option<Result<f64, String>>]) {
+    let single = times[Manner::Single as usize][0];
+    let by_place = peers.iter().zip(theirs).find_map(|(peer, best)| match best {
+        Some(Ok(time)) if peer.name == peers::BY_PLACE => Some(*time),
+        _ => None,
+    });
+    println!("  {:<30} {:>8} {:>14} {:>16} {:>13}", "", "ns a job", "single calls", peers::BY_PLACE, Unproved::NAME);
+    let line = |name: &str, time: f64, unproved: Option<f64>| {
+        let times_of = |other: Option<f64>| other.map_or("-".into(), |other| format!("{:.2}", time / other));
+        let [of_single, of_peer, of_unproved] = [Some(single), by_place, unproved].map(times_of);
+        println!("  {name:<30} {time:8.0} {of_single:>14} {of_peer:>16} {of_unproved:>13}");
     };
-    line(Proved::NAME, proved / jobs);
-    line(Unproved::NAME, unproved / jobs);
+    for (manner, [library, unproved]) in Manner::ALL.into_iter().zip(times) {
+        line(&format!("{}, {}", Proved::NAME, manner.name()), library, Some(unproved));
+        line(&format!("{}, {}", Unproved::NAME, manner.name()), unproved, None);
+    }
     for (peer, best) in peers.iter().zip(theirs) {
         match best {
             None => {}
-            Some(Ok(nanoseconds)) => line(peer.name, nanoseconds),
-            Some(Err(error)) => println!("  {:<22} failed: {error}", peer.name),
+            Some(Ok(time)) => line(peer.name, *time, None),
+            Some(Err(error)) => println!("  {:<30} failed: {error}", peer.name),
         }
     }
-    proved / unproved
 }
 
 /// So many rounds of a graph of 4,096 jobs, and of a smaller one as many as fill about that time.
@@ -146,12 +229,12 @@ impl Round {
     }
 }
 
-fn round<C: Calls>(sizes: Sizes, arena: &mut Arena, shape: &Shape) -> Round {
+fn round<C: Calls>(manner: Manner, sizes: Sizes, arena: &mut Arena, shape: &Shape) -> Round {
     let mut tables = arena.lent();
     let start = Instant::now();
-    let build_calls = build::<C>(sizes, &mut tables, shape);
+    let build_calls = build::<C>(manner, sizes, &mut tables, shape);
     let built = Instant::now();
-    let (jobs, drain_calls) = drain::<C>(sizes, &mut tables);
+    let (jobs, drain_calls) = drain::<C>(manner, sizes, &mut tables);
     let drained = Instant::now();
     assert_eq!(jobs, shape.lists.len(), "all jobs were handed out");
     Round {
@@ -189,7 +272,9 @@ fn a_step(shape: &Shape, bits: u32) -> [(f64, f64); 2] {
     let mut arena = Arena::new(sizes);
     let mut best = [(f64::INFINITY, f64::INFINITY); 2];
     for _ in 0..rounds(STEPS_ROUNDS, shape) {
-        let taken = [round::<Proved>(sizes, &mut arena, shape), round::<Unproved>(sizes, &mut arena, shape)];
+        let manner = Manner::Single;
+        let taken =
+            [round::<Proved>(manner, sizes, &mut arena, shape), round::<Unproved>(manner, sizes, &mut arena, shape)];
         for (best, taken) in best.iter_mut().zip(taken) {
             best.0 = best.0.min(taken.building / taken.build_calls as f64);
             best.1 = best.1.min(taken.draining / taken.drain_calls as f64);

@@ -17,12 +17,15 @@ pub struct Peer {
     pub command: Result<Vec<PathBuf>, String>,
 }
 
+/// The peer that whole calls and sheets are measured beside: it has no names to look up.
+pub const BY_PLACE: &str = "oneTBB, by place";
+
 pub fn all() -> [Peer; 3] {
     let flow_graph = flow_graph();
     let finding = |by: &str| flow_graph.clone().map(|program| vec![program, by.into()]);
     [
         Peer { name: "oneTBB, by name", command: finding("names") },
-        Peer { name: "oneTBB, by place", command: finding("places") },
+        Peer { name: BY_PLACE, command: finding("places") },
         Peer { name: "Python graphlib", command: graphlib() },
     ]
 }

@@ -8,13 +8,16 @@ pub struct Shape {
     /// The prerequisites of each job, which come before it.
     pub lists: Vec<Vec<usize>>,
     pub entries: Vec<Entry>,
+    /// The entries as the rows of a sheet.
+    pub rows: Vec<u32>,
 }
 
 impl Shape {
     fn new(name: &str, lists: Vec<Vec<usize>>) -> Shape {
         let name = format!("{name}, {} jobs, {} arcs", lists.len(), lists.iter().map(Vec::len).sum::<usize>());
-        let entries = lists.iter().enumerate().map(|(job, list)| entry(job, list)).collect();
-        Shape { name, lists, entries }
+        let entries: Vec<Entry> = lists.iter().enumerate().map(|(job, list)| entry(job, list)).collect();
+        let rows = entries.iter().flat_map(|entry| entry.to_row()).collect();
+        Shape { name, lists, entries, rows }
     }
 
     pub fn arcs(&self) -> usize {

@@ -1,10 +1,14 @@
 //! The rules of docs/RULES.md over the same tables of words with the same tests, in plain unproved Rust:
-//! what the proved library is timed beside. The five calls are never inlined, as those of the library cannot be.
+//! what the proved library is timed beside. The calls are never inlined, as those of the library cannot be.
+
+mod whole;
 
 use compare_graph::layout::{
     job, phase, worker, ARCS_HEADER, ARC_WORDS, JOBS_HEADER, JOB_WORDS, NONE, QUEUE_HEADER, WORKER_WORDS,
 };
 use taskgraph::raw::{kind, Answer, Entry, Sizes, Tables};
+
+pub use whole::{add, add_sheet, finish};
 
 const FACTOR: u32 = 2_654_435_769;
 

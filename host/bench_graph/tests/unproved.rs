@@ -4,23 +4,23 @@
 use bench_graph::calls::{Calls, Proved, Unproved};
 use compare_graph::{
     damaged,
-    event::{Event, History},
+    event::{rows_of, Event, History},
     generate, histories,
     tables::Tables,
-    world::to_library,
+    world::{entry_to_library, to_library, LibraryTold},
 };
 use compare_sheets::random::{seed, Random};
 use second_implementation::history::Item;
-use taskgraph::raw::{Answer, Entry, Sizes};
+use taskgraph::raw::{self, Sizes};
 
-fn call<C: Calls>(event: &Event, laid_out: &mut Sizes, tables: &mut Tables) -> Option<Answer> {
+fn call<C: Calls>(event: &Event, laid_out: &mut Sizes, tables: &mut Tables) -> Option<LibraryTold> {
     match event {
         Event::LayOut(sizes) => {
             let answer = C::lay_out(to_library(*sizes), &mut tables.lent(None));
             if answer.number == 0 {
                 *laid_out = to_library(*sizes);
             }
-            Some(answer)
+            Some(LibraryTold::One(answer))
         }
         Event::Set { table, place, value } => {
             tables.set(*table, *place, *value);
@@ -28,19 +28,24 @@ fn call<C: Calls>(event: &Event, laid_out: &mut Sizes, tables: &mut Tables) -> O
         }
         Event::Call(call) => {
             let sizes = call.sizes.map_or(*laid_out, to_library);
-            let tables = &mut tables.lent(call.short);
-            Some(match &call.item {
-                Item::PostAdd { worker, entry } => {
-                    let (name, class, grower) = (entry.name, entry.class, entry.grower);
-                    let (count, names) = (entry.prerequisites.count as u32, entry.prerequisites.names);
-                    C::post_add(sizes, tables, *worker, Entry { name, count, class, grower, names })
-                }
-                Item::PostFinish { worker, name } => C::post_finish(sizes, tables, *worker, *name),
-                Item::Step { worker } => C::step(sizes, tables, *worker),
-                Item::Get { worker } => C::get(sizes, tables, *worker),
-            })
+            Some(call_item::<C>(&call.item, sizes, &mut tables.lent(call.short)))
         }
     }
+}
+
+fn call_item<C: Calls>(item: &Item, sizes: Sizes, tables: &mut raw::Tables) -> LibraryTold {
+    LibraryTold::One(match item {
+        Item::PostAdd { worker, entry } => C::post_add(sizes, tables, *worker, entry_to_library(entry)),
+        Item::PostFinish { worker, name } => C::post_finish(sizes, tables, *worker, *name),
+        Item::Step { worker } => C::step(sizes, tables, *worker),
+        Item::Get { worker } => C::get(sizes, tables, *worker),
+        Item::Add { worker, entry } => C::add(sizes, tables, *worker, entry_to_library(entry)),
+        Item::Finish { worker, name } => C::finish(sizes, tables, *worker, *name),
+        Item::AddSheet { worker, entries, stray } => {
+            let added = C::add_sheet(sizes, tables, *worker, &rows_of(entries, *stray));
+            return LibraryTold::Each(Box::new(added));
+        }
+    })
 }
 
 /// Panics at the first event after which the two differ.

@@ -13,7 +13,7 @@ use std::{
     time::{Duration, Instant},
 };
 
-use counting::Row;
+use counting::{Row, Table};
 use second_implementation::sheet;
 use sheets::{Sample, Workload};
 use taskgraph::raw::{self, ENTRY_WORDS};
@@ -53,13 +53,13 @@ fn beside_second() -> ExitCode {
             }
         }
     }
-    counting::judge("second", &rows)
+    counting::judge(&[Table { title: "", library: "library", other: "second", rows }])
 }
 
 fn row(what: &str, name: &str, most: f64, time: f64) -> Row {
     let instructions = |side: &str| counting::instructions(&["count", side, what, name]);
     let (library, other) = (instructions("library"), instructions("second"));
-    Row { name: format!("{what} {name}"), library, other, most, time }
+    Row { name: format!("{what} {name}"), library, other, most, judged: true, time }
 }
 
 /// Reads or writes sheets once, for callgrind to count.

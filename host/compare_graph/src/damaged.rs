@@ -1,6 +1,6 @@
 //! Histories over damaged tables: words altered at random, tables cut short, sizes swapped. Every answer is
 //! the one that the list of docs/NUMBERS.md and `docs/TABLES.md` settle, and the tables hold afterwards what the list
-//! says.
+//! says. A call run whole, and a sheet, answer and leave what single calls do, each of which is judged so.
 
 mod answer;
 mod change;
@@ -17,11 +17,12 @@ use second_implementation::{
 use taskgraph::raw::{self as proved, kind};
 
 use crate::{
-    event::{worker_of, Call, Event, History},
+    event::{is_whole, worker_of, Call, Event, History},
     expected_words,
     layout::{self, job},
     tables::{Tables, JOBS},
-    world::{call_library, to_library},
+    whole::{told_by_single_calls, SingleCalls},
+    world::{call_library, to_library, LibraryTold},
 };
 
 use answer::{expected_answer, expected_drained, expected_holding, of_kind, refused};
@@ -56,6 +57,7 @@ pub fn first_fault(history: &History) -> Option<(usize, String)> {
 }
 
 /// The tables, and the sizes that calls bring.
+#[derive(Clone)]
 struct Lent {
     tables: Tables,
     sizes: Sizes,
@@ -69,7 +71,8 @@ impl Lent {
                 None
             }
             Event::LayOut(sizes) => self.lay_out(*sizes),
-            Event::Call(call) => self.call(call).1.or_else(|| self.wrong_totals()),
+            Event::Call(call) if is_whole(&call.item) => self.whole(call).or_else(|| self.wrong_totals()),
+            Event::Call(call) => self.single(call).1.or_else(|| self.wrong_totals()),
         }
     }
 
@@ -90,8 +93,20 @@ impl Lent {
         }
     }
 
-    /// The answer of a call, and its fault.
-    fn call(&mut self, call: &Call) -> (proved::Answer, Option<String>) {
+    /// How a whole call differs from single calls over the same words, or the fault of one of these.
+    fn whole(&mut self, call: &Call) -> Option<String> {
+        let mut judged = Judged { lent: self.clone(), call, fault: None };
+        let expected = told_by_single_calls(&mut judged, &call.item)?;
+        let told = call_library(call.sizes.unwrap_or(self.sizes), &mut self.tables.lent(call.short), &call.item);
+        let single = judged.fault.map(|fault| format!("a single call of a whole one: {fault}"));
+        single.or_else(|| differ("the answer, beside single calls", told, expected)).or_else(|| {
+            let words = Tables::difference(&judged.lent.tables, &self.tables);
+            words.map(|words| format!("after a whole call; single calls leave the first: {words}"))
+        })
+    }
+
+    /// The answer of a single call, and its fault.
+    fn single(&mut self, call: &Call) -> (proved::Answer, Option<String>) {
         let sizes = call.sizes.unwrap_or(self.sizes);
         let expected = expected_answer(&self.tables, sizes, call);
         if let Some(fault) = self.wrong_state(sizes, call) {
@@ -99,11 +114,11 @@ impl Lent {
         }
         let before = self.tables.clone();
         let answer = call_library(sizes, &mut self.tables.lent(call.short), &call.item);
-        if answer != expected {
-            return (answer, Some(format!("the answer is {answer:?}, not {expected:?}")));
+        if answer != LibraryTold::One(expected) {
+            return (expected, Some(format!("the answer is {answer:?}, not {expected:?}")));
         }
         let after = Change { before: &before, after: &self.tables, item: &call.item };
-        (answer, after.fault(answer).or_else(|| self.touched_past_the_need(&before)))
+        (expected, after.fault(expected).or_else(|| self.touched_past_the_need(&before)))
     }
 
     /// What the worker of a call holds and whether the graph is drained, asked with the call's sizes and tables.
@@ -150,7 +165,7 @@ impl Lent {
         (0..self.sizes.workers).find_map(|worker| {
             let step = Call { item: Item::Step { worker }, sizes: None, short: None };
             for _ in 0..most {
-                let (answer, fault) = self.call(&step);
+                let (answer, fault) = self.single(&step);
                 if fault.is_some() {
                     return fault;
                 }
@@ -160,5 +175,25 @@ impl Lent {
             }
             Some(format!("worker {worker} goes on after {most} steps"))
         })
+    }
+}
+
+/// The single calls of a whole one, over tables of their own, and the first fault among them.
+struct Judged<'a> {
+    lent: Lent,
+    call: &'a Call,
+    fault: Option<String>,
+}
+
+impl SingleCalls for Judged<'_> {
+    fn call(&mut self, item: Item) -> proved::Answer {
+        let call = Call { item, sizes: self.call.sizes, short: self.call.short };
+        let (answer, fault) = self.lent.single(&call);
+        self.fault = self.fault.take().or(fault);
+        answer
+    }
+
+    fn most_arcs(&self) -> usize {
+        self.call.sizes.unwrap_or(self.lent.sizes).arcs as usize
     }
 }

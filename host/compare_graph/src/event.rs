@@ -4,7 +4,7 @@ use compare_sheets::shrink;
 use second_implementation::{
     graph::Sizes,
     history::Item,
-    sheet::{Entry, MAX_NAMES},
+    sheet::{Entry, MAX_NAMES, ROW_WORDS},
 };
 
 use crate::tables::Setup;
@@ -182,11 +182,36 @@ fn simpler_events(event: &Event) -> Vec<Event> {
         }
     };
     let mut simpler = vec![Call { sizes: None, ..call.clone() }, Call { short: None, ..call.clone() }];
-    if let Item::PostAdd { worker, entry } = call.item {
-        let items = simpler_entries(&entry).into_iter().map(|entry| Item::PostAdd { worker, entry });
-        simpler.extend(items.map(|item| Call { item, ..call.clone() }));
-    }
+    simpler.extend(simpler_items(&call.item).into_iter().map(|item| Call { item, ..call.clone() }));
     simpler.into_iter().filter(|simpler| simpler != call).map(Event::Call).collect()
+}
+
+fn simpler_items(item: &Item) -> Vec<Item> {
+    match item {
+        Item::PostAdd { worker, entry } => {
+            simpler_entries(entry).into_iter().map(|entry| Item::PostAdd { worker: *worker, entry }).collect()
+        }
+        Item::Add { worker, entry } => {
+            simpler_entries(entry).into_iter().map(|entry| Item::Add { worker: *worker, entry }).collect()
+        }
+        Item::AddSheet { worker, entries, stray } => simpler_sheets(*worker, entries, *stray),
+        _ => Vec::new(),
+    }
+}
+
+/// A sheet with fewer entries, without stray words, or with one entry simpler.
+fn simpler_sheets(worker: u32, entries: &[Entry], stray: usize) -> Vec<Item> {
+    let sheet = |entries| Item::AddSheet { worker, entries, stray };
+    let fewer = shrink::shorter(entries, 1).map(sheet);
+    let plain = Item::AddSheet { worker, entries: entries.to_vec(), stray: 0 };
+    let simpler = entries.iter().enumerate().flat_map(|(place, entry)| {
+        simpler_entries(entry).into_iter().filter(move |simpler| simpler != entry).map(move |simpler| {
+            let mut entries = entries.to_vec();
+            entries[place] = simpler;
+            sheet(entries)
+        })
+    });
+    fewer.chain([plain]).chain(simpler).collect()
 }
 
 fn simpler_entries(entry: &Entry) -> Vec<Entry> {
@@ -218,14 +243,28 @@ fn names_of(item: &Item) -> Vec<u32> {
 
 fn map_names(item: &mut Item, mut change: impl FnMut(u32) -> u32) {
     match item {
-        Item::PostAdd { entry, .. } => {
-            entry.name = change(entry.name);
-            let count = entry.prerequisites.count.min(MAX_NAMES);
-            entry.prerequisites.names[..count].iter_mut().for_each(|name| *name = change(*name));
-        }
-        Item::PostFinish { name, .. } => *name = change(*name),
+        Item::PostAdd { entry, .. } | Item::Add { entry, .. } => map_entry(entry, &mut change),
+        Item::AddSheet { entries, .. } => entries.iter_mut().for_each(|entry| map_entry(entry, &mut change)),
+        Item::PostFinish { name, .. } | Item::Finish { name, .. } => *name = change(*name),
         Item::Step { .. } | Item::Get { .. } => {}
     }
+}
+
+fn map_entry(entry: &mut Entry, change: &mut impl FnMut(u32) -> u32) {
+    entry.name = change(entry.name);
+    let count = entry.prerequisites.count.min(MAX_NAMES);
+    entry.prerequisites.names[..count].iter_mut().for_each(|name| *name = change(*name));
+}
+
+/// The words that a sheet brings: a row for each entry, and so many words that make no whole row.
+pub fn rows_of(entries: &[Entry], stray: usize) -> Vec<u32> {
+    let stray = stray.min(ROW_WORDS - 1);
+    entries.iter().flat_map(Entry::to_row).chain(std::iter::repeat(0).take(stray)).collect()
+}
+
+/// Whether an item is a call run whole, or a sheet of them.
+pub fn is_whole(item: &Item) -> bool {
+    matches!(item, Item::Add { .. } | Item::Finish { .. } | Item::AddSheet { .. })
 }
 
 /// The worker of an item.
@@ -234,7 +273,10 @@ pub fn worker_of(item: &Item) -> u32 {
         Item::PostAdd { worker, .. }
         | Item::PostFinish { worker, .. }
         | Item::Step { worker }
-        | Item::Get { worker } => *worker,
+        | Item::Get { worker }
+        | Item::Add { worker, .. }
+        | Item::Finish { worker, .. }
+        | Item::AddSheet { worker, .. } => *worker,
     }
 }
 
@@ -243,6 +285,9 @@ fn worker_mut(item: &mut Item) -> &mut u32 {
         Item::PostAdd { worker, .. }
         | Item::PostFinish { worker, .. }
         | Item::Step { worker }
-        | Item::Get { worker } => worker,
+        | Item::Get { worker }
+        | Item::Add { worker, .. }
+        | Item::Finish { worker, .. }
+        | Item::AddSheet { worker, .. } => worker,
     }
 }

@@ -1,11 +1,11 @@
-//! Random histories: posts, steps and gets by all workers in random orders, refused ones included. The
-//! second implementation runs along, so that most items are ones that a worker could sensibly try.
+//! Random histories: posts, steps, gets, calls run whole and sheets by all workers in random orders, refused ones
+//! included. The second implementation runs along, so that most items are ones that a worker could sensibly try.
 
 use compare_sheets::{inputs, random::Random};
 use second_implementation::{
-    graph::{Call as Half, Graph, Sizes, MAX_ARCS, MAX_BITS, MAX_JOBS, MAX_WORKERS},
+    graph::{Call as Half, Graph, Sizes, MAX_ARCS, MAX_BITS, MAX_ENTRIES, MAX_JOBS, MAX_WORKERS},
     history::Item,
-    sheet::{Entry, Names, MAX_NAMES},
+    sheet::{Entry, Names, MAX_NAMES, ROW_WORDS},
 };
 
 use crate::{
@@ -27,6 +27,8 @@ struct Manner {
     switch: usize,
     /// Of ten choices between adding and working, how many add.
     adding: usize,
+    /// Of ten adds and finishes, how many are run whole.
+    whole: usize,
 }
 
 /// A history over a graph of any size, mostly small.
@@ -116,6 +118,7 @@ impl Manner {
             mischief: random.pick(&[4, 10, 20, 100]),
             switch: random.pick(&[1, 1, 2, 5, 20]),
             adding: random.pick(&[5, 9]),
+            whole: random.pick(&[0, 2, 5, 9]),
         }
     }
 
@@ -126,11 +129,49 @@ impl Manner {
         let state = &graph.workers()[worker as usize];
         let item = match (&state.call, state.held) {
             (Some(_), _) => Item::Step { worker },
-            _ if random.below(10) < self.adding => Item::PostAdd { worker, entry: self.entry(random, graph) },
-            (None, Some(job)) => Item::PostFinish { worker, name: graph.jobs()[job].name },
+            _ if random.below(10) < self.adding => self.add(random, graph, worker),
+            (None, Some(job)) => self.finish(random, worker, graph.jobs()[job].name),
             (None, None) => Item::Get { worker },
         };
         item.into()
+    }
+
+    /// An add by steps, one run whole, or a sheet.
+    fn add(&self, random: &mut Random, graph: &Graph, worker: u32) -> Item {
+        if random.below(10) >= self.whole {
+            return Item::PostAdd { worker, entry: self.entry(random, graph) };
+        }
+        if random.once_in(3) {
+            return self.sheet(random, graph, worker);
+        }
+        Item::Add { worker, entry: self.entry(random, graph) }
+    }
+
+    fn finish(&self, random: &mut Random, worker: u32, name: u32) -> Item {
+        if random.below(10) < self.whole {
+            Item::Finish { worker, name }
+        } else {
+            Item::PostFinish { worker, name }
+        }
+    }
+
+    /// A sheet, mostly a short one; its entries may list those before them, and some are refused.
+    fn sheet(&self, random: &mut Random, graph: &Graph, worker: u32) -> Item {
+        let count = match random.below(12) {
+            0 => random.pick(&[MAX_ENTRIES - 1, MAX_ENTRIES, MAX_ENTRIES + 1, MAX_ENTRIES + 2]),
+            1 => random.below(MAX_ENTRIES),
+            _ => random.below(7),
+        };
+        let mut entries: Vec<Entry> = Vec::with_capacity(count);
+        for _ in 0..count {
+            let mut entry = if random.once_in(8) { self.wrong_entry(random, graph) } else { self.entry(random, graph) };
+            if !entries.is_empty() && random.once_in(2) {
+                list_also(&mut entry, entries[random.below(entries.len())].name);
+            }
+            entries.push(entry);
+        }
+        let stray = if random.once_in(30) { 1 + random.below(ROW_WORDS - 1) } else { 0 };
+        Item::AddSheet { worker, entries, stray }
     }
 
     /// An add that may well be accepted.
@@ -194,17 +235,21 @@ impl Manner {
                 let beyond = random.pick(&[graph.sizes().workers, graph.sizes().workers + 1, 16, u32::MAX]);
                 self.any_item(random, graph, beyond).into()
             }
-            7..=10 => Item::PostAdd { worker, entry: self.wrong_entry(random, graph) }.into(),
+            7..=8 => Item::PostAdd { worker, entry: self.wrong_entry(random, graph) }.into(),
+            9..=10 => Item::Add { worker, entry: self.wrong_entry(random, graph) }.into(),
             _ => self.any_item(random, graph, worker).into(),
         }
     }
 
     /// Any item at all, whatever the worker is at.
     fn any_item(&self, random: &mut Random, graph: &Graph, worker: u32) -> Item {
-        match random.below(4) {
+        match random.below(7) {
             0 => Item::PostAdd { worker, entry: self.entry(random, graph) },
             1 => Item::PostFinish { worker, name: random.pick(&self.names) },
             2 => Item::Step { worker },
+            3 => Item::Add { worker, entry: self.entry(random, graph) },
+            4 => Item::Finish { worker, name: random.pick(&self.names) },
+            5 => self.sheet(random, graph, worker),
             _ => Item::Get { worker },
         }
     }
@@ -224,6 +269,15 @@ impl Manner {
             _ => names[count..].fill(random.pick(&[entry.name, 1, u32::MAX])),
         }
         entry
+    }
+}
+
+/// One name more at the end of a list, where it may stand there.
+fn list_also(entry: &mut Entry, name: u32) {
+    let Names { count, names } = &mut entry.prerequisites;
+    if *count < MAX_NAMES && name != entry.name && !names[..*count].contains(&name) {
+        names[*count] = name;
+        *count += 1;
     }
 }
 

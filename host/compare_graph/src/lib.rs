@@ -16,6 +16,7 @@ pub mod tables;
 mod text;
 mod view;
 pub mod watchdog;
+pub mod whole;
 pub mod world;
 
 use std::env;

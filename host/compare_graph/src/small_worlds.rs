@@ -21,6 +21,15 @@ pub enum Call {
     Get,
     /// A finish of the held job, or of name 0 where none is held.
     Finish,
+    /// An add run whole.
+    WholeAdd {
+        name: u32,
+        list: &'static [u32],
+    },
+    /// A finish as above, run whole.
+    WholeFinish,
+    /// The adds of these names with their lists in one call.
+    Sheet(&'static [(u32, &'static [u32])]),
 }
 
 impl Call {
@@ -29,7 +38,7 @@ impl Call {
     pub fn turns(self) -> usize {
         match self {
             Call::Add { list, .. } => 3 + 2 * list.len(),
-            Call::Get => 1,
+            Call::Get | Call::WholeAdd { .. } | Call::WholeFinish | Call::Sheet(_) => 1,
             Call::Finish => 3,
         }
     }
@@ -107,22 +116,22 @@ fn turn(world: &World, worker: u32, script: &mut &[Call]) -> Option<Item> {
     }
     let (call, rest) = script.split_first()?;
     *script = rest;
+    let held = state.held.map_or(0, |job| world.graph().jobs()[job].name);
     Some(match *call {
-        Call::Add { name, list } => add(worker, name, list),
+        Call::Add { name, list } => Item::PostAdd { worker, entry: entry(name, list) },
         Call::Get => Item::Get { worker },
-        Call::Finish => {
-            let name = state.held.map_or(0, |job| world.graph().jobs()[job].name);
-            Item::PostFinish { worker, name }
+        Call::Finish => Item::PostFinish { worker, name: held },
+        Call::WholeAdd { name, list } => Item::Add { worker, entry: entry(name, list) },
+        Call::WholeFinish => Item::Finish { worker, name: held },
+        Call::Sheet(jobs) => {
+            Item::AddSheet { worker, entries: jobs.iter().map(|(name, list)| entry(*name, list)).collect(), stray: 0 }
         }
     })
 }
 
-/// The post of an add.
-pub fn add(worker: u32, name: u32, list: &[u32]) -> Item {
+/// An entry of class 0 and grower 0.
+pub fn entry(name: u32, list: &[u32]) -> Entry {
     let mut names = [0; MAX_NAMES];
     names[..list.len()].copy_from_slice(list);
-    Item::PostAdd {
-        worker,
-        entry: Entry { name, prerequisites: Names { count: list.len(), names }, class: 0, grower: 0 },
-    }
+    Entry { name, prerequisites: Names { count: list.len(), names }, class: 0, grower: 0 }
 }

@@ -5,13 +5,17 @@
 //!     finish 0 5
 //!     step 0 sizes 4 2 2 3
 //!     get 1 short queue 5
+//!     whole-add 0 name 6 class 0 grower 0 count 1 names 5
+//!     whole-finish 0 6
+//!     sheet 0 entry name 7 class 0 grower 0 count 0 names entry name 8 class 0 grower 0 count 1 names 7 stray 3
 //!     lay-out 4 2 2 2
 //!     set jobs 6 3
 //!
 //! The first line has the sizes first laid out (jobs, arcs, bits, workers), the words that each table has
 //! more, the seed of the words before (0: zeros), and the guard words around each table. An item may end in
-//! `sizes`, those that it brings, and in `short`, a table and the words of it that are lent. `set` alters a
-//! word. An empty line and one that starts with # say nothing.
+//! `sizes`, those that it brings, and in `short`, a table and the words of it that are lent. A sheet has its entries
+//! and, after `stray`, how many words follow them that make no whole row. `set` alters a word. An empty line and one
+//! that starts with # say nothing.
 
 use std::{fmt, str::FromStr};
 
@@ -67,16 +71,28 @@ impl fmt::Display for Event {
 
 fn write_item(item: &Item, f: &mut fmt::Formatter<'_>) -> fmt::Result {
     match item {
-        Item::PostAdd { worker, entry } => {
-            let Entry { name, prerequisites: Names { count, names }, class, grower } = entry;
-            let used = MAX_NAMES - names.iter().rev().take_while(|name| **name == 0).count();
-            let names = Numbers(&names[..used.max(*count.min(&MAX_NAMES))]);
-            write!(f, "add {worker} name {name} class {class} grower {grower} count {count} names{names}")
-        }
+        Item::PostAdd { worker, entry } => write!(f, "add {worker} {}", entry_text(entry)),
         Item::PostFinish { worker, name } => write!(f, "finish {worker} {name}"),
         Item::Step { worker } => write!(f, "step {worker}"),
         Item::Get { worker } => write!(f, "get {worker}"),
+        Item::Add { worker, entry } => write!(f, "whole-add {worker} {}", entry_text(entry)),
+        Item::Finish { worker, name } => write!(f, "whole-finish {worker} {name}"),
+        Item::AddSheet { worker, entries, stray } => {
+            write!(f, "sheet {worker}")?;
+            entries.iter().try_for_each(|entry| write!(f, " entry {}", entry_text(entry)))?;
+            if *stray > 0 {
+                write!(f, " stray {stray}")?;
+            }
+            Ok(())
+        }
     }
+}
+
+fn entry_text(entry: &Entry) -> String {
+    let Entry { name, prerequisites: Names { count, names }, class, grower } = entry;
+    let used = MAX_NAMES - names.iter().rev().take_while(|name| **name == 0).count();
+    let names = Numbers(&names[..used.max(*count.min(&MAX_NAMES))]);
+    format!("name {name} class {class} grower {grower} count {count} names{names}")
 }
 
 /// The words of a line that are still to be read.
@@ -152,6 +168,9 @@ impl<'a> Line<'a> {
             "finish" => Item::PostFinish { worker: self.number()?, name: self.number()? },
             "step" => Item::Step { worker: self.number()? },
             "get" => Item::Get { worker: self.number()? },
+            "whole-add" => Item::Add { worker: self.number()?, entry: self.entry()? },
+            "whole-finish" => Item::Finish { worker: self.number()?, name: self.number()? },
+            "sheet" => self.sheet()?,
             word => return Err(format!("no item is called {word}")),
         };
         let sizes = self.optional("sizes", |line| line.sizes())?;
@@ -170,6 +189,16 @@ impl<'a> Line<'a> {
             }
         }
         Ok(Entry { name, prerequisites, class, grower })
+    }
+
+    fn sheet(&mut self) -> Result<Item, String> {
+        let worker = self.number()?;
+        let mut entries = Vec::new();
+        while let Some(entry) = self.optional("entry", |line| line.entry())? {
+            entries.push(entry);
+        }
+        let stray = self.optional("stray", |line| line.number())?.unwrap_or(0);
+        Ok(Item::AddSheet { worker, entries, stray })
     }
 
     fn end(&mut self) -> Result<(), String> {

@@ -4,8 +4,8 @@
 use compare_sheets::case::differ;
 use second_implementation::{
     book::{Book, Ending},
-    graph::{self, Answer, Graph, HalfDone, Holding, Refusal, Reply, Sizes},
-    history::{Entries, History, Item},
+    graph::{self, Answer, Graph, HalfDone, Holding, Refusal, Reply, SheetAnswer, Sizes},
+    history::{Entries, History, Item, Told},
     refusal,
     sheet::Entry,
     totals::{self, Label},
@@ -13,10 +13,10 @@ use second_implementation::{
 use taskgraph::raw as proved;
 
 use crate::{
-    event::{worker_of, Call, Event},
+    event::{is_whole, rows_of, worker_of, Call, Event},
     expected_words, layout,
     tables::{Setup, Tables, JOBS},
-    view,
+    view, whole,
 };
 
 /// Graphs of more jobs than this have some checks only every so many items.
@@ -44,7 +44,7 @@ pub fn to_library(sizes: Sizes) -> proved::Sizes {
     proved::Sizes { jobs, arcs, bits, workers }
 }
 
-fn entry_to_library(entry: &Entry) -> proved::Entry {
+pub fn entry_to_library(entry: &Entry) -> proved::Entry {
     proved::Entry {
         name: entry.name,
         count: entry.prerequisites.count as u32,
@@ -65,6 +65,37 @@ pub fn answer_to_library(answer: &Answer) -> proved::Answer {
         Ok(Reply::Ended) => of_kind(kind::ENDED),
         Ok(Reply::NoneReady) => of_kind(kind::NONE_READY),
         Ok(Reply::HandedOut { job, name }) => proved::Answer { job: job as u32, name, ..of_kind(kind::HANDED_OUT) },
+    }
+}
+
+/// What the library tells of an item.
+#[derive(Clone, Debug, PartialEq, Eq)]
+pub enum LibraryTold {
+    One(proved::Answer),
+    Each(Box<proved::SheetAdded>),
+}
+
+impl LibraryTold {
+    fn of_sheet(answers: &SheetAnswer) -> LibraryTold {
+        let mut added = proved::SheetAdded::default();
+        match answers {
+            Err(refusal) => added.number = refusal.number,
+            Ok(answers) => {
+                let answers = answers.iter().map(answer_to_library);
+                for (entry, answer) in answers.enumerate().take(proved::MAX_ENTRIES) {
+                    added.numbers[entry] = answer.number;
+                    added.places[entry] = answer.place;
+                }
+            }
+        }
+        LibraryTold::Each(Box::new(added))
+    }
+
+    pub fn of(told: &Told) -> LibraryTold {
+        match told {
+            Told::One(answer) => LibraryTold::One(answer_to_library(answer)),
+            Told::Each(answers) => LibraryTold::of_sheet(answers),
+        }
     }
 }
 
@@ -95,23 +126,51 @@ pub fn drained_to_library(drained: Result<bool, Refusal>) -> proved::DrainedAnsw
 }
 
 /// The library's answer to an item.
-pub fn call_library(sizes: Sizes, tables: &mut proved::Tables, item: &Item) -> proved::Answer {
+pub fn call_library(sizes: Sizes, tables: &mut proved::Tables, item: &Item) -> LibraryTold {
     let sizes = to_library(sizes);
-    match item {
+    LibraryTold::One(match item {
         Item::PostAdd { worker, entry } => proved::post_add(sizes, tables, *worker, entry_to_library(entry)),
         Item::PostFinish { worker, name } => proved::post_finish(sizes, tables, *worker, *name),
         Item::Step { worker } => proved::step(sizes, tables, *worker),
         Item::Get { worker } => proved::get(sizes, tables, *worker),
-    }
+        Item::Add { worker, entry } => proved::add(sizes, tables, *worker, entry_to_library(entry)),
+        Item::Finish { worker, name } => proved::finish(sizes, tables, *worker, *name),
+        Item::AddSheet { worker, entries, stray } => {
+            let added = proved::add_sheet(sizes, tables, *worker, &rows_of(entries, *stray));
+            return LibraryTold::Each(Box::new(added));
+        }
+    })
 }
 
 /// The second implementation's answer to an item.
-pub fn call_second(graph: &mut Graph, sizes: Sizes, item: &Item) -> Answer {
-    match item {
+pub fn call_second(graph: &mut Graph, sizes: Sizes, item: &Item) -> Told {
+    Told::One(match item {
         Item::PostAdd { worker, entry } => graph.post_add(sizes, *worker, entry),
         Item::PostFinish { worker, name } => graph.post_finish(sizes, *worker, *name),
         Item::Step { worker } => graph.step(sizes, *worker),
         Item::Get { worker } => graph.get(sizes, *worker),
+        Item::Add { worker, entry } => graph.add(sizes, *worker, entry),
+        Item::Finish { worker, name } => graph.finish(sizes, *worker, *name),
+        Item::AddSheet { worker, entries, stray } => {
+            return Told::Each(graph.add_sheet(sizes, *worker, &rows_of(entries, *stray)));
+        }
+    })
+}
+
+/// Number 1, as an item is answered it.
+fn wrong_size(item: &Item) -> Told {
+    match item {
+        Item::AddSheet { .. } => Told::Each(graph::refused(refusal::SIZE)),
+        _ => Told::One(graph::refused(refusal::SIZE)),
+    }
+}
+
+/// Whether the words are as they were before an item that was told this.
+fn leaves_all(item: &Item, told: &Told) -> bool {
+    match (item, told) {
+        (Item::Add { .. } | Item::Finish { .. }, Told::One(answer)) => answer.is_err(),
+        (_, Told::One(answer)) => matches!(answer, Err(refusal) if changes_nothing(refusal.number)),
+        (_, Told::Each(answers)) => answers.iter().flatten().all(Result::is_err),
     }
 }
 
@@ -186,20 +245,27 @@ impl World {
         // Sizes other than those laid out are refused whatever the lengths, so the need is theirs.
         let long_enough = layout::suffice(self.tables.cut_lens(call.short), self.graph.sizes());
         let expected =
-            if long_enough { call_second(&mut self.graph, sizes, &call.item) } else { graph::refused(refusal::SIZE) };
-        let unchanged = matches!(expected, Err(refusal) if changes_nothing(refusal.number));
-        let before = unchanged.then(|| self.tables.clone());
-        let answer = call_library(sizes, &mut self.tables.lent(call.short), &call.item);
-        none_or_err(differ("the answer", answer, answer_to_library(&expected)))?;
+            if long_enough { call_second(&mut self.graph, sizes, &call.item) } else { wrong_size(&call.item) };
+        // The tables are large, and copied only where they are compared with what they were.
+        let unchanged = leaves_all(&call.item, &expected);
+        let before = (unchanged || is_whole(&call.item)).then(|| self.tables.clone());
+        let told = call_library(sizes, &mut self.tables.lent(call.short), &call.item);
+        none_or_err(differ("the answer", &told, &LibraryTold::of(&expected)))?;
         if let Some(before) = before {
-            none_or_err(Tables::difference(&before, &self.tables))?;
+            let changed = Tables::difference(&before, &self.tables).filter(|_| unchanged);
+            none_or_err(changed)?;
+            none_or_err(whole::beside_single_calls(before, sizes, call, &told, &self.tables))?;
         }
         self.check_state(sizes, call)?;
         self.check_tables()?;
-        if let (true, Item::Get { .. }, Ok(reply)) = (quiet, &call.item, expected) {
-            self.check_none_ready(reply)?;
+        if let (true, Item::Get { .. }, Told::One(Ok(reply))) = (quiet, &call.item, &expected) {
+            self.check_none_ready(*reply)?;
         }
+        let decided = self.history.calls().len() + whole::decided(&call.item, &expected);
         self.history.take(&call.item, &expected);
+        if is_whole(&call.item) {
+            none_or_err(differ("the calls that a whole one counts as", self.history.calls().len(), decided))?;
+        }
         self.check_drained()?;
         self.check_history()
     }

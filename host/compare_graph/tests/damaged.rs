@@ -1,11 +1,18 @@
 //! Damaged tables: every call is served or turned away by a number of the list, and nothing else happens.
 
+use std::collections::BTreeSet;
+
 use compare_graph::{
     damaged::{self, Damaged},
+    event::{Event, History},
     histories,
+    tables::Tables,
     watchdog::Watchdog,
+    whole::{self, HALF_LEFT},
+    world::{call_library, to_library},
 };
 use compare_sheets::{case::Comparison, random::seed};
+use taskgraph::raw;
 
 #[test]
 fn damaged_tables() {
@@ -17,4 +24,41 @@ fn damaged_tables() {
         comparison.check(Damaged(damaged::numbered(seed(), number)));
     }
     comparison.finish();
+}
+
+/// How the library answers the whole calls of a history.
+fn ways_of(history: History) -> BTreeSet<(&'static str, u32)> {
+    let mut met = BTreeSet::new();
+    let (mut tables, mut sizes) = (Tables::new(&history.setup), history.setup.sizes);
+    raw::lay_out(to_library(sizes), &mut tables.lent(None));
+    for event in history.events {
+        match event {
+            Event::Set { table, place, value } => tables.set(table, place, value),
+            Event::LayOut(anew) => {
+                let answer = raw::lay_out(to_library(anew), &mut tables.lent(None));
+                sizes = if answer.number == 0 { anew } else { sizes };
+            }
+            Event::Call(call) => {
+                let told = call_library(call.sizes.unwrap_or(sizes), &mut tables.lent(call.short), &call.item);
+                met.extend(whole::ways(&call.item, &told));
+            }
+        }
+    }
+    met
+}
+
+/// What the comparison must meet of whole calls: damage before and in the middle of each, entries after such a middle,
+/// which get 3, and a finish that uses up its steps.
+#[test]
+fn whole_calls_meet_damage() {
+    let mut due =
+        BTreeSet::from([("add", 9), ("finish", 9), ("finish", HALF_LEFT), ("sheet", 9), ("entry", 9), ("entry", 3)]);
+    let mut number = 0;
+    while !due.is_empty() && number < 4_000 {
+        let met = ways_of(damaged::numbered(1993, number));
+        due.retain(|way| !met.contains(way));
+        number += 1;
+    }
+    assert!(due.is_empty(), "never met in {number} histories: {due:?}");
+    println!("\nall ways of whole calls met in {number} damaged histories");
 }

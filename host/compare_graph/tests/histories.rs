@@ -1,12 +1,20 @@
 //! Random histories of posts, steps and gets: the library does as the second implementation and the plain book do.
 
-use std::fs;
+use std::{collections::BTreeSet, fs};
 
-use compare_graph::{damaged::Damaged, event::History, generate, histories, random_history::RandomHistory};
+use compare_graph::{
+    damaged::Damaged,
+    event::{Event, History},
+    generate, histories,
+    random_history::RandomHistory,
+    whole,
+    world::{call_second, LibraryTold},
+};
 use compare_sheets::{
     case::Comparison,
     random::{seed, Random},
 };
+use second_implementation::graph::Graph;
 
 #[test]
 fn random_histories() {
@@ -19,6 +27,32 @@ fn random_histories() {
     }
     println!("\n{events} events in random histories");
     comparison.finish();
+}
+
+/// A comparison says nothing of what it never meets: whole calls and the entries of sheets are answered by each number
+/// that there is without damage.
+#[test]
+fn whole_calls_are_answered_in_every_way() {
+    let mut met = BTreeSet::new();
+    for number in 0..300 {
+        let history = generate::history(&mut Random::nth(1993, "ways", number));
+        let mut graph = Graph::lay_out(history.setup.sizes).expect("the sizes are within their limits");
+        for event in &history.events {
+            if let Event::Call(call) = event {
+                let sizes = call.sizes.unwrap_or_else(|| graph.sizes());
+                let told = call_second(&mut graph.clone(), sizes, &call.item);
+                met.extend(whole::ways(&call.item, &LibraryTold::of(&told)));
+            }
+            generate::follow(&mut graph, &history.setup, event);
+        }
+    }
+    let numbers = |what, numbers: &'static [u32]| numbers.iter().map(move |number| (what, *number));
+    let expected: BTreeSet<(&str, u32)> = numbers("add", &[0, 1, 2, 3, 5, 6, 7, 8])
+        .chain(numbers("finish", &[0, 1, 2, 3, 11]))
+        .chain(numbers("sheet", &[0, 1, 2, 3, 16]))
+        .chain(numbers("entry", &[0, 5, 6, 7, 8]))
+        .collect();
+    assert_eq!(met, expected);
 }
 
 #[test]

@@ -3,7 +3,7 @@
 use compare_graph::{
     event::Event,
     random_history::RandomHistory,
-    small_worlds::{add, scripts, Call, Start},
+    small_worlds::{entry, scripts, Call, Start},
     tables::Setup,
 };
 use compare_sheets::case::Comparison;
@@ -11,6 +11,9 @@ use second_implementation::{graph::Sizes, history::Item};
 
 /// The most turns of two scripts together, the further arcs of a finish aside.
 const MOST_TURNS: usize = 12;
+
+/// The same, where one of the scripts has calls run whole, which are one turn each.
+const MOST_WHOLE_TURNS: usize = 8;
 
 const CALLS: [Call; 7] = [
     Call::Get,
@@ -22,10 +25,20 @@ const CALLS: [Call; 7] = [
     Call::Add { name: 4, list: &[1, 2] },
 ];
 
-/// A whole add by worker 0.
+const WHOLE_CALLS: [Call; 6] = [
+    Call::Get,
+    Call::WholeFinish,
+    Call::WholeAdd { name: 4, list: &[1] },
+    Call::Add { name: 4, list: &[1] },
+    Call::Sheet(&[(4, &[]), (5, &[4])]),
+    Call::Sheet(&[(4, &[5]), (5, &[1, 2]), (4, &[5])]),
+];
+
+/// A whole add by worker 0, in steps.
 fn whole_add(name: u32, list: &[u32]) -> Vec<Event> {
     let steps = (0..2 * list.len() + 2).map(|_| Item::Step { worker: 0 });
-    std::iter::once(add(0, name, list)).chain(steps).map(Event::from).collect()
+    let post = Item::PostAdd { worker: 0, entry: entry(name, list) };
+    std::iter::once(post).chain(steps).map(Event::from).collect()
 }
 
 fn get(worker: u32) -> Vec<Event> {
@@ -53,13 +66,25 @@ fn starts() -> Vec<Start> {
 #[test]
 fn every_order_of_two_scripts() {
     let test = "graph, every order of the turns of two scripts";
+    let scripts = scripts(&CALLS, 3);
+    every_order(test, [&scripts, &scripts], MOST_TURNS);
+}
+
+/// One worker takes single steps, or whole calls too, and the other whole calls.
+#[test]
+fn every_order_beside_whole_calls() {
+    let test = "graph, every order of the turns of two scripts, one with whole calls";
+    every_order(test, [&scripts(&CALLS, 2), &scripts(&WHOLE_CALLS, 3)], MOST_WHOLE_TURNS);
+}
+
+/// Takes each pair of scripts that has not too many turns in every order of their turns.
+fn every_order(test: &'static str, scripts: [&[Vec<Call>]; 2], most: usize) {
     let turns = |script: &[Call]| script.iter().map(|call| call.turns()).sum::<usize>();
-    let scripts: Vec<_> = scripts(&CALLS, 3).into_iter().filter(|script| turns(script) < MOST_TURNS).collect();
     let (mut orders, mut pairs) = (0, 0_u64);
     for start in starts() {
         let world = start.world();
-        for one in &scripts {
-            for other in scripts.iter().filter(|other| turns(one) + turns(other) <= MOST_TURNS) {
+        for one in scripts[0].iter().filter(|one| turns(one) < most) {
+            for other in scripts[1].iter().filter(|other| turns(other) < most && turns(one) + turns(other) <= most) {
                 let taken =
                     world.as_ref().map_err(Clone::clone).and_then(|world| start.every_order(world, [one, other]));
                 match taken {

@@ -19,6 +19,8 @@ pub struct Row {
     pub library: u64,
     pub other: u64,
     pub most: f64,
+    /// Whether more than that is a failure; else it is only shown.
+    pub judged: bool,
     /// The library's time as a multiple of the other's, which is shown and not judged.
     pub time: f64,
 }
@@ -26,6 +28,10 @@ pub struct Row {
 impl Row {
     fn ratio(&self) -> f64 {
         self.library as f64 / self.other as f64
+    }
+
+    fn is_over(&self) -> bool {
+        self.ratio() > self.most
     }
 }
 
@@ -48,24 +54,42 @@ pub fn instructions(arguments: &[&str]) -> u64 {
     total
 }
 
+/// Rows of one kind: what they are, and what the two columns of counts are.
+pub struct Table {
+    pub title: &'static str,
+    pub library: &'static str,
+    pub other: &'static str,
+    pub rows: Vec<Row>,
+}
+
 /// Prints the counts, and fails where the library takes more than it may.
-pub fn judge(other: &str, rows: &[Row]) -> ExitCode {
+pub fn judge(tables: &[Table]) -> ExitCode {
     println!("Instructions, counted by callgrind; their ratio is judged, that of the times is not.");
+    tables.iter().for_each(print);
+    let mut failed = false;
+    for table in tables {
+        for row in table.rows.iter().filter(|row| row.is_over()) {
+            let said = if row.judged { "too many instructions" } else { "over its limit, which is not judged yet" };
+            println!("{said}: {}, {}", table.title, row.name);
+            failed |= row.judged;
+        }
+    }
+    if failed {
+        ExitCode::FAILURE
+    } else {
+        ExitCode::SUCCESS
+    }
+}
+
+fn print(table: &Table) {
     let line = |cells: [&str; 6]| {
         let [name, library, other, ratio, most, time] = cells;
         println!("{name:<32} {library:>12} {other:>14} {ratio:>6} {most:>8} {time:>6}");
     };
-    line(["", "library", other, "ratio", "at most", "times"]);
-    for row in rows {
+    line([table.title, table.library, table.other, "ratio", "at most", "times"]);
+    for row in &table.rows {
         let [library, other] = [row.library, row.other].map(|count| count.to_string());
         let [ratio, most, time] = [row.ratio(), row.most, row.time].map(|ratio| format!("{ratio:.2}"));
         line([&row.name, &library, &other, &ratio, &most, &time]);
-    }
-    let over: Vec<&Row> = rows.iter().filter(|row| row.ratio() > row.most).collect();
-    over.iter().for_each(|row| println!("too many instructions: {}", row.name));
-    if over.is_empty() {
-        ExitCode::SUCCESS
-    } else {
-        ExitCode::FAILURE
     }
 }

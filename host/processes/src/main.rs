@@ -1,6 +1,6 @@
 //! Sixteen worker processes over one graph in shared memory, with the lock round each call and each step: 4,096 jobs
-//! with 32,768 arcs, jobs of random length. Afterwards the workers' logs say whether a job was taken before its
-//! prerequisites or twice. Then the same with a worker killed between two calls at a random moment, after
+//! with 32,768 arcs, jobs of random length. Some workers take single steps, some run their calls whole, and some add by
+//! sheets. Afterwards the workers' logs say whether a job was taken before its prerequisites or twice. Then the same with a worker killed between two calls at a random moment, after
 //! which the others go on.
 //!
 //! usage: processes [RUNS]      RUNS with a killed worker, 8 if it is not said

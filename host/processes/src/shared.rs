@@ -85,15 +85,15 @@ impl Held<'_> {
         self.word(TICKET)
     }
 
-    /// The next job that nobody adds yet.
-    pub fn claim(&self, worker: u32) -> Fallible<Option<usize>> {
-        let job = self.word(NEXT)? as usize;
-        if job == JOBS {
-            return Ok(None);
+    /// The next jobs that nobody adds yet, as many as are wanted and there.
+    pub fn claim(&self, worker: u32, wanted: usize) -> Fallible<Vec<usize>> {
+        let first = self.word(NEXT)? as usize;
+        let claimed: Vec<usize> = (first..JOBS).take(wanted).collect();
+        self.set(NEXT, (first + claimed.len()) as u32)?;
+        for job in &claimed {
+            self.set(ADDS + job, 1 + worker)?;
         }
-        self.set(NEXT, job as u32 + 1)?;
-        self.set(ADDS + job, 1 + worker)?;
-        Ok(Some(job))
+        Ok(claimed)
     }
 
     /// Whether a job that is not yet there will never be.

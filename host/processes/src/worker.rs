@@ -1,5 +1,5 @@
 //! A worker process: adds jobs of the plan, takes jobs, works at them and finishes them, and writes to its
-//! log what it did.
+//! log what it did. By its number it takes single steps, runs its calls whole, or adds by sheets.
 
 use std::{
     fs::File,
@@ -10,33 +10,46 @@ use std::{
 };
 
 use compare_sheets::random::Random;
-use taskgraph::{Progress, Refusal, TaskGraph};
+use taskgraph::{raw::MAX_ENTRIES, Job, Progress, Refusal, TaskGraph};
 
 use crate::{
     log::Line,
     plan::Plan,
-    shared::{Fallible, Shared},
+    shared::{Fallible, Held, Shared},
 };
+
+/// How a worker adds and finishes.
+#[derive(Clone, Copy, PartialEq, Eq)]
+enum Manner {
+    /// In steps, with the lock free between them.
+    Steps,
+    /// Each add and each finish in one call.
+    Whole,
+    /// Adds by sheets, and each finish in one call.
+    Sheets,
+}
 
 pub struct Worker {
     number: u32,
+    manner: Manner,
     shared: Shared,
     plan: Plan,
     random: Random,
     log: File,
-    /// The job of the plan that it is to add.
-    claimed: Option<usize>,
+    /// The jobs of the plan that it is to add.
+    claimed: Vec<usize>,
 }
 
 impl Worker {
     pub fn new(number: u32, seed: u64, folder: &Path, log: &Path) -> Fallible<Worker> {
         Ok(Worker {
             number,
+            manner: [Manner::Steps, Manner::Whole, Manner::Sheets][number as usize % 3],
             shared: Shared::open(folder)?,
             plan: Plan::new(seed),
             random: Random::nth(seed, "workers", u64::from(number)),
             log: File::create(log)?,
-            claimed: None,
+            claimed: Vec::new(),
         })
     }
 
@@ -69,49 +82,94 @@ impl Worker {
     }
 
     fn claim(&mut self) -> Fallible<()> {
-        if self.claimed.is_none() {
+        if self.claimed.is_empty() {
+            let wanted = self.wanted();
             let held = self.shared.lock()?;
-            self.claimed = held.claim(self.number)?;
-            held.set_busy(self.number, self.claimed.is_some())?;
+            self.claimed = held.claim(self.number, wanted)?;
+            held.set_busy(self.number, !self.claimed.is_empty())?;
         }
         Ok(())
     }
 
-    /// Tries to add the claimed job; while a prerequisite is not there yet, it stays claimed.
+    /// How many jobs are claimed at once: for a sheet several, now and then as many as one takes.
+    fn wanted(&mut self) -> usize {
+        match self.manner {
+            Manner::Steps | Manner::Whole => 1,
+            Manner::Sheets if self.random.once_in(16) => MAX_ENTRIES,
+            Manner::Sheets => 1 + self.random.below(8),
+        }
+    }
+
+    /// Tries to add the claimed jobs; while a prerequisite is not there yet, a job stays claimed.
     fn add(&mut self) -> Fallible<()> {
-        let job = match self.claimed {
-            Some(job) => job,
-            None => return Ok(()),
-        };
+        match (self.manner, self.claimed.first()) {
+            (_, None) => Ok(()),
+            (Manner::Steps, Some(job)) => self.add_by_steps(*job),
+            (Manner::Whole, Some(job)) => self.add_whole(*job),
+            (Manner::Sheets, Some(_)) => self.add_by_sheet(),
+        }
+    }
+
+    fn add_by_steps(&mut self, job: usize) -> Fallible<()> {
         self.shared.lock()?.graph.post_add(self.number, &self.plan.job(job))?;
         loop {
             let mut held = self.shared.lock()?;
             match held.graph.step(self.number) {
                 Ok(Progress::GoingOn) => {}
-                Ok(Progress::Ended) => {
-                    held.set_added(job)?;
-                    held.set_busy(self.number, false)?;
+                ended => {
+                    let answer = ended.map(drop);
+                    note_added(&held, job, answer)?;
                     drop(held);
-                    self.claimed = None;
-                    return self.write(Line::Added { job });
+                    return self.take_answers(&[answer]);
                 }
-                Err(Refusal::UnknownName { place }) => {
-                    drop(held);
-                    return self.give_up_if_lost(job, self.plan.lists[job][place]);
-                }
-                Err(refusal) => return Err(refusal.into()),
             }
         }
     }
 
-    fn give_up_if_lost(&mut self, job: usize, prerequisite: usize) -> Fallible<()> {
-        let held = self.shared.lock()?;
-        if held.is_lost(prerequisite)? {
-            held.give_up(job)?;
-            held.set_busy(self.number, false)?;
-            self.claimed = None;
+    fn add_whole(&mut self, job: usize) -> Fallible<()> {
+        let mut held = self.shared.lock()?;
+        let answer = held.graph.add(self.number, &self.plan.job(job));
+        note_added(&held, job, answer)?;
+        drop(held);
+        self.take_answers(&[answer])
+    }
+
+    fn add_by_sheet(&mut self) -> Fallible<()> {
+        let jobs: Vec<Job> = self.claimed.iter().map(|job| self.plan.job(*job)).collect();
+        let mut held = self.shared.lock()?;
+        let answers = held.graph.add_sheet(self.number, &jobs)?;
+        for (job, answer) in self.claimed.iter().zip(&answers) {
+            note_added(&held, *job, *answer)?;
         }
-        Ok(())
+        drop(held);
+        self.take_answers(&answers)
+    }
+
+    /// What became of the claimed jobs: those added are logged, and those that can never be are given up.
+    fn take_answers(&mut self, answers: &[Result<(), Refusal>]) -> Fallible<()> {
+        let claimed = std::mem::take(&mut self.claimed);
+        for (job, answer) in claimed.into_iter().zip(answers) {
+            match *answer {
+                Ok(()) => self.write(Line::Added { job })?,
+                Err(Refusal::UnknownName { place }) => {
+                    if !self.gives_up(job, self.plan.lists[job][place])? {
+                        self.claimed.push(job);
+                    }
+                }
+                Err(refusal) => return Err(refusal.into()),
+            }
+        }
+        self.shared.lock()?.set_busy(self.number, !self.claimed.is_empty())
+    }
+
+    /// Gives a job up if the prerequisite that it lacks will never be there.
+    fn gives_up(&self, job: usize, prerequisite: usize) -> Fallible<bool> {
+        let held = self.shared.lock()?;
+        let lost = held.is_lost(prerequisite)?;
+        if lost {
+            held.give_up(job)?;
+        }
+        Ok(lost)
     }
 
     /// Works at a job for a random time and finishes it.
@@ -131,14 +189,31 @@ impl Worker {
     }
 
     fn finish(&mut self, name: u32) -> Fallible<()> {
+        if self.manner == Manner::Steps {
+            self.finish_by_steps(name)?;
+        } else {
+            let mut held = self.shared.lock()?;
+            held.graph.finish(self.number, name)?;
+            held.set_busy(self.number, !self.claimed.is_empty())?;
+        }
+        self.write(Line::Finished { name })
+    }
+
+    fn finish_by_steps(&mut self, name: u32) -> Fallible<()> {
         self.shared.lock()?.graph.post_finish(self.number, name)?;
         loop {
             let mut held = self.shared.lock()?;
             if held.graph.step(self.number)? == Progress::Ended {
-                held.set_busy(self.number, self.claimed.is_some())?;
-                drop(held);
-                return self.write(Line::Finished { name });
+                return held.set_busy(self.number, !self.claimed.is_empty());
             }
         }
     }
+}
+
+/// Says under the lock of its call that a job was added, so that a kill comes before both or after both.
+fn note_added(held: &Held, job: usize, answer: Result<(), Refusal>) -> Fallible<()> {
+    if answer.is_ok() {
+        held.set_added(job)?;
+    }
+    Ok(())
 }

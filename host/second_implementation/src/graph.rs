@@ -4,6 +4,8 @@
 //! The shapes are Rust's own, not tables of words, so nothing here can be damaged (number 9) or too
 //! short (the rest of number 1).
 
+mod whole;
+
 use crate::{
     bucket::bucket,
     refusal,
@@ -58,6 +60,8 @@ pub enum Reply {
 }
 
 pub type Answer = Result<Reply, Refusal>;
+
+pub use whole::{SheetAnswer, MAX_ENTRIES};
 
 /// A job; its number is its place in the order of entering.
 #[derive(Clone, Debug)]

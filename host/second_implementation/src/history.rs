@@ -1,12 +1,12 @@
 //! The history of calls (docs/RULES.md, "Steps", "The plain book" and demand 3), read off the items of a
 //! list and their answers alone: whole calls in the order of their deciding steps, and the entries of
-//! each job into the queue.
+//! each job into the queue. An item may also be a call run whole, or a sheet, which counts as its separate adds.
 
 use std::collections::HashMap;
 
 use crate::{
     book::{Ending, GetAnswer, Request},
-    graph::{Answer, Refusal, Reply},
+    graph::{Answer, Refusal, Reply, SheetAnswer},
     refusal,
     sheet::Entry,
 };
@@ -14,10 +14,50 @@ use crate::{
 /// One item of a list.
 #[derive(Clone, Debug, PartialEq, Eq)]
 pub enum Item {
-    PostAdd { worker: u32, entry: Entry },
-    PostFinish { worker: u32, name: u32 },
-    Step { worker: u32 },
-    Get { worker: u32 },
+    PostAdd {
+        worker: u32,
+        entry: Entry,
+    },
+    PostFinish {
+        worker: u32,
+        name: u32,
+    },
+    Step {
+        worker: u32,
+    },
+    Get {
+        worker: u32,
+    },
+    /// An add run whole.
+    Add {
+        worker: u32,
+        entry: Entry,
+    },
+    /// A finish run whole.
+    Finish {
+        worker: u32,
+        name: u32,
+    },
+    /// The adds of all entries, each run whole; so many words follow that make no whole row.
+    AddSheet {
+        worker: u32,
+        entries: Vec<Entry>,
+        stray: usize,
+    },
+}
+
+/// What an item is answered.
+#[derive(Clone, Debug, PartialEq, Eq)]
+pub enum Told {
+    One(Answer),
+    /// Of a sheet.
+    Each(SheetAnswer),
+}
+
+impl From<Answer> for Told {
+    fn from(answer: Answer) -> Told {
+        Told::One(answer)
+    }
 }
 
 /// A decided call.
@@ -73,13 +113,38 @@ impl History {
         !self.open.is_empty()
     }
 
-    /// Takes the next item and its answer. Items turned away by 1 to 4 belong to no call.
-    pub fn take(&mut self, item: &Item, answer: &Answer) {
-        match item {
-            Item::PostAdd { worker, entry } => self.post(*worker, Request::Add(*entry), answer),
-            Item::PostFinish { worker, name } => self.post(*worker, Request::Finish { name: *name }, answer),
-            Item::Step { worker } => self.step(*worker, answer),
-            Item::Get { worker } => self.get(*worker, answer),
+    /// Takes the next item and what it was answered. Items turned away by 1 to 4, or by 16, belong to no call.
+    pub fn take(&mut self, item: &Item, told: &Told) {
+        match (item, told) {
+            (Item::PostAdd { worker, entry }, Told::One(answer)) => self.post(*worker, Request::Add(*entry), answer),
+            (Item::PostFinish { worker, name }, Told::One(answer)) => {
+                self.post(*worker, Request::Finish { name: *name }, answer);
+            }
+            (Item::Step { worker }, Told::One(answer)) => self.step(*worker, answer),
+            (Item::Get { worker }, Told::One(answer)) => self.get(*worker, answer),
+            (Item::Add { worker, entry }, Told::One(answer)) => self.whole(*worker, Request::Add(*entry), answer),
+            (Item::Finish { worker, name }, Told::One(answer)) => {
+                self.whole(*worker, Request::Finish { name: *name }, answer);
+            }
+            (Item::AddSheet { worker, entries, .. }, Told::Each(Ok(answers))) => {
+                let adds = entries.iter().zip(answers);
+                adds.for_each(|(entry, answer)| self.whole(*worker, Request::Add(*entry), answer));
+            }
+            (Item::AddSheet { .. }, Told::Each(Err(_))) => {}
+            _ => panic!("{item:?} is not answered by {told:?}"),
+        }
+    }
+
+    /// A call run whole: decided and ended by one answer.
+    fn whole(&mut self, worker: u32, request: Request, answer: &Answer) {
+        match answer {
+            Ok(_) => {
+                let mut open = Open { request, steps: 0, decided: None, job: None };
+                self.decide(worker, &mut open);
+                self.end(&open);
+            }
+            Err(refusal) if ends_a_call(refusal) => self.ended(worker, request, Ending::Refused(*refusal)),
+            Err(_) => {}
         }
     }
 
@@ -236,7 +301,7 @@ mod tests {
 
     fn history(items: &[(Item, Answer)]) -> History {
         let mut history = History::default();
-        items.iter().for_each(|(item, answer)| history.take(item, answer));
+        items.iter().for_each(|(item, answer)| history.take(item, &Told::from(*answer)));
         history
     }
 
@@ -284,6 +349,29 @@ mod tests {
         );
         assert!(!history.is_half_done());
         assert!(history.jobs()[0].finish_ended);
+    }
+
+    #[test]
+    fn whole_calls_are_decided_where_they_stand_and_a_sheet_is_its_adds() {
+        let mut history = history(&[
+            (Item::PostAdd { worker: 0, entry: entry(9, &[]) }, POSTED),
+            (Item::Add { worker: 1, entry: entry(1, &[]) }, ENDED),
+            (Item::Step { worker: 0 }, GOING_ON),
+        ]);
+        let unknown = Refusal { number: 6, place: 0 };
+        let entries = vec![entry(2, &[7]), entry(3, &[1])];
+        let sheet = Item::AddSheet { worker: 1, entries, stray: 0 };
+        history.take(&sheet, &Told::Each(refused(16)));
+        history.take(&sheet, &Told::Each(Ok(vec![Err(unknown), ENDED])));
+        history.take(&Item::Get { worker: 1 }, &Told::One(Ok(Reply::HandedOut { job: 0, name: 1 })));
+        history.take(&Item::Finish { worker: 1, name: 1 }, &Told::One(ENDED));
+        let endings: Vec<_> = history.calls().iter().map(|call| (call.worker, call.ending)).collect();
+        let accepted = Some(Ending::Accepted);
+        let refused = Some(Ending::Refused(unknown));
+        let expected = [(1, accepted), (0, None), (1, refused), (1, accepted), (1, accepted), (1, accepted)];
+        assert_eq!(endings, expected);
+        assert_eq!(history.jobs()[2].prerequisites, [0]);
+        assert!(history.jobs()[0].finish_ended && history.jobs()[2].add_ended && !history.jobs()[1].add_ended);
     }
 
     #[test]

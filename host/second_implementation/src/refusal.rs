@@ -30,3 +30,5 @@ pub const MAP: u32 = 13;
 pub const VALUE: u32 = 14;
 /// The output lacks bytes for what is to be written.
 pub const NO_ROOM: u32 = 15;
+/// A sheet of more entries than one call takes.
+pub const TOO_MANY_ENTRIES: u32 = 16;

@@ -45,6 +45,27 @@ pub struct Entry {
     pub grower: u32,
 }
 
+/// The words of a row: name, count, class, grower, and a word for each name that a list can have.
+pub const ROW_WORDS: usize = 4 + MAX_NAMES;
+
+impl Entry {
+    /// The entry of a row of words. A row that is too short has 0 in what it lacks.
+    pub fn of_row(row: &[u32]) -> Entry {
+        let word = |place: usize| row.get(place).copied().unwrap_or(0);
+        let mut prerequisites = Names { count: word(1) as usize, ..Names::default() };
+        prerequisites.names.iter_mut().enumerate().for_each(|(place, name)| *name = word(4 + place));
+        Entry { name: word(0), prerequisites, class: word(2), grower: word(3) }
+    }
+
+    /// The row of words of the entry.
+    pub fn to_row(&self) -> [u32; ROW_WORDS] {
+        let mut row = [0; ROW_WORDS];
+        row[..4].copy_from_slice(&[self.name, self.prerequisites.count as u32, self.class, self.grower]);
+        row[4..].copy_from_slice(&self.prerequisites.names);
+        row
+    }
+}
+
 /// Why a sheet cannot be read, with the offset of the field from the sheet's start.
 #[derive(Clone, Copy, Debug, PartialEq, Eq)]
 pub enum ReadError {

@@ -79,7 +79,10 @@ pub fn expected_drained(tables: &Tables, sizes: Sizes, short: Option<(usize, usi
     }
 }
 
-/// The answer that the list settles, whatever the words.
+/// The answer that the list settles for a single call, whatever the words.
+///
+/// # Panics
+/// For a call run whole, which is made of single ones.
 pub fn expected_answer(tables: &Tables, sizes: Sizes, call: &Call) -> Answer {
     let (words, own) = match admitted(tables, sizes, call) {
         Ok(found) => found,
@@ -96,6 +99,7 @@ pub fn expected_answer(tables: &Tables, sizes: Sizes, call: &Call) -> Answer {
             (!holds).then_some(refusal::NOT_HELD)
         }
         Item::Get { .. } => (held != NONE).then_some(refusal::HOLDING),
+        Item::Add { .. } | Item::Finish { .. } | Item::AddSheet { .. } => panic!("{:?} is no single call", call.item),
     };
     if let Some(number) = before_the_words_read {
         return refused(number);
@@ -103,7 +107,7 @@ pub fn expected_answer(tables: &Tables, sizes: Sizes, call: &Call) -> Answer {
     let answer = words.judge_counters().and_then(|()| match &call.item {
         Item::Step { .. } => words.step(own),
         Item::Get { .. } => words.get(),
-        Item::PostAdd { .. } | Item::PostFinish { .. } => Ok(of_kind(kind::POSTED)),
+        _ => Ok(of_kind(kind::POSTED)),
     });
     answer.unwrap_or_else(|Harm| refused(refusal::DAMAGED))
 }

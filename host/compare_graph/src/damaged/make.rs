@@ -1,10 +1,14 @@
 //! Random histories with damage in the midst of them.
 
 use compare_sheets::random::Random;
-use second_implementation::graph::{Graph, Sizes};
+use second_implementation::{
+    graph::{Graph, Sizes},
+    history::Item,
+    sheet::MAX_NAMES,
+};
 
 use crate::{
-    event::{Event, History},
+    event::{Call, Event, History},
     generate,
     layout::{self, job, worker, NONE},
     tables::{ARCS, BUCKETS, JOBS, QUEUE, WORKERS},
@@ -20,6 +24,9 @@ pub fn history(random: &mut Random) -> History {
     let mut history = generate::history(random);
     if random.once_in(2) {
         history = with_counters_altered(random, history);
+    }
+    if random.once_in(4) {
+        history = with_arcs_in_a_circle(random, history);
     }
     let sizes = history.setup.sizes;
     for _ in 0..1 + random.below(6) {
@@ -61,6 +68,41 @@ fn with_counters_altered(random: &mut Random, history: History) -> History {
         altered.push(event);
     }
     History { setup, events: altered }
+}
+
+/// Before some finishes run whole the job's last arc is followed by its first, and its dependents' counts are the
+/// greatest, so that the finish goes round until its steps are used up.
+fn with_arcs_in_a_circle(random: &mut Random, history: History) -> History {
+    let History { setup, events } = history;
+    let mut graph = Graph::lay_out(setup.sizes).expect("the sizes are within their limits");
+    let mut altered = Vec::with_capacity(2 * events.len());
+    for event in events {
+        if random.once_in(2) {
+            altered.extend(circle(&graph, &event));
+        }
+        generate::follow(&mut graph, &setup, &event);
+        altered.push(event);
+    }
+    History { setup, events: altered }
+}
+
+/// The damage that makes a circle of the arcs of the job that is finished.
+fn circle(graph: &Graph, event: &Event) -> Vec<Event> {
+    let worker = match event {
+        Event::Call(Call { item: Item::Finish { worker, .. }, sizes: None, short: None }) => *worker as usize,
+        _ => return Vec::new(),
+    };
+    let held = graph.workers().get(worker).and_then(|worker| worker.held);
+    let arcs = held.map_or(&[][..], |held| &graph.jobs()[held].arcs);
+    let (first, last) = match arcs {
+        [first, .., last] => (*first, *last),
+        [only] => (*only, *only),
+        [] => return Vec::new(),
+    };
+    let most =
+        |job: usize| Event::Set { table: JOBS, place: layout::job_at(job) + job::COUNT, value: MAX_NAMES as u32 };
+    let back = Event::Set { table: ARCS, place: layout::arc_at(last) + layout::ARC_NEXT, value: first as u32 };
+    arcs.iter().filter_map(|arc| graph.arcs()[*arc]).map(most).chain([back]).collect()
 }
 
 /// An altered word, mostly one that is in use early.

@@ -212,6 +212,47 @@ fn the_order_of_the_tests() {
     assert_eq!(graph.0.workers()[0].held, Some(0), "a holder may add and keeps its hold");
 }
 
+fn rows(entries: &[Entry]) -> Vec<u32> {
+    entries.iter().flat_map(|entry| entry.to_row()).collect()
+}
+
+#[test]
+fn a_sheet_goes_on_after_a_refused_entry() {
+    let mut graph = Small::new(3, 2);
+    let sizes = graph.0.sizes();
+    let wrong = Entry { class: 16, ..entry(1, &[]) };
+    let entries =
+        [entry(1, &[]), wrong, entry(2, &[1, 7]), entry(1, &[]), entry(2, &[1]), entry(3, &[1, 2]), entry(3, &[])];
+    let unknown = Err(Refusal { number: 6, place: 1 });
+    let answers = vec![ENDED, refused(5), unknown, refused(7), ENDED, refused(8), ENDED];
+    assert_eq!(graph.0.add_sheet(sizes, 0, &rows(&entries)), Ok(answers));
+    assert_eq!(graph.queued(), [0, 2]);
+    assert_eq!(graph.0.add_sheet(sizes, 0, &[]), Ok(vec![]), "nothing to do");
+    assert_eq!(graph.get(0), handed_out(0, 1));
+    assert_eq!(graph.0.finish(sizes, 0, 2), refused(11));
+    assert_eq!(graph.0.finish(sizes, 0, 1), ENDED);
+    assert_eq!(graph.queued(), [0, 2, 1]);
+    assert_eq!(graph.0.add(sizes, 0, &entry(3, &[])), refused(7));
+}
+
+#[test]
+fn what_turns_a_sheet_away() {
+    let mut graph = Small::new(4, 4);
+    let sizes = graph.0.sizes();
+    let most = rows(&[entry(1, &[]); 64]);
+    let more = rows(&[entry(1, &[]); 65]);
+    assert_eq!(graph.0.add_sheet(sizes, 9, &more[1..]), refused(1), "no whole rows");
+    assert_eq!(graph.0.add_sheet(Sizes { arcs: 5, ..sizes }, 9, &more), refused(1));
+    assert_eq!(graph.0.add_sheet(sizes, 2, &more), refused(2));
+    assert_eq!(graph.post_add(0, 9, &[]), POSTED);
+    assert_eq!(graph.0.add_sheet(sizes, 0, &more), refused(3), "3 comes before 16");
+    assert_eq!(graph.0.add_sheet(sizes, 0, &[]), refused(3));
+    assert_eq!(graph.0.add_sheet(sizes, 1, &more), refused(16));
+    assert!(graph.0.jobs().is_empty());
+    assert_eq!(graph.0.add_sheet(sizes, 1, &most).map(|answers| answers.len()), Ok(64));
+    assert_eq!(graph.0.jobs().len(), 1);
+}
+
 #[test]
 fn sizes_off_their_limits() {
     let good = Sizes { jobs: 4_096, arcs: 32_768, bits: 8, workers: 16 };

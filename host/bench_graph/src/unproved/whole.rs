@@ -1,0 +1,253 @@
+//! Calls run whole, and sheets. An add reads all that its steps would read and then stores; where it meets damage,
+//! nothing is stored yet, and it runs by steps, which leave what they must. A finish stores as it goes.
+
+use compare_graph::layout::{job, phase, worker, JOBS_HEADER, JOB_WORDS, NONE, WORKER_WORDS};
+use taskgraph::raw::{kind, Answer, Entry, SheetAdded, Sizes, Tables, ENTRY_WORDS, MAX_ENTRIES};
+
+use super::{
+    answer, answered, arguments_fit, post_add, step, Graph, Outcome, DAMAGED, EXECUTING, FINISHED, MAX_NAMES,
+    UNEXECUTED,
+};
+
+/// What an add found, if it met no damage.
+enum Found {
+    /// It is refused by this number and place.
+    Refused(u32, u32),
+    /// It enters: the jobs of its listed names, and how many of these are finished.
+    Enters { prerequisites: [u32; MAX_NAMES as usize], tally: u32 },
+}
+
+#[inline(never)]
+pub fn add(sizes: Sizes, tables: &mut Tables, worker: u32, entry: Entry) -> Answer {
+    answered(Graph::admitted(sizes, tables, worker).and_then(|(mut graph, at)| graph.add(at, &entry, &mut false)))
+}
+
+#[inline(never)]
+pub fn finish(sizes: Sizes, tables: &mut Tables, worker: u32, name: u32) -> Answer {
+    answered(Graph::admitted(sizes, tables, worker).and_then(|(mut graph, at)| {
+        graph.judge_idle(at)?;
+        graph.finish(at, name)
+    }))
+}
+
+#[inline(never)]
+pub fn add_sheet(sizes: Sizes, tables: &mut Tables, worker: u32, rows: &[u32]) -> SheetAdded {
+    let mut added = SheetAdded::default();
+    added.number = match add_rows(sizes, tables, worker, rows, &mut added) {
+        Ok(()) => 0,
+        Err((number, _)) => number,
+    };
+    added
+}
+
+#[inline(always)]
+fn add_rows(sizes: Sizes, tables: &mut Tables, worker: u32, rows: &[u32], added: &mut SheetAdded) -> Outcome<()> {
+    let rows = rows.chunks_exact(ENTRY_WORDS);
+    if !rows.remainder().is_empty() {
+        return Err((1, 0));
+    }
+    let (mut graph, at) = Graph::admitted(sizes, tables, worker)?;
+    graph.judge_idle(at)?;
+    if rows.len() > MAX_ENTRIES {
+        return Err((16, 0));
+    }
+    let mut cleared = false;
+    for (place, row) in rows.enumerate() {
+        if let Err((number, listed)) = graph.add(at, &entry_of(row), &mut cleared) {
+            added.numbers[place] = number;
+            added.places[place] = listed;
+        }
+    }
+    Ok(())
+}
+
+#[inline(always)]
+fn entry_of(row: &[u32]) -> Entry {
+    let mut names = [0; MAX_NAMES as usize];
+    names.copy_from_slice(&row[4..ENTRY_WORDS]);
+    Entry { name: row[0], count: row[1], class: row[2], grower: row[3], names }
+}
+
+impl Graph<'_> {
+    #[inline(always)]
+    fn judge_idle(&self, at: usize) -> Outcome<()> {
+        if self.workers[at + worker::PHASE] == phase::IDLE {
+            Ok(())
+        } else {
+            Err((3, 0))
+        }
+    }
+
+    /// An add by a worker whose own words fit. The first of several that is posted clears the words of its call, which
+    /// damage may have filled; the others find them cleared.
+    #[inline(always)]
+    fn add(&mut self, at: usize, entry: &Entry, cleared: &mut bool) -> Outcome<Answer> {
+        self.judge_idle(at)?;
+        if !arguments_fit(entry) {
+            return Err((5, 0));
+        }
+        let list = &entry.names[..entry.count as usize];
+        self.judge_counters()?;
+        let found = match self.look(entry, list) {
+            Ok(found) => found,
+            Err(_) => return self.add_by_steps(at, entry),
+        };
+        if !*cleared {
+            self.clear(at);
+            *cleared = true;
+        }
+        match found {
+            Found::Refused(number, place) => Err((number, place)),
+            Found::Enters { prerequisites, tally } => {
+                self.store(entry, &prerequisites[..list.len()], tally);
+                Ok(answer(kind::ENDED))
+            }
+        }
+    }
+
+    /// All that the add reads. It looks up each name once: entering changes no walk that found its name.
+    #[inline(always)]
+    fn look(&self, entry: &Entry, list: &[u32]) -> Outcome<Found> {
+        let mut prerequisites = [0; MAX_NAMES as usize];
+        for (place, name) in list.iter().enumerate() {
+            prerequisites[place] = self.find(*name)?;
+            if prerequisites[place] == NONE {
+                return Ok(Found::Refused(6, place as u32));
+            }
+        }
+        if self.find(entry.name)? != NONE {
+            return Ok(Found::Refused(7, 0));
+        }
+        if self.made() == self.sizes.jobs || self.sizes.arcs - self.reserved() < entry.count {
+            return Ok(Found::Refused(8, 0));
+        }
+        let mut tally = 0;
+        for prerequisite in &prerequisites[..list.len()] {
+            tally += self.finished(*prerequisite)?;
+        }
+        if tally == entry.count {
+            self.judge_room()?;
+        }
+        Ok(Found::Enters { prerequisites, tally })
+    }
+
+    /// 1 for a finished prerequisite, else 0. An arc that was not in use before the add is left to the steps.
+    #[inline(always)]
+    fn finished(&self, prerequisite: u32) -> Outcome<u32> {
+        let words = self.job_read(prerequisite);
+        match words[job::LABEL] {
+            FINISHED => Ok(1),
+            label if label < FINISHED && self.arc_fits(words[job::LAST]) => Ok(0),
+            _ => Err(DAMAGED),
+        }
+    }
+
+    /// All that the add stores but the worker's words.
+    #[inline(always)]
+    fn store(&mut self, entry: &Entry, prerequisites: &[u32], tally: u32) {
+        let (made, reserved, bucket) = (self.made(), self.reserved(), self.bucket(entry.name));
+        let Entry { name, count, class, grower, .. } = *entry;
+        let head = self.buckets[bucket];
+        self.job(made).copy_from_slice(&[name, UNEXECUTED, count - tally, class, grower, NONE, NONE, head]);
+        self.buckets[bucket] = made;
+        self.jobs[4] = made + 1;
+        self.arcs[0] = reserved + count;
+        for (place, prerequisite) in prerequisites.iter().enumerate() {
+            let words = self.job_read(*prerequisite);
+            if words[job::LABEL] != FINISHED {
+                let last = words[job::LAST];
+                self.append(*prerequisite, last, reserved + place as u32, made);
+            }
+        }
+        if tally == count {
+            self.enqueue(made);
+        }
+    }
+
+    #[cold]
+    fn add_by_steps(&mut self, at: usize, entry: &Entry) -> Outcome<Answer> {
+        let (sizes, worker) = (self.sizes, (at / WORKER_WORDS) as u32);
+        let Graph { jobs, arcs, buckets, queue, workers, .. } = self;
+        let mut tables = Tables { jobs, arcs, buckets, queue, workers };
+        let mut answer = post_add(sizes, &mut tables, worker, *entry);
+        while answer.kind == kind::POSTED || answer.kind == kind::GOING_ON {
+            answer = step(sizes, &mut tables, worker);
+        }
+        if answer.kind == kind::REFUSED {
+            return Err((answer.number, answer.place));
+        }
+        Ok(answer)
+    }
+
+    /// A finish by an idle worker whose own words fit.
+    #[inline(always)]
+    fn finish(&mut self, at: usize, name: u32) -> Outcome<Answer> {
+        let held = self.workers[at + worker::HELD];
+        if held == NONE || self.job_read(held)[job::NAME] != name {
+            return Err((11, 0));
+        }
+        self.judge_counters()?;
+        self.clear(at);
+        let first = self.job_read(held)[job::FIRST];
+        if self.job_read(held)[job::LABEL] != EXECUTING || !self.arc_fits(first) {
+            self.workers[at + worker::PHASE] = phase::MARKING;
+            return Err(DAMAGED);
+        }
+        self.job(held)[job::LABEL] = FINISHED;
+        self.workers[at + worker::HELD] = NONE;
+        self.tell_dependents(at, first)
+    }
+
+    /// A step for each arc, and no more than there are arcs; what is left is left to the worker's words.
+    #[inline(always)]
+    fn tell_dependents(&mut self, at: usize, first: u32) -> Outcome<Answer> {
+        let mut arc = first;
+        for _ in 0..self.sizes.arcs {
+            if arc == NONE {
+                return Ok(answer(kind::ENDED));
+            }
+            match self.tell(arc) {
+                Ok(next) => arc = next,
+                Err(damaged) => {
+                    self.leave_half_done(at, arc);
+                    return Err(damaged);
+                }
+            }
+        }
+        if arc == NONE {
+            return Ok(answer(kind::ENDED));
+        }
+        self.leave_half_done(at, arc);
+        Ok(answer(kind::GOING_ON))
+    }
+
+    /// Lowers the count of an arc's dependent, and gives the next arc.
+    #[inline(always)]
+    fn tell(&mut self, arc: u32) -> Outcome<u32> {
+        let (dependent, next) = (self.arc(arc)[0], self.arc(arc)[1]);
+        if dependent >= self.made() || !self.arc_fits(next) {
+            return Err(DAMAGED);
+        }
+        let count = self.job_read(dependent)[job::COUNT];
+        if count == 0 || count > MAX_NAMES {
+            return Err(DAMAGED);
+        }
+        if count == 1 {
+            self.judge_room()?;
+            self.enqueue(dependent);
+        }
+        self.job(dependent)[job::COUNT] = count - 1;
+        Ok(next)
+    }
+
+    fn job_read(&self, number: u32) -> &[u32] {
+        let at = JOBS_HEADER + JOB_WORDS * number as usize;
+        &self.jobs[at..at + JOB_WORDS]
+    }
+
+    #[cold]
+    fn leave_half_done(&mut self, at: usize, arc: u32) {
+        self.workers[at + worker::PHASE] = phase::NOTIFYING;
+        self.workers[at + worker::ARC] = arc;
+    }
+}
