@@ -236,17 +236,18 @@ tg_answer tg_step(tg_sizes sizes, TG_TABLES, uint32_t worker);
 tg_answer tg_get(tg_sizes sizes, TG_TABLES, uint32_t worker);
 
 /* An add run whole: posted, and stepped to its end with no other call between. Ended, or refused with 1, 2, 9,
- * 3, 5, 6, 7 or 8; after a 9 in its middle, which only damaged tables give, the call is half done. */
+ * 3, 5, 6, 7 or 8. Only damaged tables give 9 in its middle: then the steps before it stay made, and the call is
+ * half done, which tg_held tells. */
 tg_answer tg_add(tg_sizes sizes, TG_TABLES, uint32_t worker, tg_entry entry);
 
-/* A finish run whole: ended, or refused with 1, 2, 9, 3 or 11. In damaged tables, where a list of arcs runs in a
- * circle, it may answer going on after arcs + 1 steps; tg_step goes on with it. */
+/* A finish run whole: ended, or refused with 1, 2, 9, 3 or 11. Only damaged tables give 9 in its middle, as with
+ * tg_add, or, where a list of arcs runs in a circle, going on after arcs + 1 steps; tg_step goes on with it. */
 tg_answer tg_finish(tg_sizes sizes, TG_TABLES, uint32_t worker, uint32_t name);
 
-/* number 0: `numbers` and `places` have for each entry what its add run whole answers: 0 and 0 where it was
- * accepted, else its number, and for number 6 the place in the list.
- * number 1, 2, 9, 3 or 16: the sheet was turned away before any entry, and nothing was changed.
- * All else is 0. */
+/* number 0: `numbers` and `places` have for each entry what tg_add would answer: 0 and 0 where it was accepted, else
+ * its number, and for number 6 the place in the list. Past the last entry they are 0.
+ * number 1, 2, 9, 3 or 16: the sheet was turned away before any entry, nothing was changed, and `numbers` and
+ * `places`, which are 0, say nothing. */
 typedef struct {
     uint32_t number;
     uint32_t numbers[TG_MAX_ENTRIES], places[TG_MAX_ENTRIES];
@@ -254,7 +255,9 @@ typedef struct {
 
 /* Adds the entries of all rows, each run whole, in order, as so many calls of tg_add would; a refused entry does
  * not stop the next. The rows are those of tg_read_sheet, or a row of tg_entry, TG_ENTRY_WORDS words each;
- * `rows_len` counts words. Words that make no whole rows are 1, more than TG_MAX_ENTRIES entries 16, after 3. */
+ * `rows_len` counts words: TG_ENTRY_WORDS for each entry that was read, and not all that a larger buffer has, whose
+ * blank rows would be jobs of the name 0. Words that make no whole rows are 1, more than TG_MAX_ENTRIES entries 16,
+ * after 3. */
 tg_sheet_added tg_add_sheet(tg_sizes sizes, TG_TABLES, uint32_t worker, const uint32_t *rows, size_t rows_len);
 
 /* The same tables, only read. */

@@ -1,0 +1,14 @@
+pub mod WordsCalls
+pub mod Worth
+pub mod Now
+pub mod Noting
+pub mod StepsRead
+pub mod AddsRead
+pub mod FinishesRead
+pub mod CallsRead
+pub mod Entered
+pub mod Turned
+pub mod Theorem
+pub mod CallsEnd
+pub mod NoneCutShort
+pub mod Example

@@ -26,6 +26,8 @@ use Rattle.sheet_format.specs.SheetTrip.{Each, none, more, sheet-back}
 use Rattle.sheet_format.specs.CodeLaws.{sheet-bounds}
 use Rattle.sheet_format.specs.Decode.{Sheet, jobs, broken, decodeSheet, cut}
 use Rattle.whole_words.specs.Whole.{wholeAdd, wholeFinish}
+use Rattle.whole_words.specs.CallEnds.{AddAnswer}
+use Rattle.whole_words.specs.CallEnds as answers
 use Rattle.day_rounds.specs.Rounds.{daySizes, freshDay, argumentsOf, addedDay, Holder, getRound, finishAll, finished}
 use Rattle.day_rounds.specs.Rounds.{rounds, runDay, handOuts, unfinished}
 use Rattle.day_format.specs.Text.{digits, decimal, leftWord, _␣_, line}
@@ -42,14 +44,9 @@ use Rattle.day_history.specs.Adds.{nobody, Entered, Adds, adds}
 use Rattle.day_history.specs.Rounds.{Over, round-finished, round-ends, rounds-over, rounds-same}
 use Rattle.day_history.specs.Ends.{fresh-day, all-finished}
 
--- how an add may be answered in the end
-pub data AddAnswer : Answer → Type 0 where
-  accepts : AddAnswer Ended
-  refuses : (n place : ℕ) → 5 ≤ n → n ≤ 8 → AddAnswer (Refused n place)
-
 answer-of : (P Q : Tables → Type 0) (o : Outcome Tables) → AddEnds P Q o → AddAnswer (o .answer)
-answer-of P Q o (accepted D) = accepts
-answer-of P Q o (refused n {p = p} l u D) = refuses n p l u
+answer-of P Q o (accepted D) = answers.accepted
+answer-of P Q o (refused n {p = p} l u D) = answers.refused n p l u
 
 module _ (s : Sizes) (limits : withinLimits s ≡ true) where
   -- the tables after the adds, and after all rounds

@@ -1,12 +1,12 @@
--- Digits one by one, and a list from a place on after a store there. Assumes nothing.
+-- Digits one by one, a list from a place on after a store there, and texts one after the other. Assumes nothing.
 use mathlib.Core.Path.{_≡_, refl, _∙_}
 use mathlib.Core.List.{List, [], _∷_, _++_}
 use Prim.Native.Nat.{ℕ, zero, suc, _+_, _≤_, _<_, _/_, _%_}
 use native.Mathlib.Omega.{arith}
 use lib.ListN.{length, set, drop}
-use borrow.Author.Tests.{lt-ltb, le-ltb}
+use borrow.Author.Tests.{lt-ltb, le-ltb, le-leb, lt-leb}
 use Rattle.day_format.specs.Text.{digits, decimal}
-use Rattle.day_text.specs.Page.{Page, print, print-place, print-append, decimal-length}
+use Rattle.day_text.specs.Page.{Page, mostPlace, print, printLine, print-place, print-append, decimal-length}
 
 pub digits-end : (k n : ℕ) (rest : List ℕ) → n < 10 → digits (suc k) n rest ≡ (48 + n % 10) ∷ rest
 unfolding digits
@@ -37,3 +37,11 @@ numbered limit p q n e = omega (arith, placed limit p q (decimal n) e, decimal-l
 pub next : (limit : ℕ) (p q r : Page) (a b : List ℕ) → q ≡ print limit p a → r ≡ print limit q b
     → r ≡ print limit p (a ++ b)
 next limit p q r a b e f = f ∙ rw e (print-append limit p a b)
+
+-- a line that would start past the last place is left out, and any other is printed
+pub left-out : (limit : ℕ) (p : Page) (text : List ℕ) → mostPlace < p .place → p ≡ printLine limit p text
+left-out limit p text h = rw (lt-leb (p .place) mostPlace h)
+
+pub printed : (limit : ℕ) (p q r : Page) (a b : List ℕ) → p .place ≤ mostPlace → q ≡ print limit p a
+    → r ≡ print limit q b → r ≡ printLine limit p (a ++ b)
+printed limit p q r a b h e f = rw (le-leb (p .place) mostPlace h) (next limit p q r a b e f)

@@ -11,7 +11,7 @@ use borrow.Author.Tests.{eq-eqb, ne-eqb}
 use Rattle.basics.specs.Base.{contains, repeats, prefix}
 use Rattle.basics.specs.Laws.{length-prefix}
 
-getD-prefix : (n : ℕ) (l : List ℕ) (i : ℕ) → i < n → getD (prefix n l) i 0 ≡ getD l i 0
+pub getD-prefix : (n : ℕ) (l : List ℕ) (i : ℕ) → i < n → getD (prefix n l) i 0 ≡ getD l i 0
 unfolding prefix
 getD-prefix zero l i h = absurd (omega arith)
 getD-prefix (suc n) [] zero h = refl
@@ -20,12 +20,12 @@ getD-prefix (suc n) (x ∷ l) zero h = refl
 getD-prefix (suc n) (x ∷ l) (suc i) h = getD-prefix n l i (omega arith)
 
 module _ (count : ℕ) (names : List ℕ) (i : ℕ) where
-  next : i < count → drop i (prefix count names) ≡ getD names i 0 ∷ drop (i + 1) (prefix count names)
+  pub next : i < count → drop i (prefix count names) ≡ getD names i 0 ∷ drop (i + 1) (prefix count names)
   next h =
       let inside : i < length (prefix count names) = rw (length-prefix count names) h in
       rw (drop-cons (prefix count names) i 0 inside, getD-prefix count names i h, add-one)
 
-  none-left : count ≤ i → i ≤ count → drop i (prefix count names) ≡ []
+  pub none-left : count ≤ i → i ≤ count → drop i (prefix count names) ≡ []
   none-left h k =
       let e : i ≡ length (prefix count names) = rw (length-prefix count names) (omega arith) in
       ap (λ n. drop n (prefix count names)) e ∙ drop-length (prefix count names)

@@ -59,7 +59,8 @@ fn plan_append(
     }
 }
 
-fn plan_link(sizes: Sizes, jobs: &[u32], arcs: &[u32], arc: u64, job: u32, found: Found) -> Plan
+// A link to what a look-up found.
+pub fn plan_link(sizes: Sizes, jobs: &[u32], arcs: &[u32], arc: u64, job: u32, found: Found) -> Plan
     ensures { λ r. ⌜ ((buckets queue workers : List ℕ)
         → r ≡ planLink sizes (view (tables (now (jobs .entry)) (now (arcs .entry)) buckets queue workers)) arc job
         found) ⌝ }

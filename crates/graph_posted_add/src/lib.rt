@@ -1,5 +1,5 @@
-// The store of a posted add: its worker's record with the arguments and the list of names. Follows docs/RULES.md,
-// "Tables and their measures". A store past the table's end changes nothing. Assumes nothing.
+// The store of an add's record, posted or half done: its worker's words with the arguments and the list of names.
+// Follows docs/RULES.md, "Tables and their measures". A store past the table's end changes nothing. Assumes nothing.
 ghost use mathlib.Core.Path.{_≡_};
 ghost use mathlib.Core.List.{[], _∷_};
 ghost use Prim.Native.Nat.{_≤_, _<_};
@@ -7,7 +7,7 @@ ghost use lib.Seq.{sets};
 ghost use Rattle.basics.specs.Limits.{mostNames};
 ghost use Rattle.basics.specs.Base.{prefix};
 ghost use Rattle.words.specs.Columns.{place};
-ghost use Rattle.words.specs.Layout.{none, workerShape, PHASE, TALLY, NAMES};
+ghost use Rattle.words.specs.Layout.{workerShape, PHASE, TALLY, NAMES};
 ghost use Rattle.words.specs.Words.{putWorker, addingWorker};
 use graph_records::fill;
 use graph_records::record_at;
@@ -15,6 +15,7 @@ use graph_words::layout::*;
 use graph_words::numbers::*;
 use graph_words::put_word;
 use graph_words::put_worker;
+use graph_words::word;
 
 // A worker's phase, its hold, and the arguments of its call.
 fn put_arguments(
@@ -39,15 +40,15 @@ fn put_arguments(
     put_worker(workers, worker, OWN_GROWER, grower);
 }
 
-// A call at its beginning.
-fn put_start(workers: &mut [u32], worker: u32)
+// How far a call has come: the finished prerequisites, the place in the list, its job and its arc.
+fn put_reached(workers: &mut [u32], worker: u32, tally: u32, position: u32, job: u32, arc: u32)
     ensures { λ _. ⌜ now (workers .exit)
-        ≡ sets (now (workers .entry)) (place workerShape worker TALLY) (0 ∷ 0 ∷ none ∷ none ∷ []) ⌝ }
+        ≡ sets (now (workers .entry)) (place workerShape worker TALLY) (tally ∷ position ∷ job ∷ arc ∷ []) ⌝ }
 {
-    put_worker(workers, worker, TALLY, 0);
-    put_worker(workers, worker, PLACE, 0);
-    put_worker(workers, worker, OWN_JOB, NONE);
-    put_worker(workers, worker, OWN_ARC, NONE);
+    put_worker(workers, worker, TALLY, tally);
+    put_worker(workers, worker, PLACE, position);
+    put_worker(workers, worker, OWN_JOB, job);
+    put_worker(workers, worker, OWN_ARC, arc);
 }
 
 // Where a worker's list begins.
@@ -69,21 +70,47 @@ fn listed_of(count: u32) -> usize
 }
 
 // The listed names, and 0 past them.
-fn put_names(workers: &mut [u32], worker: u32, names: [u32; 32], count: u32)
+fn put_names(workers: &mut [u32], worker: u32, names: &[u32], count: u32)
     ensures { λ _. ⌜ now (workers .exit)
-        ≡ sets (now (workers .entry)) (place workerShape worker NAMES) (prefix mostNames (prefix count names)) ⌝ }
+        ≡ sets (now (workers .entry)) (place workerShape worker NAMES) (prefix mostNames (prefix count (now (names .entry)))) ⌝ }
 {
     let from = names_at(worker);
     let listed = listed_of(count);
     let mut i = 0;
     while i < listed {
-        put_word(workers, from + i, names[i]);
+        put_word(workers, from + i, word(names, i));
         i += 1;
     }
     fill(workers, from + listed, (MOST_NAMES as usize) - listed, 0);
 }
 
-// The words of a posted add.
+// A worker's whole record, with a call that has come so far.
+pub fn put_call(
+    workers: &mut [u32],
+    worker: u32,
+    phase: u32,
+    held: u32,
+    name: u32,
+    names: &[u32],
+    count: u32,
+    class: u32,
+    grower: u32,
+    tally: u32,
+    position: u32,
+    job: u32,
+    arc: u32,
+)
+    ensures { λ _. ⌜ now (workers .exit)
+        ≡ putWorker (now (workers .entry)) worker
+        (phase ∷ held ∷ name ∷ count ∷ class ∷ grower ∷ tally ∷ position ∷ job ∷ arc
+        ∷ prefix mostNames (prefix count (now (names .entry)))) ⌝ }
+{
+    put_arguments(workers, worker, phase, held, name, count, class, grower);
+    put_reached(workers, worker, tally, position, job, arc);
+    put_names(workers, worker, names, count);
+}
+
+// The words of a posted add, at its beginning.
 pub fn put_adding_worker(
     workers: &mut [u32],
     worker: u32,
@@ -98,7 +125,19 @@ pub fn put_adding_worker(
         ≡ putWorker (now (workers .entry)) worker
         (addingWorker held (record { name = name; count = count; names = names; class = class; grower = grower })) ⌝ }
 {
-    put_arguments(workers, worker, LOOKING, held, name, count, class, grower);
-    put_start(workers, worker);
-    put_names(workers, worker, names, count);
+    put_call(
+        workers,
+        worker,
+        LOOKING,
+        held,
+        name,
+        &names,
+        count,
+        class,
+        grower,
+        0,
+        0,
+        NONE,
+        NONE,
+    );
 }

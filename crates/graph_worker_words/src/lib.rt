@@ -55,7 +55,7 @@ pub fn count_tally(workers: &mut [u32], worker: u32)
 }
 
 // The first reserved arc, or none where none was reserved.
-fn first_arc(count: u32, arc: u32) -> u32
+pub fn first_arc(count: u32, arc: u32) -> u32
     ensures { λ r. ⌜ r ≡ firstArc count arc ⌝ }
 {
     let empty = count == 0;

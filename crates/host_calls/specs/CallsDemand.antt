@@ -1,8 +1,7 @@
--- Demand 3 of lists in which single items stand beside adds and finishes run whole and sheets: what is read off calls and
--- replies alone, and the claim, of any machine. (WrongCalls.antt has machines that do not meet it.) Follows
--- docs/RULES.md, "Whole calls". Assumes nothing.
+-- Demand 3 of lists in which single items stand beside adds and finishes run whole and sheets: what is read off calls
+-- and replies alone, and the claim, of any machine. (WrongSheets.antt, WrongTurned.antt and WrongWhole.antt have
+-- machines that do not meet it.) Follows docs/RULES.md, "Whole calls". Assumes nothing.
 use mathlib.Core.Path.{_≡_}
-use mathlib.Core.Bool.{Bool, true, false}
 use mathlib.Core.List.{List, [], _∷_, _++_}
 use Prim.Native.Nat.{ℕ}
 use lib.Dec.{ltb, leb}
@@ -116,19 +115,35 @@ module _ {S : Type 0} (perform : S → Item → Outcome S) (turned : S → Sizes
     abbrev pub at-end : S
     at-end = afterCalls answer t calls
 
+    -- the next call, whatever it is, replies what its posts and steps answer, and leaves what they leave
+    abbrev pub Replies : Type 0
+    Replies =
+        (c : HostCall)
+        → answer at-end c
+        ≡ replied (replyWorth perform turned at-end c) (after perform at-end (worth perform turned at-end c))
+
+    -- a sheet is turned away exactly if it must be
+    abbrev pub TurnsAway : Type 0
+    TurnsAway = (q : Sizes) (w : ℕ) (l : List Arguments) → turned at-end q w l ≡ turningSheet s read q w l
+
+    -- the state, what is read, and the entries of each job are those of the items that the calls are worth,
+    abbrev pub Leaves : Type 0
+    Leaves = at-end ≡ after perform t items
+
+    abbrev pub Reads : Type 0
+    Reads = SameReading read (reading (events perform t items))
+
+    abbrev pub Enters : Type 0
+    Enters =
+        (j : ℕ)
+        → callEntries answer (λ x. see x .waiting) t calls j
+        ≡ entries perform (λ x. see x .waiting) t items j
+
+    -- of which every clause of the demand holds
     pub record CallsDemand : Type 0 where
-      -- the next call, whatever it is, replies what its posts and steps answer, and leaves what they leave;
-      pub replies : (c : HostCall)
-          → answer at-end c
-          ≡ replied (replyWorth perform turned at-end c) (after perform at-end (worth perform turned at-end c))
-      -- a sheet is turned away exactly if it must be;
-      pub turns-away : (q : Sizes) (w : ℕ) (l : List Arguments)
-          → turned at-end q w l ≡ turningSheet s read q w l
-      -- the state, what is read, and the entries of each job are those of the items that the calls are worth,
-      pub leaves : at-end ≡ after perform t items
-      pub reads : SameReading read (reading (events perform t items))
-      pub enters : (j : ℕ)
-          → callEntries answer (λ x. see x .waiting) t calls j
-          ≡ entries perform (λ x. see x .waiting) t items j
-      -- of which every clause of the demand holds
+      pub replies : Replies
+      pub turns-away : TurnsAway
+      pub leaves : Leaves
+      pub reads : Reads
+      pub enters : Enters
       pub demand : Demand perform see s t items

@@ -1,6 +1,6 @@
--- What a host calls: a single item, an add or a finish run whole, a sheet of adds; what each answers, and which items it
--- is worth: its posts and steps, "with no other worker's step between" (docs/RULES.md, "Whole calls"). One definition
--- for every machine that answers items. Assumes nothing.
+-- What a host calls: a single item, an add or a finish run whole, a sheet of adds; what each answers, and which items
+-- it is worth: its posts and steps, "with no other worker's step between" (docs/RULES.md, "Whole calls"). One
+-- definition for every machine that answers items. Assumes nothing.
 use mathlib.Core.List.{List, [], _∷_, _++_}
 use Prim.Native.Nat.{ℕ, zero, suc, _+_, _-_, _*_}
 use Rattle.basics.specs.Base.{occurrences}

@@ -73,7 +73,7 @@ abbrev Left : Tables → ℕ → Outcome Tables → Type 0
 Left t w o = Changed t w (o .state) (o .answer) × pick (ends (o .answer)) (Back t w (o .state)) (Unit {0})
 
 -- a worker's words that were put are read again
-put-back : (P : ℕ) (l : List ℕ) (w : ℕ) (x : List ℕ) → Rows workerShape P l → ltb w P ≡ true
+pub put-back : (P : ℕ) (l : List ℕ) (w : ℕ) (x : List ℕ) → Rows workerShape P l → ltb w P ≡ true
     → length x ≡ workerShape .width
     → record-of w (putWorker l w x) ≡ x
 put-back P l w x r k e =

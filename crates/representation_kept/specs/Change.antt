@@ -6,19 +6,58 @@ use mathlib.Core.Logic.{_≢_}
 use mathlib.Core.List.{List, [], _∷_, _++_}
 use Prim.Native.Nat.{ℕ, zero, suc, _+_, _<_}
 use native.Mathlib.Omega.{arith}
+use native.Mathlib.Decide.{ℕ-discrete}
+use borrow.Author.Tests.{eq-eqb, ne-eqb}
 use lib.ListN.{length, getD, set, length-set}
-use Rattle.basics.specs.Laws.{set-all}
+use Rattle.basics.specs.Laws.{set-all, update-other}
 use Rattle.terms.specs.declared.Sizes.{Sizes}
-use Rattle.words.specs.Columns.{put, stores}
-use Rattle.words.specs.Layout.{jobShape, NAME, NEXT, sizesKept, View}
+use Rattle.words.specs.Columns.{put, store, Rows, rows-put, stores}
+use Rattle.words.specs.Layout.{jobShape, NAME, LABEL, COUNT, CLASS, GROWER, FIRST, LAST, NEXT, queueShape, sizesKept, Tables}
+use Rattle.words.specs.Layout.{tables, view, View}
 use Rattle.rules.specs.Rules.{Job, Worker, Graph, noJob, job, withJobs, withQueue, withWorkers}
 use Rattle.rules.specs.Sound.{started, startedBy}
-use Rattle.representation.specs.Rep.{Ghost, Row, TablesRep}
-use Rattle.representation_kept.specs.Stand.{viewOf}
+use Rattle.representation.specs.Rep.{Ghost, Row, TablesRep, Stands}
+use Rattle.representation_kept.specs.Stand.{TablesStand, viewOf}
 
 pub kept-put : (s : Sizes) (l : List ℕ) (i k x : ℕ) → sizesKept s (put jobShape l i k x) ≡ sizesKept s l
 unfolding sizesKept
 kept-put s l i k x = simp stores
+
+-- ---- a store in one row
+pub store-off : (f : ℕ → ℕ → ℕ) (i k x q u : ℕ) → u ≢ i → store f i k x q u ≡ f q u
+store-off f i k x q u e = elim (ℕ-discrete q k) [
+  | yes z ↦ rw (eq-eqb q k z) (update-other (f k) i x u e ∙ ap (λ y. f y u) (sym z))
+  | no z ↦ rw (ne-eqb q k z)
+]
+
+-- leaves the rows of the other jobs
+pub row-other : (f : ℕ → ℕ → ℕ) (j q x k : ℕ) → k ≢ j → {l : List ℕ} {y : Job} → Row f k l y
+    → Row (store f j q x) k l y
+row-other f j q x k h o =
+    let same : (r : ℕ) → store f j q x r k ≡ f r k = λ r. store-off f j q x r k h in
+    record {
+      name = same NAME ∙ o .name;
+      label = same LABEL ∙ o .label;
+      count = same COUNT ∙ o .count;
+      class = same CLASS ∙ o .class;
+      grower = same GROWER ∙ o .grower;
+      first = same FIRST ∙ o .first;
+      last = same LAST ∙ o .last;
+    }
+
+-- the tables after a store of x in field k of job j, and with another queue q
+pub job-stands : (s : Sizes) (t : Tables) (g : Graph) (G : Ghost) → Stands s t g G → (j k x : ℕ) (q l : List ℕ) (h : Graph)
+    → Rows queueShape (s .jobs) q
+    → TablesRep s (view (tables (put jobShape (t .jobs) j k x) (t .arcs) (t .buckets) q l)) h G
+    → TablesStand s (tables (put jobShape (t .jobs) j k x) (t .arcs) (t .buckets) q l) h G
+job-stands s t g G S j k x q l h queue rep = record {
+  kept = kept-put s (t .jobs) j k x ∙ S .kept;
+  jobs = rows-put jobShape (s .jobs) (t .jobs) j k x ∙ S .jobs;
+  arcs = S .arcs;
+  buckets = S .buckets;
+  queue = queue;
+  rep = rep;
+}
 
 -- ---- the jobs started
 pub started-set : (l : List Job) (j : ℕ) (y : Job) → j < length l

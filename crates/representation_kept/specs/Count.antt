@@ -9,9 +9,9 @@ use native.Mathlib.Omega.{arith}
 use lib.Dec.{eqb}
 use lib.ListN.{length, set, length-append}
 use Rattle.terms.specs.Terms.{settles}
-use Rattle.basics.specs.Laws.{update-same, update-other}
+use Rattle.basics.specs.Laws.{update-same}
 use Rattle.terms.specs.declared.Sizes.{Sizes}
-use Rattle.words.specs.Columns.{columns, columns-put, put, store, header-putHeader, rows-put}
+use Rattle.words.specs.Columns.{columns, columns-put, put, store, header-putHeader}
 use Rattle.words.specs.Columns.{stores}
 use Rattle.words.specs.Layout.{jobShape, COUNT, queueShape, workerShape, tables, view, Tables, View}
 use Rattle.words.specs.Words.{applied, putCount, putCell}
@@ -21,7 +21,7 @@ use Rattle.rules.specs.Rules.{withWorkers}
 use Rattle.rules.specs.Sound.{Sound, MayQueue, started}
 use Rattle.representation.specs.Rep.{Ghost, Row, TablesRep, Stands}
 use Rattle.representation_kept.specs.Stand.{TablesStand, viewOf}
-use Rattle.representation_kept.specs.Change.{kept-put, started-set, change-rep}
+use Rattle.representation_kept.specs.Change.{started-set, change-rep, row-other, job-stands}
 use Rattle.representation_kept.specs.Queue.{cells-put}
 
 -- the graph with job j's count c, and the queue q
@@ -48,17 +48,7 @@ module _ (s : Sizes) (v : View) (g : Graph) (G : Ghost) (R : TablesRep s v g G) 
       }
 
   there : (k : ℕ) → k ≢ j → k < s .jobs → Row f k (G .via k) (job g k)
-  there k e b =
-      let o = R .rows k b in
-      record {
-        name = o .name;
-        label = o .label;
-        count = update-other (v .job COUNT) j c k e ∙ o .count;
-        class = o .class;
-        grower = o .grower;
-        first = o .first;
-        last = o .last;
-      }
+  there k e b = row-other (v .job) j COUNT c k e (R .rows k b)
 
   same : started (g .jobs) ≡ started (set (g .jobs) j (withCount (job g j) c))
   same = omega (arith, started-set (g .jobs) j (withCount (job g j) c) hj)
@@ -102,15 +92,9 @@ module _ (s : Sizes) (t : Tables) (g : Graph) (G : Ghost) (S : Stands s t g G) (
       (counted g j c (g .queue) h) G
   count-stands j hj c l h =
       let b : j < s .jobs = omega (arith, O .jobs) in
-      record {
-        kept = kept-put s (t .jobs) j COUNT c ∙ S .kept;
-        jobs = rows-put jobShape (s .jobs) (t .jobs) j COUNT c ∙ S .jobs;
-        arcs = S .arcs;
-        buckets = S .buckets;
-        queue = S .queue;
-        rep = simp (stores, columns-put jobShape (s .jobs), S .jobs, b)
-            (count-rep s (view t) g G R j hj c (columns workerShape l) h);
-      }
+      job-stands s t g G S j COUNT c (t .queue) l _ (S .queue)
+      (simp (stores, columns-put jobShape (s .jobs), S .jobs)
+      (count-rep s (view t) g G R j hj c (columns workerShape l) h))
 
   queue-stands : (j : ℕ) → j < length (g .jobs) → MayQueue g j → (c : ℕ) (l : List ℕ) (h : ℕ → Worker)
       → TablesStand s
@@ -121,25 +105,17 @@ module _ (s : Sizes) (t : Tables) (g : Graph) (G : Ghost) (S : Stands s t g G) (
   queue-stands j hj M c l h =
       let b : j < s .jobs = omega (arith, O .jobs) in
       let d : started (g .jobs) + length (g .queue) < s .jobs = omega (arith, M .room, O .jobs) in
-      record {
-        kept = kept-put s (t .jobs) j COUNT c ∙ S .kept;
-        jobs = rows-put jobShape (s .jobs) (t .jobs) j COUNT c ∙ S .jobs;
-        arcs = S .arcs;
-        buckets = S .buckets;
-        queue = simp (stores, S .queue);
-        rep = simp (
-          stores,
-          columns-put jobShape (s .jobs),
-          columns-put queueShape (s .jobs),
-          header-putHeader queueShape (s .jobs),
-          S .jobs,
-          S .queue,
-          b,
-          d,
-        )
-            (queue-rep s (view t) g G R j hj c (columns workerShape l) h (started (g .jobs) + length (g .queue))
-            (omega (arith, R .taken)));
-      }
+      job-stands s t g G S j COUNT c _ l _ (simp (stores, S .queue))
+      (simp (
+        stores,
+        columns-put jobShape (s .jobs),
+        columns-put queueShape (s .jobs),
+        header-putHeader queueShape (s .jobs),
+        S .jobs,
+        S .queue,
+      )
+      (queue-rep s (view t) g G R j hj c (columns workerShape l) h (started (g .jobs) + length (g .queue))
+      (omega (arith, R .taken))))
 
   pub settle-stands : (w j u d : ℕ) → j < length (g .jobs) → settles (job g j .count - u) u d ≡ false
       → TablesStand s (applied (Settle j (job g j .count - u)) t w) (settled g w j u d) G

@@ -4,16 +4,15 @@ use mathlib.Core.Path.{ap}
 use Prim.Native.Nat.{ℕ, _+_, _<_}
 use native.Mathlib.Omega.{arith}
 use native.Mathlib.Decide.{ℕ-discrete}
-use lib.ListN.{getD}
 use Rattle.basics.specs.Base.{update}
 use Rattle.basics.specs.Laws.{update-at, update-other}
 use Rattle.terms.specs.declared.Sizes.{Sizes}
-use Rattle.words.specs.Layout.{none, view, Tables, View}
+use Rattle.words.specs.Layout.{view, Tables, View}
 use Rattle.words.specs.Words.{applied}
 use Rattle.words.specs.declared.Plan.the-variants.{Quit, Pass, Tally}
 use Rattle.rules.specs.Rules.{Call, Graph, withCall}
 use Rattle.representation.specs.Rep.{Ghost, tallyGhost, TablesRep, Stands}
-use Rattle.representation_kept.specs.Stand.{TablesStand, tables-part, frame}
+use Rattle.representation_kept.specs.Stand.{TablesStand, tables-part, frame, rep-with}
 
 -- ---- one more name of j was linked: an arc that was spent stays so
 pub spent-more : (G : Ghost) (j a : ℕ) → a < G .base (G .owner a) + G .linked (G .owner a)
@@ -25,26 +24,7 @@ spent-more G j a h = elim (ℕ-discrete (G .owner a) j) [
 
 tally-rep : (s : Sizes) (v : View) (g : Graph) (G : Ghost) (j : ℕ) → TablesRep s v g G
     → TablesRep s v g (tallyGhost G j)
-tally-rep s v g G j R = record {
-  made = R .made;
-  reserved = R .reserved;
-  taken = R .taken;
-  put = R .put;
-  cells = R .cells;
-  rows = R .rows;
-  buckets = R .buckets;
-  lengths = R .lengths;
-  arcs = λ p i h. let o = R .arcs p i h in
-      record {
-        next = o .next;
-        dependent = o .dependent;
-        below = o .below;
-        source = o .source;
-        rank = o .rank;
-        spent = spent-more G j (getD (G .via p) i none) (o .spent);
-      };
-  mine = R .mine;
-}
+tally-rep s v g G j R = rep-with s v g G R (v .worker) (g .workers) _ (spent-more G j)
 
 module _ (s : Sizes) (t : Tables) (g : Graph) (G : Ghost) (S : Stands s t g G) where
   abbrev T : TablesStand s t g G

@@ -1,16 +1,16 @@
 -- Marking and getting: a label stored, and for a get the first job taken from the queue. Follows docs/RULES.md,
 -- "Steps": the mark of a finish, and get. Assumes nothing.
-use mathlib.Core.Path.{_≡_, refl, sym, ap, _∙_}
+use mathlib.Core.Path.{_≡_, refl, sym, ap}
 use mathlib.Core.Logic.{_≢_}
 use mathlib.Core.List.{List, _∷_}
 use Prim.Native.Nat.{ℕ, _+_, _<_}
 use native.Mathlib.Omega.{arith}
 use lib.ListN.{length, set}
-use Rattle.basics.specs.Laws.{update-same, update-other}
+use Rattle.basics.specs.Laws.{update-same}
 use Rattle.terms.specs.Terms.{Label, executing, finished, labelNumber}
 use Rattle.terms.specs.declared.Sizes.{Sizes}
 use Rattle.terms.specs.declared.HandOut.{HandOut}
-use Rattle.words.specs.Columns.{columns-put, put, store, header-putHeader, rows-put, stores}
+use Rattle.words.specs.Columns.{columns-put, put, store, header-putHeader, stores}
 use Rattle.words.specs.Layout.{none, jobShape, LABEL, queueShape, view, Tables, View}
 use Rattle.words.specs.Words.{applied, appliedGet}
 use Rattle.words.specs.declared.Plan.the-variants.{Mark}
@@ -19,7 +19,7 @@ use Rattle.rules.specs.Rules.{Call, Worker, Graph, job, withLabel, marked, hand
 use Rattle.rules.specs.Sound.{Sound, started, startedBy}
 use Rattle.representation.specs.Rep.{Ghost, Row, TablesRep, Stands}
 use Rattle.representation_kept.specs.Stand.{TablesStand, viewOf}
-use Rattle.representation_kept.specs.Change.{kept-put, started-set, change-rep}
+use Rattle.representation_kept.specs.Change.{started-set, change-rep, row-other, job-stands}
 use Rattle.representation_kept.specs.Queue.{cells-take, next-job}
 
 -- the graph with job j's label l, and the queue q
@@ -47,17 +47,7 @@ module _ (s : Sizes) (v : View) (g : Graph) (G : Ghost) (R : TablesRep s v g G) 
       }
 
   there : (k : ℕ) → k ≢ j → k < s .jobs → Row f k (G .via k) (job g k)
-  there k e b =
-      let o = R .rows k b in
-      record {
-        name = o .name;
-        label = update-other (v .job LABEL) j (labelNumber l) k e ∙ o .label;
-        count = o .count;
-        class = o .class;
-        grower = o .grower;
-        first = o .first;
-        last = o .last;
-      }
+  there k e b = row-other (v .job) j LABEL (labelNumber l) k e (R .rows k b)
 
   -- a label that was started, and stays so
   label-rep : startedBy (job g j .label) ≡ startedBy l
@@ -92,15 +82,9 @@ module _ (s : Sizes) (t : Tables) (g : Graph) (G : Ghost) (S : Stands s t g G) (
   unfolding applied
   mark-stands w p x c hp e =
       let b : p < s .jobs = omega (arith, O .jobs) in
-      record {
-        kept = kept-put s (t .jobs) p LABEL 2 ∙ S .kept;
-        jobs = rows-put jobShape (s .jobs) (t .jobs) p LABEL 2 ∙ S .jobs;
-        arcs = S .arcs;
-        buckets = S .buckets;
-        queue = S .queue;
-        rep = simp (stores, columns-put jobShape (s .jobs), S .jobs, b)
-            (label-rep s (view t) g G R p hp finished _ _ (ap startedBy e));
-      }
+      job-stands s t g G S p LABEL 2 (t .queue) _ _ (S .queue)
+      (simp (stores, columns-put jobShape (s .jobs), S .jobs)
+      (label-rep s (view t) g G R p hp finished _ _ (ap startedBy e)))
 
   pub get-stands : (w : ℕ) (h : HandOut) (q : List ℕ) → g .queue ≡ h .job ∷ q
       → TablesStand s (appliedGet (Take h (started (g .jobs))) t w) (handedOut g w (h .job) q) G
@@ -110,22 +94,14 @@ module _ (s : Sizes) (t : Tables) (g : Graph) (G : Ghost) (S : Stands s t g G) (
       let n = next-job s t g G S O j q e in
       let b : j < s .jobs = omega (arith, O .jobs, n .0) in
       let d : started (g .jobs) < s .jobs = omega (arith, O .jobs, O .queue-room, ap length e) in
-      record {
-        kept = kept-put s (t .jobs) j LABEL 1 ∙ S .kept;
-        jobs = rows-put jobShape (s .jobs) (t .jobs) j LABEL 1 ∙ S .jobs;
-        arcs = S .arcs;
-        buckets = S .buckets;
-        queue = simp (stores, S .queue);
-        rep = simp (
-          stores,
-          columns-put jobShape (s .jobs),
-          columns-put queueShape (s .jobs),
-          header-putHeader queueShape (s .jobs),
-          S .jobs,
-          S .queue,
-          b,
-          d,
-        )
-            (take-rep s (view t) g G R j (n .0) executing _ _ q (started (g .jobs)) (sym (R .taken)) e
-            (ap startedBy (n .1)) refl);
-      }
+      job-stands s t g G S j LABEL 1 _ _ _ (simp (stores, S .queue))
+      (simp (
+        stores,
+        columns-put jobShape (s .jobs),
+        columns-put queueShape (s .jobs),
+        header-putHeader queueShape (s .jobs),
+        S .jobs,
+        S .queue,
+      )
+      (take-rep s (view t) g G R j (n .0) executing _ _ q (started (g .jobs)) (sym (R .taken)) e
+      (ap startedBy (n .1)) refl))

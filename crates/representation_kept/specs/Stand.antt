@@ -3,15 +3,16 @@
 use mathlib.Core.Path.{_≡_, refl}
 use mathlib.Core.Bool.{Bool, true, false, _&&_}
 use mathlib.Core.List.{List}
-use Prim.Native.Nat.{ℕ, _^_, _≤_, _<_}
+use Prim.Native.Nat.{ℕ, _+_, _^_, _≤_, _<_}
 use native.Mathlib.Omega.{arith}
 use lib.Dec.{leb}
+use lib.ListN.{getD}
 use borrow.Author.Tests.{leb-true}
 use Rattle.terms.specs.Terms.{withinLimits, mostJobs, mostArcs, mostBits, mostWorkers}
 use Rattle.terms.specs.declared.Sizes.{Sizes}
 use Rattle.words.specs.Columns.{Rows}
-use Rattle.words.specs.Layout.{jobShape, arcShape, bucketShape, queueShape, workerShape, tables, view, sizesKept}
-use Rattle.words.specs.Layout.{Tables, View}
+use Rattle.words.specs.Layout.{none, jobShape, arcShape, bucketShape, queueShape, workerShape, tables, view}
+use Rattle.words.specs.Layout.{sizesKept, Tables, View}
 use Rattle.rules.specs.Rules.{Worker, Graph, withWorkers}
 use Rattle.representation.specs.Rep.{Ghost, TablesRep, WorkerRep, Stands}
 
@@ -50,10 +51,21 @@ abbrev pub viewOf : ℕ → ℕ → ℕ → ℕ → (ℕ → ℕ → ℕ) → (�
 viewOf m r x y j a b c w =
     record { made = m; reserved = r; taken = x; put = y; job = j; arc = a; bucket = b; cell = c; worker = w }
 
-pub rep-frame : (s : Sizes) (v : View) (g : Graph) (G : Ghost) → TablesRep s v g G → (f : ℕ → ℕ → ℕ) (h : ℕ → Worker)
+-- other workers, and other numbers of linked names, which leave spent each arc that was
+pub rep-with : (s : Sizes) (v : View) (g : Graph) (G : Ghost) → TablesRep s v g G → (f : ℕ → ℕ → ℕ) (h : ℕ → Worker)
+    (linked : ℕ → ℕ)
+    → ((a : ℕ) → a < G .base (G .owner a) + G .linked (G .owner a) → a < G .base (G .owner a) + linked (G .owner a))
     → TablesRep s (viewOf (v .made) (v .reserved) (v .taken) (v .put) (v .job) (v .arc) (v .bucket) (v .cell) f)
-    (withWorkers g h) G
-rep-frame s v g G R f h =
+    (withWorkers g h)
+    (record {
+      via = G .via;
+      source = G .source;
+      rank = G .rank;
+      owner = G .owner;
+      base = G .base;
+      linked = linked;
+    })
+rep-with s v g G R f h linked spent =
     record {
       made = R .made;
       reserved = R .reserved;
@@ -63,9 +75,22 @@ rep-frame s v g G R f h =
       rows = R .rows;
       buckets = R .buckets;
       lengths = R .lengths;
-      arcs = R .arcs;
+      arcs = λ p i b. let o = R .arcs p i b in
+          record {
+            next = o .next;
+            dependent = o .dependent;
+            below = o .below;
+            source = o .source;
+            rank = o .rank;
+            spent = spent (getD (G .via p) i none) (o .spent);
+          };
       mine = R .mine;
     }
+
+pub rep-frame : (s : Sizes) (v : View) (g : Graph) (G : Ghost) → TablesRep s v g G → (f : ℕ → ℕ → ℕ) (h : ℕ → Worker)
+    → TablesRep s (viewOf (v .made) (v .reserved) (v .taken) (v .put) (v .job) (v .arc) (v .bucket) (v .cell) f)
+    (withWorkers g h) G
+rep-frame s v g G R f h = rep-with s v g G R f h (G .linked) (λ a b. b)
 
 pub frame : (s : Sizes) (t : Tables) (g : Graph) (G : Ghost) → TablesStand s t g G → (l : List ℕ) (h : ℕ → Worker)
     → TablesStand s (tables (t .jobs) (t .arcs) (t .buckets) (t .queue) l) (withWorkers g h) G

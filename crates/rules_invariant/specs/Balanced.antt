@@ -183,7 +183,7 @@ module _ (s : Sizes) (g : Graph) (r : Reading) (x : State) (K : Kept s g r x) (I
     | yes f ↦ all-served s g r x K I p j f (no-finisher p)
         ∙ sym (live-finished (x .label p) (occurrences p (x .prerequisites j)) f)
     | no u ↦ I .arcs p j u ∙ rw (take-all (x .linked j) (x .prerequisites j)
-        (omega (arith, I .adder-done j (no-adder j) .0)))
+        (omega (arith, I .counts .adder-done j (no-adder j) .0)))
         (sym (live-unfinished (x .label p) (occurrences p (x .prerequisites j)) u))
   ]
 
@@ -191,9 +191,9 @@ module _ (s : Sizes) (g : Graph) (r : Reading) (x : State) (K : Kept s g r x) (I
   count-waited j =
       omega (
         arith,
-        I .balance j,
-        I .adder-done j (no-adder j),
-        by-jobs (x .label) (x .size) (x .prerequisites j) (I .prerequisites-there j),
+        I .counts .balance j,
+        I .counts .adder-done j (no-adder j),
+        by-jobs (x .label) (x .size) (x .prerequisites j) (I .places .prerequisites-there j),
         sum-same (x .size) (λ p. live (x .label p) (occurrences p (x .prerequisites j))) (λ p. unserved x p j)
             (λ p h. all-linked p j),
       )
@@ -211,16 +211,16 @@ module _ (s : Sizes) (g : Graph) (r : Reading) (x : State) (K : Kept s g r x) (I
       λ h. record {
         there = queue-there s g r x K I j h;
         unexecuted = startedBy-none (job g j .label) (omega (arith, in-queue s g r x K I j, once x I j));
-        none-left = omega (arith, in-queue s g r x K I j, I .entry j, K .jobs j .count);
+        none-left = omega (arith, in-queue s g r x K I j, I .gates .entry j, K .jobs j .count);
       },
       λ f. omega (
         arith,
         in-queue s g r x K I j,
-        I .entry j,
+        I .gates .entry j,
         ap startedBy (f .unexecuted),
         f .none-left,
         K .jobs j .count,
-        I .gate-settled j (omega (arith, K .size, f .there)) (no-adder j),
+        I .gates .gate-settled j (omega (arith, K .size, f .there)) (no-adder j),
       ),
     );
   }

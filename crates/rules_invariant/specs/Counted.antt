@@ -58,10 +58,10 @@ module _ (s : Sizes) (g : Graph) (r : Reading) (x : State) (K : Kept s g r x) (I
     entered-once =
         omega (
           arith,
-          I .entry j,
-          I .balance j,
-          I .adder-done j no-adder,
-          I .gate-settled j (omega (arith, K .size)) no-adder,
+          I .gates .entry j,
+          I .counts .balance j,
+          I .counts .adder-done j no-adder,
+          I .gates .gate-settled j (omega (arith, K .size)) no-adder,
           sum-zero (x .size) (λ p. unserved x p j) none-unserved,
         )
 

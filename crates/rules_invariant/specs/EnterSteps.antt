@@ -59,7 +59,7 @@ module _ (s : Sizes) (g : Graph) (r : Reading) (x : State) (K : Kept s g r x) (I
     }
 
     unstarted : x .label n ≡ unexecuted
-    unstarted = startedBy-none (x .label n) (omega (arith, I .queued n, I .entry n, I .gate-new n (omega arith)))
+    unstarted = startedBy-none (x .label n) (omega (arith, I .queued n, I .gates .entry n, I .gates .gate-new n (omega arith)))
 
     new-known : Known later (suc n) n ps (a .name) (listed a)
     new-known = record {
@@ -74,7 +74,7 @@ module _ (s : Sizes) (g : Graph) (r : Reading) (x : State) (K : Kept s g r x) (I
     new-rel = record {
       label = sym unstarted;
       count = omega (arith, long, N .same-length, update-same (x .count) n (length ps));
-      dependents = sym (I .new-dependents n (omega arith));
+      dependents = sym (I .places .new-dependents n (omega arith));
       known = rw (update-same (x .prerequisites) n ps) new-known;
     }
 
@@ -103,8 +103,8 @@ module _ (s : Sizes) (g : Graph) (r : Reading) (x : State) (K : Kept s g r x) (I
         right = own .right;
         there = omega (arith, longer);
         list = ap (λ (y : Job). y .list) (getD-append-seam (g .jobs) (newJob a) [] noJob);
-        place = rw (K .size) (omega (arith, I .linked-within n, ap length (I .new-prerequisites n (omega arith))));
-        tallied = rw (K .size) (sym (I .adder-done n (I .new-adder n (omega arith)) .1));
+        place = rw (K .size) (omega (arith, I .counts .linked-within n, ap length (I .places .new-prerequisites n (omega arith))));
+        tallied = rw (K .size) (sym (I .counts .adder-done n (I .places .new-adder n (omega arith)) .1));
       };
       paced = (refl, sym (ap (λ (y : Job). y .name) (getD-append-seam (g .jobs) (newJob a) [] noJob)));
     }

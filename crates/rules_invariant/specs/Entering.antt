@@ -7,7 +7,7 @@ use native.Mathlib.Omega.{arith}
 use native.Mathlib.Decide.{ℕ-discrete}
 use lib.ListN.{length}
 use lib.Seq.{drop-nil}
-use Rattle.basics.specs.Base.{occurrences}
+use Rattle.basics.specs.Base.{update, occurrences}
 use Rattle.basics.specs.Laws.{update-same, update-at, update-other}
 use Rattle.rules_invariant.specs.Base.{occurrences-nil, sum-suc}
 use Rattle.rules_invariant.specs.Own.{owns-frame, owns-take}
@@ -21,13 +21,17 @@ module _ (s : State) (I : Invariant s) where
     fresh = s .size
 
     fresh-arcs : (k : ℕ) → unserved s fresh k ≡ 0
-    fresh-arcs k = rw (I .new-dependents fresh (omega arith), drop-nil (s .served fresh)) (occurrences-nil k)
+    fresh-arcs k = rw (I .places .new-dependents fresh (omega arith), drop-nil (s .served fresh)) (occurrences-nil k)
 
     fresh-list : length (s .prerequisites fresh) ≡ 0
-    fresh-list = ap length (I .new-prerequisites fresh (omega arith))
+    fresh-list = ap length (I .places .new-prerequisites fresh (omega arith))
 
     fresh-linked : s .linked fresh ≡ 0
-    fresh-linked = omega (arith, I .linked-within fresh, fresh-list)
+    fresh-linked = omega (arith, I .counts .linked-within fresh, fresh-list)
+
+    fresh-gate : (k : ℕ) → k ≡ fresh
+        → update (s .gate) fresh (1 - length ps) k ≡ 1 - length (update (s .prerequisites) fresh ps k)
+    fresh-gate k e = rw (update-at (s .gate) fresh (1 - length ps) k e, update-at (s .prerequisites) fresh ps k e)
 
     pub enter-keeps : Invariant (enter s w ps)
     enter-keeps = record {
@@ -38,127 +42,119 @@ module _ (s : State) (I : Invariant s) where
       served-none = I .served-none;
       served-within = I .served-within;
       queued = I .queued;
+      counts = record {
+        balance = λ k. elim (ℕ-discrete k fresh) [
+          | yes e ↦ rw e (omega (
+            arith,
+            update-same (s .count) fresh (length ps),
+            ap length (update-same (s .prerequisites) fresh ps),
+            I .counts .balance fresh,
+            I .counts .count-within fresh,
+            fresh-linked,
+            fresh-list,
+            sum-suc fresh (λ p. unserved s p fresh),
+            fresh-arcs fresh,
+          ))
+          | no e ↦ omega (
+            arith,
+            update-other (s .count) fresh (length ps) k e,
+            ap length (update-other (s .prerequisites) fresh ps k e),
+            I .counts .balance k,
+            sum-suc fresh (λ p. unserved s p k),
+            fresh-arcs k,
+          )
+        ];
+        count-within = λ k. elim (ℕ-discrete k fresh) [
+          | yes e ↦ rw e (omega (
+            arith,
+            update-same (s .count) fresh (length ps),
+            ap length (update-same (s .prerequisites) fresh ps),
+          ))
+          | no e ↦ omega (
+            arith,
+            update-other (s .count) fresh (length ps) k e,
+            ap length (update-other (s .prerequisites) fresh ps k e),
+            I .counts .count-within k,
+          )
+        ];
+        linked-within = λ k. elim (ℕ-discrete k fresh) [
+          | yes e ↦ rw e (omega (arith, fresh-linked))
+          | no e ↦ omega (arith, ap length (update-other (s .prerequisites) fresh ps k e), I .counts .linked-within k)
+        ];
+        adder-done = λ k a. elim (ℕ-discrete k fresh) [
+          | yes e ↦ absurd (Option·none-ne-some w (cc (update-at (s .adder) fresh (some w) k e)))
+          | no e ↦ omega (
+            arith,
+            ap length (update-other (s .prerequisites) fresh ps k e),
+            I .counts .adder-done k (sym (update-other (s .adder) fresh (some w) k e) ∙ a),
+          )
+        ];
+      };
       arcs-within = λ p k. elim (ℕ-discrete k fresh) [
         | yes e ↦ rw e (omega (
           arith,
           I .arcs-within p fresh,
-          ap (occurrences p) (I .new-prerequisites fresh (omega arith)),
+          ap (occurrences p) (I .places .new-prerequisites fresh (omega arith)),
           occurrences-nil p,
         ))
         | no e ↦ rw (update-other (s .prerequisites) fresh ps k e) (I .arcs-within p k)
       ];
-      dependents-there = λ p. record { at = λ i l. omega (arith, I .dependents-there p .at i l) };
+      places = record {
+        dependents-there = λ p. record { at = λ i l. omega (arith, I .places .dependents-there p .at i l) };
+        prerequisites-there = λ k. record {
+          at = λ i. elim (ℕ-discrete k fresh) [
+            | yes e ↦ rw (update-at (s .prerequisites) fresh ps k e) (λ l. omega (arith, there .at i l))
+            | no e ↦ rw (update-other (s .prerequisites) fresh ps k e)
+                (λ l. omega (arith, I .places .prerequisites-there k .at i l))
+          ];
+        };
+        new-dependents = λ k l. I .places .new-dependents k (omega arith);
+        new-prerequisites = λ k l. update-other (s .prerequisites) fresh ps k (omega arith)
+            ∙ I .places .new-prerequisites k (omega arith);
+        new-adder = λ k l. update-other (s .adder) fresh (some w) k (omega arith) ∙ I .places .new-adder k (omega arith);
+      };
       adders = owns-take adding (s .stage) (s .adder) (I .adders) w fresh adding-injective
           (λ i e. omega (arith, ap tag (sym f ∙ e)))
-          (λ v e. Option·none-ne-some v (cc (I .new-adder fresh (omega arith))));
+          (λ v e. Option·none-ne-some v (cc (I .places .new-adder fresh (omega arith))));
       finishers = owns-frame finishing (s .stage) (s .finisher) (I .finishers) w (adding fresh)
           (λ i e. omega (arith, ap tag (sym f ∙ e))) (λ i e. omega (arith, ap tag e));
-      balance = λ k. elim (ℕ-discrete k fresh) [
-        | yes e ↦ rw e (omega (
-          arith,
-          update-same (s .count) fresh (length ps),
-          ap length (update-same (s .prerequisites) fresh ps),
-          I .balance fresh,
-          I .count-within fresh,
-          fresh-linked,
-          fresh-list,
-          sum-suc fresh (λ p. unserved s p fresh),
-          fresh-arcs fresh,
-        ))
-        | no e ↦ omega (
-          arith,
-          update-other (s .count) fresh (length ps) k e,
-          ap length (update-other (s .prerequisites) fresh ps k e),
-          I .balance k,
-          sum-suc fresh (λ p. unserved s p k),
-          fresh-arcs k,
-        )
-      ];
       arcs = λ p k u. elim (ℕ-discrete k fresh) [
         | yes e ↦ rw (e, fresh-linked) (rw fresh-linked at (I .arcs p fresh u))
         | no e ↦ rw (update-other (s .prerequisites) fresh ps k e) (I .arcs p k u)
       ];
-      count-within = λ k. elim (ℕ-discrete k fresh) [
-        | yes e ↦ rw e (omega (
-          arith,
-          update-same (s .count) fresh (length ps),
-          ap length (update-same (s .prerequisites) fresh ps),
-        ))
-        | no e ↦ omega (
-          arith,
-          update-other (s .count) fresh (length ps) k e,
-          ap length (update-other (s .prerequisites) fresh ps k e),
-          I .count-within k,
-        )
-      ];
-      linked-within = λ k. elim (ℕ-discrete k fresh) [
-        | yes e ↦ rw e (omega (arith, fresh-linked))
-        | no e ↦ omega (arith, ap length (update-other (s .prerequisites) fresh ps k e), I .linked-within k)
-      ];
-      adder-done = λ k a. elim (ℕ-discrete k fresh) [
-        | yes e ↦ absurd (Option·none-ne-some w (cc (update-at (s .adder) fresh (some w) k e)))
-        | no e ↦ omega (
-          arith,
-          ap length (update-other (s .prerequisites) fresh ps k e),
-          I .adder-done k (sym (update-other (s .adder) fresh (some w) k e) ∙ a),
-        )
-      ];
-      prerequisites-there = λ k. record {
-        at = λ i. elim (ℕ-discrete k fresh) [
-          | yes e ↦ rw (update-at (s .prerequisites) fresh ps k e) (λ l. omega (arith, there .at i l))
-          | no e ↦ rw (update-other (s .prerequisites) fresh ps k e)
-              (λ l. omega (arith, I .prerequisites-there k .at i l))
+      gates = record {
+        entry = λ k. elim (ℕ-discrete k fresh) [
+          | yes e ↦ rw e (omega (
+            arith,
+            update-same (s .count) fresh (length ps),
+            update-same (s .gate) fresh (1 - length ps),
+            I .gates .entry fresh,
+            I .gates .gate-new fresh (omega arith),
+          ))
+          | no e ↦ omega (
+            arith,
+            update-other (s .count) fresh (length ps) k e,
+            update-other (s .gate) fresh (1 - length ps) k e,
+            I .gates .entry k,
+          )
+        ];
+        gate-within = λ k. elim (ℕ-discrete k fresh) [
+          | yes e ↦ omega (arith, fresh-gate k e)
+          | no e ↦
+              rw (update-other (s .gate) fresh (1 - length ps) k e, update-other (s .prerequisites) fresh ps k e)
+              (I .gates .gate-within k)
+        ];
+        gate-new = λ k l. update-other (s .gate) fresh (1 - length ps) k (omega arith) ∙ I .gates .gate-new k (omega arith);
+        gate-adding = λ k v a. elim (ℕ-discrete k fresh) [
+          | yes e ↦ fresh-gate k e
+          | no e ↦
+              rw (update-other (s .gate) fresh (1 - length ps) k e, update-other (s .prerequisites) fresh ps k e)
+              (I .gates .gate-adding k v (sym (update-other (s .adder) fresh (some w) k e) ∙ a))
+        ];
+        gate-settled = λ k l a. elim (ℕ-discrete k fresh) [
+          | yes e ↦ absurd (Option·none-ne-some w (cc (update-at (s .adder) fresh (some w) k e)))
+          | no e ↦ update-other (s .gate) fresh (1 - length ps) k e
+              ∙ I .gates .gate-settled k (omega arith) (sym (update-other (s .adder) fresh (some w) k e) ∙ a)
         ];
       };
-      new-dependents = λ k l. I .new-dependents k (omega arith);
-      new-prerequisites = λ k l. update-other (s .prerequisites) fresh ps k (omega arith)
-          ∙ I .new-prerequisites k (omega arith);
-      new-adder = λ k l. update-other (s .adder) fresh (some w) k (omega arith) ∙ I .new-adder k (omega arith);
-      entry = λ k. elim (ℕ-discrete k fresh) [
-        | yes e ↦ rw e (omega (
-          arith,
-          update-same (s .count) fresh (length ps),
-          update-same (s .gate) fresh (1 - length ps),
-          I .entry fresh,
-          I .gate-new fresh (omega arith),
-        ))
-        | no e ↦ omega (
-          arith,
-          update-other (s .count) fresh (length ps) k e,
-          update-other (s .gate) fresh (1 - length ps) k e,
-          I .entry k,
-        )
-      ];
-      gate-within = λ k. elim (ℕ-discrete k fresh) [
-        | yes e ↦ rw e (omega (
-          arith,
-          update-same (s .gate) fresh (1 - length ps),
-          ap length (update-same (s .prerequisites) fresh ps),
-        ))
-        | no e ↦ omega (
-          arith,
-          update-other (s .gate) fresh (1 - length ps) k e,
-          ap length (update-other (s .prerequisites) fresh ps k e),
-          I .gate-within k,
-        )
-      ];
-      gate-new = λ k l. update-other (s .gate) fresh (1 - length ps) k (omega arith) ∙ I .gate-new k (omega arith);
-      gate-adding = λ k v a. elim (ℕ-discrete k fresh) [
-        | yes e ↦ rw e (omega (
-          arith,
-          update-same (s .gate) fresh (1 - length ps),
-          ap length (update-same (s .prerequisites) fresh ps),
-        ))
-        | no e ↦ omega (
-          arith,
-          update-other (s .gate) fresh (1 - length ps) k e,
-          ap length (update-other (s .prerequisites) fresh ps k e),
-          I .gate-adding k v (sym (update-other (s .adder) fresh (some w) k e) ∙ a),
-        )
-      ];
-      gate-settled = λ k l a. elim (ℕ-discrete k fresh) [
-        | yes e ↦ absurd (Option·none-ne-some w (cc (update-at (s .adder) fresh (some w) k e)))
-        | no e ↦ update-other (s .gate) fresh (1 - length ps) k e
-            ∙ I .gate-settled k (omega arith) (sym (update-other (s .adder) fresh (some w) k e) ∙ a)
-      ];
     }

@@ -41,21 +41,10 @@ module _ (s : State) (I : Invariant s) where
       adders = I .adders;
       finishers = I .finishers;
       served-within = I .served-within;
-      balance = I .balance;
+      counts = I .counts;
       arcs-within = I .arcs-within;
-      dependents-there = I .dependents-there;
-      count-within = I .count-within;
-      linked-within = I .linked-within;
-      adder-done = I .adder-done;
-      prerequisites-there = I .prerequisites-there;
-      new-dependents = I .new-dependents;
-      new-prerequisites = I .new-prerequisites;
-      new-adder = I .new-adder;
-      entry = I .entry;
-      gate-within = I .gate-within;
-      gate-new = I .gate-new;
-      gate-adding = I .gate-adding;
-      gate-settled = I .gate-settled;
+      places = I .places;
+      gates = I .gates;
       held-executing = λ v i e. elim (ℕ-discrete v w) [
         | yes y ↦ update-at (s .label) j executing i
             (Option·some-injective i j (cc (update-at (s .held) w (some j) v y)))
@@ -120,21 +109,10 @@ module _ (s : State) (I : Invariant s) where
     pub mark-keeps : Invariant (mark s w p)
     mark-keeps = record {
       served-within = I .served-within;
-      balance = I .balance;
+      counts = I .counts;
       arcs-within = I .arcs-within;
-      dependents-there = I .dependents-there;
-      count-within = I .count-within;
-      linked-within = I .linked-within;
-      adder-done = I .adder-done;
-      prerequisites-there = I .prerequisites-there;
-      new-dependents = I .new-dependents;
-      new-prerequisites = I .new-prerequisites;
-      new-adder = I .new-adder;
-      entry = I .entry;
-      gate-within = I .gate-within;
-      gate-new = I .gate-new;
-      gate-adding = I .gate-adding;
-      gate-settled = I .gate-settled;
+      places = I .places;
+      gates = I .gates;
       adders = owns-frame adding (s .stage) (s .adder) (I .adders) w (finishing p)
           (λ i e. omega (arith, ap tag (sym f ∙ e))) (λ i e. omega (arith, ap tag e));
       finishers = owns-take finishing (s .stage) (s .finisher) (I .finishers) w p finishing-injective
@@ -178,7 +156,7 @@ module _ (s : State) (I : Invariant s) where
     served-there : p < s .size
     served-there = elim (decLt p (s .size)) [
       | yes z ↦ z
-      | no z ↦ absurd (omega (arith, ap length (I .new-dependents p (omega arith))))
+      | no z ↦ absurd (omega (arith, ap length (I .places .new-dependents p (omega arith))))
     ]
 
     arcs-at : (k : ℕ) → unserved s p k ≡ hit k j + unserved after p k
@@ -196,7 +174,7 @@ module _ (s : State) (I : Invariant s) where
     )
 
     pub served-counted : 0 < s .count j
-    served-counted = omega (arith, I .balance j, I .linked-within j, arcs-sum j, hit-same j)
+    served-counted = omega (arith, I .counts .balance j, I .counts .linked-within j, arcs-sum j, hit-same j)
 
     pub serve-keeps : s .entries j + bit b ≡ 1 - ((s .count j - 1) + s .gate j) → Invariant after
     serve-keeps hb = record {
@@ -205,17 +183,27 @@ module _ (s : State) (I : Invariant s) where
       held-executing = I .held-executing;
       held-by = I .held-by;
       finisher-finished = I .finisher-finished;
-      dependents-there = I .dependents-there;
-      linked-within = I .linked-within;
-      adder-done = I .adder-done;
-      prerequisites-there = I .prerequisites-there;
-      new-dependents = I .new-dependents;
-      new-prerequisites = I .new-prerequisites;
-      new-adder = I .new-adder;
-      gate-within = I .gate-within;
-      gate-new = I .gate-new;
-      gate-adding = I .gate-adding;
-      gate-settled = I .gate-settled;
+      places = I .places;
+      counts = record {
+        linked-within = I .counts .linked-within;
+        adder-done = I .counts .adder-done;
+        balance = λ k. omega (arith, I .counts .balance k, I .counts .linked-within k, arcs-sum k);
+        count-within = λ k. omega (arith, I .counts .count-within k);
+      };
+      arcs-within = λ r k. elim (ℕ-discrete r p) [
+        | yes z ↦ rw z (omega (arith, arcs-at k, I .arcs-within p k))
+        | no z ↦ omega (arith, arcs-off r k z, I .arcs-within r k)
+      ];
+      gates = record {
+        gate-within = I .gates .gate-within;
+        gate-new = I .gates .gate-new;
+        gate-adding = I .gates .gate-adding;
+        gate-settled = I .gates .gate-settled;
+        entry = λ k. elim (ℕ-discrete k j) [
+          | yes e ↦ rw e (omega (arith, hit-same j, hitIf-same b j))
+          | no e ↦ omega (arith, hit-other k j e, hitIf-other b k j e, I .gates .entry k)
+        ];
+      };
       finisher-done = λ r e g. elim (ℕ-discrete r p) [
         | yes z ↦ absurd (Option·none-ne-some w (cc (I .finishers .to w p f)))
         | no z ↦ update-other (s .served) p (suc (s .served p)) r z ∙ I .finisher-done r e g
@@ -226,17 +214,7 @@ module _ (s : State) (I : Invariant s) where
         | yes z ↦ rw (z, update-same (s .served) p (suc (s .served p))) h
         | no z ↦ rw (update-other (s .served) p (suc (s .served p)) r z) (I .served-within r)
       ];
-      balance = λ k. omega (arith, I .balance k, I .linked-within k, arcs-sum k);
       arcs = λ r k u. arcs-off r k (λ z. u (cc served-finished)) ∙ I .arcs r k u;
-      arcs-within = λ r k. elim (ℕ-discrete r p) [
-        | yes z ↦ rw z (omega (arith, arcs-at k, I .arcs-within p k))
-        | no z ↦ omega (arith, arcs-off r k z, I .arcs-within r k)
-      ];
-      count-within = λ k. omega (arith, I .count-within k);
-      entry = λ k. elim (ℕ-discrete k j) [
-        | yes e ↦ rw e (omega (arith, hit-same j, hitIf-same b j))
-        | no e ↦ omega (arith, hit-other k j e, hitIf-other b k j e, I .entry k)
-      ];
       queued = λ k. omega (arith, occurrences-enqueue b (s .queue) j k, I .queued k);
     }
 
@@ -248,22 +226,11 @@ module _ (s : State) (I : Invariant s) where
     held-by = I .held-by;
     served-none = I .served-none;
     served-within = I .served-within;
-    balance = I .balance;
+    counts = I .counts;
     arcs-within = I .arcs-within;
-    dependents-there = I .dependents-there;
+    places = I .places;
     arcs = I .arcs;
-    count-within = I .count-within;
-    linked-within = I .linked-within;
-    adder-done = I .adder-done;
-    prerequisites-there = I .prerequisites-there;
-    new-dependents = I .new-dependents;
-    new-prerequisites = I .new-prerequisites;
-    new-adder = I .new-adder;
-    entry = I .entry;
-    gate-within = I .gate-within;
-    gate-new = I .gate-new;
-    gate-adding = I .gate-adding;
-    gate-settled = I .gate-settled;
+    gates = I .gates;
     queued = I .queued;
     adders = owns-frame adding (s .stage) (s .adder) (I .adders) w apart (λ i e. omega (arith, ap tag (sym f ∙ e)))
         (λ i e. omega (arith, ap tag e));

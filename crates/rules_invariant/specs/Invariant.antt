@@ -3,7 +3,7 @@
 use mathlib.Core.Path.{_≡_, refl, ap}
 use mathlib.Core.Logic.{_≢_}
 use mathlib.Core.Bool.{Bool, true, false}
-use mathlib.Core.Option.{none, some, Option·none-ne-some}
+use mathlib.Core.Option.{Option, none, some, Option·none-ne-some}
 use mathlib.Core.List.{List, []}
 use Prim.Native.Nat.{ℕ, _+_, _-_, _≤_, _<_}
 use native.Mathlib.Omega.{arith}
@@ -19,13 +19,47 @@ use Rattle.rules_invariant.specs.Own.{Owns}
 use Rattle.rules_invariant.specs.State.{adding, finishing, State, bit, hitIf}
 
 -- the arcs from p to j that are linked and not served
+abbrev waiting : (ℕ → ℕ) → (ℕ → List ℕ) → ℕ → ℕ → ℕ
+waiting served dependents p j = occurrences j (drop (served p) (dependents p))
+
 abbrev pub unserved : State → ℕ → ℕ → ℕ
-unserved s p j = occurrences j (drop (s .served p) (s .dependents p))
+unserved s = waiting (s .served) (s .dependents)
 
 pub record Below (n : ℕ) (l : List ℕ) : Type 0 where
   pub at : (i : ℕ) → i < length l → getD l i 0 < n
 
+-- what a job's count is made of, and how far the adds are
+pub record Counts (size : ℕ) (count linked tally served : ℕ → ℕ) (prerequisites dependents : ℕ → List ℕ)
+    (adder : ℕ → Option ℕ) : Type 0 where
+  pub balance : (j : ℕ)
+      → count j + linked j ≡ length (prerequisites j) + tally j + sum size (λ p. waiting served dependents p j)
+  pub count-within : (j : ℕ) → count j ≤ length (prerequisites j)
+  pub linked-within : (j : ℕ) → linked j ≤ length (prerequisites j)
+  pub adder-done : (j : ℕ) → adder j ≡ none → (linked j ≡ length (prerequisites j)) × (tally j ≡ 0)
+
+-- numbers of jobs
+pub record Places (size : ℕ) (prerequisites dependents : ℕ → List ℕ) (adder : ℕ → Option ℕ) : Type 0 where
+  pub prerequisites-there : (j : ℕ) → Below size (prerequisites j)
+  pub dependents-there : (p : ℕ) → Below size (dependents p)
+  pub new-dependents : (p : ℕ) → size ≤ p → dependents p ≡ []
+  pub new-prerequisites : (j : ℕ) → size ≤ j → prerequisites j ≡ []
+  pub new-adder : (j : ℕ) → size ≤ j → adder j ≡ none
+
+-- a job has entered the queue exactly if its count and its gate are 0
+pub record Gates (size : ℕ) (count entries gate : ℕ → ℕ) (prerequisites : ℕ → List ℕ) (adder : ℕ → Option ℕ)
+    : Type 0 where
+  pub entry : (j : ℕ) → entries j ≡ 1 - (count j + gate j)
+  pub gate-within : (j : ℕ) → gate j ≤ 1 - length (prerequisites j)
+  pub gate-new : (j : ℕ) → size ≤ j → gate j ≡ 1
+  pub gate-adding : (j w : ℕ) → adder j ≡ some w → gate j ≡ 1 - length (prerequisites j)
+  pub gate-settled : (j : ℕ) → j < size → adder j ≡ none → gate j ≡ 0
+
+-- Its parts are over the maps that they name, so that a step which changes none of these keeps the part as it is.
 pub record Invariant (s : State) : Type 0 where
+  pub counts : Counts (s .size) (s .count) (s .linked) (s .tally) (s .served) (s .prerequisites) (s .dependents)
+      (s .adder)
+  pub places : Places (s .size) (s .prerequisites) (s .dependents) (s .adder)
+  pub gates : Gates (s .size) (s .count) (s .entries) (s .gate) (s .prerequisites) (s .adder)
   -- who works on what
   pub adders : Owns adding (s .stage) (s .adder)
   pub finishers : Owns finishing (s .stage) (s .finisher)
@@ -36,28 +70,11 @@ pub record Invariant (s : State) : Type 0 where
   pub finisher-done : (p : ℕ) → s .finisher p ≡ none → s .label p ≡ finished → s .served p ≡ length (s .dependents p)
   pub served-none : (p : ℕ) → s .label p ≢ finished → s .served p ≡ 0
   pub served-within : (p : ℕ) → s .served p ≤ length (s .dependents p)
-  -- what a job's count is made of
-  pub balance : (j : ℕ)
-      → s .count j + s .linked j ≡ length (s .prerequisites j) + s .tally j + sum (s .size) (λ p. unserved s p j)
+  -- the arcs that are linked and not served
   pub arcs : (p j : ℕ) → s .label p ≢ finished
       → unserved s p j ≡ occurrences p (take (s .linked j) (s .prerequisites j))
   pub arcs-within : (p j : ℕ) → unserved s p j ≤ occurrences p (s .prerequisites j)
-  pub count-within : (j : ℕ) → s .count j ≤ length (s .prerequisites j)
-  -- how far the adds are
-  pub linked-within : (j : ℕ) → s .linked j ≤ length (s .prerequisites j)
-  pub adder-done : (j : ℕ) → s .adder j ≡ none → (s .linked j ≡ length (s .prerequisites j)) × (s .tally j ≡ 0)
-  -- numbers of jobs
-  pub prerequisites-there : (j : ℕ) → Below (s .size) (s .prerequisites j)
-  pub dependents-there : (p : ℕ) → Below (s .size) (s .dependents p)
-  pub new-dependents : (p : ℕ) → s .size ≤ p → s .dependents p ≡ []
-  pub new-prerequisites : (j : ℕ) → s .size ≤ j → s .prerequisites j ≡ []
-  pub new-adder : (j : ℕ) → s .size ≤ j → s .adder j ≡ none
-  -- the queue: a job has entered exactly if its count and its gate are 0, and then it is there or was handed out
-  pub entry : (j : ℕ) → s .entries j ≡ 1 - (s .count j + s .gate j)
-  pub gate-within : (j : ℕ) → s .gate j ≤ 1 - length (s .prerequisites j)
-  pub gate-new : (j : ℕ) → s .size ≤ j → s .gate j ≡ 1
-  pub gate-adding : (j w : ℕ) → s .adder j ≡ some w → s .gate j ≡ 1 - length (s .prerequisites j)
-  pub gate-settled : (j : ℕ) → j < s .size → s .adder j ≡ none → s .gate j ≡ 0
+  -- what has entered the queue is there or was handed out
   pub queued : (j : ℕ) → occurrences j (s .queue) + startedBy (s .label j) ≡ s .entries j
 
 -- ---- small facts
@@ -97,24 +114,24 @@ occurrences-enqueue false q j k = omega arith
 -- ---- what follows at once
 module _ (s : State) (I : Invariant s) where
   pub once : (j : ℕ) → s .entries j ≤ 1
-  once j = omega (arith, I .entry j)
+  once j = omega (arith, I .gates .entry j)
 
   pub entered-there : (j : ℕ) → 0 < s .entries j → j < s .size
   entered-there j h =
-      elim (decLt j (s .size)) [ yes z ↦ z | no z ↦ absurd (omega (arith, I .entry j, I .gate-new j (omega arith))) ]
+      elim (decLt j (s .size)) [ yes z ↦ z | no z ↦ absurd (omega (arith, I .gates .entry j, I .gates .gate-new j (omega arith))) ]
 
   pub counted-there : (j : ℕ) → 0 < s .count j → j < s .size
   counted-there j h =
       elim (decLt j (s .size)) [
         | yes z ↦ z
-        | no z ↦ absurd (omega (arith, I .count-within j, ap length (I .new-prerequisites j (omega arith))))
+        | no z ↦ absurd (omega (arith, I .counts .count-within j, ap length (I .places .new-prerequisites j (omega arith))))
       ]
 
   pub adding-there : (w j : ℕ) → s .stage w ≡ adding j → j < s .size
   adding-there w j f =
       elim (decLt j (s .size)) [
         | yes z ↦ z
-        | no z ↦ absurd (Option·none-ne-some w (cc (I .adders .to w j f, I .new-adder j (omega arith))))
+        | no z ↦ absurd (Option·none-ne-some w (cc (I .adders .to w j f, I .places .new-adder j (omega arith))))
       ]
 
   pub held-there : (w j : ℕ) → s .held w ≡ some j → j < s .size
@@ -129,12 +146,12 @@ module _ (s : State) (I : Invariant s) where
         | yes f ↦ f
         | no u ↦ absurd (omega (
           arith,
-          I .entry j,
-          I .balance j,
-          I .linked-within j,
-          sum-le (s .size) (λ r. unserved s r j) p (I .prerequisites-there j .at i l),
+          I .gates .entry j,
+          I .counts .balance j,
+          I .counts .linked-within j,
+          sum-le (s .size) (λ r. unserved s r j) p (I .places .prerequisites-there j .at i l),
           I .arcs p j u,
-          ap (occurrences p) (take-all (s .linked j) (s .prerequisites j) (omega (arith, I .entry j, I .balance j))),
+          ap (occurrences p) (take-all (s .linked j) (s .prerequisites j) (omega (arith, I .gates .entry j, I .counts .balance j))),
           occurrences-getD (s .prerequisites j) i l,
         ))
       ]

@@ -16,13 +16,13 @@ use Rattle.rules.specs.Rules.{Job, idle, linking, Graph, noJob, job, find, at, 
 use Rattle.rules.specs.Rules.{linked, settled, enqueue}
 use Rattle.linearization.specs.Calls.{Pending, Reading, becomes, addEnded}
 use Rattle.rules_invariant.specs.Base.{hit, hit-same, hit-other}
-use Rattle.rules_invariant.specs.State.{apart, adding, State, bit, linkFinished, linkDependent, settle}
+use Rattle.rules_invariant.specs.State.{apart, adding, State, bit, linkDependent, settle}
 use Rattle.rules_invariant.specs.Invariant.{Invariant, occurrences-enqueue}
 use Rattle.rules_invariant.specs.Linking.{link-finished-keeps, link-dependent-keeps, settle-keeps, settles-right}
-use Rattle.rules_invariant.specs.Names.{Extends, extends-same, extends-set, contains-snoc}
+use Rattle.rules_invariant.specs.Names.{Extends, extends-set, contains-snoc}
 use Rattle.rules_invariant.specs.Relation.{Kept, known-keeps, jobRel, LinkRel, AddEnded}
 use Rattle.rules_invariant.specs.Relation.{added-keeps, finished-keeps}
-use Rattle.rules_invariant.specs.Turns.{Next, own-stage, own-call, other-add, workers-after}
+use Rattle.rules_invariant.specs.Turns.{Next, own-stage, own-call, other-add, workers-after, called}
 
 module _ (s : Sizes) (g : Graph) (r : Reading) (x : State) (K : Kept s g r x) (I : Invariant x) (w : ℕ) where
   -- ---- linking
@@ -66,43 +66,29 @@ module _ (s : Sizes) (g : Graph) (r : Reading) (x : State) (K : Kept s g r x) (I
       pub linking-finished : job g place .label ≡ finished
           → Next s g x (withCall g w (linking a j (suc i) (suc t)))
           (becomes r w (Pending.adding a (a .count + 1 + suc i)))
-      linking-finished e = record {
-        state = linkFinished x j;
-        grown = λ k. omega arith;
-        invariant = link-finished-keeps x I w j at-stage room-left (sym (K .jobs place .label) ∙ e);
-        kept = record {
-          jobs-room = K .jobs-room;
-          arcs-room = K .arcs-room;
-          size = K .size;
-          jobs = K .jobs;
-          queue = K .queue;
-          added = K .added;
-          finished = K .finished;
-          workers = workers-after s g r x K I w (withCall g w (linking a j (suc i) (suc t))) (linkFinished x j)
-              (Pending.adding a (a .count + 1 + suc i)) _
-              (extends-same (g .jobs)) (omega arith)
-              (record {
-                held = K .workers w .held;
-                stage = at-stage;
-                call = record {
-                  right = own-link .right;
-                  there = own-link .there;
-                  list = own-link .list;
-                  place = omega (arith, own-link .place, hit-same j);
-                  tallied = omega (arith, own-link .tallied, hit-same j);
-                };
-                paced = (refl, own-paced .1);
-              })
-              (λ v z. record {
-                held = refl;
-                stage = refl;
-                linked = λ k y. linked-else v k z y;
-                tally = λ k y. tally-else v k z y;
-                served = λ p y. refl;
-                dependents = λ p. omega arith;
-              });
-        };
-      }
+      linking-finished e = called s g r x K I w (linking a j (suc i) (suc t)) (Pending.adding a (a .count + 1 + suc i))
+          (λ k. x .linked k + hit k j) (λ k. x .tally k + hit k j)
+          (link-finished-keeps x I w j at-stage room-left (sym (K .jobs place .label) ∙ e))
+          (record {
+            held = K .workers w .held;
+            stage = at-stage;
+            call = record {
+              right = own-link .right;
+              there = own-link .there;
+              list = own-link .list;
+              place = omega (arith, own-link .place, hit-same j);
+              tallied = omega (arith, own-link .tallied, hit-same j);
+            };
+            paced = (refl, own-paced .1);
+          })
+          (λ v z. record {
+            held = refl;
+            stage = refl;
+            linked = λ k y. linked-else v k z y;
+            tally = λ k y. tally-else v k z y;
+            served = λ p y. refl;
+            dependents = λ p. omega arith;
+          })
 
       pub linking-dependent : job g place .label ≢ finished
           → Next s g x (linked g w a j i t place) (becomes r w (Pending.adding a (a .count + 1 + suc i)))
@@ -111,7 +97,7 @@ module _ (s : Sizes) (g : Graph) (r : Reading) (x : State) (K : Kept s g r x) (I
           let y : State = linkDependent x j p in
           let d : List ℕ = x .dependents p ++ (j ∷ []) in
           let there : p < length (g .jobs) =
-          omega (arith, K .size, I .prerequisites-there j .at (x .linked j) room-left) in
+          omega (arith, K .size, I .places .prerequisites-there j .at (x .linked j) room-left) in
           let z : Job = withDependent (job g p) j in
           let further : Extends (g .jobs) (set (g .jobs) p z) = extends-set (g .jobs) p z refl refl in
           let longer : length (set (g .jobs) p z) ≡ length (g .jobs) = length-set (g .jobs) p z in
@@ -178,7 +164,7 @@ module _ (s : Sizes) (g : Graph) (r : Reading) (x : State) (K : Kept s g r x) (I
     settling h =
         let b : Bool = settles (job g j .count - t) t (a .count) in
         let full : x .linked j ≡ length (x .prerequisites j) =
-        omega (arith, own-link .place, long-list, I .linked-within j) in
+        omega (arith, own-link .place, long-list, I .counts .linked-within j) in
         let left : ℕ = x .count j - x .tally j in
         let y : State = settle x w j b in
         let z : Job = withCount (job g j) (job g j .count - t) in

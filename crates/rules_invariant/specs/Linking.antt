@@ -55,7 +55,7 @@ module _ (s : State) (I : Invariant s) where
     linked-further : (k : ℕ) → s .linked k + hit k j ≤ length (s .prerequisites k)
     linked-further k = elim (ℕ-discrete k j) [
       | yes e ↦ rw e (omega (arith, hit-same j))
-      | no e ↦ omega (arith, hit-other k j e, I .linked-within k)
+      | no e ↦ omega (arith, hit-other k j e, I .counts .linked-within k)
     ]
 
     busy : (k : ℕ) → s .adder k ≡ none → k ≢ j
@@ -69,35 +69,29 @@ module _ (s : State) (I : Invariant s) where
       held-executing = I .held-executing;
       held-by = I .held-by;
       finisher-finished = I .finisher-finished;
+      counts = record {
+        count-within = I .counts .count-within;
+        balance = λ k. omega (arith, I .counts .balance k);
+        linked-within = linked-further;
+        adder-done = λ k e. omega (arith, hit-other k j (busy k e), I .counts .adder-done k e);
+      };
       arcs-within = I .arcs-within;
-      dependents-there = I .dependents-there;
+      places = I .places;
       finisher-done = I .finisher-done;
       served-none = I .served-none;
       served-within = I .served-within;
-      count-within = I .count-within;
-      prerequisites-there = I .prerequisites-there;
-      new-dependents = I .new-dependents;
-      new-prerequisites = I .new-prerequisites;
-      new-adder = I .new-adder;
-      entry = I .entry;
-      gate-within = I .gate-within;
-      gate-new = I .gate-new;
-      gate-adding = I .gate-adding;
-      gate-settled = I .gate-settled;
+      gates = I .gates;
       queued = I .queued;
-      balance = λ k. omega (arith, I .balance k);
       arcs = λ p k u. elim (ℕ-discrete k j) [
         | yes e ↦ rw e (omega (arith, reach-at p, I .arcs p j u, hit-other p place (λ z. u (ap (s .label) z ∙ ready))))
         | no e ↦ omega (arith, reach-off p k e, I .arcs p k u)
       ];
-      linked-within = linked-further;
-      adder-done = λ k e. omega (arith, hit-other k j (busy k e), I .adder-done k e);
     }
 
     -- the prerequisite is not finished
     module _ (unready : s .label place ≢ finished) where
       below : place < s .size
-      below = I .prerequisites-there j .at (s .linked j) h
+      below = I .places .prerequisites-there j .at (s .linked j) h
 
       abbrev after : State
       after = linkDependent s j place
@@ -109,6 +103,20 @@ module _ (s : State) (I : Invariant s) where
       arcs-off : (r k : ℕ) → r ≢ place → unserved after r k ≡ unserved s r k
       arcs-off r k e = rw (update-other (s .dependents) place (s .dependents place ++ (j ∷ [])) r e) refl
 
+      arcs-after : (r k : ℕ) → s .label r ≢ finished
+          → unserved after r k ≡ occurrences r (take (s .linked k + hit k j) (s .prerequisites k))
+      arcs-after r k u = elim (ℕ-discrete r place) [
+        | yes e ↦ elim (ℕ-discrete k j) [
+          | yes z ↦ rw (e, z)
+              (omega (arith, arcs-at j, reach-at place, hit-same j, hit-same place, I .arcs place j unready))
+          | no z ↦ rw e (omega (arith, arcs-at k, reach-off place k z, hit-other k j z, I .arcs place k unready))
+        ]
+        | no e ↦ elim (ℕ-discrete k j) [
+          | yes z ↦ rw z (omega (arith, arcs-off r j e, reach-at r, hit-other r place e, I .arcs r j u))
+          | no z ↦ omega (arith, arcs-off r k e, reach-off r k z, I .arcs r k u)
+        ]
+      ]
+
       pub link-dependent-keeps : Invariant after
       link-dependent-keeps = record {
         adders = I .adders;
@@ -117,15 +125,41 @@ module _ (s : State) (I : Invariant s) where
         held-by = I .held-by;
         finisher-finished = I .finisher-finished;
         served-none = I .served-none;
-        count-within = I .count-within;
-        prerequisites-there = I .prerequisites-there;
-        new-prerequisites = I .new-prerequisites;
-        new-adder = I .new-adder;
-        entry = I .entry;
-        gate-within = I .gate-within;
-        gate-new = I .gate-new;
-        gate-adding = I .gate-adding;
-        gate-settled = I .gate-settled;
+        counts = record {
+          count-within = I .counts .count-within;
+          balance = λ k. omega (
+            arith,
+            I .counts .balance k,
+            arcs-at k,
+            sum-at (s .size) (λ r. unserved s r k) (λ r. unserved after r k) place below (λ r e. arcs-off r k e),
+          );
+          linked-within = linked-further;
+          adder-done = λ k e. omega (arith, hit-other k j (busy k e), I .counts .adder-done k e);
+        };
+        arcs-within = λ r k. elim (ℕ-discrete r place) [
+          | yes e ↦ rw e (omega (
+            arith,
+            arcs-after place k unready,
+            occurrences-take-le place (s .prerequisites k) (s .linked k + hit k j),
+          ))
+          | no e ↦ omega (arith, arcs-off r k e, I .arcs-within r k)
+        ];
+        places = record {
+          prerequisites-there = I .places .prerequisites-there;
+          new-prerequisites = I .places .new-prerequisites;
+          new-adder = I .places .new-adder;
+          dependents-there = λ r. record {
+            at = λ i. elim (ℕ-discrete r place) [
+              | yes e ↦ rw (update-at (s .dependents) place (s .dependents place ++ (j ∷ [])) r e)
+                  (below-snoc (s .size) (s .dependents place) j (I .places .dependents-there place) (adding-there s I w j f) i)
+              | no e ↦ rw (update-other (s .dependents) place (s .dependents place ++ (j ∷ [])) r e)
+                  (I .places .dependents-there r .at i)
+            ];
+          };
+          new-dependents = λ r e. update-other (s .dependents) place (s .dependents place ++ (j ∷ [])) r
+              (omega (arith, below)) ∙ I .places .new-dependents r e;
+        };
+        gates = I .gates;
         queued = I .queued;
         finisher-done = λ r e g. rw (update-other (s .dependents) place (s .dependents place ++ (j ∷ [])) r
             (λ z. unready (cc))) (I .finisher-done r e g);
@@ -134,56 +168,7 @@ module _ (s : State) (I : Invariant s) where
               (omega (arith, I .served-within place))
           | no e ↦ rw (update-other (s .dependents) place (s .dependents place ++ (j ∷ [])) r e) (I .served-within r)
         ];
-        balance = λ k. omega (
-          arith,
-          I .balance k,
-          arcs-at k,
-          sum-at (s .size) (λ r. unserved s r k) (λ r. unserved after r k) place below (λ r e. arcs-off r k e),
-        );
-        arcs = λ r k u. elim (ℕ-discrete r place) [
-          | yes e ↦ elim (ℕ-discrete k j) [
-            | yes z ↦ rw (e, z) (omega (
-              arith,
-              arcs-at j,
-              reach-at place,
-              hit-same j,
-              hit-same place,
-              I .arcs place j unready,
-            ))
-            | no z ↦ rw e (omega (arith, arcs-at k, reach-off place k z, hit-other k j z, I .arcs place k unready))
-          ]
-          | no e ↦ elim (ℕ-discrete k j) [
-            | yes z ↦ rw z (omega (arith, arcs-off r j e, reach-at r, hit-other r place e, I .arcs r j u))
-            | no z ↦ omega (arith, arcs-off r k e, reach-off r k z, I .arcs r k u)
-          ]
-        ];
-        arcs-within = λ r k. elim (ℕ-discrete r place) [
-          | yes e ↦ elim (ℕ-discrete k j) [
-            | yes z ↦ rw (e, z) (omega (
-              arith,
-              arcs-at j,
-              reach-at place,
-              hit-same j,
-              hit-same place,
-              I .arcs place j unready,
-              occurrences-take-le place (s .prerequisites j) (s .linked j + hit j j),
-            ))
-            | no z ↦ rw e (omega (arith, arcs-at k, hit-other k j z, I .arcs-within place k))
-          ]
-          | no e ↦ omega (arith, arcs-off r k e, I .arcs-within r k)
-        ];
-        dependents-there = λ r. record {
-          at = λ i. elim (ℕ-discrete r place) [
-            | yes e ↦ rw (update-at (s .dependents) place (s .dependents place ++ (j ∷ [])) r e)
-                (below-snoc (s .size) (s .dependents place) j (I .dependents-there place) (adding-there s I w j f) i)
-            | no e ↦ rw (update-other (s .dependents) place (s .dependents place ++ (j ∷ [])) r e)
-                (I .dependents-there r .at i)
-          ];
-        };
-        linked-within = linked-further;
-        adder-done = λ k e. omega (arith, hit-other k j (busy k e), I .adder-done k e);
-        new-dependents = λ r e. update-other (s .dependents) place (s .dependents place ++ (j ∷ [])) r
-            (omega (arith, below)) ∙ I .new-dependents r e;
+        arcs = arcs-after;
       }
 
   -- ---- settling
@@ -197,77 +182,83 @@ module _ (s : State) (I : Invariant s) where
     served-none = I .served-none;
     served-within = I .served-within;
     arcs = I .arcs;
+    counts = record {
+      linked-within = I .counts .linked-within;
+      balance = λ k. elim (ℕ-discrete k j) [
+        | yes e ↦ rw e (omega (
+          arith,
+          update-same (s .count) j (s .count j - s .tally j),
+          update-same (s .tally) j 0,
+          I .counts .balance j,
+        ))
+        | no e ↦ omega (
+          arith,
+          update-other (s .count) j (s .count j - s .tally j) k e,
+          update-other (s .tally) j 0 k e,
+          I .counts .balance k,
+        )
+      ];
+      count-within = λ k. elim (ℕ-discrete k j) [
+        | yes e ↦ rw e (omega (arith, update-same (s .count) j (s .count j - s .tally j), I .counts .count-within j))
+        | no e ↦ omega (arith, update-other (s .count) j (s .count j - s .tally j) k e, I .counts .count-within k)
+      ];
+      adder-done = λ k a. elim (ℕ-discrete k j) [
+        | yes e ↦ rw e (full, update-same (s .tally) j 0)
+        | no e ↦ omega (
+          arith,
+          update-other (s .tally) j 0 k e,
+          I .counts .adder-done k (sym (update-other (s .adder) j none k e) ∙ a),
+        )
+      ];
+    };
     arcs-within = I .arcs-within;
-    dependents-there = I .dependents-there;
-    linked-within = I .linked-within;
-    prerequisites-there = I .prerequisites-there;
-    new-dependents = I .new-dependents;
-    new-prerequisites = I .new-prerequisites;
+    places = record {
+      dependents-there = I .places .dependents-there;
+      prerequisites-there = I .places .prerequisites-there;
+      new-dependents = I .places .new-dependents;
+      new-prerequisites = I .places .new-prerequisites;
+      new-adder = λ k e. elim (ℕ-discrete k j) [
+        | yes z ↦ update-at (s .adder) j none k z
+        | no z ↦ update-other (s .adder) j none k z ∙ I .places .new-adder k e
+      ];
+    };
     adders = owns-drop adding (s .stage) (s .adder) (I .adders) w j apart adding-injective f
         (λ i e. omega (arith, ap tag e));
     finishers = owns-frame finishing (s .stage) (s .finisher) (I .finishers) w apart
         (λ i e. omega (arith, ap tag (sym f ∙ e))) (λ i e. omega (arith, ap tag e));
-    balance = λ k. elim (ℕ-discrete k j) [
-      | yes e ↦ rw e (omega (
-        arith,
-        update-same (s .count) j (s .count j - s .tally j),
-        update-same (s .tally) j 0,
-        I .balance j,
-      ))
-      | no e ↦ omega (
-        arith,
-        update-other (s .count) j (s .count j - s .tally j) k e,
-        update-other (s .tally) j 0 k e,
-        I .balance k,
-      )
-    ];
-    count-within = λ k. elim (ℕ-discrete k j) [
-      | yes e ↦ rw e (omega (arith, update-same (s .count) j (s .count j - s .tally j), I .count-within j))
-      | no e ↦ omega (arith, update-other (s .count) j (s .count j - s .tally j) k e, I .count-within k)
-    ];
-    adder-done = λ k a. elim (ℕ-discrete k j) [
-      | yes e ↦ rw e (full, update-same (s .tally) j 0)
-      | no e ↦ omega (
-        arith,
-        update-other (s .tally) j 0 k e,
-        I .adder-done k (sym (update-other (s .adder) j none k e) ∙ a),
-      )
-    ];
-    new-adder = λ k e. elim (ℕ-discrete k j) [
-      | yes z ↦ update-at (s .adder) j none k z
-      | no z ↦ update-other (s .adder) j none k z ∙ I .new-adder k e
-    ];
-    entry = λ k. elim (ℕ-discrete k j) [
-      | yes e ↦ rw e (omega (
-        arith,
-        update-same (s .count) j (s .count j - s .tally j),
-        update-same (s .gate) j 0,
-        hitIf-same b j,
-      ))
-      | no e ↦ omega (
-        arith,
-        update-other (s .count) j (s .count j - s .tally j) k e,
-        update-other (s .gate) j 0 k e,
-        hitIf-other b k j e,
-        I .entry k,
-      )
-    ];
-    gate-within = λ k. elim (ℕ-discrete k j) [
-      | yes e ↦ rw e (omega (arith, update-same (s .gate) j 0))
-      | no e ↦ omega (arith, update-other (s .gate) j 0 k e, I .gate-within k)
-    ];
-    gate-new = λ k e. elim (ℕ-discrete k j) [
-      | yes z ↦ absurd (Option·none-ne-some w (cc (I .adders .to w j f, I .new-adder k e)))
-      | no z ↦ update-other (s .gate) j 0 k z ∙ I .gate-new k e
-    ];
-    gate-adding = λ k v a. elim (ℕ-discrete k j) [
-      | yes e ↦ absurd (Option·none-ne-some v (cc (update-at (s .adder) j none k e)))
-      | no e ↦ update-other (s .gate) j 0 k e ∙ I .gate-adding k v (cc (update-other (s .adder) j none k e))
-    ];
-    gate-settled = λ k l a. elim (ℕ-discrete k j) [
-      | yes e ↦ update-at (s .gate) j 0 k e
-      | no e ↦ update-other (s .gate) j 0 k e ∙ I .gate-settled k l (cc (update-other (s .adder) j none k e))
-    ];
+    gates = record {
+      entry = λ k. elim (ℕ-discrete k j) [
+        | yes e ↦ rw e (omega (
+          arith,
+          update-same (s .count) j (s .count j - s .tally j),
+          update-same (s .gate) j 0,
+          hitIf-same b j,
+        ))
+        | no e ↦ omega (
+          arith,
+          update-other (s .count) j (s .count j - s .tally j) k e,
+          update-other (s .gate) j 0 k e,
+          hitIf-other b k j e,
+          I .gates .entry k,
+        )
+      ];
+      gate-within = λ k. elim (ℕ-discrete k j) [
+        | yes e ↦ rw e (omega (arith, update-same (s .gate) j 0))
+        | no e ↦ omega (arith, update-other (s .gate) j 0 k e, I .gates .gate-within k)
+      ];
+      gate-new = λ k e. elim (ℕ-discrete k j) [
+        | yes z ↦ absurd (Option·none-ne-some w (cc (I .adders .to w j f, I .places .new-adder k e)))
+        | no z ↦ update-other (s .gate) j 0 k z ∙ I .gates .gate-new k e
+      ];
+      gate-adding = λ k v a. elim (ℕ-discrete k j) [
+        | yes e ↦ absurd (Option·none-ne-some v (cc (update-at (s .adder) j none k e)))
+        | no e ↦ update-other (s .gate) j 0 k e ∙ I .gates .gate-adding k v (cc (update-other (s .adder) j none k e))
+      ];
+      gate-settled = λ k l a. elim (ℕ-discrete k j) [
+        | yes e ↦ update-at (s .gate) j 0 k e
+        | no e ↦ update-other (s .gate) j 0 k e ∙ I .gates .gate-settled k l (cc (update-other (s .adder) j none k e))
+      ];
+    };
     queued = λ k. omega (arith, occurrences-enqueue b (s .queue) j k, I .queued k);
   }
 
@@ -282,22 +273,22 @@ module _ (x : State) (I : Invariant x) (w j : ℕ) (f : x .stage w ≡ adding j)
 
   by-tests : (a : Bool) → eqb left 0 ≡ a → (b : Bool) → ltb 0 (x .tally j) ≡ b → (c : Bool) → eqb listing 0 ≡ c
       → x .entries j + bit (a && (b || c)) ≡ 1 - left
-  by-tests false p b q c r = let more : left ≢ 0 = eqb-false left 0 p in omega (arith, I .entry j)
+  by-tests false p b q c r = let more : left ≢ 0 = eqb-false left 0 p in omega (arith, I .gates .entry j)
   by-tests true p true q c r =
       omega (
         arith,
-        I .entry j,
-        I .balance j,
-        I .gate-adding j w (I .adders .to w j f),
+        I .gates .entry j,
+        I .counts .balance j,
+        I .gates .gate-adding j w (I .adders .to w j f),
         eqb-true left 0 p,
         ltb-true 0 (x .tally j) q,
       )
   by-tests true p false q true r =
       omega (
         arith,
-        I .entry j,
-        I .balance j,
-        I .gate-adding j w (I .adders .to w j f),
+        I .gates .entry j,
+        I .counts .balance j,
+        I .gates .gate-adding j w (I .adders .to w j f),
         eqb-true left 0 p,
         eqb-true listing 0 r,
       )
@@ -305,9 +296,9 @@ module _ (x : State) (I : Invariant x) (w j : ℕ) (f : x .stage w ≡ adding j)
       let more : listing ≢ 0 = eqb-false listing 0 r in
       omega (
         arith,
-        I .entry j,
-        I .balance j,
-        I .gate-adding j w (I .adders .to w j f),
+        I .gates .entry j,
+        I .counts .balance j,
+        I .gates .gate-adding j w (I .adders .to w j f),
         eqb-true left 0 p,
         ltb-false 0 (x .tally j) q,
       )

@@ -81,11 +81,11 @@ module _ (s : Sizes) (g : Graph) (r : Reading) (x : State) (K : Kept s g r x) (I
         let long : length (x .prerequisites j) ≡ a .count = long-list s g r x K I w a j i t f in
         record {
           right = o .right;
-          within = omega (arith, o .place, I .linked-within j);
+          within = omega (arith, o .place, I .counts .linked-within j);
           there = o .there;
           list = o .list;
-          tallied = omega (arith, o .place, o .tallied, I .balance j, I .count-within j);
-          covered = omega (arith, o .tallied, K .jobs j .count, I .balance j, I .linked-within j);
+          tallied = omega (arith, o .place, o .tallied, I .counts .balance j, I .counts .count-within j);
+          covered = omega (arith, o .tallied, K .jobs j .count, I .counts .balance j, I .counts .linked-within j);
           found = λ q h. record {
             job = getD (x .prerequisites j) q 0;
             found = rw (← (o .list)) (K .jobs j .known .found q (omega (arith, K .jobs j .known .same-length)));
@@ -113,8 +113,8 @@ module _ (s : Sizes) (g : Graph) (r : Reading) (x : State) (K : Kept s g r x) (I
           within = below;
           counted = omega (arith, K .jobs j .count);
           queues = λ one. may-queue j
-              (rw (K .jobs p .dependents) (omega (arith, K .size, I .dependents-there p .at k (o .left))))
-              (omega (arith, I .entry j, K .jobs j .count));
+              (rw (K .jobs p .dependents) (omega (arith, K .size, I .places .dependents-there p .at k (o .left))))
+              (omega (arith, I .gates .entry j, K .jobs j .count));
         }
 
     call-sound : (o : Option ℕ) (c : Call) → g .workers w .held ≡ o → g .workers w .call ≡ c → CallSound g o c
@@ -135,13 +135,13 @@ module _ (s : Sizes) (g : Graph) (r : Reading) (x : State) (K : Kept s g r x) (I
     counts = λ j. omega (
       arith,
       K .jobs j .count,
-      I .count-within j,
+      I .counts .count-within j,
       K .jobs j .known .same-length,
       K .jobs j .known .short,
     );
     dependents = λ p i h.
         rw (K .jobs p .dependents) (omega
-        (arith, K .size, I .dependents-there p .at i (omega (arith, ap length (K .jobs p .dependents)))));
+        (arith, K .size, I .places .dependents-there p .at i (omega (arith, ap length (K .jobs p .dependents)))));
     queue-there = queue-there;
     queue-unexecuted = λ j h. startedBy-none (job g j .label) (omega (arith, in-queue j, once x I j));
     queue-once = λ j. omega (arith, in-queue j, once x I j);

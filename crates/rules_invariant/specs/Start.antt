@@ -50,22 +50,28 @@ blank-invariant = record {
   finisher-done = λ p e f. refl;
   served-none = λ p u. refl;
   served-within = λ p. omega arith;
-  balance = λ j. omega arith;
-  arcs = λ p j u. simp occurrences-nil;
+  counts = record {
+    balance = λ j. omega arith;
+    count-within = λ j. omega arith;
+    linked-within = λ j. omega arith;
+    adder-done = λ j e. (refl, refl);
+  };
   arcs-within = λ p j. omega (arith, occurrences-nil j);
-  count-within = λ j. omega arith;
-  linked-within = λ j. omega arith;
-  adder-done = λ j e. (refl, refl);
-  prerequisites-there = λ j. record { at = λ i h. omega arith };
-  dependents-there = λ p. record { at = λ i h. omega arith };
-  new-dependents = λ p h. refl;
-  new-prerequisites = λ j h. refl;
-  new-adder = λ j h. refl;
-  entry = λ j. refl;
-  gate-within = λ j. omega arith;
-  gate-new = λ j h. refl;
-  gate-adding = λ j w e. absurd (Option·none-ne-some w e);
-  gate-settled = λ j h e. absurd (omega arith);
+  arcs = λ p j u. simp occurrences-nil;
+  places = record {
+    prerequisites-there = λ j. record { at = λ i h. omega arith };
+    dependents-there = λ p. record { at = λ i h. omega arith };
+    new-dependents = λ p h. refl;
+    new-prerequisites = λ j h. refl;
+    new-adder = λ j h. refl;
+  };
+  gates = record {
+    entry = λ j. refl;
+    gate-within = λ j. omega arith;
+    gate-new = λ j h. refl;
+    gate-adding = λ j w e. absurd (Option·none-ne-some w e);
+    gate-settled = λ j h e. absurd (omega arith);
+  };
   queued = λ j. omega (arith, occurrences-nil j);
 }
 

@@ -88,12 +88,33 @@ module _ (s : Sizes) (g : Graph) (r : Reading) (x : State) (K : Kept s g r x) (I
           (λ j u. omega (arith, K .size, held-there x I v j (sym (K .workers v .held) ∙ u))) (K .workers v))
     ]
 
-    -- a call that works on no job becomes another
-    pub turned : (c : Call) (p : Pending) → x .stage w ≡ apart → stageOf c ≡ apart → CallRel (withCall g w c) x c
-        → PacedCall (withCall g w c) (g .workers w .held) c p → Next s g x (withCall g w c) (becomes r w p)
-    turned c p f e d q = record {
-      state = x;
-      invariant = I;
+    -- a call that becomes another, with other registers of the adds
+    abbrev pub relinked : (ℕ → ℕ) → (ℕ → ℕ) → State
+    relinked linked tally = record {
+      size = x .size;
+      label = x .label;
+      count = x .count;
+      dependents = x .dependents;
+      queue = x .queue;
+      held = x .held;
+      stage = x .stage;
+      prerequisites = x .prerequisites;
+      linked = linked;
+      tally = tally;
+      served = x .served;
+      entries = x .entries;
+      gate = x .gate;
+      adder = x .adder;
+      finisher = x .finisher;
+      holder = x .holder;
+    }
+
+    pub called : (c : Call) (p : Pending) (linked tally : ℕ → ℕ) → Invariant (relinked linked tally)
+        → WorkerRel (withCall g w c) (relinked linked tally) w p (record { held = g .workers w .held; call = c })
+        → ((v : ℕ) → v ≢ w → Same x (relinked linked tally) v) → Next s g x (withCall g w c) (becomes r w p)
+    called c p linked tally kept own same = record {
+      state = relinked linked tally;
+      invariant = kept;
       grown = λ k. omega arith;
       kept = record {
         jobs-room = K .jobs-room;
@@ -103,8 +124,13 @@ module _ (s : Sizes) (g : Graph) (r : Reading) (x : State) (K : Kept s g r x) (I
         queue = K .queue;
         added = K .added;
         finished = K .finished;
-        workers = workers-after (withCall g w c) x p (record { held = g .workers w .held; call = c })
-            (extends-same (g .jobs)) (omega arith)
-            (record { held = K .workers w .held; stage = f ∙ sym e; call = d; paced = q }) (λ v z. same-state x v);
+        workers = workers-after (withCall g w c) (relinked linked tally) p
+            (record { held = g .workers w .held; call = c }) (extends-same (g .jobs)) (omega arith) own same;
       };
     }
+
+    -- a call that works on no job becomes another
+    pub turned : (c : Call) (p : Pending) → x .stage w ≡ apart → stageOf c ≡ apart → CallRel (withCall g w c) x c
+        → PacedCall (withCall g w c) (g .workers w .held) c p → Next s g x (withCall g w c) (becomes r w p)
+    turned c p f e d q = called c p (x .linked) (x .tally) I
+        (record { held = K .workers w .held; stage = f ∙ sym e; call = d; paced = q }) (λ v z. same-state x v)

@@ -14,7 +14,8 @@ use Rattle.words.specs.Layout.{Tables, view, PHASE, IDLE, sizesFit}
 use Rattle.words.specs.Words.{admitted, ownOk}
 use Rattle.sheet_format.specs.Decode.{rowWords}
 use Rattle.sheet_format.specs.Write.{entriesFrom, entriesOf}
-use Rattle.whole_words.specs.Sheet.{SheetOutcome, sheetOutcome, addEach, judgedSheet, served, sheetWords}
+use Rattle.whole_words.specs.Sheet.{sheetOutcome, judgedSheet, sheetWords}
+use Rattle.fused_add_laws.specs.Sheets.{addEachIfIdle, servedIfIdle, whole-sheet}
 use Rattle.sheet_rows.specs.Arguments.{argumentsOf}
 use Rattle.sheet_rows.specs.SheetRows.{addsOf, rowsWords, turnedAway, Added}
 use Rattle.sheet_rows.specs.declared.SheetAdded.{SheetAdded}
@@ -42,15 +43,15 @@ few s t w n k j z =
 -- ---- by the number that judging gave
 pub turned : (s : Sizes) (t : Tables) (w : ℕ) (l : List Arguments) (n : ℕ) → n ≡ judgedSheet s t w (length l) → 0 < n
     → sheetWords s t w l ≡ sheetOutcome n [] t
-unfolding sheetWords served
+unfolding servedIfIdle
 turned s t w l zero e h = absurd (omega arith)
-turned s t w l (suc n) e h = rw (← e) refl
+turned s t w l (suc n) e h = rw (whole-sheet s t w l, ← e) refl
 
 pub not-turned : (s : Sizes) (t : Tables) (w : ℕ) (l : List Arguments) (n : ℕ) → n ≡ judgedSheet s t w (length l)
     → n ≡ 0
-    → sheetWords s t w l ≡ addEach s w l t
-unfolding sheetWords served
-not-turned s t w l n e h = rw (← e, h) refl
+    → sheetWords s t w l ≡ addEachIfIdle s w l t
+unfolding servedIfIdle
+not-turned s t w l n e h = rw (whole-sheet s t w l, ← e, h) refl
 
 -- ---- by the rows
 length-entries : (rows : List ℕ) (i n : ℕ) → length (map argumentsOf (entriesFrom rows i n)) ≡ n
@@ -77,7 +78,7 @@ turned-rows s t w rows n r e j h k =
 
 pub served-rows : (s : Sizes) (t t' : Tables) (w : ℕ) (rows : List ℕ) (n : ℕ) (r : SheetAdded)
     → eqb (length rows % rowWords) 0 ≡ true → n ≡ judgedSheet s t w (length rows / rowWords) → ltb 0 n ≡ false
-    → Added r t' (addEach s w (addsOf rows) t)
+    → Added r t' (addEachIfIdle s w (addsOf rows) t)
     → Added r t' (rowsWords s t w rows)
 unfolding rowsWords
 served-rows s t t' w rows n r e j h k =

@@ -10,15 +10,16 @@ use Rattle.terms.specs.Runs.{Outcome}
 use Rattle.terms.specs.declared.Sizes.{Sizes}
 use Rattle.words.specs.Layout.{Tables}
 use Rattle.sheet_format.specs.Write.{entryAt, entriesFrom}
-use Rattle.whole_words.specs.Whole.{wholeAdd}
-use Rattle.whole_words.specs.Sheet.{SheetOutcome, addEach}
+use Rattle.whole_words.specs.Sheet.{SheetOutcome}
+use Rattle.fused_words.specs.FusedAdd.{addIfIdle}
+use Rattle.fused_add_laws.specs.Sheets.{addEachIfIdle}
 use Rattle.sheet_rows.specs.Arguments.{argumentsOf}
 use Rattle.sheet_rows.specs.SheetRows.{numberOf, placeOf, toldFrom, noEntries, Added}
 use Rattle.sheet_rows.specs.declared.SheetAdded.{SheetAdded}
 
 -- n rows, from one on
 abbrev pub left : Sizes → ℕ → List ℕ → ℕ → ℕ → Tables → SheetOutcome
-left s w rows row n t = addEach s w (map argumentsOf (entriesFrom rows row n)) t
+left s w rows row n t = addEachIfIdle s w (map argumentsOf (entriesFrom rows row n)) t
 
 -- what is told of these rows, and the tables
 pub record Told : Type 0 where
@@ -29,11 +30,11 @@ abbrev pub told : List ℕ → List ℕ → ℕ → SheetOutcome → Told
 told numbers places row o = record { added = toldFrom numbers places row (o .answers); state = o .state }
 
 pub row-told : (s : Sizes) (w : ℕ) (rows : List ℕ) (row n m : ℕ) (t : Tables) (o : Outcome Tables) (numbers places : List ℕ)
-    → m ≡ suc n → o ≡ wholeAdd s t w (argumentsOf (entryAt rows row))
+    → m ≡ suc n → o ≡ addIfIdle s t w (argumentsOf (entryAt rows row))
     → told (set numbers row (numberOf (o .answer))) (set places row (placeOf (o .answer))) (row + 1)
     (left s w rows (row + 1) n (o .state))
     ≡ told numbers places row (left s w rows row m t)
-unfolding addEach entriesFrom
+unfolding addEachIfIdle entriesFrom
 row-told s w rows row n m t o numbers places k e =
     let one : row + 1 ≡ suc row = omega arith in
     rw (k, ← e, one) refl
@@ -41,7 +42,7 @@ row-told s w rows row n m t o numbers places k e =
 pub none-left : (s : Sizes) (w : ℕ) (rows : List ℕ) (row n : ℕ) (t : Tables) (numbers places : List ℕ) → n ≡ 0
     → told numbers places row (left s w rows row n t)
     ≡ record { added = record { number = 0; numbers = numbers; places = places }; state = t }
-unfolding addEach entriesFrom
+unfolding addEachIfIdle entriesFrom
 none-left s w rows row n t numbers places k = rw k refl
 
 pub all-left : (s : Sizes) (w : ℕ) (rows : List ℕ) (n : ℕ) (t : Tables) (numbers places : List ℕ)
@@ -51,8 +52,8 @@ all-left s w rows n t numbers places =
     ap (λ k. told numbers places 0 (left s w rows 0 k t)) all
 
 -- the adds themselves turn no sheet away
-not-turned : (s : Sizes) (w : ℕ) (l : List Arguments) (t : Tables) → addEach s w l t .number ≡ 0
-unfolding addEach
+not-turned : (s : Sizes) (w : ℕ) (l : List Arguments) (t : Tables) → addEachIfIdle s w l t .number ≡ 0
+unfolding addEachIfIdle
 not-turned s w [] t = refl
 not-turned s w (a ∷ l) t = refl
 

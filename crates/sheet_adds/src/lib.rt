@@ -10,10 +10,11 @@ ghost use Rattle.terms.specs.Runs.{outcome};
 ghost use Rattle.words.specs.Layout.{atEntry, atExit};
 ghost use Rattle.sheet_format.specs.Decode.{rowWords};
 ghost use Rattle.sheet_format.specs.Write.{entryAt, entriesFrom};
-ghost use Rattle.whole_words.specs.Whole.{wholeAdd};
-ghost use Rattle.whole_words.specs.Sheet.{addEach};
+ghost use Rattle.fused_words.specs.FusedAdd.{addIfIdle};
+ghost use Rattle.fused_add_laws.specs.Sheets.{addEachIfIdle};
 ghost use Rattle.sheet_rows.specs.Arguments.{argumentsOf};
 ghost use Rattle.sheet_rows.specs.SheetRows.{numberOf, placeOf, turnedAway, Added, rowsWords};
+use fused_add::add_if_idle;
 use graph_words::numbers::WRONG_SIZES;
 use sheet_judge::judge_sheet;
 use sheet_limits::CLASS_WORD;
@@ -24,7 +25,6 @@ use sheet_limits::ROW_WORDS;
 use sheet_rows::SheetAdded;
 use terms::Answer;
 use terms::Sizes;
-use whole_add::add_whole;
 
 // The number that refused an add, or 0.
 fn number_of(answer: Answer) -> u32
@@ -70,7 +70,7 @@ fn row_names(rows: &[u32], from: usize) -> [u32; 32]
     names
 }
 
-// The add of a row's entry.
+// The add of a row's entry, by a worker of which the tests that come first are passed.
 fn add_row(
     sizes: Sizes,
     jobs: &mut [u32],
@@ -84,12 +84,12 @@ fn add_row(
 ) -> Answer
     requires { ⌜ rowWords * row + rowWords ≤ length (now rows) ⌝ }
     ensures { λ r. ⌜ outcome r (atExit jobs arcs buckets queue workers)
-        ≡ wholeAdd sizes (atEntry jobs arcs buckets queue workers) worker
+        ≡ addIfIdle sizes (atEntry jobs arcs buckets queue workers) worker
         (argumentsOf (entryAt (now (rows .entry)) row)) ⌝ }
 {
     let at = ROW_WORDS * row;
     let names = row_names(rows, at + NAMES_WORD);
-    add_whole(
+    add_if_idle(
         sizes,
         jobs,
         arcs,
@@ -119,7 +119,7 @@ fn add_rows(
 ) -> SheetAdded
     requires { ⌜ (count ≤ mostEntries) × (rowWords * count ≤ length (now rows)) ⌝ }
     ensures { λ r. ⌜ Added r (atExit jobs arcs buckets queue workers)
-        (addEach sizes worker (map argumentsOf (entriesFrom (now (rows .entry)) 0 count))
+        (addEachIfIdle sizes worker (map argumentsOf (entriesFrom (now (rows .entry)) 0 count))
         (atEntry jobs arcs buckets queue workers)) ⌝ }
 {
     let mut numbers: [u32; 64] = [0; 64];

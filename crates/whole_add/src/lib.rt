@@ -1,15 +1,16 @@
-// An add run whole: posted, and stepped until it does not go on. Follows docs/RULES.md, "The board and the day list":
-// "each run whole". Assumes nothing.
+// An add run whole: posted, and stepped to its end, in one go. Follows docs/RULES.md, "Whole calls". Assumes nothing.
 ghost use mathlib.Core.Path.{_≡_};
 ghost use Rattle.terms.specs.Runs.{outcome};
 ghost use Rattle.words.specs.Layout.{atEntry, atExit};
 ghost use Rattle.whole_words.specs.Whole.{wholeAdd};
-use graph_post_add::post_add;
+use fused_add::add_if_idle;
+use graph_own::own_ok;
+use graph_sizes::sizes_fit;
+use graph_words::numbers::*;
 use terms::Answer;
 use terms::Sizes;
-use whole_steps::rest;
 
-// An add run whole. "An accepted add takes exactly 2d + 2 steps."
+// An add run whole. The tests that come first stand here as in a step: docs/DECISIONS.md, 43.
 pub fn add_whole(
     sizes: Sizes,
     jobs: &mut [u32],
@@ -28,30 +29,42 @@ pub fn add_whole(
         ≡ wholeAdd sizes (atEntry jobs arcs buckets queue workers) worker
         (record { name = name; count = count; names = names; class = class; grower = grower }) ⌝ }
 {
-    let answer = post_add(
-        sizes,
-        jobs,
-        arcs,
-        buckets,
-        queue,
-        workers,
-        worker,
-        name,
-        names,
-        count,
-        class,
-        grower,
-    );
-    let most = 2 * (count as usize) + 2;
-    rest(
-        sizes,
-        jobs,
-        arcs,
-        buckets,
-        queue,
-        workers,
-        worker,
-        answer,
-        most,
-    )
+    let fit = sizes_fit(sizes, jobs, arcs, buckets, queue, workers);
+    if fit {
+        let known = worker < sizes.workers;
+        if known {
+            let sound = own_ok(sizes, jobs, arcs, workers, worker);
+            if sound {
+                add_if_idle(
+                    sizes,
+                    jobs,
+                    arcs,
+                    buckets,
+                    queue,
+                    workers,
+                    worker,
+                    name,
+                    names,
+                    count,
+                    class,
+                    grower,
+                )
+            } else {
+                Answer::Refused {
+                    number: DAMAGED,
+                    place: 0,
+                }
+            }
+        } else {
+            Answer::Refused {
+                number: NO_SUCH_WORKER,
+                place: 0,
+            }
+        }
+    } else {
+        Answer::Refused {
+            number: WRONG_SIZES,
+            place: 0,
+        }
+    }
 }

@@ -1,15 +1,16 @@
-// A finish run whole: posted, and stepped until it does not go on. Follows docs/RULES.md, "The board and the day list":
-// "each run whole". Assumes nothing.
+// A finish run whole: posted, and stepped to its end, in one go. Follows docs/RULES.md, "Whole calls". Assumes nothing.
 ghost use mathlib.Core.Path.{_≡_};
 ghost use Rattle.terms.specs.Runs.{outcome};
 ghost use Rattle.words.specs.Layout.{atEntry, atExit};
 ghost use Rattle.whole_words.specs.Whole.{wholeFinish};
-use graph_post_finish::post_finish;
+use fused_finish::finish_if_idle;
+use graph_own::own_ok;
+use graph_sizes::sizes_fit;
+use graph_words::numbers::*;
 use terms::Answer;
 use terms::Sizes;
-use whole_steps::rest;
 
-// A finish run whole. It takes "1 step more than it has arcs", of which there are at most as many as the table holds.
+// A finish run whole. The tests that come first stand here as in a step: docs/DECISIONS.md, 43.
 pub fn finish_whole(
     sizes: Sizes,
     jobs: &mut [u32],
@@ -23,17 +24,29 @@ pub fn finish_whole(
     ensures { λ r. ⌜ outcome r (atExit jobs arcs buckets queue workers)
         ≡ wholeFinish sizes (atEntry jobs arcs buckets queue workers) worker name ⌝ }
 {
-    let answer = post_finish(sizes, jobs, arcs, buckets, queue, workers, worker, name);
-    let most = (sizes.arcs as usize) + 1;
-    rest(
-        sizes,
-        jobs,
-        arcs,
-        buckets,
-        queue,
-        workers,
-        worker,
-        answer,
-        most,
-    )
+    let fit = sizes_fit(sizes, jobs, arcs, buckets, queue, workers);
+    if fit {
+        let known = worker < sizes.workers;
+        if known {
+            let sound = own_ok(sizes, jobs, arcs, workers, worker);
+            if sound {
+                finish_if_idle(sizes, jobs, arcs, buckets, queue, workers, worker, name)
+            } else {
+                Answer::Refused {
+                    number: DAMAGED,
+                    place: 0,
+                }
+            }
+        } else {
+            Answer::Refused {
+                number: NO_SUCH_WORKER,
+                place: 0,
+            }
+        }
+    } else {
+        Answer::Refused {
+            number: WRONG_SIZES,
+            place: 0,
+        }
+    }
 }

@@ -1,34 +1,28 @@
 -- The workers' words: what the stores of a call leave of the words of its own worker, and that they leave those of
 -- every other worker. Follows docs/RULES.md, "Tables and their measures". Assumes nothing.
-use mathlib.Core.Path.{_≡_, refl, sym, ap, _∙_}
+use mathlib.Core.Path.{_≡_, refl, ap, _∙_}
 use mathlib.Core.Logic.{_≢_}
 use mathlib.Core.Bool.{true}
 use mathlib.Core.List.{List, [], _∷_}
 use Prim.Native.Nat.{ℕ, zero, suc, _+_, _≤_, _<_}
 use native.Mathlib.Omega.{arith}
-use native.Mathlib.Decide.{ℕ-discrete}
 use lib.Dec.{ltb}
 use lib.ListN.{length, getD, length-replicate, take}
-use borrow.Author.Tests.{eq-eqb, ne-eqb, ltb-true}
+use borrow.Author.Tests.{ne-eqb, ltb-true}
 use Rattle.basics.specs.Limits.{mostNames}
 use Rattle.basics.specs.Base.{prefix}
-use Rattle.basics.specs.Laws.{update-same, update-other, length-prefix}
+use Rattle.basics.specs.Laws.{update-same, length-prefix}
 use Rattle.terms.specs.Terms.{Arguments, listed}
 use Rattle.words.specs.Columns.{Rows, columns, columns-put, rows-put, store}
 use Rattle.words.specs.Layout.{none, workerShape, PHASE, HELD, TALLY, PLACE, OWN-JOB, OWN-ARC, NAMES, LOOKING, LINKING}
 use Rattle.words.specs.Layout.{NOTIFYING, LIST-COUNT, bareWorker, OWN-NAME, OWN-CLASS, OWN-GROWER}
 use Rattle.words.specs.Words.{putField, putWorker, addingWorker, firstArc}
 use Rattle.representation.specs.Rep.{AddWords, BareWords}
+use Rattle.representation_kept.specs.Change.{store-off}
 use Rattle.representation_kept.specs.Records.{record-at, record-off, rows-sets}
 use Rattle.representation_kept.specs.Lists.{bare-name, getD-past}
 
 -- ---- one field stored
-store-off : (f : ℕ → ℕ → ℕ) (i k x q u : ℕ) → u ≢ i → store f i k x q u ≡ f q u
-store-off f i k x q u e = elim (ℕ-discrete q k) [
-  | yes z ↦ rw (eq-eqb q k z) (update-other (f k) i x u e ∙ ap (λ y. f y u) (sym z))
-  | no z ↦ rw (ne-eqb q k z)
-]
-
 -- a field before the names leaves the names
 store-names : (f : ℕ → ℕ → ℕ) (i k x q u : ℕ) → ltb k NAMES ≡ true → store f i k x (NAMES + q) u ≡ f (NAMES + q) u
 store-names f i k x q u e = rw (ne-eqb (NAMES + q) k (omega (arith, ltb-true k NAMES e)))
@@ -198,50 +192,35 @@ module _ (f : ℕ → ℕ → ℕ) (w : ℕ) (a : Arguments) (ph ta pl jo ar : �
         ∙ A .names q h;
   }
 
--- ---- the fields that a finish and a get store
+-- ---- the fields that a finish and a get store: the phase, the hold and the arc
+abbrev Elsewhere : ℕ → Type 0
+Elsewhere k = (k ≢ PHASE) × (k ≢ HELD) × (k ≢ OWN-ARC)
+
 module _ (f : ℕ → ℕ → ℕ) (w ph ar : ℕ) (B : BareWords f w ph ar) where
-  pub arc-words : (x : ℕ) → BareWords (store f w OWN-ARC x) w ph x
-  arc-words x = record {
-    phase = B .phase;
-    name = B .name;
-    count = B .count;
-    class = B .class;
-    grower = B .grower;
-    tally = B .tally;
-    place = B .place;
-    job = B .job;
-    arc = update-same (f OWN-ARC) w x;
-    names = λ q h. store-names f w OWN-ARC x q w refl ∙ B .names q h;
+  others-same : (g : ℕ → ℕ → ℕ) (p x : ℕ) → g PHASE w ≡ p → g OWN-ARC w ≡ x → ((k : ℕ) → Elsewhere k → g k w ≡ f k w)
+      → BareWords g w p x
+  others-same g p x phase arc same = record {
+    phase = phase;
+    name = same OWN-NAME (omega arith) ∙ B .name;
+    count = same LIST-COUNT (omega arith) ∙ B .count;
+    class = same OWN-CLASS (omega arith) ∙ B .class;
+    grower = same OWN-GROWER (omega arith) ∙ B .grower;
+    tally = same TALLY (omega arith) ∙ B .tally;
+    place = same PLACE (omega arith) ∙ B .place;
+    job = same OWN-JOB (omega arith) ∙ B .job;
+    arc = arc;
+    names = λ q h. same (NAMES + q) (omega arith) ∙ B .names q h;
   }
 
-  pub mark-words : (x : ℕ) → BareWords (store (store (store f w PHASE NOTIFYING) w HELD none) w OWN-ARC x) w NOTIFYING x
-  mark-words x = record {
-    phase = update-same (f PHASE) w NOTIFYING;
-    name = B .name;
-    count = B .count;
-    class = B .class;
-    grower = B .grower;
-    tally = B .tally;
-    place = B .place;
-    job = B .job;
-    arc = update-same (f OWN-ARC) w x;
-    names = λ q h.
-        store-names (store (store f w PHASE NOTIFYING) w HELD none) w OWN-ARC x q w refl
-        ∙ store-names (store f w PHASE NOTIFYING) w HELD none q w refl
-        ∙ store-names f w PHASE NOTIFYING q w refl
-        ∙ B .names q h;
-  }
+  pub arc-words : (x : ℕ) → BareWords (store f w OWN-ARC x) w ph x
+  arc-words x = others-same (store f w OWN-ARC x) ph x (B .phase) (update-same (f OWN-ARC) w x)
+      (λ k e. rw (ne-eqb k OWN-ARC (e .2)))
 
   pub held-words : (x : ℕ) → BareWords (store f w HELD x) w ph ar
-  held-words x = record {
-    phase = B .phase;
-    name = B .name;
-    count = B .count;
-    class = B .class;
-    grower = B .grower;
-    tally = B .tally;
-    place = B .place;
-    job = B .job;
-    arc = B .arc;
-    names = λ q h. store-names f w HELD x q w refl ∙ B .names q h;
-  }
+  held-words x = others-same (store f w HELD x) ph ar (B .phase) (B .arc) (λ k e. rw (ne-eqb k HELD (e .1)))
+
+  pub mark-words : (x : ℕ) → BareWords (store (store (store f w PHASE NOTIFYING) w HELD none) w OWN-ARC x) w NOTIFYING x
+  mark-words x =
+      others-same (store (store (store f w PHASE NOTIFYING) w HELD none) w OWN-ARC x) NOTIFYING x
+      (update-same (f PHASE) w NOTIFYING) (update-same (f OWN-ARC) w x)
+      (λ k e. rw (ne-eqb k OWN-ARC (e .2), ne-eqb k HELD (e .1), ne-eqb k PHASE (e .0)))

@@ -72,31 +72,37 @@ add-entry-requires c κs = search needs
 
 add-number : tie.Need-add-number Inv-loop μ-loop
 add-number c =
-    let l = c .before .before .before .before .before .before .before .before .before .before .before .before .before .before .before .before .before .before .before .before .before .before .before .loop in
+    let c8 = c .before .before .before .before .before .before .before .before in
+    let c20 = c8 .before .before .before .before .before .before .before .before .before .before .before .before in
+    let l = c20 .before .before .before .loop in
     let s = entry-inside _ (l .at) _ _
-    (c .before .before .before .before .before .before .before .before .before .before .before .before .before .before .before .before .before .before .before .before .before .before .read .ensures) (c .before .before .before .before .before .before .before .before .before .before .before .before .before .before .before .before .before .before .before .before .before .after .ensures) (c .before .before .before .before .before .before .before .before .before .before .before .before .before .before .before .before .before .before .before .before .if1 .taken) in
+    (c20 .before .before .read .ensures) (c20 .before .after .ensures) (c20 .if1 .taken) in
     omega (
       arith,
       s .0,
       l .inv .6,
-      c .before .before .before .before .before .before .before .before .before .before .before .before .before .before .before .before .before .before .before .before .before .after .ok,
+      c20 .before .after .ok,
     )
 
 loop-less : tie.Need-loop-less Inv-loop μ-loop
 loop-less c =
-    let l = c .before .before .before .before .before .before .before .before .before .before .before .before .before .before .before .before .before .before .before .before .before .before .before .loop in
+    let c8 = c .before .before .before .before .before .before .before .before in
+    let c20 = c8 .before .before .before .before .before .before .before .before .before .before .before .before in
+    let l = c20 .before .before .before .loop in
     let s = entry-inside _ (l .at) _ _
-    (c .before .before .before .before .before .before .before .before .before .before .before .before .before .before .before .before .before .before .before .before .before .before .read .ensures) (c .before .before .before .before .before .before .before .before .before .before .before .before .before .before .before .before .before .before .before .before .before .after .ensures) (c .before .before .before .before .before .before .before .before .before .before .before .before .before .before .before .before .before .before .before .before .if1 .taken) in
+    (c20 .before .before .read .ensures) (c20 .before .after .ensures) (c20 .if1 .taken) in
     omega (arith, s .0, s .1)
 
 loop-again : tie.Need-loop-again Inv-loop μ-loop
 loop-again c =
-    let l = c .before .before .before .before .before .before .before .before .before .before .before .before .before .before .before .before .before .before .before .before .before .before .before .loop in
-    let e = c .before .before .before .before .before .before .before .before .before .before .before .before .add-entry in
+    let c12 = c .before .before .before .before .before .before .before .before .before .before .before .before in
+    let c20 = c12 .before .before .before .before .before .before .before .before in
+    let l = c20 .before .before .before .loop in
+    let e = c12 .add-entry in
     let s = entry-inside _ (l .at) _ _
-    (c .before .before .before .before .before .before .before .before .before .before .before .before .before .before .before .before .before .before .before .before .before .before .read .ensures) (c .before .before .before .before .before .before .before .before .before .before .before .before .before .before .before .before .before .before .before .before .before .after .ensures) (c .before .before .before .before .before .before .before .before .before .before .before .before .before .before .before .before .before .before .before .before .if1 .taken) in
+    (c20 .before .before .read .ensures) (c20 .before .after .ensures) (c20 .if1 .taken) in
     let n = next-entry _ _ _ (l .at) _ _ _ _ _
-    (c .before .before .before .before .before .before .before .before .before .before .before .before .before .before .before .before .before .before .before .before .before .before .read .ensures) (c .before .before .before .before .before .before .before .before .before .before .before .before .before .before .before .before .before .before .before .before .before .after .ensures) _ (c .before .before .before .before .before .before .before .before .before .before .before .before .before .before .before .before .before .before .before .before .if1 .taken)
+    (c20 .before .before .read .ensures) (c20 .before .after .ensures) _ (c20 .if1 .taken)
     (e .ensures) in (
       e .kept .1 .0 ∙ l .inv .0,
       e .kept .1 .1 .0 ∙ l .inv .1,

@@ -39,10 +39,14 @@ same-length-6 c = search needs
 
 returns : tie.Need-returns
 returns c =
+    let c4 = c .before .before .before .before in
+    let c16 = c4 .before .before .before .before .before .before .before .before .before .before .before .before in
+    let c24 = c16 .before .before .before .before .before .before .before .before in
+    let c32 = c24 .before .before .before .before .before .before .before .before in
     begin-parts _ _ _ _ _ _ _ _ _
     (ap (λ (o : Outcome Tables). o .state)
-    (c .before .before .before .before .before .before .before .before .before .before .before .before .before .before .before .before .before .before .before .before .before .before .before .before .before .before .before .before .before .before .before .before .before .before .before .lay-out .ensures))
-    (c .before .before .before .before .before .before .before .before .before .before .before .before .before .before .before .before .before .before .add-all .ensures) (c .before .before .before .before .header .ensures) (c .before .before .jobs-line .ensures)
+    (c32 .before .before .before .lay-out .ensures))
+    (c16 .before .before .add-all .ensures) (c4 .header .ensures) (c .before .before .jobs-line .ensures)
 
 pub begin-day-spec : {M : Type 1} → statement M
 begin-day-spec =

@@ -39,9 +39,12 @@ same-length-7 c = search needs
 
 returns : tie.Need-returns
 returns c =
+    let c4 = c .before .before .before .before in
+    let c8 = c4 .before .before .before .before in
+    let c20 = c8 .before .before .before .before .before .before .before .before .before .before .before .before in
     end-parts _ _ _ _ _ _ _ _ _
-    (c .before .before .before .before .before .before .before .before .before .before .before .before .before .before .before .before .before .before .before .before .before .before .before .run-rounds .ensures) (c .before .before .before .before .before .before .before .before .print-hand-outs .ensures)
-    (c .before .before .before .before .count-unfinished .ensures) (c .before .before .left-line .ensures)
+    (c20 .before .before .before .run-rounds .ensures) (c8 .print-hand-outs .ensures)
+    (c4 .count-unfinished .ensures) (c .before .before .left-line .ensures)
 
 pub end-day-spec : {M : Type 1} → statement M
 end-day-spec =

@@ -49,7 +49,9 @@ same-length c = search needs
 returns : tie.Need-returns
 unfolding dayPage
 returns c =
-    rw (← c .before .before .before .before .before .before .before .before .before .before .before .before .before .before .before .before .before .before .before .before .before .before .before .begin-day .ensures) (c .before .before .before .before .before .before .before .before .end-day .ensures)
+    let c8 = c .before .before .before .before .before .before .before .before in
+    let c20 = c8 .before .before .before .before .before .before .before .before .before .before .before .before in
+    rw (← c20 .before .before .before .begin-day .ensures) (c8 .end-day .ensures)
 
 pub print-day-spec : {M : Type 1} → statement M
 print-day-spec =

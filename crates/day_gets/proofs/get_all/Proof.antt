@@ -1,6 +1,6 @@
 -- `get_all` has every worker get. The loop's invariant: the gets that are left, after those made, make the whole.
 -- Assumes nothing.
-use Prim.Native.Nat.{suc, _-_, _≤_}
+use Prim.Native.Nat.{suc, _-_, _≤_, _<_}
 use mathlib.Core.Path.{_≡_, refl, _∙_}
 use native.Mathlib.Omega.{arith}
 use native.Mathlib.Numerals.{add-one}
@@ -36,38 +36,38 @@ loop-holds c = (refl, refl, refl, refl, refl, omega arith, omega arith, rw (no-h
 
 get-one-requires : tie.Need-get-one-requires Inv-loop μ-loop
 get-one-requires c κs =
-    let l = c .before .before .before .before .before .before .before .loop in
+    let c4 = c .before .before .before .before in
+    let c12 = c4 .before .before .before .before .before .before .before .before in
+    let l = c4 .before .before .before .loop in
     let b = below (l .worker)
-    (c .before .before .before .before .before .before .before .before .before .before .before .before .before .args .sizes .workers) (c .before .before .before .before .before .if1 .taken) in
+    (c12 .before .args .sizes .workers) (c4 .before .if1 .taken) in
     omega (arith, b .1, l .inv .6)
 
+-- the worker's number, once its get is done
+under : (c : tie.After-slice-known10 Inv-loop μ-loop)
+    → let c8 = c .before .before .before .before .before .before .before .before in
+    let c16 = c8 .before .before .before .before .before .before .before .before in
+    let a = c16 .before .before .before .before .before .before .before .before .args in
+    let w = c16 .before .before .loop .worker in
+    (w < a .sizes .workers) × (w < mostWorkers)
+under c =
+    let c8 = c .before .before .before .before .before .before .before .before in
+    below _ _ (c8 .before .before .before .before .before .before .before .before .if1 .taken)
+
 add-worker : tie.Need-add-worker Inv-loop μ-loop
-add-worker c =
-    let l = c .before .before .before .before .before .before .before .before .before .before .before .before .before .before .before .before .before .before .loop in
-    let a = c .before .before .before .before .before .before .before .before .before .before .before .before .before .before .before .before .before .before .before .before .before .before .before .before .args in
-    omega (
-      arith,
-      below (l .worker) (a .sizes .workers)
-          (c .before .before .before .before .before .before .before .before .before .before .before .before .before .before .before .before .if1 .taken) .1,
-    )
+add-worker c = omega (arith, under c)
 
 loop-less : tie.Need-loop-less Inv-loop μ-loop
-loop-less c =
-    let l = c .before .before .before .before .before .before .before .before .before .before .before .before .before .before .before .before .before .before .loop in
-    let a = c .before .before .before .before .before .before .before .before .before .before .before .before .before .before .before .before .before .before .before .before .before .before .before .before .args in
-    omega (
-      arith,
-      below (l .worker) (a .sizes .workers)
-          (c .before .before .before .before .before .before .before .before .before .before .before .before .before .before .before .before .if1 .taken) .1,
-    )
+loop-less c = omega (arith, under c)
 
 loop-again : tie.Need-loop-again Inv-loop μ-loop
 loop-again c =
-    let l = c .before .before .before .before .before .before .before .before .before .before .before .before .before .before .before .before .before .before .loop in
-    let a = c .before .before .before .before .before .before .before .before .before .before .before .before .before .before .before .before .before .before .before .before .before .before .before .before .args in
-    let e = c .before .before .before .before .before .before .before .before .before .before .get-one in
-    let b = below (l .worker) (a .sizes .workers)
-    (c .before .before .before .before .before .before .before .before .before .before .before .before .before .before .before .before .if1 .taken) in
+    let b = under c in
+    let c8 = c .before .before .before .before .before .before .before .before in
+    let c16 = c8 .before .before .before .before .before .before .before .before in
+    let l = c16 .before .before .loop in
+    let a = c16 .before .before .before .before .before .before .before .before .args in
+    let e = c8 .before .before .get-one in
     let k : a .sizes .workers - l .worker ≡ suc (a .sizes .workers - suc (l .worker)) = omega (arith, b .0) in
     let s = get-first (a .sizes) (a .sizes .workers - suc (l .worker)) (l .worker) _ _ _ (e .ensures .0) in (
       e .kept .1 .0 ∙ l .inv .0,
@@ -97,9 +97,10 @@ same-length-5 c = search needs
 
 returns : tie.Need-returns Inv-loop μ-loop
 returns c =
+    let c8 = c .before .before .before .before .before .before .before .before in
     let l = c .before .before .loop in
     let t = tables (l .jobs) (l .arcs) (l .buckets) (l .queue) (l .workers) in
-    let s = gets-over (c .before .before .before .before .before .before .before .before .args .sizes) (l .worker) t
+    let s = gets-over (c8 .args .sizes) (l .worker) t
     (holding (l .holders)) (c .if1 .left) in
     (rw s at (l .inv .7), omega (arith, l .inv .5, l .inv .6))
 

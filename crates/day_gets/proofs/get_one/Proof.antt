@@ -30,9 +30,10 @@ same-length-5 c = search needs
 
 returns : tie.Need-returns
 returns c =
+    let c12 = c .before .before .before .before .before .before .before .before .before .before .before .before in
     let h = c .hold .ensures in (
       got-told _ _ _ _ _ _ _ _
-          (c .before .before .before .before .before .before .before .before .before .before .before .before .get .ensures) (c .before .tell .ensures) (h .0),
+          (c12 .get .ensures) (c .before .tell .ensures) (h .0),
       h .1,
     )
 

@@ -19,8 +19,9 @@ same-length c = search needs
 returns : tie.Need-returns
 unfolding dayText
 returns c =
-    let a = c .before .before .before .before .before .before .before .args in
-    rw (lt-leb (length (now (a .sheet))) mostBytes (c .before .before .before .before .if1 .taken))
+    let c4 = c .before .before .before .before in
+    let a = c4 .before .before .before .args in
+    rw (lt-leb (length (now (a .sheet))) mostBytes (c4 .if1 .taken))
     (c .before .before .broken-line .ensures)
 
 scan-sheet-requires : tie.Need-scan-sheet-requires
@@ -44,12 +45,14 @@ same-length-2 c = search needs
 returns-2 : tie.Need-returns-2
 unfolding dayText
 returns-2 c =
-    let a = c .before .before .before .before .before .before .before .before .before .before .args in
-    let q = c .before .before .before .before .before .before .before .before .before .before .pre in
+    let c4 = c .before .before .before .before in
+    let c8 = c4 .before .before .before .before in
+    let a = c8 .before .before .args in
+    let q = c8 .before .before .pre in
     let w = whole-scanned (decodeSheet (now (a .sheet))) _
-    (sym (c .before .before .before .before .before .before .scan-sheet .ensures)
-    ∙ c .before .before .before .before .enum-told .given .1) in
-    let h = c .before .before .before .before .before .before .before .if1 .left in
+    (sym (c4 .before .before .scan-sheet .ensures)
+    ∙ c4 .enum-told .given .1) in
+    let h = c4 .before .before .before .if1 .left in
     rw (le-leb (length (now (a .sheet))) mostBytes h, w)
     (whole-day (a .workers) (q .0) (q .1) (a .limit) (now (a .out)) (now (a .sheet)) _ _ w h
     (c .before .before .print-day .ensures))
@@ -60,13 +63,15 @@ same-length-3 c = search needs
 returns-3 : tie.Need-returns-3
 unfolding dayText
 returns-3 c =
-    let a = c .before .before .before .before .before .before .before .before .before .before .before .args in
+    let c4 = c .before .before .before .before in
+    let c8 = c4 .before .before .before .before in
+    let a = c8 .before .before .before .args in
     let w = broken-scanned (decodeSheet (now (a .sheet))) _ _
-    (sym (c .before .before .before .before .before .before .before .scan-sheet .ensures)
-    ∙ c .before .before .before .before .before .number .given .1) in
+    (sym (c4 .before .before .before .scan-sheet .ensures)
+    ∙ c4 .before .number .given .1) in
     rw (
       le-leb (length (now (a .sheet))) mostBytes
-          (c .before .before .before .before .before .before .before .before .if1 .left),
+          (c8 .if1 .left),
       w,
     )
     (c .before .before .broken-line2 .ensures)

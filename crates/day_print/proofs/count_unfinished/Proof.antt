@@ -40,8 +40,9 @@ loop-less c = search needs
 
 loop-again : tie.Need-loop-again Inv-loop μ-loop
 loop-again c =
+    let c4 = c .before .before .before .before in
     let l = c .before .before .before .loop in
-    let j = now (c .before .before .before .before .before .before .args .jobs) in
+    let j = now (c4 .before .before .args .jobs) in
     let e : l .left ≡ suc (l .left - 1) = omega (arith, c .before .before .loop-test .taken) in
     let k = rw e at (l .inv .2) in
     let u = unfinished-done (columns jobShape j LABEL) (l .left - 1)
@@ -49,21 +50,24 @@ loop-again c =
     (omega (arith, l .inv .0), omega (arith, l .inv .1), omega (arith, u, k))
 
 add-sum : tie.Need-add-sum Inv-loop μ-loop
-add-sum c = omega (
-  arith,
-  c .before .before .before .loop .inv .1,
-  c .before .before .loop-test .taken,
-  c .before .before .before .before .header .ensures,
-  c .before .before .before .before .header .ok,
-)
+add-sum c =
+    let c4 = c .before .before .before .before in
+    omega (
+      arith,
+      c .before .before .before .loop .inv .1,
+      c .before .before .loop-test .taken,
+      c4 .header .ensures,
+      c4 .header .ok,
+    )
 
 loop-less-2 : tie.Need-loop-less-2 Inv-loop μ-loop
 loop-less-2 c = search needs
 
 loop-again-2 : tie.Need-loop-again-2 Inv-loop μ-loop
 loop-again-2 c =
+    let c4 = c .before .before .before .before in
     let l = c .before .before .before .loop in
-    let j = now (c .before .before .before .before .before .before .args .jobs) in
+    let j = now (c4 .before .before .args .jobs) in
     let e : l .left ≡ suc (l .left - 1) = omega (arith, c .before .before .loop-test .taken) in
     let k = rw e at (l .inv .2) in
     let u = unfinished-more (columns jobShape j LABEL) (l .left - 1)

@@ -51,28 +51,34 @@ handed-line-requires : tie.Need-handed-line-requires Inv-loop μ-loop
 handed-line-requires c κs = search needs
 
 add-i : tie.Need-add-i Inv-loop μ-loop
-add-i c = omega (
-  arith,
-  c .before .before .before .before .before .before .loop-test .taken,
-  c .before .before .before .before .before .before .before .loop .inv .1,
-)
+add-i c =
+    let c4 = c .before .before .before .before in
+    omega (
+      arith,
+      c4 .before .before .loop-test .taken,
+      c4 .before .before .before .loop .inv .1,
+    )
 
 loop-less : tie.Need-loop-less Inv-loop μ-loop
-loop-less c = omega (arith, c .before .before .before .before .before .before .loop-test .taken)
+loop-less c =
+    let c4 = c .before .before .before .before in
+    omega (arith, c4 .before .before .loop-test .taken)
 
 loop-again : tie.Need-loop-again Inv-loop μ-loop
 loop-again c =
-    let l = c .before .before .before .before .before .before .before .loop in
-    let a = c .before .before .before .before .before .before .before .before .before .before .before .args in
+    let c4 = c .before .before .before .before in
+    let c8 = c4 .before .before .before .before in
+    let l = c4 .before .before .before .loop in
+    let a = c8 .before .before .before .args in
     let e = c .before .before .handed-line in
     let k : a .count - l .i ≡ suc (a .count - suc (l .i)) =
-    omega (arith, c .before .before .before .before .before .before .loop-test .taken) in
+    omega (arith, c4 .before .before .loop-test .taken) in
     let s = print-first (a .limit) _ _ (a .count - suc (l .i)) (l .i) (now (a .row))
-    (rw (c .before .before .before .before .before .word .ensures, c .before .before .before .before .word2 .ensures)
+    (rw (c4 .before .word .ensures, c4 .word2 .ensures)
     at (e .ensures)) in (
       e .kept .0 ∙ l .inv .0,
       l .inv .1,
-      omega (arith, c .before .before .before .before .before .before .loop-test .taken),
+      omega (arith, c4 .before .before .loop-test .taken),
       rw (add-one (l .i)) (s ∙ rw k at (l .inv .3)),
     )
 
@@ -81,8 +87,9 @@ same-length c = search needs
 
 returns-2 : tie.Need-returns-2 Inv-loop μ-loop
 returns-2 c =
+    let c4 = c .before .before .before .before in
     let l = c .before .loop in
-    let k : c .before .before .before .before .before .args .count - l .i ≡ 0 = omega (arith, c .loop-test .left) in
+    let k : c4 .before .args .count - l .i ≡ 0 = omega (arith, c .loop-test .left) in
     rw (c .before .before .if1 .taken) (rw (k, print-none) at (l .inv .3))
 
 pub print-hand-outs-spec : {M : Type 1} → statement M

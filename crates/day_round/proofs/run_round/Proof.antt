@@ -27,9 +27,12 @@ same-length-5 c = search needs
 
 returns : tie.Need-returns
 returns c =
-    let g = c .before .before .before .before .before .before .before .before .before .before .before .before .before .before .before .before .before .before .before .before .before .before .before .before .before .before .get-all .ensures in (
+    let c8 = c .before .before .before .before .before .before .before .before in
+    let c16 = c8 .before .before .before .before .before .before .before .before in
+    let c24 = c16 .before .before .before .before .before .before .before .before in
+    let g = c24 .before .before .get-all .ensures in (
       round-parts _ _ _ _ _ (g .0)
-          (c .before .before .before .before .before .before .before .before .before .before .finish-all .ensures),
+          (c8 .before .before .finish-all .ensures),
       g .1,
     )
 

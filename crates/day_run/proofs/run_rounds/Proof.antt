@@ -65,47 +65,60 @@ same-length-6 c = search needs
 
 returns : tie.Need-returns Inv-loop μ-loop
 returns c =
-    let l = c .before .before .before .before .before .before .before .before .before .before .before .before .before .before .before .before .before .before .before .loop in
+    let c12 = c .before .before .before .before .before .before .before .before .before .before .before .before in
+    let c16 = c12 .before .before .before .before in
+    let l = c16 .before .before .before .loop in
     let k : l .left ≡ suc (l .left - 1) =
     omega (
       arith,
-      c .before .before .before .before .before .before .before .before .before .before .before .before .before .before .before .before .before .before .loop-test .taken,
+      c16 .before .before .loop-test .taken,
     ) in
     round-last (l .left - 1) _ _ _ _ _
-    (c .before .before .before .before .before .before .before .before .before .before .before .before .run-round .ensures .0) (length-holders _ _ _ ∙ c .if1 .taken)
+    (c12 .run-round .ensures .0) (length-holders _ _ _ ∙ c .if1 .taken)
     ∙ rw k at (l .inv .7)
 
 store-requires : tie.Need-store-requires Inv-loop μ-loop
-store-requires c κs = (
-  omega (
-    arith,
-    c .before .before .before .before .before .before .before .before .before .before .before .before .before .before .before .before .before .before .before .before .loop .inv .6,
-    c .before .before .before .before .before .before .before .before .before .before .before .before .before .before .before .before .before .before .before .before .before .struct-known .given,
-  ),
-  c .before .before .before .before .before .before .before .before .before .before .before .before .before .run-round .ensures .1,
-)
+store-requires c κs =
+    let c12 = c .before .before .before .before .before .before .before .before .before .before .before .before in
+    let c20 = c12 .before .before .before .before .before .before .before .before in (
+      omega (
+        arith,
+        c20 .loop .inv .6,
+        c20 .before .struct-known .given,
+      ),
+      c12 .before .run-round .ensures .1,
+    )
 
 add-handed : tie.Need-add-handed Inv-loop μ-loop
 add-handed c =
+    let c8 = c .before .before .before .before .before .before .before .before in
+    let c16 = c8 .before .before .before .before .before .before .before .before in
+    let c24 = c16 .before .before .before .before .before .before .before .before in
     omega (
       arith,
-      c .before .before .before .before .before .before .before .before .before .before .before .before .before .before .before .before .before .before .before .before .before .before .before .before .loop .inv .6,
-      c .before .before .before .before .before .before .before .before .before .before .before .before .before .before .before .before .before .run-round .ensures .1,
-      c .before .before .before .before .before .before .before .before .before .before .before .before .before .before .before .before .before .before .before .before .before .before .before .before .before .struct-known .given,
+      c24 .loop .inv .6,
+      c16 .before .run-round .ensures .1,
+      c24 .before .struct-known .given,
     )
 
 loop-less : tie.Need-loop-less Inv-loop μ-loop
 loop-less c =
+    let c8 = c .before .before .before .before .before .before .before .before in
+    let c20 = c8 .before .before .before .before .before .before .before .before .before .before .before .before in
     omega (
       arith,
-      c .before .before .before .before .before .before .before .before .before .before .before .before .before .before .before .before .before .before .before .before .before .before .before .loop-test .taken,
+      c20 .before .before .before .loop-test .taken,
     )
 
 loop-again : tie.Need-loop-again Inv-loop μ-loop
 loop-again c =
-    let l = c .before .before .before .before .before .before .before .before .before .before .before .before .before .before .before .before .before .before .before .before .before .before .before .before .loop in
-    let e = c .before .before .before .before .before .before .before .before .before .before .before .before .before .before .before .before .before .run-round in
-    let t = c .before .before .before .before .before .before .before .before .before .before .before .before .before .before .before .before .before .before .before .before .before .before .before .loop-test .taken in
+    let c4 = c .before .before .before .before in
+    let c16 = c4 .before .before .before .before .before .before .before .before .before .before .before .before in
+    let c20 = c16 .before .before .before .before in
+    let c24 = c20 .before .before .before .before in
+    let l = c24 .loop in
+    let e = c16 .before .run-round in
+    let t = c20 .before .before .before .loop-test .taken in
     let k : l .left ≡ suc (l .left - 1) = omega (arith, t) in (
       e .kept .1 .0 ∙ l .inv .0,
       e .kept .1 .1 .0 ∙ l .inv .1,
@@ -115,7 +128,7 @@ loop-again c =
       c .before .before .before .store .kept .1 .0 ∙ l .inv .5,
       omega (arith, t, e .ensures .1, l .inv .6),
       round-on (l .left - 1) _ _ _ _ _ _ _ (e .ensures .0) (sym (length-holders _ _ _))
-          (omega (arith, c .before .before .before .before .before .if1 .left))
+          (omega (arith, c4 .before .if1 .left))
           (c .before .before .before .store .ensures)
           ∙ rw k at (l .inv .7),
     )

@@ -20,10 +20,14 @@ loop-holds : tie.Need-loop-holds Inv-loop μ-loop
 loop-holds c = (refl, omega arith, rw (no-holders, stored-none))
 
 add-place : tie.Need-add-place Inv-loop μ-loop
-add-place c = omega (arith, c .before .before .before .before .before .pre, c .loop-test .taken)
+add-place c =
+    let c4 = c .before .before .before .before in
+    omega (arith, c4 .before .pre, c .loop-test .taken)
 
 mul-place : tie.Need-mul-place Inv-loop μ-loop
-mul-place c = omega (arith, c .before .before .before .before .before .pre, c .loop-test .taken)
+mul-place c =
+    let c4 = c .before .before .before .before in
+    omega (arith, c4 .before .pre, c .loop-test .taken)
 
 slice-aggregate-word : tie.Need-slice-aggregate-word Inv-loop μ-loop
 slice-aggregate-word c = search needs
@@ -41,46 +45,55 @@ put-word-requires : tie.Need-put-word-requires Inv-loop μ-loop
 put-word-requires c κs = search needs
 
 add-put-word : tie.Need-add-put-word Inv-loop μ-loop
-add-put-word c = omega (
-  arith,
-  c .before .before .before .before .before .before .before .before .before .before .before .before .before .before .pre,
-  c .before .before .before .before .before .before .before .before .before .loop-test .taken,
-)
+add-put-word c =
+    let c8 = c .before .before .before .before .before .before .before .before in
+    let c12 = c8 .before .before .before .before in
+    omega (
+      arith,
+      c12 .before .before .pre,
+      c8 .before .loop-test .taken,
+    )
 
 put-word-requires-2 : tie.Need-put-word-requires-2 Inv-loop μ-loop
 put-word-requires-2 c κs = search needs
 
 add-i : tie.Need-add-i Inv-loop μ-loop
 add-i c =
+    let c12 = c .before .before .before .before .before .before .before .before .before .before .before .before in
+    let c16 = c12 .before .before .before .before in
     omega (
       arith,
-      c .before .before .before .before .before .before .before .before .before .before .before .before .before .before .before .before .before .pre,
-      c .before .before .before .before .before .before .before .before .before .before .before .before .loop-test .taken,
+      c16 .before .pre,
+      c12 .loop-test .taken,
     )
 
 loop-less : tie.Need-loop-less Inv-loop μ-loop
 loop-less c =
+    let c12 = c .before .before .before .before .before .before .before .before .before .before .before .before in
     omega (
       arith,
-      c .before .before .before .before .before .before .before .before .before .before .before .before .loop-test .taken,
+      c12 .loop-test .taken,
     )
 
 loop-again : tie.Need-loop-again Inv-loop μ-loop
 loop-again c =
-    let l = c .before .before .before .before .before .before .before .before .before .before .before .before .before .loop in
-    let p = c .before .before .before .before .before .before .put-word in
+    let c4 = c .before .before .before .before in
+    let c8 = c4 .before .before .before .before in
+    let c12 = c8 .before .before .before .before in
+    let l = c12 .before .loop in
+    let p = c4 .before .before .put-word in
     let q = c .before .before .put-word2 in (
       q .kept .0 ∙ p .kept .0 ∙ l .inv .0,
       omega (
         arith,
-        c .before .before .before .before .before .before .before .before .before .before .before .before .loop-test .taken,
+        c12 .loop-test .taken,
       ),
       rw (
         add-one,
         stored-more,
         ← l .inv .2,
-        ← c .before .before .before .before .before .before .before .before .before .before .word .ensures,
-        ← c .before .before .before .before .before .before .before .before .word2 .ensures,
+        ← c8 .before .before .word .ensures,
+        ← c8 .word2 .ensures,
         ← p .ensures,
       )
           (q .ensures),
@@ -91,8 +104,9 @@ same-length c = search needs
 
 returns : tie.Need-returns Inv-loop μ-loop
 returns c =
+    let c4 = c .before .before .before .before in
     let l = c .before .loop in
-    let k : l .i ≡ c .before .before .before .before .before .args .holders .count =
+    let k : l .i ≡ c4 .before .args .holders .count =
     omega (arith, c .loop-test .left, l .inv .1) in
     rw k at (l .inv .2)
 

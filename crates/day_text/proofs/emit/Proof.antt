@@ -24,8 +24,9 @@ same-length c = search needs
 returns-2 : tie.Need-returns-2
 unfolding print emitted
 returns-2 c =
-    let a = c .before .before .before .before .before .before .args in
-    rw (lt-ltb (a .at) (a .limit) (c .before .before .before .before .if1 .left), ← c .before .before .put .ensures)
+    let c4 = c .before .before .before .before in
+    let a = c4 .before .before .args in
+    rw (lt-ltb (a .at) (a .limit) (c4 .if1 .left), ← c .before .before .put .ensures)
 
 pub emit-spec : {M : Type 1} → statement M
 emit-spec = tie.close (tie.spec add-result returns put-requires add-result-2 same-length returns-2)

@@ -15,7 +15,9 @@ same-length : tie.Need-same-length
 same-length c = search needs
 
 returns : tie.Need-returns
-returns c = next _ _ _ _ _ _ (c .before .before .before .before .before .before .emit-number .ensures)
+returns c =
+    let c4 = c .before .before .before .before in
+    next _ _ _ _ _ _ (c4 .before .before .emit-number .ensures)
     (c .before .before .emit .ensures)
 
 pub emit-last-spec : {M : Type 1} → statement M

@@ -20,8 +20,10 @@ same-length : tie.Need-same-length
 same-length c = search needs
 
 returns : tie.Need-returns
-returns c = c .before .before .emit-from .ensures
-    ∙ rw (c .before .before .before .before .before .before .write-digits .ensures .0)
+returns c =
+    let c4 = c .before .before .before .before in
+    c .before .before .emit-from .ensures
+    ∙ rw (c4 .before .before .write-digits .ensures .0)
 
 pub emit-number-spec : {M : Type 1} → statement M
 emit-number-spec =

@@ -14,9 +14,10 @@ emit-requires c κs = omega (arith, numbered _ _ _ _ (c .before .before .before 
 
 emit-last-requires : tie.Need-emit-last-requires
 emit-last-requires c κs =
+    let c4 = c .before .before .before .before in
     omega (
       arith,
-      numbered _ _ _ _ (c .before .before .before .before .before .before .before .emit-number .ensures),
+      numbered _ _ _ _ (c4 .before .before .before .emit-number .ensures),
       placed _ _ _ _ (c .before .before .before .emit .ensures),
     )
 
@@ -25,10 +26,12 @@ same-length c = search needs
 
 returns : tie.Need-returns
 returns c =
+    let c4 = c .before .before .before .before in
+    let c8 = c4 .before .before .before .before in
     rw append-assoc
     (next _ _ _ _ _ _
-    (c .before .before .before .before .before .before .before .before .before .before .emit-number .ensures)
-    (next _ _ _ _ _ _ (c .before .before .before .before .before .before .emit .ensures)
+    (c8 .before .before .emit-number .ensures)
+    (next _ _ _ _ _ _ (c4 .before .before .emit .ensures)
     (c .before .before .emit-last .ensures)))
 
 pub emit-two-spec : {M : Type 1} → statement M

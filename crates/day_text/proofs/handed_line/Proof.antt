@@ -2,14 +2,12 @@
 use mathlib.Core.List.{append-assoc}
 use native.Mathlib.Omega.{arith}
 use borrow.Author.Needs.{needs}
-use borrow.Author.Tests.{le-leb, lt-leb}
-use Rattle.day_text.specs.Page.{mostPlace}
-use Rattle.day_text.proofs.Laws.{next, numbered, placed}
+use Rattle.day_text.proofs.Laws.{left-out, next, numbered, placed, printed}
 use Rattle.day_text.proofs.handed_line.Statement.{statement}
 use Rattle.day_text.proofs.handed_line.Tie as tie
 
 returns : tie.Need-returns
-returns c = let a = c .before .before .args in rw (lt-leb (a .at) mostPlace (c .if1 .taken))
+returns c = left-out _ _ _ (c .if1 .taken)
 
 emit-number-requires : tie.Need-emit-number-requires
 emit-number-requires c κs = omega arith
@@ -20,10 +18,12 @@ emit-requires c κs =
 
 emit-two-requires : tie.Need-emit-two-requires
 emit-two-requires c κs =
+    let c3 = c .before .before .before in
+    let c7 = c3 .before .before .before .before in
     omega (
       arith,
-      numbered _ _ _ _ (c .before .before .before .before .before .before .before .emit-number .ensures),
-      placed _ _ _ _ (c .before .before .before .emit .ensures),
+      numbered _ _ _ _ (c7 .emit-number .ensures),
+      placed _ _ _ _ (c3 .emit .ensures),
     )
 
 same-length : tie.Need-same-length
@@ -31,13 +31,10 @@ same-length c = search needs
 
 returns-2 : tie.Need-returns-2
 returns-2 c =
-    let a = c .before .before .before .before .before .before .before .before .before .before .before .before .before .before .args in
-    rw (le-leb (a .at) mostPlace
-    (c .before .before .before .before .before .before .before .before .before .before .before .before .if1 .left))
-    (rw append-assoc (next _ _ _ _ _ _
-    (c .before .before .before .before .before .before .before .before .before .before .emit-number .ensures)
-    (next _ _ _ _ _ _ (c .before .before .before .before .before .before .emit .ensures)
-    (c .before .before .emit-two .ensures))))
+    let c6 = c .before .before .before .before .before .before in
+    let c10 = c6 .before .before .before .before in
+    rw append-assoc (printed _ _ _ _ _ _ (c10 .before .before .if1 .left) (c10 .emit-number .ensures)
+    (next _ _ _ _ _ _ (c6 .emit .ensures) (c .before .before .emit-two .ensures)))
 
 pub handed-line-spec : {M : Type 1} → statement M
 handed-line-spec =

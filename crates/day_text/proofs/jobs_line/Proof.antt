@@ -2,14 +2,12 @@
 use mathlib.Core.List.{append-assoc}
 use native.Mathlib.Omega.{arith}
 use borrow.Author.Needs.{needs}
-use borrow.Author.Tests.{le-leb, lt-leb}
-use Rattle.day_text.specs.Page.{mostPlace}
-use Rattle.day_text.proofs.Laws.{next, numbered, placed}
+use Rattle.day_text.proofs.Laws.{left-out, next, numbered, placed, printed}
 use Rattle.day_text.proofs.jobs_line.Statement.{statement}
 use Rattle.day_text.proofs.jobs_line.Tie as tie
 
 returns : tie.Need-returns
-returns c = let a = c .before .before .args in rw (lt-leb (a .at) mostPlace (c .if1 .taken))
+returns c = left-out _ _ _ (c .if1 .taken)
 
 slice-aggregate-emit-from : tie.Need-slice-aggregate-emit-from
 slice-aggregate-emit-from c = search needs
@@ -26,19 +24,23 @@ slice-aggregate-emit-from-2 c = search needs
 
 emit-from-requires-2 : tie.Need-emit-from-requires-2
 emit-from-requires-2 c κs =
+    let c4 = c .before .before .before .before in
+    let c8 = c4 .before .before .before .before in
     omega (
       arith,
-      placed _ _ _ _ (c .before .before .before .before .before .before .before .before .emit-from .ensures),
-      numbered _ _ _ _ (c .before .before .before .before .emit-number .ensures),
+      placed _ _ _ _ (c8 .emit-from .ensures),
+      numbered _ _ _ _ (c4 .emit-number .ensures),
     )
 
 emit-last-requires : tie.Need-emit-last-requires
 emit-last-requires c κs =
+    let c8 = c .before .before .before .before .before .before .before .before in
+    let c12 = c8 .before .before .before .before in
     omega (
       arith,
       placed _ _ _ _
-          (c .before .before .before .before .before .before .before .before .before .before .before .before .emit-from .ensures),
-      numbered _ _ _ _ (c .before .before .before .before .before .before .before .before .emit-number .ensures),
+          (c12 .emit-from .ensures),
+      numbered _ _ _ _ (c8 .emit-number .ensures),
       placed _ _ _ _ (c .before .before .before .emit-from2 .ensures),
     )
 
@@ -47,9 +49,12 @@ same-length c = search needs
 
 returns-2 : tie.Need-returns-2
 returns-2 c =
-    let a = c .before .before .before .before .before .before .before .before .before .before .before .before .before .before .before .before .before .before .before .before .args in
-    rw (le-leb (a .at) mostPlace
-    (c .before .before .before .before .before .before .before .before .before .before .before .before .before .before .before .before .before .before .if1 .left)) (simp append-assoc (next _ _ _ _ _ _ (c .before .before .before .before .before .before .before .before .before .before .before .before .before .before .before .emit-from .ensures) (next _ _ _ _ _ _ (c .before .before .before .before .before .before .before .before .before .before .before .emit-number .ensures) (next _ _ _ _ _ _ (c .before .before .before .before .before .before .emit-from2 .ensures) (c .before .before .emit-last .ensures)))))
+    let c6 = c .before .before .before .before .before .before in
+    let c11 = c6 .before .before .before .before .before in
+    let c15 = c11 .before .before .before .before in
+    simp append-assoc (printed _ _ _ _ _ _ (c15 .before .before .before .if1 .left) (c15 .emit-from .ensures)
+    (next _ _ _ _ _ _ (c11 .emit-number .ensures)
+    (next _ _ _ _ _ _ (c6 .emit-from2 .ensures) (c .before .before .emit-last .ensures))))
 
 pub jobs-line-spec : {M : Type 1} → statement M
 jobs-line-spec =

@@ -45,7 +45,8 @@ loop-less c = omega arith
 
 loop-again : tie.Need-loop-again Inv-loop μ-loop
 loop-again c =
-    let c4 = c .before .before .before .before in (
+    let c4 = c .before .before .before .before in
+    let c4 = c4 in (
       omega arith,
       once _ _ _ (c .before .before .before .loop-test .taken) (sym (c .before .listed-from .ensures) ∙ c .if1 .left)
           ∙ c4 .loop .inv .1,

@@ -30,13 +30,15 @@ judged-requires c κs = search needs
 returns : tie.Need-returns
 unfolding drainedWords
 returns c =
+    let c4 = c .before .before .before .before in
+    let c8 = c4 .before .before .before .before in
     rw (
-      ← c .before .before .before .before .before .before .before .before .before .sizes-fit .ensures,
-      c .before .before .before .before .before .before .before .before .if1 .taken,
-      ← c .before .before .before .before .before .all-sound .ensures,
-      ← c .before .before .before .before .counters-ok .ensures,
-      ← c .before .before .before .before .before .before .before .header .ensures,
-      ← c .before .before .before .before .before .before .header2 .ensures,
+      ← c8 .before .sizes-fit .ensures,
+      c8 .if1 .taken,
+      ← c4 .before .all-sound .ensures,
+      ← c4 .counters-ok .ensures,
+      ← c4 .before .before .before .header .ensures,
+      ← c4 .before .before .header2 .ensures,
       c .before .before .if2 .taken,
       ← c .before .all-free .ensures,
     )
@@ -45,13 +47,14 @@ returns c =
 returns-2 : tie.Need-returns-2
 unfolding drainedWords
 returns-2 c =
+    let c4 = c .before .before .before .before in
     rw (
-      ← c .before .before .before .before .before .before .before .sizes-fit .ensures,
-      c .before .before .before .before .before .before .if1 .taken,
+      ← c4 .before .before .before .sizes-fit .ensures,
+      c4 .before .before .if1 .taken,
       ← c .before .before .before .all-sound .ensures,
       ← c .before .before .counters-ok .ensures,
-      ← c .before .before .before .before .before .header .ensures,
-      ← c .before .before .before .before .header2 .ensures,
+      ← c4 .before .header .ensures,
+      ← c4 .header2 .ensures,
       c .if2 .left,
     )
 

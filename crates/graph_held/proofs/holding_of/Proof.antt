@@ -26,10 +26,11 @@ job-word-requires c κs = search needs
 returns : tie.Need-returns
 unfolding holdingOf
 returns c =
+    let c4 = c .before .before .before .before in
     λ arcs buckets queue.
     rw (
-      ← c .before .before .before .before .before .worker-word .ensures,
-      ← c .before .before .before .before .call-of .ensures,
+      ← c4 .before .worker-word .ensures,
+      ← c4 .call-of .ensures,
       ← c .before .before .before .worker-word2 .ensures,
       ← c .before .before .adds-of .ensures,
       ← c .before .worker-word3 .ensures,
@@ -39,11 +40,12 @@ returns c =
 returns-2 : tie.Need-returns-2
 unfolding holdingOf
 returns-2 c =
+    let c4 = c .before .before .before .before in
     λ arcs buckets queue.
     rw (
-      ← c .before .before .before .before .before .before .worker-word .ensures,
-      ← c .before .before .before .before .before .call-of .ensures,
-      ← c .before .before .before .before .worker-word2 .ensures,
+      ← c4 .before .before .worker-word .ensures,
+      ← c4 .before .call-of .ensures,
+      ← c4 .worker-word2 .ensures,
       ← c .before .before .before .adds-of .ensures,
       ← c .before .before .worker-word3 .ensures,
       c .before .if1 .left,

@@ -14,14 +14,14 @@ use Rattle.graph_posted_add.proofs.put_names.Statement.{statement}
 use Rattle.graph_posted_add.proofs.put_names.Tie as tie
 
 abbrev Inv-loop : tie.InvT-loop
-Inv-loop workers₀ worker count names from listed i₀ workers i =
+Inv-loop workers₀ worker names count from listed i₀ workers i =
     (sets workers (from + i) (drop i (prefix mostNames (prefix count names)))
     ≡ sets workers₀ from (prefix mostNames (prefix count names)))
     × (i ≤ listed)
     × (length workers ≡ length workers₀)
 
 abbrev μ-loop : tie.MeasureT-loop
-μ-loop workers₀ worker count names from listed i₀ workers i = listed - i
+μ-loop workers₀ worker names count from listed i₀ workers i = listed - i
 
 names-at-requires : tie.Need-names-at-requires Inv-loop μ-loop
 names-at-requires c κs = search needs
@@ -36,11 +36,8 @@ loop-holds c = let z : c .before .names-at .result + 0 ≡ c .before .names-at .
 add-put-word : tie.Need-add-put-word Inv-loop μ-loop
 add-put-word c = omega arith
 
-mul-put-word : tie.Need-mul-put-word Inv-loop μ-loop
-mul-put-word c = omega arith
-
-array-read-put-word : tie.Need-array-read-put-word Inv-loop μ-loop
-array-read-put-word c = omega arith
+word-requires : tie.Need-word-requires Inv-loop μ-loop
+word-requires c κs = search needs
 
 put-word-requires : tie.Need-put-word-requires Inv-loop μ-loop
 put-word-requires c κs = search needs
@@ -54,12 +51,12 @@ loop-less c = omega arith
 loop-again : tie.Need-loop-again Inv-loop μ-loop
 loop-again c =
     let c4 = c .before .before .before .before in
-    let l = c4 .before in
-    let a = l .before .before .before .before .args in
-    let one = names-one mostNames (a .count) (a .t3) (l .loop .workers)
-    (c4 .before .before .before .names-at .result) (l .loop .i) (omega arith)
+    let l = c4 .before .before in
+    let a = l .before .before .before .before .before .args in
+    let one = names-one mostNames (a .count) (a .names .now) (l .loop .workers)
+    (l .before .before .names-at .result) (l .loop .i) (omega arith)
     (omega arith) in (
-      rw (c .before .before .put-word .ensures) (one ∙ l .loop .inv .0),
+      rw (c .before .before .put-word .ensures, c .before .before .before .word .ensures) (one ∙ l .loop .inv .0),
       omega arith,
       c .before .before .put-word .kept .0 ∙ l .loop .inv .2,
     )
@@ -86,9 +83,9 @@ returns c =
     let c4 = c .before .before .before .before in
     let c8 = c4 .before .before .before .before in
     let l = c4 .before .before .listed-of in
-    let a = c8 .before .args in
+    let a = c8 .before .before .args in
     let e : c4 .before .loop .i ≡ l .result = omega arith in
-    let rest = names-rest mostNames (a .count) (l .result) (a .t3) (l .ensures .1) (l .ensures .0) (l .ensures .2) in
+    let rest = names-rest mostNames (a .count) (l .result) (a .names .now) (l .ensures .1) (l .ensures .0) (l .ensures .2) in
     rw (
       c .before .before .fill .ensures,
       ← rest,
@@ -100,6 +97,6 @@ returns c =
 pub put-names-spec : {M : Type 1} → statement M
 put-names-spec =
     tie.close
-    (tie.spec Inv-loop μ-loop names-at-requires listed-of-requires loop-holds add-put-word mul-put-word
-    array-read-put-word put-word-requires add-i loop-less loop-again add-fill cast-fill sub-fill fill-requires
+    (tie.spec Inv-loop μ-loop names-at-requires listed-of-requires loop-holds add-put-word word-requires
+    put-word-requires add-i loop-less loop-again add-fill cast-fill sub-fill fill-requires
     same-length returns)

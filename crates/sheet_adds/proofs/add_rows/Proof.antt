@@ -99,8 +99,8 @@ returns c =
     let a = c4 .before .before .before .before .args in
     let e = sym (none-left (a .sizes) (a .worker) (a .rows .now) (l .row) (a .count - l .row)
     (tables (l .jobs) (l .arcs) (l .buckets) (l .queue) (l .workers)) (l .numbers) (l .places) (omega arith))
-    ∙ l .inv .6 in
-    added (a .sizes) (a .worker) (a .rows .now) (a .count) _ _ e
+    in
+    added (a .sizes) (a .worker) (a .rows .now) (a .count) _ _ (e ∙ l .inv .6)
 
 pub add-rows-spec : {M : Type 1} → statement M
 add-rows-spec =

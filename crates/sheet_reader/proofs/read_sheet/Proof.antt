@@ -18,7 +18,8 @@ enum-known-entries c = search needs
 
 store-sheet-requires : tie.Need-store-sheet-requires
 store-sheet-requires c κs =
-    let c4 = c .before .before .before .before in (
+    let c4 = c .before .before .before .before in
+    let c4 = c4 in (
       (sym (c4 .before .scan-sheet .ensures)
           ∙ c .before .before .before .entries .given .1),
       omega arith,

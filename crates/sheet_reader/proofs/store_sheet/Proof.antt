@@ -31,7 +31,8 @@ add-store-row c =
 
 store-row-requires : tie.Need-store-row-requires Inv-loop μ-loop
 store-row-requires c κs =
-    let s = c .before .before .before .before in
+    let c4 = c .before .before .before .before in
+    let s = c4 in
     let l = s .before .loop .inv in
     let e = scan-job (left-sound l (s .scan-again .ensures)) (c .before .before .name .given .1) in
     (e .reach .most, e .reach .names, left-room l (e .entry))

@@ -26,10 +26,11 @@ blank-requires-2 c κs = search needs
 returns-3 : tie.Need-returns-3
 unfolding withRecord
 returns-3 c =
+    let c4 = c .before .before .before .before in
     simp (
       eq-eqb _ _ (c .before .before .before .if1 .left),
       le-leb _ _ (c .before .before .if2 .left),
-      le-ltb (c .before .before .before .before .before .args .class) classes (omega arith),
+      le-ltb (c4 .before .args .class) classes (omega arith),
       c .blank2 .ensures,
     )
 

@@ -1,0 +1,114 @@
+-- No call run whole is cut short: an add, a finish and the adds of a sheet that an idle worker calls end as
+-- CallEnds.antt of host_calls says. Assumes nothing.
+use mathlib.Core.Path.{_≡_, refl, ap, _∙_}
+use mathlib.Core.List.{List, [], _∷_}
+use Prim.Native.Nat.{ℕ, suc, _+_, _*_, _<_}
+use native.Mathlib.Omega.{arith}
+use Rattle.terms.specs.Terms.{Arguments, Finish, wrongArguments, notHeld}
+use Rattle.terms.specs.Runs.{Item, postAdd, postFinish, after, events}
+use Rattle.terms.specs.declared.Sizes.{Sizes}
+use Rattle.terms.specs.declared.Answer.{Answer}
+use Rattle.terms.specs.declared.Answer.the-variants.{Laid, Posted, Refused}
+use Rattle.words.specs.Layout.{Tables}
+use Rattle.words.specs.Words.{perform, layOut}
+use Rattle.rules.specs.Rules.{Graph, empty}
+use Rattle.rules.specs.Rules as rules
+use Rattle.rules.specs.Sound.{Sound}
+use Rattle.rules_cases.specs.Deed as by
+use Rattle.rules_cases.specs.Deed.{Made}
+use Rattle.rules_cases.specs.Own.{own-sizes, own-made}
+use Rattle.linearization.specs.Calls.{idle, Reading, reading}
+use Rattle.rules_history.specs.History.{History, start}
+use Rattle.rules_history.specs.Onward.{onward}
+use Rattle.rules_follow_model.specs.Paced.{paced, worker-idle}
+use Rattle.rules_invariant.specs.Sound.{sound}
+use Rattle.words_refine_rules.specs.Items.{item}
+use Rattle.words_history.specs.Theorem.{after-items, same-events}
+use Rattle.host_calls.specs.HostCalls.{lastAnswer, callMade, addMade, finishMade, lastOf, addsAnswer}
+use Rattle.whole_words.specs.CallEnds.{AddAnswer, refused, FinishAnswer, AddAnswers, none, more}
+use Rattle.whole_words.specs.CallEnds as ends
+use Rattle.calls_history.specs.Now.{Now, on}
+use Rattle.calls_history.specs.CallsRead.{looked, marked, add-read}
+
+-- what a post may answer
+data AddPost : Answer → Type 0 where
+  taken : AddPost Posted
+  wrong : AddPost (Refused wrongArguments 0)
+
+data FinishPost : Answer → Type 0 where
+  taken : FinishPost Posted
+  not-held : FinishPost (Refused notHeld 0)
+
+made-add : {s : Sizes} {g : Graph} {w : ℕ} {a : Arguments} {x : Answer} {h : Graph} → Made s g (postAdd s w a) x h
+    → AddPost x
+made-add (by.addWrong e) = wrong
+made-add (by.addPosted e) = taken
+
+made-finish : {s : Sizes} {g : Graph} {w : ℕ} {f : Finish} {x : Answer} {h : Graph} → Made s g (postFinish s w f) x h
+    → FinishPost x
+made-finish (by.finishWrong e) = not-held
+made-finish (by.finishPosted p e n) = taken
+
+module _ (s : Sizes) (t : Tables) (laid : layOut s t .answer ≡ Laid) where
+  soundly : (g : Graph) (r : Reading) (e : ℕ → ℕ) → History s g r e → Sound s g
+  soundly g r e history = sound history
+
+  module _ {x : Tables} {r : Reading} (N : Now s t laid x r) where
+    -- the words answer as the rules do, whose worker is idle where the reading's is
+    abbrev g : Graph
+    g = after (rules.perform s) empty (N .items)
+
+    says : (i : Item) → perform x i .answer ≡ rules.perform s g i .answer
+    says i =
+        let R = after-items s t laid (N .items) in
+        rw (N .here)
+        (item s (after perform (layOut s t .state) (N .items)) g (R .ghost) (R .stands) (R .sound) i .answer)
+
+    rests : (w : ℕ) → r .pending w ≡ idle → g .workers w .call ≡ rules.idle
+    rests w = rw (N .read, same-events s t laid (N .items))
+        (worker-idle g (reading (events (rules.perform s) empty (N .items)))
+        (paced soundly (onward s start (N .items))) w)
+
+    module _ (w : ℕ) (h : w < s .workers) (free : r .pending w ≡ idle) where
+      add-post : (a : Arguments) → AddPost (perform x (postAdd s w a) .answer)
+      add-post a =
+          rw (says (postAdd s w a)) (made-add (own-made s g (postAdd s w a) (own-sizes s) h refl (rests w free)))
+
+      finish-post : (f : Finish) → FinishPost (perform x (postFinish s w f) .answer)
+      finish-post f =
+          rw (says (postFinish s w f))
+          (made-finish (own-made s g (postFinish s w f) (own-sizes s) h refl (rests w free)))
+
+      -- ---- a call run whole
+      pub add-ends : (a : Arguments) → AddAnswer (lastOf perform (addMade perform s w a x) x)
+      unfolding callMade events lastAnswer
+      add-ends a = of (add-post a) refl
+        where
+          of : {y : Answer} → AddPost y → perform x (postAdd s w a) .answer ≡ y
+              → AddAnswer (lastOf perform (addMade perform s w a x) x)
+          of taken E =
+              let fuel : 2 * a .count + 2 ≡ suc (2 * a .count + 1) = omega arith in
+              let L = looked s t laid N w a E in
+              rw (E, fuel, L .reads .answer) (L .ends)
+          of wrong E = rw E (refused wrongArguments 0 (omega arith) (omega arith))
+
+      pub finish-ends : (f : Finish) → FinishAnswer (lastOf perform (finishMade perform s w f x) x)
+      unfolding callMade events lastAnswer
+      finish-ends f = of (finish-post f) refl
+        where
+          of : {y : Answer} → FinishPost y → perform x (postFinish s w f) .answer ≡ y
+              → FinishAnswer (lastOf perform (finishMade perform s w f x) x)
+          of taken E =
+              let fuel : s .arcs + 1 ≡ suc (s .arcs) = omega arith in
+              rw (E, fuel, marked s t laid N w f E .answer) ends.FinishAnswer.accepted
+          of not-held E = rw E ends.FinishAnswer.not-held
+
+  -- ---- the adds of a sheet
+  pub adds-end : (l : List Arguments) {x : Tables} {r : Reading} → Now s t laid x r → (w : ℕ) → w < s .workers
+      → r .pending w ≡ idle → AddAnswers l (addsAnswer perform s w l x)
+  unfolding addsAnswer
+  adds-end [] N w h free = none
+  adds-end (a ∷ l) {x} {r} N w h free =
+      let is : List Item = addMade perform s w a x in
+      more (add-ends N w h free a)
+      (adds-end l (on s t laid N is) w h (ap (λ (q : Reading). q .pending w) (add-read s t laid N s w a) ∙ free))

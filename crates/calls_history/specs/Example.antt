@@ -1,0 +1,47 @@
+-- A list of every kind of call on small tables that were laid out over old words: what the words' machine replies,
+-- which is computed, and that the claim holds of it. Assumes nothing.
+use mathlib.Core.Path.{_≡_, refl}
+use Prim.Native.Nat.{_^_}
+use lib.ListN.{replicate}
+use Rattle.basics.specs.Base.{contains, repeats, prefix}
+use Rattle.bucket.specs.Bucket.{productOf, bucketOf}
+use Rattle.terms.specs.Terms.{argumentsWrong, withinLimits}
+use Rattle.terms.specs.Starred.{S}
+use Rattle.terms.specs.declared.Answer.the-variants.{Laid}
+use Rattle.words.specs.Columns.{columns, header, put, putHeader}
+use Rattle.words.specs.Layout.{Tables, tables, need, jobShape, arcShape, bucketShape, queueShape, workerShape}
+use Rattle.words.specs.Layout.{longEnough, sizesKept, repeated, freshTables}
+use Rattle.words.specs.Words.{perform, ownOk, walk, findOf, planLookUp, planEnter, planAppend, planLink, withCell}
+use Rattle.words.specs.Words.{planSettle, planMark, planNotify, planAdd, planLinks, planCall, planPhase, admitted}
+use Rattle.words.specs.Words.{applied, stepWords, planTake, planQueue, planGet, appliedGet, getWords, posted, addWords}
+use Rattle.words.specs.Words.{finishWords, layOut}
+use Rattle.words.specs.Observed.{seen}
+use Rattle.whole_words.specs.Whole.{stepsOf, wholeAdd, wholeFinish}
+use Rattle.whole_words.specs.Sheet.{addEach, served, sheetWords}
+use Rattle.host_calls.specs.CallsDemand.{CallsDemand}
+use Rattle.host_calls.specs.RightCalls.{repliesTo, everyKind, itsReplies}
+use Rattle.calls_history.specs.WordsCalls.{turnedWords, answerWords}
+use Rattle.calls_history.specs.Theorem.{calls-demand}
+
+-- tables that just suffice, with words that are left from before
+abbrev pub old : Tables
+old =
+    tables (replicate (need jobShape (S .jobs)) 7) (replicate (need arcShape (S .arcs)) 7)
+    (replicate (need bucketShape (2 ^ S .bits)) 7)
+    (replicate (need queueShape (S .jobs)) 7)
+    (replicate (need workerShape (S .workers)) 7)
+
+pub laid-out : layOut S old .answer ≡ Laid
+unfolding withinLimits longEnough layOut
+laid-out = refl
+
+pub replies-so : repliesTo answerWords (layOut S old .state) everyKind ≡ itsReplies
+unfolding contains repeats prefix argumentsWrong withinLimits productOf bucketOf columns header put putHeader longEnough
+    sizesKept repeated freshTables perform ownOk walk findOf planLookUp planEnter planAppend planLink withCell
+    planSettle planMark planNotify planAdd planLinks planCall planPhase admitted applied stepWords planTake planQueue
+    planGet appliedGet getWords posted addWords finishWords layOut stepsOf wholeAdd wholeFinish addEach served
+    sheetWords answerWords repliesTo
+replies-so = refl
+
+pub example-holds : CallsDemand perform turnedWords answerWords seen S (layOut S old .state) everyKind
+example-holds = calls-demand S old laid-out everyKind

@@ -1,0 +1,57 @@
+-- After any list of calls, from tables that were laid out: what an idle worker's add, finish and sheet reply. No add is
+-- cut short, no finish is, and each entry of a sheet of up to 64 has its own answer. Assumes nothing.
+use mathlib.Core.Path.{_≡_, ap, _∙_}
+use mathlib.Core.List.{List}
+use Prim.Native.Nat.{ℕ, _≤_, _<_}
+use lib.ListN.{length}
+use borrow.Author.Tests.{lt-ltb, le-leb}
+use Rattle.terms.specs.Terms.{Arguments, Finish, mostEntries}
+use Rattle.terms.specs.declared.Sizes.{Sizes}
+use Rattle.terms.specs.declared.Answer.{Answer}
+use Rattle.terms.specs.declared.Answer.the-variants.{Laid}
+use Rattle.words.specs.Layout.{Tables}
+use Rattle.words.specs.Words.{perform, layOut}
+use Rattle.words.specs.Observed.{seen}
+use Rattle.rules_cases.specs.Own.{own-sizes}
+use Rattle.linearization.specs.Calls.{idle, Reading}
+use Rattle.host_calls.specs.HostCalls.{HostCall, wholeAdd, wholeFinish, sheet, one, each, replyWorth, sheetReply}
+use Rattle.host_calls.specs.CallsDemand.{read, at-end}
+use Rattle.whole_words.specs.CallEnds.{AddAnswer, FinishAnswer, AddAnswers}
+use Rattle.calls_history.specs.WordsCalls.{turnedWords, answerWords}
+use Rattle.calls_history.specs.Theorem.{replies-worth, at-calls}
+use Rattle.calls_history.specs.Turned.{sheet-turned}
+use Rattle.calls_history.specs.CallsEnd.{add-ends, finish-ends, adds-end}
+
+module _ (s : Sizes) (t : Tables) (laid : layOut s t .answer ≡ Laid) (calls : List HostCall) where
+  abbrev pub now : Tables
+  now = at-end perform turnedWords answerWords seen s (layOut s t .state) calls
+
+  abbrev pub told : Reading
+  told = read perform turnedWords answerWords seen s (layOut s t .state) calls
+
+  module _ (w : ℕ) (h : w < s .workers) (free : told .pending w ≡ idle) where
+    pub add-is-whole : (a : Arguments)
+        → (x : Answer) × (answerWords now (wholeAdd s w a) .reply ≡ one x) × AddAnswer x
+    unfolding replyWorth
+    add-is-whole a =
+        (_, replies-worth now (wholeAdd s w a), add-ends s t laid (at-calls s t laid calls) w h free a)
+
+    pub finish-is-whole : (f : Finish)
+        → (x : Answer) × (answerWords now (wholeFinish s w f) .reply ≡ one x) × FinishAnswer x
+    unfolding replyWorth
+    finish-is-whole f =
+        (_, replies-worth now (wholeFinish s w f), finish-ends s t laid (at-calls s t laid calls) w h free f)
+
+    served : (l : List Arguments) → length l ≤ mostEntries → turnedWords now s w l ≡ 0
+    served l few =
+        sheet-turned s t laid (at-calls s t laid calls) s w l
+        ∙ rw (own-sizes s, lt-ltb w (s .workers) h, free, le-leb (length l) mostEntries few)
+
+    pub sheet-is-whole : (l : List Arguments) → length l ≤ mostEntries
+        → (xs : List Answer) × (answerWords now (sheet s w l) .reply ≡ each 0 xs) × AddAnswers l xs
+    unfolding replyWorth
+    sheet-is-whole l few = (
+      _,
+      replies-worth now (sheet s w l) ∙ ap (λ n. sheetReply perform n s w l now) (served l few),
+      adds-end s t laid l (at-calls s t laid calls) w h free,
+    )

@@ -1,0 +1,86 @@
+-- Demand 3 of every list of calls, from tables that were laid out: single items, adds and finishes run whole, and
+-- sheets, mixed in any order. Follows docs/RULES.md, "Whole calls". Assumes nothing.
+use mathlib.Core.Path.{_≡_, refl, ap}
+use mathlib.Core.List.{List, [], _∷_}
+use Prim.Native.Nat.{ℕ}
+use Rattle.terms.specs.Runs.{Item, after, events, entries}
+use Rattle.terms.specs.declared.Sizes.{Sizes}
+use Rattle.terms.specs.declared.Answer.the-variants.{Laid}
+use Rattle.words.specs.Layout.{Tables}
+use Rattle.words.specs.Words.{perform, layOut}
+use Rattle.words.specs.Observed.{waiting, seen}
+use Rattle.linearization.specs.Calls.{Reading, unread, readOn}
+use Rattle.words_history.specs.Theorem.{demand}
+use Rattle.host_calls.specs.HostCalls.{HostCall, Replied, worth, replyWorth, afterCalls, callEntries}
+use Rattle.host_calls.specs.CallsDemand.{allWorth, readCalls, CallsDemand}
+use Rattle.calls_history.specs.WordsCalls.{turnedWords, answerWords}
+use Rattle.host_calls.specs.Joined.{after-joined, entries-joined, reads-joined}
+use Rattle.calls_history.specs.Worth.{whole-is-worth}
+use Rattle.calls_history.specs.Now.{Now, at-start, on}
+use Rattle.calls_history.specs.CallsRead.{call-read}
+use Rattle.calls_history.specs.Entered.{call-enters}
+use Rattle.calls_history.specs.Turned.{sheet-turned}
+
+-- a call leaves what the items that it is worth leave, and replies what they make it reply
+leaves-worth : (x : Tables) (c : HostCall) → answerWords x c .state ≡ after perform x (worth perform turnedWords x c)
+leaves-worth x c = ap (λ (o : Replied Tables). o .state) (whole-is-worth x c)
+
+pub replies-worth : (x : Tables) (c : HostCall) → answerWords x c .reply ≡ replyWorth perform turnedWords x c
+replies-worth x c = ap (λ (o : Replied Tables). o .reply) (whole-is-worth x c)
+
+module _ (s : Sizes) (t : Tables) (laid : layOut s t .answer ≡ Laid) where
+  abbrev T : Tables
+  T = layOut s t .state
+
+  abbrev made : Tables → List HostCall → List Item
+  made x cs = allWorth perform turnedWords answerWords seen s T x cs
+
+  -- ---- a list of calls, from tables that some items reached
+  all-leave : (cs : List HostCall) (x : Tables) → afterCalls answerWords x cs ≡ after perform x (made x cs)
+  unfolding afterCalls allWorth after
+  all-leave [] x = refl
+  all-leave (c ∷ cs) x = rw (after-joined, ← (leaves-worth x c)) (all-leave cs (answerWords x c .state))
+
+  all-read : (cs : List HostCall) {x : Tables} {r : Reading} → Now s t laid x r
+      → readCalls perform turnedWords answerWords seen s T r x cs ≡ readOn r (events perform x (made x cs))
+  unfolding readCalls allWorth events readOn
+  all-read [] N = refl
+  all-read (c ∷ cs) {x} {r} N =
+      let is : List Item = worth perform turnedWords x c in
+      rw (leaves-worth x c, replies-worth x c, call-read s t laid N c, reads-joined perform r x is)
+      (all-read cs (on s t laid N is))
+
+  all-enter : (cs : List HostCall) {x : Tables} {r : Reading} → Now s t laid x r → (j : ℕ)
+      → callEntries answerWords waiting x cs j ≡ entries perform waiting x (made x cs) j
+  unfolding callEntries allWorth entries
+  all-enter [] N j = refl
+  all-enter (c ∷ cs) {x} {r} N j =
+      let is : List Item = worth perform turnedWords x c in
+      rw (
+        leaves-worth x c,
+        call-enters s t laid j N c,
+        entries-joined perform waiting x is,
+        all-enter cs (on s t laid N is) j,
+      )
+
+  -- ---- the claim
+  module _ (calls : List HostCall) where
+    pub at-calls : Now s t laid (afterCalls answerWords T calls)
+        (readCalls perform turnedWords answerWords seen s T unread T calls)
+    at-calls =
+        rw (all-leave calls T, all-read calls (at-start s t laid)) (on s t laid (at-start s t laid) (made T calls))
+
+    pub calls-demand : CallsDemand perform turnedWords answerWords seen s T calls
+    calls-demand = record {
+      replies = whole-is-worth (afterCalls answerWords T calls);
+      turns-away = sheet-turned s t laid at-calls;
+      leaves = all-leave calls T;
+      reads = let e = all-read calls (at-start s t laid) in record {
+        pending = λ w. ap (λ (r : Reading). r .pending w) e;
+        calls = ap (λ (r : Reading). r .calls) e;
+        added = ap (λ (r : Reading). r .added) e;
+        finished = ap (λ (r : Reading). r .finished) e;
+      };
+      enters = all-enter calls (at-start s t laid);
+      demand = demand s t laid (made T calls);
+    }

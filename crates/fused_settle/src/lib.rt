@@ -1,0 +1,122 @@
+// The end of an add run in one go: its job settles, or a damaged word stops it. Follows docs/RULES.md, "Steps".
+// Nothing is required of a table; tables that a function is not lent stay, whatever they are. Assumes nothing.
+ghost use mathlib.Core.Path.{_≡_};
+ghost use mathlib.Core.List.{List};
+ghost use Prim.Native.Nat.{ℕ};
+ghost use Rattle.terms.specs.Runs.{Outcome, outcome};
+ghost use Rattle.words.specs.Layout.{Tables, tables};
+ghost use Rattle.fused_words.specs.FusedAdd.{linksTo, settleIn};
+ghost use Rattle.fused_settle.specs.Settling.{orStop, settling};
+use fused_links::Linked;
+use fused_stops::stop;
+use graph_lists::queue_job;
+use graph_records::put_bare_worker;
+use graph_words::header;
+use graph_words::layout::*;
+use graph_words::less;
+use graph_words::put_job;
+use graph_worker_words::first_arc;
+use terms::Answer;
+use terms::Sizes;
+
+// The job's remaining count falls by the tally, and it is queued or not. Says whether it could: a queue that has no
+// cell left is damaged, and nothing is stored.
+fn settle(
+    sizes: Sizes,
+    jobs: &mut [u32],
+    queue: &mut [u32],
+    job: u32,
+    tally: u32,
+    count: u32,
+) -> bool
+    ensures { λ r. ⌜ ((arcs buckets workers : List ℕ) (w held : ℕ) (stopped : Tables → Outcome Tables)
+        → orStop r w held (tables (now (jobs .exit)) arcs buckets (now (queue .exit)) workers) stopped
+        ≡ settling sizes w held job tally count (tables (now (jobs .entry)) arcs buckets (now (queue .entry)) workers)
+        stopped) ⌝ }
+{
+    let left = less(count, tally);
+    let settles = (left == 0) & ((0 < tally) | (count == 0));
+    if settles {
+        let cell = header(queue, PUT);
+        let free = (header(queue, TAKEN) <= cell) & (cell < sizes.jobs);
+        if free {
+            put_job(jobs, job, COUNT, left);
+            queue_job(queue, cell, job);
+            true
+        } else {
+            false
+        }
+    } else {
+        put_job(jobs, job, COUNT, left);
+        true
+    }
+}
+
+// The add ends as its links did: its job settles, or the add is half done from where they stopped. The arc is the first
+// that it reserved.
+pub fn settle_add(
+    sizes: Sizes,
+    jobs: &mut [u32],
+    queue: &mut [u32],
+    workers: &mut [u32],
+    worker: u32,
+    held: u32,
+    name: u32,
+    names: &[u32],
+    count: u32,
+    class: u32,
+    grower: u32,
+    job: u32,
+    arc: u32,
+    linked: Linked,
+) -> Answer
+    ensures { λ r. ⌜ ((arcs buckets : List ℕ)
+        → outcome r (tables (now (jobs .exit)) arcs buckets (now (queue .exit)) (now (workers .exit)))
+        ≡ settleIn sizes worker
+        (record { name = name; count = count; names = now (names .entry); class = class; grower = grower }) held job arc
+        (linksTo (tables (now (jobs .entry)) arcs buckets (now (queue .entry)) (now (workers .entry)))
+        (linked .place) (linked .tally) (linked .sound))) ⌝ }
+{
+    let tally = linked.tally;
+    let place = linked.place;
+    let first = first_arc(count, arc);
+    let sound = linked.sound;
+    if sound {} else {
+        return stop(
+            workers,
+            worker,
+            LINKING,
+            held,
+            name,
+            names,
+            count,
+            class,
+            grower,
+            tally,
+            place,
+            job,
+            first,
+        );
+    }
+    let settled = settle(sizes, jobs, queue, job, tally, count);
+    if settled {
+        put_bare_worker(workers, worker, IDLE, held);
+        Answer::Ended
+    } else {
+        stop(
+            workers,
+            worker,
+            LINKING,
+            held,
+            name,
+            names,
+            count,
+            class,
+            grower,
+            tally,
+            place,
+            job,
+            first,
+        )
+    }
+}

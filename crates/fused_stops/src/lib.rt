@@ -1,0 +1,70 @@
+// How an add that is run in one go leaves its worker: idle, or half done at a damaged word. Its words are stored once.
+// Follows docs/RULES.md, "Steps" and "Turned-away calls". Assumes nothing; the tables that a function is not lent stay,
+// whatever they are.
+ghost use mathlib.Core.Path.{_≡_};
+ghost use mathlib.Core.List.{List};
+ghost use Prim.Native.Nat.{ℕ};
+ghost use Rattle.terms.specs.Runs.{outcome};
+ghost use Rattle.terms.specs.declared.Answer.the-variants.{Refused};
+ghost use Rattle.words.specs.Layout.{tables};
+ghost use Rattle.fused_words.specs.FusedWorker.{idledWith, addWorker, halted};
+use graph_posted_add::put_call;
+use graph_records::put_bare_worker;
+use graph_words::layout::*;
+use graph_words::numbers::*;
+use terms::Answer;
+
+// The add is turned away, and its worker is idle.
+pub fn turn_away(workers: &mut [u32], worker: u32, held: u32, number: u32, place: u32) -> Answer
+    ensures { λ r. ⌜ ((jobs arcs buckets queue : List ℕ)
+        → outcome r (tables jobs arcs buckets queue (now (workers .exit)))
+        ≡ outcome (Refused number place)
+        (idledWith (tables jobs arcs buckets queue (now (workers .entry))) worker held)) ⌝ }
+{
+    put_bare_worker(workers, worker, IDLE, held);
+    Answer::Refused { number, place }
+}
+
+// A damaged word stops the add, which stays half done: how far it has come is kept.
+pub fn stop(
+    workers: &mut [u32],
+    worker: u32,
+    phase: u32,
+    held: u32,
+    name: u32,
+    names: &[u32],
+    count: u32,
+    class: u32,
+    grower: u32,
+    tally: u32,
+    place: u32,
+    job: u32,
+    arc: u32,
+) -> Answer
+    ensures { λ r. ⌜ ((jobs arcs buckets queue : List ℕ)
+        → outcome r (tables jobs arcs buckets queue (now (workers .exit)))
+        ≡ halted (tables jobs arcs buckets queue (now (workers .entry))) worker
+        (addWorker phase held
+        (record { name = name; count = count; names = now (names .entry); class = class; grower = grower })
+        tally place job arc)) ⌝ }
+{
+    put_call(
+        workers,
+        worker,
+        phase,
+        held,
+        name,
+        names,
+        count,
+        class,
+        grower,
+        tally,
+        place,
+        job,
+        arc,
+    );
+    Answer::Refused {
+        number: DAMAGED,
+        place: 0,
+    }
+}

@@ -1,0 +1,12 @@
+pub mod Worker
+pub mod AddEnds
+pub mod FinishEnds
+pub mod Numbers
+pub mod Left
+pub mod SheetAdds
+pub mod Sheets
+pub mod InC
+pub mod Requests
+pub mod ReadRows
+pub mod Within
+pub mod SheetWithin

@@ -1,0 +1,1 @@
+// Theorems alone: specs/ says what calls run whole answer and leave, for all tables.
