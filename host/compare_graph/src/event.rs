@@ -257,8 +257,9 @@ fn map_entry(entry: &mut Entry, change: &mut impl FnMut(u32) -> u32) {
 }
 
 /// The words that a sheet brings: a row for each entry, and so many words that make no whole row.
-pub fn rows_of(entries: &[Entry], stray: usize) -> Vec<u32> {
+pub fn rows_of(entries: &[Entry], stray: usize) -> Box<[u32]> {
     let stray = stray.min(ROW_WORDS - 1);
+    // In one piece of just this size, so that a memory checker sees its ends.
     entries.iter().flat_map(Entry::to_row).chain(std::iter::repeat(0).take(stray)).collect()
 }
 

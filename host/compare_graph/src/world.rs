@@ -1,6 +1,8 @@
 //! The library and the second implementation side by side over one history: after every event the answers agree
 //! and the tables stand for the same graph, and whenever no call is half done the plain book agrees.
 
+use std::fmt;
+
 use compare_sheets::case::differ;
 use second_implementation::{
     book::{Book, Ending},
@@ -69,10 +71,24 @@ pub fn answer_to_library(answer: &Answer) -> proved::Answer {
 }
 
 /// What the library tells of an item.
-#[derive(Clone, Debug, PartialEq, Eq)]
+#[derive(Clone, PartialEq, Eq)]
 pub enum LibraryTold {
     One(proved::Answer),
     Each(Box<proved::SheetAdded>),
+}
+
+impl fmt::Debug for LibraryTold {
+    fn fmt(&self, f: &mut fmt::Formatter<'_>) -> fmt::Result {
+        match self {
+            LibraryTold::One(answer) => answer.fmt(f),
+            LibraryTold::Each(added) => {
+                // Most are 0, and the last ones say nothing.
+                let pairs: Vec<_> = added.numbers.iter().zip(&added.places).collect();
+                let said = pairs.iter().rposition(|pair| *pair != (&0, &0)).map_or(0, |last| last + 1);
+                write!(f, "number {}, of each entry number and place {:?} and 0", added.number, &pairs[..said])
+            }
+        }
+    }
 }
 
 impl LibraryTold {
