@@ -46,11 +46,36 @@ fn look_up_all(
     let ends = look_ups(sizes, jobs, buckets, names, count, &mut found);
     match ends {
         LookUps::All => enter_if_new(
-            sizes, jobs, arcs, buckets, queue, workers, worker, held, name, names, &found, count, class, grower,
+            sizes,
+            jobs,
+            arcs,
+            buckets,
+            queue,
+            workers,
+            worker,
+            held,
+            name,
+            names,
+            &found,
+            count,
+            class,
+            grower,
         ),
         LookUps::Unknown { place } => turn_away(workers, worker, held, UNKNOWN_NAME, place),
         LookUps::Broken { place } => stop(
-            workers, worker, LOOKING, held, name, names, count, class, grower, 0, place, NONE, NONE,
+            workers,
+            worker,
+            LOOKING,
+            held,
+            name,
+            names,
+            count,
+            class,
+            grower,
+            0,
+            place,
+            NONE,
+            NONE,
         ),
     }
 }
@@ -91,7 +116,18 @@ pub fn add_if_idle(
     let counted = counters_ok(sizes, jobs, arcs);
     if counted {
         look_up_all(
-            sizes, jobs, arcs, buckets, queue, workers, worker, name, &names, count, class, grower,
+            sizes,
+            jobs,
+            arcs,
+            buckets,
+            queue,
+            workers,
+            worker,
+            name,
+            &names,
+            count,
+            class,
+            grower,
         )
     } else {
         Answer::Refused {

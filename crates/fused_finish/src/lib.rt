@@ -31,7 +31,19 @@ fn put_notifying(workers: &mut [u32], worker: u32, arc: u32)
 {
     let names = [0u32; 32];
     put_call(
-        workers, worker, NOTIFYING, NONE, 0, &names, 0, 0, 0, 0, 0, NONE, arc,
+        workers,
+        worker,
+        NOTIFYING,
+        NONE,
+        0,
+        &names,
+        0,
+        0,
+        0,
+        0,
+        0,
+        NONE,
+        arc,
     );
 }
 

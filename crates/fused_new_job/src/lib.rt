@@ -1,6 +1,6 @@
-// The second half of an add run in one go, after its look-ups: the add's own name is looked up, and then its job enters,
-// is linked to the jobs found, and settles. Follows docs/RULES.md, "Steps" and "Turned-away calls". Nothing is required
-// of a table or of the arguments. Assumes nothing.
+// The second half of an add run in one go, after its look-ups: the add's own name is looked up, and then its job
+// enters, is linked to the jobs found, and settles. Follows docs/RULES.md, "Steps" and "Turned-away calls". Nothing is
+// required of a table or of the arguments. Assumes nothing.
 ghost use mathlib.Core.Path.{_≡_};
 ghost use Prim.Native.Nat.{_+_, _<_, _≤_};
 ghost use Rattle.basics.specs.Base.{prefix};
@@ -54,7 +54,20 @@ fn enter_and_link(
     enter_job(sizes, jobs, arcs, buckets, name, count, class, grower);
     let linked = link_all(sizes, jobs, arcs, made, reserved, found, count);
     settle_add(
-        sizes, jobs, queue, workers, worker, held, name, names, count, class, grower, made, reserved, linked,
+        sizes,
+        jobs,
+        queue,
+        workers,
+        worker,
+        held,
+        name,
+        names,
+        count,
+        class,
+        grower,
+        made,
+        reserved,
+        linked,
     )
 }
 
@@ -87,7 +100,19 @@ pub fn enter_if_new(
     match at {
         Found::At { job: _ } => turn_away(workers, worker, held, NAME_PRESENT, 0),
         Found::Damaged => stop(
-            workers, worker, LOOKING, held, name, names, count, class, grower, 0, count, NONE, NONE,
+            workers,
+            worker,
+            LOOKING,
+            held,
+            name,
+            names,
+            count,
+            class,
+            grower,
+            0,
+            count,
+            NONE,
+            NONE,
         ),
         Found::Missing => {
             let full = (sizes.jobs <= header(jobs, MADE))
@@ -96,7 +121,20 @@ pub fn enter_if_new(
                 turn_away(workers, worker, held, NO_ROOM, 0)
             } else {
                 enter_and_link(
-                    sizes, jobs, arcs, buckets, queue, workers, worker, held, name, names, found, count, class, grower,
+                    sizes,
+                    jobs,
+                    arcs,
+                    buckets,
+                    queue,
+                    workers,
+                    worker,
+                    held,
+                    name,
+                    names,
+                    found,
+                    count,
+                    class,
+                    grower,
                 )
             }
         }

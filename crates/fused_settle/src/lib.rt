@@ -83,7 +83,19 @@ pub fn settle_add(
     let sound = linked.sound;
     if sound {} else {
         return stop(
-            workers, worker, LINKING, held, name, names, count, class, grower, tally, place, job, first,
+            workers,
+            worker,
+            LINKING,
+            held,
+            name,
+            names,
+            count,
+            class,
+            grower,
+            tally,
+            place,
+            job,
+            first,
         );
     }
     let settled = settle(sizes, jobs, queue, job, tally, count);
@@ -92,7 +104,19 @@ pub fn settle_add(
         Answer::Ended
     } else {
         stop(
-            workers, worker, LINKING, held, name, names, count, class, grower, tally, place, job, first,
+            workers,
+            worker,
+            LINKING,
+            held,
+            name,
+            names,
+            count,
+            class,
+            grower,
+            tally,
+            place,
+            job,
+            first,
         )
     }
 }

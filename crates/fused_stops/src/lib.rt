@@ -49,7 +49,19 @@ pub fn stop(
         tally place job arc)) ⌝ }
 {
     put_call(
-        workers, worker, phase, held, name, names, count, class, grower, tally, place, job, arc,
+        workers,
+        worker,
+        phase,
+        held,
+        name,
+        names,
+        count,
+        class,
+        grower,
+        tally,
+        place,
+        job,
+        arc,
     );
     Answer::Refused {
         number: DAMAGED,
