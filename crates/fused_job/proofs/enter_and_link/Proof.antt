@@ -1,11 +1,11 @@
--- `fused_new_job::enter_and_link` meets its contract: entry, links and settling are the definition's, one after the
+-- `fused_job::enter_and_link` meets its contract: entry, links and settling are the definition's, one after the
 -- other.
 -- Assumes nothing.
 use mathlib.Core.List.{[]}
 use borrow.Author.Needs.{needs}
-use Rattle.fused_new_job.proofs.Laws.{joined}
-use Rattle.fused_new_job.proofs.enter_and_link.Statement.{statement}
-use Rattle.fused_new_job.proofs.enter_and_link.Tie as tie
+use Rattle.fused_job.proofs.Laws.{joined}
+use Rattle.fused_job.proofs.enter_and_link.Statement.{statement}
+use Rattle.fused_job.proofs.enter_and_link.Tie as tie
 
 header-requires : tie.Need-header-requires
 header-requires c κs = search needs

@@ -1,9 +1,9 @@
--- `fused_add::look_up_all` meets its contract: each way the look-ups end is a case of the definition.
+-- `fused_looking::look_up_all` meets its contract: each way the look-ups end is a case of the definition.
 -- Assumes nothing.
 use borrow.Author.Needs.{needs}
-use Rattle.fused_add.proofs.Laws.{all, unknown, broken}
-use Rattle.fused_add.proofs.look_up_all.Statement.{statement}
-use Rattle.fused_add.proofs.look_up_all.Tie as tie
+use Rattle.fused_looking.proofs.Laws.{all, unknown, broken}
+use Rattle.fused_looking.proofs.look_up_all.Statement.{statement}
+use Rattle.fused_looking.proofs.look_up_all.Tie as tie
 
 worker-word-requires : tie.Need-worker-word-requires
 worker-word-requires c κs = search needs
