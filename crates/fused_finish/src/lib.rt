@@ -2,7 +2,7 @@
 // Follows docs/RULES.md, "Steps" and "Turned-away calls". Nothing is required: the definition holds of all tables.
 ghost use mathlib.Core.Path.{_≡_};
 ghost use Rattle.terms.specs.Runs.{outcome};
-ghost use Rattle.words.specs.Layout.{HELD, tables, atEntry, atExit};
+ghost use Rattle.words.specs.Layout.{atEntry, atExit};
 ghost use Rattle.fused_words.specs.FusedFinish.{finishIfIdle};
 use fused_mark::mark_and_tell;
 use graph_own::counters_ok;

@@ -2,11 +2,10 @@
 // enters, is linked to the jobs found, and settles. Follows docs/RULES.md, "Steps" and "Turned-away calls". Nothing is
 // required of a table or of the arguments. Assumes nothing.
 ghost use mathlib.Core.Path.{_≡_};
-ghost use Prim.Native.Nat.{_+_, _<_};
 ghost use Rattle.basics.specs.Base.{prefix};
 ghost use Rattle.terms.specs.Runs.{outcome};
-ghost use Rattle.words.specs.Columns.{columns, header};
-ghost use Rattle.words.specs.Layout.{MADE, RESERVED, workerShape, HELD, view, atEntry, atExit};
+ghost use Rattle.words.specs.Columns.{columns};
+ghost use Rattle.words.specs.Layout.{workerShape, HELD, view, atEntry, atExit};
 ghost use Rattle.words.specs.Words.{findOf};
 ghost use Rattle.fused_words.specs.FusedAdd.{jobsFound, enterIn};
 use fused_job::enter_and_link;
