@@ -2,17 +2,10 @@
 // worker's words are stored once, at the end. Follows docs/RULES.md, "Steps" and "Turned-away calls". Nothing is
 // required: the definition holds of all tables and arguments.
 ghost use mathlib.Core.Path.{_≡_};
-ghost use Prim.Native.Nat.{_≤_};
-ghost use Rattle.basics.specs.Limits.{mostNames};
-ghost use Rattle.basics.specs.Base.{prefix};
 ghost use Rattle.terms.specs.Runs.{outcome};
-ghost use Rattle.words.specs.Layout.{view, atEntry, atExit};
-ghost use Rattle.fused_words.specs.FusedAdd.{lookUps, lookIn, addIfIdle};
-use fused_look_ups::look_ups;
-use fused_new_job::enter_if_new;
-use fused_stops::stop;
-use fused_stops::turn_away;
-use fused_words::LookUps;
+ghost use Rattle.words.specs.Layout.{atEntry, atExit};
+ghost use Rattle.fused_words.specs.FusedAdd.{addIfIdle};
+use fused_looking::look_up_all;
 use graph_arguments::arguments_wrong;
 use graph_own::counters_ok;
 use graph_words::layout::*;
@@ -20,65 +13,6 @@ use graph_words::numbers::*;
 use graph_words::worker_word;
 use terms::Answer;
 use terms::Sizes;
-
-// The look-ups, and what follows them. The jobs found are kept for the links.
-fn look_up_all(
-    sizes: Sizes,
-    jobs: &mut [u32],
-    arcs: &mut [u32],
-    buckets: &mut [u32],
-    queue: &mut [u32],
-    workers: &mut [u32],
-    worker: u32,
-    name: u32,
-    names: &[u32],
-    count: u32,
-    class: u32,
-    grower: u32,
-) -> Answer
-    ensures { λ r. ⌜ (count ≤ mostNames → outcome r (atExit jobs arcs buckets queue workers)
-        ≡ lookIn sizes (atEntry jobs arcs buckets queue workers) worker
-        (record { name = name; count = count; names = now (names .entry); class = class; grower = grower })
-        (lookUps sizes (view (atEntry jobs arcs buckets queue workers)) (prefix count (now (names .entry))) 0)) ⌝ }
-{
-    let held = worker_word(workers, worker, HELD);
-    let mut found = [0u32; 32];
-    let ends = look_ups(sizes, jobs, buckets, names, count, &mut found);
-    match ends {
-        LookUps::All => enter_if_new(
-            sizes,
-            jobs,
-            arcs,
-            buckets,
-            queue,
-            workers,
-            worker,
-            held,
-            name,
-            names,
-            &found,
-            count,
-            class,
-            grower,
-        ),
-        LookUps::Unknown { place } => turn_away(workers, worker, held, UNKNOWN_NAME, place),
-        LookUps::Broken { place } => stop(
-            workers,
-            worker,
-            LOOKING,
-            held,
-            name,
-            names,
-            count,
-            class,
-            grower,
-            0,
-            place,
-            NONE,
-            NONE,
-        ),
-    }
-}
 
 // Adds a job. Of a worker that is half done it answers 3, and changes nothing.
 pub fn add_if_idle(

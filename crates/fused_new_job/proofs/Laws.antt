@@ -15,7 +15,7 @@ use Rattle.words.specs.Words.{findOf}
 use Rattle.words.specs.declared.Found.{Found}
 use Rattle.words.specs.declared.Found.the-variants.{At, Missing, Damaged}
 use Rattle.fused_words.specs.FusedWorker.{holdOf, idledWith, addWorker, halted}
-use Rattle.fused_words.specs.FusedAdd.{Links, jobsFound, enteredTables, links, settleIn, enterIn}
+use Rattle.fused_words.specs.FusedAdd.{jobsFound, enteredTables, links, settleIn, enterIn}
 
 -- there is room for the job and for its arcs
 pub room : (s : Sizes) (made reserved count : ℕ)
@@ -24,12 +24,6 @@ room s made reserved count e =
     let full = leb (s .jobs) made in
     let over = ltb (s .arcs) (reserved + count) in
     (leb-false (s .jobs) made (or-left full over e), ltb-false (s .arcs) (reserved + count) (or-right full over e))
-
--- entry, links and settling, with the job and the arc that the code read before
-pub joined : (s : Sizes) (w : ℕ) (a : Arguments) (held : ℕ) (l : List ℕ) {j x m r : ℕ} {o : Outcome Tables} {k : Links}
-    {t u : Tables} → o ≡ settleIn s w a held j x k → k ≡ links s j x l 0 t 0 → t ≡ u → j ≡ m → x ≡ r
-    → o ≡ settleIn s w a held m r (links s m r l 0 u 0)
-joined s w a held l p q e f g = p ∙ rw (q, e, f, g)
 
 -- ---- each answer
 module _ (s : Sizes) (t : Tables) (w : ℕ) (a : Arguments) {held : ℕ} (h : held ≡ holdOf t w) {f : Found}

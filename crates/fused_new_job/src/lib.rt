@@ -1,17 +1,14 @@
-// The second half of an add run in one go, after its look-ups: the add's own name is looked up, and then its job enters,
-// is linked to the jobs found, and settles. Follows docs/RULES.md, "Steps" and "Turned-away calls". Nothing is required
-// of a table or of the arguments. Assumes nothing.
+// The second half of an add run in one go, after its look-ups: the add's own name is looked up, and then its job
+// enters, is linked to the jobs found, and settles. Follows docs/RULES.md, "Steps" and "Turned-away calls". Nothing is
+// required of a table or of the arguments. Assumes nothing.
 ghost use mathlib.Core.Path.{_≡_};
-ghost use Prim.Native.Nat.{_+_, _<_, _≤_};
 ghost use Rattle.basics.specs.Base.{prefix};
 ghost use Rattle.terms.specs.Runs.{outcome};
-ghost use Rattle.words.specs.Columns.{columns, header};
-ghost use Rattle.words.specs.Layout.{none, MADE, RESERVED, workerShape, HELD, view, atEntry, atExit};
+ghost use Rattle.words.specs.Columns.{columns};
+ghost use Rattle.words.specs.Layout.{workerShape, HELD, view, atEntry, atExit};
 ghost use Rattle.words.specs.Words.{findOf};
-ghost use Rattle.fused_words.specs.FusedAdd.{jobsFound, enteredTables, links, settleIn, enterIn};
-use fused_entering::enter_job;
-use fused_links::link_all;
-use fused_settle::settle_add;
+ghost use Rattle.fused_words.specs.FusedAdd.{jobsFound, enterIn};
+use fused_job::enter_and_link;
 use fused_stops::stop;
 use fused_stops::turn_away;
 use graph_find::find;
@@ -21,55 +18,6 @@ use graph_words::numbers::*;
 use terms::Answer;
 use terms::Sizes;
 use words::Found;
-
-// The job enters, is linked to the jobs found, and settles.
-fn enter_and_link(
-    sizes: Sizes,
-    jobs: &mut [u32],
-    arcs: &mut [u32],
-    buckets: &mut [u32],
-    queue: &mut [u32],
-    workers: &mut [u32],
-    worker: u32,
-    held: u32,
-    name: u32,
-    names: &[u32],
-    found: &[u32],
-    count: u32,
-    class: u32,
-    grower: u32,
-) -> Answer
-    ensures { λ r. ⌜ (header (now (jobs .entry)) MADE < none → header (now (arcs .entry)) RESERVED + count ≤ none
-        → outcome r (atExit jobs arcs buckets queue workers)
-        ≡ settleIn sizes worker
-        (record { name = name; count = count; names = now (names .entry); class = class; grower = grower }) held
-        (header (now (jobs .entry)) MADE) (header (now (arcs .entry)) RESERVED)
-        (links sizes (header (now (jobs .entry)) MADE) (header (now (arcs .entry)) RESERVED)
-        (prefix count (now (found .entry))) 0
-        (enteredTables sizes (atEntry jobs arcs buckets queue workers)
-        (record { name = name; count = count; names = now (names .entry); class = class; grower = grower })) 0)) ⌝ }
-{
-    let made = header(jobs, MADE);
-    let reserved = header(arcs, RESERVED);
-    enter_job(sizes, jobs, arcs, buckets, name, count, class, grower);
-    let linked = link_all(sizes, jobs, arcs, made, reserved, found, count);
-    settle_add(
-        sizes,
-        jobs,
-        queue,
-        workers,
-        worker,
-        held,
-        name,
-        names,
-        count,
-        class,
-        grower,
-        made,
-        reserved,
-        linked,
-    )
-}
 
 // After its look-ups the add's own name is looked up, which is to be new, and the tables are to have room.
 pub fn enter_if_new(

@@ -1,5 +1,6 @@
 -- THE PROMISES. Every theorem that the three demands rest on, as far as they concern the graph, each with a one-line
--- proof that names where it was shown. (Those about job sheets: sheet_format, specs/SheetPromises.antt.) To
+-- proof that names where it was shown. (Those about whole calls and sheets of adds: WholeCallPromises.antt, beside this
+-- file; about job sheets: sheet_format, specs/SheetPromises.antt.) To
 -- believe a statement, read the definitions that it names:
 --   the words of the tables   words: specs/Layout.antt, specs/Words.antt   (the contracts cite them, for ALL tables)
 --   what is seen in a state   terms: specs/Seen.antt; words, rules: specs/Observed.antt
@@ -8,8 +9,6 @@
 --   whole calls               linearization: specs/Calls.antt              (read off items and answers alone)
 --   demand 3                  linearizability: specs/Demand.antt           (of any machine; wrong ones in Wrong*.antt)
 --   how calls end             linearizability: specs/Ends.antt
---   whole calls and sheets    whole_words: specs/Whole.antt, specs/Sheet.antt; host_calls: specs/HostCalls.antt,
---                             specs/CallsDemand.antt, specs/CallEnds.antt; calls_history: specs/WordsCalls.antt
 --   the board                 graph_board: specs/Board.antt, specs/Accounted.antt
 --   held and drained          worker_state: specs/Held.antt, specs/Drained.antt; state_history: specs/Told.antt
 --   words needed, and rest    locality: specs/Parts.antt, specs/Refusals.antt, specs/Numbers.antt
@@ -28,12 +27,11 @@ use Rattle.basics.specs.Limits.{mostNames}
 use Rattle.basics.specs.Base.{pick, contains, occurrences}
 use Rattle.bucket.specs.Bucket.{bucketOf}
 use Rattle.terms.specs.Terms.{Arguments, withinLimits, sameSizes, wrongSizes, noSuchWorker, damaged}
-use Rattle.terms.specs.Terms.{halfDone, nothingToStep, mostWorkers, mostEntries, Finish}
+use Rattle.terms.specs.Terms.{halfDone, nothingToStep, mostWorkers, Finish}
 use Rattle.terms.specs.Runs.{Item, step, get, sizesOf, workerOf, outcome, after, events}
 use Rattle.terms.specs.Seen.{Same, idle, handOut}
 use Rattle.terms.specs.declared.Sizes.{Sizes}
 use Rattle.terms.specs.declared.HandOut.{HandOut}
-use Rattle.terms.specs.declared.Answer.{Answer}
 use Rattle.terms.specs.declared.Answer.the-variants.{Laid, Posted, Ended, NoneReady, Handed, Refused}
 use Rattle.words.specs.Layout.{Tables, view, workerShape, NAME, LABEL, HELD, LIST-COUNT, NAMES, IDLE, bareWorker}
 use Rattle.words.specs.Layout.{roomFor}
@@ -79,15 +77,7 @@ use Rattle.state_history.specs.Need as state-need
 use Rattle.state_history.specs.Agrees as state-agrees
 use Rattle.state_history.specs.Theorem as state
 use Rattle.starred_cases.specs.StarredCases.{Starred, every-row}
-use Rattle.host_calls.specs.HostCalls.{HostCall, sheet, one, each, replied, worth, replyWorth}
-use Rattle.host_calls.specs.HostCalls as host
-use Rattle.host_calls.specs.CallsDemand.{CallsDemand}
-use Rattle.whole_words.specs.CallEnds.{AddAnswer, FinishAnswer, AddAnswers}
-use Rattle.calls_history.specs.WordsCalls.{turnedWords, answerWords}
-use Rattle.calls_history.specs.Worth.{whole-is-worth}
-use Rattle.calls_history.specs.Theorem.{calls-demand}
-use Rattle.calls_history.specs.NoneCutShort.{now}
-use Rattle.calls_history.specs.NoneCutShort as whole
+use Rattle.whole_words.specs.CallEnds.{AddAnswer}
 
 -- ---- of every list of items from tables that were laid out, whatever they held before
 module _ (s : Sizes) (t : Tables) (laid : layOut s t .answer ≡ Laid) (items : List Item) where
@@ -245,36 +235,6 @@ module _ (s : Sizes) (t : Tables) (laid : layOut s t .answer ≡ Laid) (items : 
       → (j : ℕ) → j < length (acceptedAdds (read .calls))
       → JobFinished (seen at-end) (read .calls) j
   what-is-told-drained-is-finished = state.drained-finished s t laid items
-
--- ---- of every list of calls from tables that were laid out: single items beside adds and finishes that are run whole
--- in one call, and sheets of adds
-module _ (s : Sizes) (t : Tables) (laid : layOut s t .answer ≡ Laid) (calls : List HostCall) where
-  -- DEMAND 3 of such lists: a call replies what its posts and steps answer, with no other worker's step between; the
-  -- tables, what is read off calls and replies, and the entries are those of these items, of which every clause holds.
-  pub every-list-of-calls-is-right : CallsDemand perform turnedWords answerWords seen s (layOut s t .state) calls
-  every-list-of-calls-is-right = calls-demand s t laid calls
-
-  -- No call is cut short: to an idle worker an add replies that it ended, or 5 to 8; a finish that it ended, or 11; a
-  -- sheet of up to 64 entries has such an answer for each.
-  module _ (w : ℕ) (there : w < s .workers) (free : whole.told s t laid calls .pending w ≡ reading.idle) where
-    pub a-whole-add-ends : (a : Arguments)
-        → (x : Answer) × (answerWords (now s t laid calls) (host.wholeAdd s w a) .reply ≡ one x) × AddAnswer x
-    a-whole-add-ends = whole.add-is-whole s t laid calls w there free
-
-    pub a-whole-finish-ends : (f : Finish)
-        → (x : Answer) × (answerWords (now s t laid calls) (host.wholeFinish s w f) .reply ≡ one x) × FinishAnswer x
-    a-whole-finish-ends = whole.finish-is-whole s t laid calls w there free
-
-    pub a-sheet-has-each-answer : (l : List Arguments) → length l ≤ mostEntries
-        → (xs : List Answer) × (answerWords (now s t laid calls) (sheet s w l) .reply ≡ each 0 xs) × AddAnswers l xs
-    a-sheet-has-each-answer = whole.sheet-is-whole s t laid calls w there free
-
--- ---- of ALL tables, damaged ones too, and every call
--- "equal those of the single adds with no other worker's step between": a call replies what the items that it is worth
--- answer, and leaves what they leave.
-pub a-call-is-its-posts-and-steps : (t : Tables) (c : HostCall)
-    → answerWords t c ≡ replied (replyWorth perform turnedWords t c) (after perform t (worth perform turnedWords t c))
-a-call-is-its-posts-and-steps = whole-is-worth
 
 -- ---- of ALL tables, damaged ones too, and every item
 module _ (t : Tables) (i : Item) where

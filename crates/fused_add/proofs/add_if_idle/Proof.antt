@@ -1,25 +1,19 @@
-use Rattle.fused_words.specs.FusedAdd.{addIn, addIfIdle}
+-- `fused_add::add_if_idle` meets its contract: each way through the code is a case of the definition; arguments that
+-- are not wrong list at most 32 names.
+-- Assumes nothing.
 use mathlib.Core.List.{[]}
-use Rattle.fused_add.proofs.Laws.{short, goes}
 use borrow.Author.Needs.{needs}
+use Rattle.fused_words.specs.FusedAdd.{addIn, addIfIdle}
+use Rattle.fused_add.proofs.Laws.{short, goes}
 use Rattle.fused_add.proofs.add_if_idle.Statement.{statement}
 use Rattle.fused_add.proofs.add_if_idle.Tie as tie
-use Rattle.fused_add.proofs.add_if_idle.Reads as reads
-use Rattle.fused_add.proofs.add_if_idle.Lts as lts
-use Rattle.fused_add.proofs.look_up_all.Reads as look-up-all-reads
-use Rattle.graph_arguments.proofs.arguments_wrong.Reads as arguments-wrong-reads
-use Rattle.graph_own.proofs.counters_ok.Reads as counters-ok-reads
-use Rattle.graph_words.proofs.worker_word.Reads as worker-word-reads
 
--- src/lib.rt:167:16
 worker-word-requires : tie.Need-worker-word-requires
 worker-word-requires c κs = search needs
 
--- src/lib.rt:169:9
 same-length : tie.Need-same-length
 same-length c = search needs
 
--- src/lib.rt:169:9
 returns : tie.Need-returns
 unfolding addIfIdle addIn
 returns c =
@@ -28,15 +22,12 @@ returns c =
       c .if1 .left,
     )
 
--- src/lib.rt:174:9
 arguments-wrong-requires : tie.Need-arguments-wrong-requires
 arguments-wrong-requires c κs = search needs
 
--- src/lib.rt:176:9
 same-length-2 : tie.Need-same-length-2
 same-length-2 c = search needs
 
--- src/lib.rt:176:9
 returns-2 : tie.Need-returns-2
 unfolding addIfIdle addIn
 returns-2 c =
@@ -47,39 +38,30 @@ returns-2 c =
       c .if2 .taken,
     )
 
--- src/lib.rt:181:9
 counters-ok-requires : tie.Need-counters-ok-requires
 counters-ok-requires c κs = search needs
 
--- src/lib.rt:184:71
 slice-aggregate-look-up-all : tie.Need-slice-aggregate-look-up-all
 slice-aggregate-look-up-all c = search needs
 
--- src/lib.rt:183:9
 look-up-all-requires : tie.Need-look-up-all-requires
 look-up-all-requires c κs = search needs
 
--- src/lib.rt:149:1
 same-length-3 : tie.Need-same-length-3
 same-length-3 c = search needs
 
--- src/lib.rt:149:1
 same-length-4 : tie.Need-same-length-4
 same-length-4 c = search needs
 
--- src/lib.rt:149:1
 same-length-5 : tie.Need-same-length-5
 same-length-5 c = search needs
 
--- src/lib.rt:149:1
 same-length-6 : tie.Need-same-length-6
 same-length-6 c = search needs
 
--- src/lib.rt:149:1
 same-length-7 : tie.Need-same-length-7
 same-length-7 c = search needs
 
--- src/lib.rt:149:1
 returns-3 : tie.Need-returns-3
 returns-3 c =
     let c4 = c .before .before .before .before in
@@ -88,23 +70,21 @@ returns-3 c =
     let c16 = c12 .before .before .before .before in
     let c20 = c16 .before .before .before .before in
     let c24 = c20 .before .before .before .before in
-    goes _ _ _ _ (c24 .worker-word .ensures) (c20 .before .before .before .if1 .taken) (c20 .before .before .arguments-wrong .ensures) (c20 .before .if2 .left)
+    goes _ _ _ _ (c24 .worker-word .ensures) (c20 .before .before .before .if1 .taken)
+    (c20 .before .before .arguments-wrong .ensures) (c20 .before .if2 .left)
     (c16 .before .before .counters-ok .ensures [] [] []) (c16 .before .if3 .taken)
-    (c8 .before .before .look-up-all .ensures (short _ (c20 .before .before .arguments-wrong .ensures) (c20 .before .if2 .left)))
+    (c8 .before .before .look-up-all .ensures (short _ (c20 .before .before .arguments-wrong .ensures)
+    (c20 .before .if2 .left)))
 
--- src/lib.rt:149:1
 same-length-8 : tie.Need-same-length-8
 same-length-8 c = search needs
 
--- src/lib.rt:149:1
 same-length-9 : tie.Need-same-length-9
 same-length-9 c = search needs
 
--- src/lib.rt:149:1
 same-length-10 : tie.Need-same-length-10
 same-length-10 c = search needs
 
--- src/lib.rt:149:1
 returns-4 : tie.Need-returns-4
 unfolding addIfIdle addIn
 returns-4 c =

@@ -1,70 +1,50 @@
+-- `fused_entering::enter_job` meets its contract: the words, both counters and the bucket's head are the definition's,
+-- and the counters are words.
+-- Assumes nothing.
 use native.Mathlib.Omega.{arith}
 use borrow.Author.Needs.{needs}
 use Rattle.fused_entering.proofs.enter_job.Statement.{statement}
 use Rattle.fused_entering.proofs.enter_job.Tie as tie
-use Rattle.fused_entering.proofs.enter_job.Reads as reads
-use Rattle.fused_entering.proofs.enter_job.Lts as lts
-use Rattle.bucket.proofs.bucket.Reads as bucket-reads
-use Rattle.graph_records.proofs.put_job_record.Reads as put-job-record-reads
-use Rattle.graph_words.proofs.bucket_word.Reads as bucket-word-reads
-use Rattle.graph_words.proofs.header.Reads as header-reads
-use Rattle.graph_words.proofs.put_bucket.Reads as put-bucket-reads
-use Rattle.graph_words.proofs.put_header.Reads as put-header-reads
-use Rattle.graph_worker_words.proofs.sum.Reads as sum-reads
 
--- src/lib.rt:40:9
 header-requires : tie.Need-header-requires
 header-requires c κs = search needs
 
--- src/lib.rt:41:9
 header-requires-2 : tie.Need-header-requires-2
 header-requires-2 c κs = search needs
 
--- src/lib.rt:42:9
 bucket-requires : tie.Need-bucket-requires
 bucket-requires c κs = search needs
 
--- src/lib.rt:43:9
 bucket-word-requires : tie.Need-bucket-word-requires
 bucket-word-requires c κs = search needs
 
--- src/lib.rt:44:5
 put-job-record-requires : tie.Need-put-job-record-requires
 put-job-record-requires c κs = search needs
 
--- src/lib.rt:45:28
 sum-requires : tie.Need-sum-requires
 sum-requires c κs = search needs
 
--- src/lib.rt:45:5
 put-header-requires : tie.Need-put-header-requires
 put-header-requires c κs = search needs
 
--- src/lib.rt:46:32
 sum-requires-2 : tie.Need-sum-requires-2
 sum-requires-2 c κs = search needs
 
--- src/lib.rt:46:5
 put-header-requires-2 : tie.Need-put-header-requires-2
 put-header-requires-2 c κs = search needs
 
--- src/lib.rt:47:5
 put-bucket-requires : tie.Need-put-bucket-requires
 put-bucket-requires c κs = search needs
 
--- src/lib.rt:22:1
 same-length : tie.Need-same-length
 same-length c = search needs
 
--- src/lib.rt:22:1
 same-length-2 : tie.Need-same-length-2
 same-length-2 c = search needs
 
--- src/lib.rt:22:1
 same-length-3 : tie.Need-same-length-3
 same-length-3 c = search needs
 
--- src/lib.rt:22:1
 returns : tie.Need-returns
 returns c =
     λ a b queue workers names.

@@ -1,25 +1,18 @@
+-- `fused_finish::finish_if_idle` meets its contract: each way through the code is a case of the definition.
+-- Assumes nothing.
 use mathlib.Core.List.{[]}
-use Rattle.fused_finish.proofs.Laws.{goes}
-use Rattle.fused_words.specs.FusedFinish.{finishIn, finishIfIdle}
 use borrow.Author.Needs.{needs}
+use Rattle.fused_words.specs.FusedFinish.{finishIn, finishIfIdle}
+use Rattle.fused_finish.proofs.Laws.{goes}
 use Rattle.fused_finish.proofs.finish_if_idle.Statement.{statement}
 use Rattle.fused_finish.proofs.finish_if_idle.Tie as tie
-use Rattle.fused_finish.proofs.finish_if_idle.Reads as reads
-use Rattle.fused_finish.proofs.finish_if_idle.Lts as lts
-use Rattle.fused_finish.proofs.mark_and_tell.Reads as mark-and-tell-reads
-use Rattle.graph_own.proofs.counters_ok.Reads as counters-ok-reads
-use Rattle.graph_words.proofs.job_word.Reads as job-word-reads
-use Rattle.graph_words.proofs.worker_word.Reads as worker-word-reads
 
--- src/lib.rt:116:16
 worker-word-requires : tie.Need-worker-word-requires
 worker-word-requires c κs = search needs
 
--- src/lib.rt:118:9
 same-length : tie.Need-same-length
 same-length c = search needs
 
--- src/lib.rt:118:9
 returns : tie.Need-returns
 unfolding finishIfIdle finishIn
 returns c =
@@ -28,15 +21,12 @@ returns c =
       c .if1 .left,
     )
 
--- src/lib.rt:123:9
 worker-word-requires-2 : tie.Need-worker-word-requires-2
 worker-word-requires-2 c κs = search needs
 
--- src/lib.rt:126:9
 same-length-2 : tie.Need-same-length-2
 same-length-2 c = search needs
 
--- src/lib.rt:126:9
 returns-2 : tie.Need-returns-2
 unfolding finishIfIdle finishIn
 returns-2 c =
@@ -47,19 +37,15 @@ returns-2 c =
       c .if2 .taken,
     )
 
--- src/lib.rt:131:17
 job-word-requires : tie.Need-job-word-requires
 job-word-requires c κs = search needs
 
--- src/lib.rt:133:9
 same-length-3 : tie.Need-same-length-3
 same-length-3 c = search needs
 
--- src/lib.rt:133:9
 same-length-4 : tie.Need-same-length-4
 same-length-4 c = search needs
 
--- src/lib.rt:133:9
 returns-3 : tie.Need-returns-3
 unfolding finishIfIdle finishIn
 returns-3 c =
@@ -72,31 +58,24 @@ returns-3 c =
       c .if3 .left,
     )
 
--- src/lib.rt:138:9
 counters-ok-requires : tie.Need-counters-ok-requires
 counters-ok-requires c κs = search needs
 
--- src/lib.rt:140:9
 mark-and-tell-requires : tie.Need-mark-and-tell-requires
 mark-and-tell-requires c κs = search needs
 
--- src/lib.rt:103:1
 same-length-5 : tie.Need-same-length-5
 same-length-5 c = search needs
 
--- src/lib.rt:103:1
 same-length-6 : tie.Need-same-length-6
 same-length-6 c = search needs
 
--- src/lib.rt:103:1
 same-length-7 : tie.Need-same-length-7
 same-length-7 c = search needs
 
--- src/lib.rt:103:1
 same-length-8 : tie.Need-same-length-8
 same-length-8 c = search needs
 
--- src/lib.rt:103:1
 returns-4 : tie.Need-returns-4
 returns-4 c =
     let c4 = c .before .before .before .before in
@@ -104,23 +83,21 @@ returns-4 c =
     let c12 = c8 .before .before .before .before in
     let c16 = c12 .before .before .before .before in
     let c20 = c16 .before .before .before .before in
-    goes _ _ _ _ (c20 .before .before .worker-word .ensures) (c20 .before .if1 .taken) (c16 .before .before .before .worker-word2 .ensures) (c16 .before .before .if2 .left)
-    (c16 .job-word .ensures) (c12 .before .before .before .if3 .taken) (c12 .counters-ok .ensures [] [] []) (c8 .before .before .before .if4 .taken)
+    goes _ _ _ _ (c20 .before .before .worker-word .ensures) (c20 .before .if1 .taken)
+    (c16 .before .before .before .worker-word2 .ensures) (c16 .before .before .if2 .left)
+    (c16 .job-word .ensures) (c12 .before .before .before .if3 .taken) (c12 .counters-ok .ensures [] [] [])
+    (c8 .before .before .before .if4 .taken)
     (c4 .before .before .mark-and-tell .ensures (c16 .before .before .before .worker-word2 .ensures) _)
 
--- src/lib.rt:103:1
 same-length-9 : tie.Need-same-length-9
 same-length-9 c = search needs
 
--- src/lib.rt:103:1
 same-length-10 : tie.Need-same-length-10
 same-length-10 c = search needs
 
--- src/lib.rt:103:1
 same-length-11 : tie.Need-same-length-11
 same-length-11 c = search needs
 
--- src/lib.rt:103:1
 returns-5 : tie.Need-returns-5
 unfolding finishIfIdle finishIn
 returns-5 c =

@@ -1,19 +1,18 @@
-use mathlib.Core.Path.{_≡_, refl, _∙_}
+-- `fused_links::link_all` meets its contract: the loop's invariant: the links that are left make the whole, and the
+-- tally is at most the place. The measure is the number of jobs left.
+-- Assumes nothing.
 use mathlib.Core.List.{List}
+use mathlib.Core.Path.{_≡_, refl, _∙_}
 use Prim.Native.Nat.{ℕ, _+_, _≤_, _-_}
 use native.Mathlib.Omega.{arith}
-use borrow.Author.Needs.{needs}
 use lib.ListN.{length, drop}
+use borrow.Author.Needs.{needs}
 use Rattle.basics.specs.Base.{prefix}
 use Rattle.words.specs.Layout.{tables}
 use Rattle.fused_words.specs.FusedAdd.{links}
 use Rattle.fused_links.proofs.Laws.{link-next, link-none}
 use Rattle.fused_links.proofs.link_all.Statement.{statement}
 use Rattle.fused_links.proofs.link_all.Tie as tie
-use Rattle.fused_links.proofs.link_all.Reads as reads
-use Rattle.fused_links.proofs.link_all.Lts as lts
-use Rattle.fused_links.proofs.link_one.Reads as link-one-reads
-use Rattle.graph_words.proofs.word.Reads as word-reads
 
 abbrev Inv-loop : tie.InvT-loop
 Inv-loop sizes jobs₀ arcs₀ job first found count i₀ tally₀ jobs arcs i tally =
@@ -28,46 +27,37 @@ Inv-loop sizes jobs₀ arcs₀ job first found count i₀ tally₀ jobs arcs i t
 abbrev μ-loop : tie.MeasureT-loop
 μ-loop sizes jobs₀ arcs₀ job first found count i₀ tally₀ jobs arcs i tally = count - i
 
--- src/lib.rt:108:5
 loop-holds : tie.Need-loop-holds Inv-loop μ-loop
 loop-holds c =
     (omega arith, omega arith, refl, refl, λ buckets queue workers. refl)
 
--- src/lib.rt:113:31
 cast-link-one : tie.Need-cast-link-one Inv-loop μ-loop
 cast-link-one c = search needs
 
--- src/lib.rt:113:13
 add-link-one : tie.Need-add-link-one Inv-loop μ-loop
 add-link-one c = search needs
 
--- src/lib.rt:115:25
 cast-word : tie.Need-cast-word Inv-loop μ-loop
 cast-word c = search needs
 
--- src/lib.rt:115:13
 word-requires : tie.Need-word-requires Inv-loop μ-loop
 word-requires c κs = search needs
 
--- src/lib.rt:109:13
 link-one-requires : tie.Need-link-one-requires Inv-loop μ-loop
 link-one-requires c κs = search needs
 
--- src/lib.rt:119:13
 same-length : tie.Need-same-length Inv-loop μ-loop
 same-length c =
     let c4 = c .before .before .before .before in
     let c8 = c4 .before .before .before .before in
     c4 .before .link-one .kept .1 .0 ∙ c8 .before .before .loop .inv .2
 
--- src/lib.rt:119:13
 same-length-2 : tie.Need-same-length-2 Inv-loop μ-loop
 same-length-2 c =
     let c4 = c .before .before .before .before in
     let c8 = c4 .before .before .before .before in
     c4 .before .link-one .kept .1 .1 .0 ∙ c8 .before .before .loop .inv .3
 
--- src/lib.rt:119:13
 returns : tie.Need-returns Inv-loop μ-loop
 returns c =
     λ buckets queue workers.
@@ -82,21 +72,17 @@ returns c =
     ∙ link-next _ _ _ _ _ _ _ _ (c8 .before .loop-test .taken)
     ∙ l .inv .4 buckets queue workers
 
--- src/lib.rt:125:9
 add-tally : tie.Need-add-tally Inv-loop μ-loop
 add-tally c =
     let c4 = c .before .before .before .before in
     omega (arith, c4 .before .before .link-one .ensures .0)
 
--- src/lib.rt:126:9
 add-i : tie.Need-add-i Inv-loop μ-loop
 add-i c = search needs
 
--- src/lib.rt:108:5
 loop-less : tie.Need-loop-less Inv-loop μ-loop
 loop-less c = search needs
 
--- src/lib.rt:108:5
 loop-again : tie.Need-loop-again Inv-loop μ-loop
 loop-again c =
     let c4 = c .before .before .before .before in
@@ -116,17 +102,14 @@ loop-again c =
           ∙ l .inv .4 buckets queue workers,
     )
 
--- src/lib.rt:92:1
 same-length-3 : tie.Need-same-length-3 Inv-loop μ-loop
 same-length-3 c =
     c .before .loop .inv .2
 
--- src/lib.rt:92:1
 same-length-4 : tie.Need-same-length-4 Inv-loop μ-loop
 same-length-4 c =
     c .before .loop .inv .3
 
--- src/lib.rt:92:1
 returns-2 : tie.Need-returns-2 Inv-loop μ-loop
 returns-2 c =
     λ buckets queue workers.

@@ -1,71 +1,55 @@
-use native.Mathlib.Omega.{arith}
+-- `fused_links::link_one` meets its contract: each plan's stores are the definition's.
+-- Assumes nothing.
 use native.Mathlib.Numerals.{add-one}
-use Rattle.fused_links.proofs.Laws.{ends, add-zero}
+use native.Mathlib.Omega.{arith}
 use borrow.Author.Needs.{needs}
+use Rattle.fused_links.proofs.Laws.{ends, add-zero}
 use Rattle.fused_links.proofs.link_one.Statement.{statement}
 use Rattle.fused_links.proofs.link_one.Tie as tie
-use Rattle.fused_links.proofs.link_one.Reads as reads
-use Rattle.fused_links.proofs.link_one.Lts as lts
-use Rattle.graph_link_steps.proofs.plan_link.Reads as plan-link-reads
-use Rattle.graph_lists.proofs.append_arc.Reads as append-arc-reads
-use Rattle.graph_lists.proofs.new_arc.Reads as new-arc-reads
-use Rattle.graph_lists.proofs.put_only_arc.Reads as put-only-arc-reads
-use Rattle.graph_words.proofs.put_job.Reads as put-job-reads
 
--- src/lib.rt:54:9
 plan-link-requires : tie.Need-plan-link-requires
 plan-link-requires c κs = search needs
 
--- src/lib.rt:56:24
 enum-told : tie.Need-enum-told
 enum-told c = search needs
 
--- src/lib.rt:61:27
 enum-known-plan : tie.Need-enum-known-plan
 enum-known-plan c = search needs
 
--- src/lib.rt:65:13
 put-only-arc-requires : tie.Need-put-only-arc-requires
 put-only-arc-requires c κs = search needs
 
--- src/lib.rt:66:13
 new-arc-requires : tie.Need-new-arc-requires
 new-arc-requires c κs = search needs
 
--- src/lib.rt:73:27
 enum-known-plan-2 : tie.Need-enum-known-plan-2
 enum-known-plan-2 c = search needs
 
--- src/lib.rt:78:13
 put-job-requires : tie.Need-put-job-requires
 put-job-requires c κs = search needs
 
--- src/lib.rt:79:13
 append-arc-requires : tie.Need-append-arc-requires
 append-arc-requires c κs = search needs
 
--- src/lib.rt:39:1
 same-length : tie.Need-same-length
 same-length c = search needs
 
--- src/lib.rt:39:1
 same-length-2 : tie.Need-same-length-2
 same-length-2 c = search needs
 
--- src/lib.rt:39:1
 returns : tie.Need-returns
-returns c =
-    (omega arith, λ buckets queue workers i k next. rw (← c .before .before .plan-link .ensures, c .enum-told .given .1, add-one))
+returns c = (
+  omega arith,
+  λ buckets queue workers i k next. rw
+      (← c .before .before .plan-link .ensures, c .enum-told .given .1, add-one),
+)
 
--- src/lib.rt:39:1
 same-length-3 : tie.Need-same-length-3
 same-length-3 c = search needs
 
--- src/lib.rt:39:1
 same-length-4 : tie.Need-same-length-4
 same-length-4 c = search needs
 
--- src/lib.rt:39:1
 returns-2 : tie.Need-returns-2
 returns-2 c =
     let c4 = c .before .before .before .before in
@@ -81,15 +65,12 @@ returns-2 c =
           ),
     )
 
--- src/lib.rt:39:1
 same-length-5 : tie.Need-same-length-5
 same-length-5 c = search needs
 
--- src/lib.rt:39:1
 same-length-6 : tie.Need-same-length-6
 same-length-6 c = search needs
 
--- src/lib.rt:39:1
 returns-3 : tie.Need-returns-3
 returns-3 c =
     let c4 = c .before .before .before .before in
@@ -105,15 +86,12 @@ returns-3 c =
           ),
     )
 
--- src/lib.rt:39:1
 same-length-7 : tie.Need-same-length-7
 same-length-7 c = search needs
 
--- src/lib.rt:39:1
 same-length-8 : tie.Need-same-length-8
 same-length-8 c = search needs
 
--- src/lib.rt:39:1
 returns-4 : tie.Need-returns-4
 returns-4 c = (
   omega arith,

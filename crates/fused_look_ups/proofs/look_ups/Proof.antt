@@ -1,22 +1,19 @@
-use mathlib.Core.Path.{_≡_, refl, _∙_}
+-- `fused_look_ups::look_ups` meets its contract: the loop's invariant: the look-ups that are left end as all do, and
+-- each job found so far is kept. The measure is the number of names left.
+-- Assumes nothing.
 use mathlib.Core.List.{List}
+use mathlib.Core.Path.{_≡_, refl, _∙_}
 use Prim.Native.Nat.{ℕ, _<_, _≤_, _-_}
-use native.Mathlib.Omega.{arith}
 use native.Mathlib.Nat.{lt-of-lt-of-le}
-use borrow.Author.Needs.{needs}
+use native.Mathlib.Omega.{arith}
 use lib.ListN.{length, drop}
+use borrow.Author.Needs.{needs}
 use Rattle.basics.specs.Base.{prefix}
 use Rattle.words.specs.Layout.{tables, view}
 use Rattle.fused_words.specs.FusedAdd.{lookUps}
-use Rattle.fused_words.specs.declared.LookUps.the-variants.{All}
 use Rattle.fused_look_ups.proofs.Laws.{told, on, missing, broken, done, Kept, kept-one, all-kept, not-unknown, not-broken}
 use Rattle.fused_look_ups.proofs.look_ups.Statement.{statement}
 use Rattle.fused_look_ups.proofs.look_ups.Tie as tie
-use Rattle.fused_look_ups.proofs.look_ups.Reads as reads
-use Rattle.fused_look_ups.proofs.look_ups.Lts as lts
-use Rattle.graph_find.proofs.find.Reads as find-reads
-use Rattle.graph_words.proofs.put_word.Reads as put-word-reads
-use Rattle.graph_words.proofs.word.Reads as word-reads
 
 abbrev Inv-loop : tie.InvT-loop
 Inv-loop sizes jobs buckets names count found₀ i₀ found i =
@@ -30,82 +27,68 @@ Inv-loop sizes jobs buckets names count found₀ i₀ found i =
 abbrev μ-loop : tie.MeasureT-loop
 μ-loop sizes jobs buckets names count found₀ i₀ found i = count - i
 
--- src/lib.rt:36:5
 loop-holds : tie.Need-loop-holds Inv-loop μ-loop
 loop-holds c =
     (omega arith, refl, λ arcs queue workers. (refl, λ b k h. absurd (omega arith)))
 
--- src/lib.rt:37:57
 cast-word : tie.Need-cast-word Inv-loop μ-loop
 cast-word c = search needs
 
--- src/lib.rt:37:45
 word-requires : tie.Need-word-requires Inv-loop μ-loop
 word-requires c κs = search needs
 
--- src/lib.rt:37:13
 find-requires : tie.Need-find-requires Inv-loop μ-loop
 find-requires c κs = search needs
 
--- src/lib.rt:39:25
 enum-known-at : tie.Need-enum-known-at Inv-loop μ-loop
 enum-known-at c = search needs
 
--- src/lib.rt:40:33
 cast-put-word : tie.Need-cast-put-word Inv-loop μ-loop
 cast-put-word c = search needs
 
--- src/lib.rt:40:17
 put-word-requires : tie.Need-put-word-requires Inv-loop μ-loop
 put-word-requires c κs = search needs
 
--- src/lib.rt:43:17
 enum-told : tie.Need-enum-told Inv-loop μ-loop
 enum-told c = search needs
 
--- src/lib.rt:43:17
 same-length : tie.Need-same-length Inv-loop μ-loop
 same-length c =
     let c4 = c .before .before .before .before in
     c4 .before .loop .inv .1
 
--- src/lib.rt:43:17
 returns : tie.Need-returns Inv-loop μ-loop
 returns c =
     λ arcs queue workers.
     let c4 = c .before .before .before .before in
     let l = c4 .before .loop in
-    let e = told _ _ (c .before .before .before .word .ensures) (c .before .before .find .ensures arcs queue workers) (c .enum-told .given .1) in
+    let e = told _ _ (c .before .before .before .word .ensures) (c .before .before .find .ensures arcs queue workers)
+    (c .enum-told .given .1) in
     (missing _ _ _ _ _ (c4 .loop-test .taken) e ∙ l .inv .2 arcs queue workers .0, λ b q. absurd (not-unknown q))
 
--- src/lib.rt:46:17
 enum-told-2 : tie.Need-enum-told-2 Inv-loop μ-loop
 enum-told-2 c = search needs
 
--- src/lib.rt:46:17
 same-length-2 : tie.Need-same-length-2 Inv-loop μ-loop
 same-length-2 c =
     let c4 = c .before .before .before .before in
     c4 .before .loop .inv .1
 
--- src/lib.rt:46:17
 returns-2 : tie.Need-returns-2 Inv-loop μ-loop
 returns-2 c =
     λ arcs queue workers.
     let c4 = c .before .before .before .before in
     let l = c4 .before .loop in
-    let e = told _ _ (c .before .before .before .word .ensures) (c .before .before .find .ensures arcs queue workers) (c .enum-told2 .given .1) in
+    let e = told _ _ (c .before .before .before .word .ensures) (c .before .before .find .ensures arcs queue workers)
+    (c .enum-told2 .given .1) in
     (broken _ _ _ _ _ (c4 .loop-test .taken) e ∙ l .inv .2 arcs queue workers .0, λ b q. absurd (not-broken q))
 
--- src/lib.rt:49:9
 add-i : tie.Need-add-i Inv-loop μ-loop
 add-i c = search needs
 
--- src/lib.rt:36:5
 loop-less : tie.Need-loop-less Inv-loop μ-loop
 loop-less c = search needs
 
--- src/lib.rt:36:5
 loop-again : tie.Need-loop-again Inv-loop μ-loop
 loop-again c =
     let c4 = c .before .before .before .before in
@@ -117,7 +100,8 @@ loop-again c =
       c .before .before .put-word .kept .0 ∙ l .inv .1,
       λ arcs queue workers.
           let v = view (tables (a .jobs .now) arcs (a .buckets .now) queue workers) in
-          let e = told (a .sizes) v (c8 .word .ensures) (c4 .before .before .before .find .ensures arcs queue workers) (c4 .before .at .given .1) in (
+          let e = told (a .sizes) v (c8 .word .ensures)
+          (c4 .before .before .before .find .ensures arcs queue workers) (c4 .before .at .given .1) in (
             on (a .sizes) v _ _ _ _ (c8 .before .loop-test .taken) e ∙ l .inv .2 arcs queue workers .0,
             λ b.
                 let h : l .i < length (l .found) = rw (l .inv .1) (lt-of-lt-of-le (c8 .before .loop-test .taken) b) in
@@ -126,19 +110,20 @@ loop-again c =
           ),
     )
 
--- src/lib.rt:20:1
 same-length-3 : tie.Need-same-length-3 Inv-loop μ-loop
 same-length-3 c =
     c .before .loop .inv .1
 
--- src/lib.rt:20:1
 returns-3 : tie.Need-returns-3 Inv-loop μ-loop
 returns-3 c =
     let c4 = c .before .before .before .before in
     λ arcs queue workers.
     let l = c .before .loop in
-    let z : l .i ≡ c4 .before .before .args .count = omega arith in
-    (done _ _ _ _ _ (c .loop-test .left) (l .inv .0) ∙ l .inv .2 arcs queue workers .0, λ b q. all-kept _ _ _ _ _ (rw (← z) (l .inv .2 arcs queue workers .1 b)))
+    let z : l .i ≡ c4 .before .before .args .count = omega arith in (
+      done _ _ _ _ _ (c .loop-test .left) (l .inv .0)
+          ∙ l .inv .2 arcs queue workers .0,
+      λ b q. all-kept _ _ _ _ _ (rw (← z) (l .inv .2 arcs queue workers .1 b)),
+    )
 
 pub look-ups-spec : {M : Type 1} → statement M
 look-ups-spec =

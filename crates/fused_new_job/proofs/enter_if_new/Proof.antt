@@ -1,153 +1,120 @@
+-- `fused_new_job::enter_if_new` meets its contract: each way through the code is a case of the definition; where there
+-- is room both counters stay words.
+-- Assumes nothing.
 use native.Mathlib.Omega.{arith}
-use Rattle.fused_new_job.proofs.Laws.{room, present, stopped, full, entered}
 use borrow.Author.Needs.{needs}
+use Rattle.fused_new_job.proofs.Laws.{room, present, stopped, full, entered}
 use Rattle.fused_new_job.proofs.enter_if_new.Statement.{statement}
 use Rattle.fused_new_job.proofs.enter_if_new.Tie as tie
-use Rattle.fused_new_job.proofs.enter_if_new.Reads as reads
-use Rattle.fused_new_job.proofs.enter_if_new.Lts as lts
-use Rattle.fused_new_job.proofs.enter_and_link.Reads as enter-and-link-reads
-use Rattle.fused_stops.proofs.stop.Reads as stop-reads
-use Rattle.fused_stops.proofs.turn_away.Reads as turn-away-reads
-use Rattle.graph_find.proofs.find.Reads as find-reads
-use Rattle.graph_words.proofs.header.Reads as header-reads
 
--- src/lib.rt:86:9
 find-requires : tie.Need-find-requires
 find-requires c κs = search needs
 
--- src/lib.rt:88:43
 enum-told : tie.Need-enum-told
 enum-told c = search needs
 
--- src/lib.rt:88:33
 turn-away-requires : tie.Need-turn-away-requires
 turn-away-requires c κs = search needs
 
--- src/lib.rt:90:13
 enum-told-2 : tie.Need-enum-told-2
 enum-told-2 c = search needs
 
--- src/lib.rt:89:27
 stop-requires : tie.Need-stop-requires
 stop-requires c κs = search needs
 
--- src/lib.rt:93:46
 enum-told-3 : tie.Need-enum-told-3
 enum-told-3 c = search needs
 
--- src/lib.rt:93:39
 header-requires : tie.Need-header-requires
 header-requires c κs = search needs
 
--- src/lib.rt:94:21
 cast-full : tie.Need-cast-full
 cast-full c = search needs
 
--- src/lib.rt:94:43
 header-requires-2 : tie.Need-header-requires-2
 header-requires-2 c κs = search needs
 
--- src/lib.rt:94:43
 cast-full-2 : tie.Need-cast-full-2
 cast-full-2 c = search needs
 
--- src/lib.rt:94:42
 add-full : tie.Need-add-full
 add-full c = search needs
 
--- src/lib.rt:96:17
 turn-away-requires-2 : tie.Need-turn-away-requires-2
 turn-away-requires-2 c κs = search needs
 
--- src/lib.rt:98:17
 enter-and-link-requires : tie.Need-enter-and-link-requires
 enter-and-link-requires c κs = search needs
 
--- src/lib.rt:62:1
 same-length : tie.Need-same-length
 same-length c = search needs
 
--- src/lib.rt:62:1
 same-length-2 : tie.Need-same-length-2
 same-length-2 c = search needs
 
--- src/lib.rt:62:1
 same-length-3 : tie.Need-same-length-3
 same-length-3 c = search needs
 
--- src/lib.rt:62:1
 returns : tie.Need-returns
 returns c =
     λ h i.
     let c4 = c .before .before .before .before in
-    present _ _ _ _ h (c4 .before .before .find .ensures _ _ _) (c4 .enum-told .given .1) (c .before .before .turn-away .ensures _ _ _ _)
+    present _ _ _ _ h (c4 .before .before .find .ensures _ _ _) (c4 .enum-told .given .1)
+    (c .before .before .turn-away .ensures _ _ _ _)
 
--- src/lib.rt:62:1
 same-length-4 : tie.Need-same-length-4
 same-length-4 c = search needs
 
--- src/lib.rt:62:1
 same-length-5 : tie.Need-same-length-5
 same-length-5 c = search needs
 
--- src/lib.rt:62:1
 same-length-6 : tie.Need-same-length-6
 same-length-6 c = search needs
 
--- src/lib.rt:62:1
 returns-2 : tie.Need-returns-2
 returns-2 c =
     λ h i.
     let c4 = c .before .before .before .before in
-    stopped _ _ _ _ h (c4 .before .before .find .ensures _ _ _) (c4 .enum-told2 .given .1) (c .before .before .stop .ensures _ _ _ _)
+    stopped _ _ _ _ h (c4 .before .before .find .ensures _ _ _) (c4 .enum-told2 .given .1)
+    (c .before .before .stop .ensures _ _ _ _)
 
--- src/lib.rt:62:1
 same-length-7 : tie.Need-same-length-7
 same-length-7 c = search needs
 
--- src/lib.rt:62:1
 same-length-8 : tie.Need-same-length-8
 same-length-8 c = search needs
 
--- src/lib.rt:62:1
 same-length-9 : tie.Need-same-length-9
 same-length-9 c = search needs
 
--- src/lib.rt:62:1
 same-length-10 : tie.Need-same-length-10
 same-length-10 c = search needs
 
--- src/lib.rt:62:1
 returns-3 : tie.Need-returns-3
 returns-3 c =
     λ h i.
     let c4 = c .before .before .before .before in
     let c8 = c4 .before .before .before .before in
     let c12 = c8 .before .before .before .before in
-    full _ _ _ _ h (c12 .before .find .ensures _ _ _) (c8 .before .before .before .enum-told3 .given .1) (c8 .before .header .ensures) (c4 .before .header2 .ensures)
+    full _ _ _ _ h (c12 .before .find .ensures _ _ _) (c8 .before .before .before .enum-told3 .given .1)
+    (c8 .before .header .ensures) (c4 .before .header2 .ensures)
     (c4 .if1 .taken) (c .before .before .turn-away2 .ensures _ _ _ _)
 
--- src/lib.rt:62:1
 same-length-11 : tie.Need-same-length-11
 same-length-11 c = search needs
 
--- src/lib.rt:62:1
 same-length-12 : tie.Need-same-length-12
 same-length-12 c = search needs
 
--- src/lib.rt:62:1
 same-length-13 : tie.Need-same-length-13
 same-length-13 c = search needs
 
--- src/lib.rt:62:1
 same-length-14 : tie.Need-same-length-14
 same-length-14 c = search needs
 
--- src/lib.rt:62:1
 same-length-15 : tie.Need-same-length-15
 same-length-15 c = search needs
 
--- src/lib.rt:62:1
 returns-4 : tie.Need-returns-4
 returns-4 c =
     λ h i.
@@ -159,10 +126,12 @@ returns-4 c =
     let c24 = c20 .before .before .before .before in
     let c28 = c24 .before .before .before .before in
     let c32 = c28 .before .before .before .before in
-    let k = room (c32 .before .before .before .args .sizes) (c20 .before .header .result) (c16 .before .header2 .result) (c32 .before .before .before .args .count) (c16 .if1 .left) in
+    let k = room (c32 .before .before .before .args .sizes) (c20 .before .header .result)
+    (c16 .before .header2 .result) (c32 .before .before .before .args .count) (c16 .if1 .left) in
     let x = c20 .struct-known .given in
     let y = c16 .before .before .before .struct-known2 .given in
-    entered _ _ _ _ h (c24 .before .find .ensures _ _ _) (c20 .before .before .before .enum-told3 .given .1) (c20 .before .header .ensures)
+    entered _ _ _ _ h (c24 .before .find .ensures _ _ _) (c20 .before .before .before .enum-told3 .given .1)
+    (c20 .before .header .ensures)
     (c16 .before .header2 .ensures) (c16 .if1 .left) i
     (c8 .before .before .enter-and-link .ensures (rw (← c20 .before .header .ensures) (omega arith))
     (rw (← c16 .before .header2 .ensures) (omega arith)))

@@ -1,17 +1,16 @@
-use mathlib.Core.Path.{_≡_, refl, sym, _∙_}
+-- `fused_notices::notices` meets its contract: the loop's invariant: the notices that are left make the whole. The
+-- measure is the number of arcs that it may still pass.
+-- Assumes nothing.
 use mathlib.Core.List.{List}
+use mathlib.Core.Path.{_≡_, refl, _∙_}
 use Prim.Native.Nat.{ℕ, _-_}
-use native.Mathlib.Omega.{arith}
-use borrow.Author.Needs.{needs}
 use lib.ListN.{length}
+use borrow.Author.Needs.{needs}
 use Rattle.words.specs.Layout.{tables}
 use Rattle.fused_words.specs.FusedFinish.{notifyIn}
 use Rattle.fused_notices.proofs.Laws.{notify-one, notify-none}
 use Rattle.fused_notices.proofs.notices.Statement.{statement}
 use Rattle.fused_notices.proofs.notices.Tie as tie
-use Rattle.fused_notices.proofs.notices.Reads as reads
-use Rattle.fused_notices.proofs.notices.Lts as lts
-use Rattle.fused_notices.proofs.tell.Reads as tell-reads
 
 abbrev Inv-loop : tie.InvT-loop
 Inv-loop sizes jobs₀ arcs queue₀ first arc₀ left₀ jobs queue arc left =
@@ -23,81 +22,70 @@ Inv-loop sizes jobs₀ arcs queue₀ first arc₀ left₀ jobs queue arc left =
 abbrev μ-loop : tie.MeasureT-loop
 μ-loop sizes jobs₀ arcs queue₀ first arc₀ left₀ jobs queue arc left = left
 
--- src/lib.rt:76:5
 loop-holds : tie.Need-loop-holds Inv-loop μ-loop
 loop-holds c = (refl, refl, λ buckets workers w. refl)
 
--- src/lib.rt:77:13
 tell-requires : tie.Need-tell-requires Inv-loop μ-loop
 tell-requires c κs = search needs
 
--- src/lib.rt:79:31
 enum-known-told : tie.Need-enum-known-told Inv-loop μ-loop
 enum-known-told c = search needs
 
--- src/lib.rt:82:21
 same-length : tie.Need-same-length Inv-loop μ-loop
 same-length c =
     let c4 = c .before .before .before .before in
     let c8 = c4 .before .before .before .before in
     c8 .tell .kept .1 .0 ∙ c8 .before .before .before .before .loop .inv .0
 
--- src/lib.rt:82:21
 same-length-2 : tie.Need-same-length-2 Inv-loop μ-loop
 same-length-2 c =
     let c4 = c .before .before .before .before in
     let c8 = c4 .before .before .before .before in
     c8 .tell .kept .1 .1 .1 .0 ∙ c8 .before .before .before .before .loop .inv .1
 
--- src/lib.rt:82:21
 returns : tie.Need-returns Inv-loop μ-loop
 returns c =
     λ buckets workers w.
     let c4 = c .before .before .before .before in
     let c8 = c4 .before .before .before .before in
     let l = c8 .before .before .before .before .loop in
-    let f = c8 .tell .ensures buckets workers w (notifyIn (l .left - 1) (c8 .before .before .before .before .before .before .before .before .args .sizes) w) in
+    let f = c8 .tell .ensures buckets workers w (notifyIn (l .left - 1)
+    (c8 .before .before .before .before .before .before .before .before .args .sizes) w) in
     rw (c .before .before .told .given .1, c .if1 .taken) at f
     ∙ notify-one _ _ _ _ (l .left) (c8 .before .before .before .loop-test .taken)
     ∙ l .inv .2 buckets workers w
 
--- src/lib.rt:87:17
 enum-told : tie.Need-enum-told Inv-loop μ-loop
 enum-told c = search needs
 
--- src/lib.rt:87:17
 same-length-3 : tie.Need-same-length-3 Inv-loop μ-loop
 same-length-3 c =
     let c4 = c .before .before .before .before in
     c4 .before .before .tell .kept .1 .0 ∙ c4 .before .before .before .before .before .before .loop .inv .0
 
--- src/lib.rt:87:17
 same-length-4 : tie.Need-same-length-4 Inv-loop μ-loop
 same-length-4 c =
     let c4 = c .before .before .before .before in
     c4 .before .before .tell .kept .1 .1 .1 .0 ∙ c4 .before .before .before .before .before .before .loop .inv .1
 
--- src/lib.rt:87:17
 returns-2 : tie.Need-returns-2 Inv-loop μ-loop
 returns-2 c =
     λ buckets workers w.
     let c4 = c .before .before .before .before in
     let c8 = c4 .before .before .before .before in
     let l = c8 .before .before .loop in
-    let f = c4 .before .before .tell .ensures buckets workers w (notifyIn (l .left - 1) (c8 .before .before .before .before .before .before .args .sizes) w) in
+    let f = c4 .before .before .tell .ensures buckets workers w
+    (notifyIn (l .left - 1) (c8 .before .before .before .before .before .before .args .sizes) w) in
     rw (c .enum-told .given .1) at f
     ∙ notify-one _ _ _ _ (l .left) (c8 .before .loop-test .taken)
     ∙ l .inv .2 buckets workers w
 
--- src/lib.rt:90:9
 sub-left : tie.Need-sub-left Inv-loop μ-loop
 sub-left c = search needs
 
--- src/lib.rt:76:5
 loop-less : tie.Need-loop-less Inv-loop μ-loop
 loop-less c = search needs
 
--- src/lib.rt:76:5
 loop-again : tie.Need-loop-again Inv-loop μ-loop
 loop-again c =
     let c4 = c .before .before .before .before in
@@ -106,21 +94,20 @@ loop-again c =
       c8 .tell .kept .1 .0 ∙ l .inv .0,
       c8 .tell .kept .1 .1 .1 .0 ∙ l .inv .1,
       λ buckets workers w.
-          let f = c8 .tell .ensures buckets workers w (notifyIn (l .left - 1) (c8 .before .before .before .before .before .before .before .before .args .sizes) w) in
+          let f = c8 .tell .ensures buckets workers w
+          (notifyIn (l .left - 1)
+          (c8 .before .before .before .before .before .before .before .before .args .sizes) w) in
           rw (c .before .before .told .given .1, c .if1 .left) at f
           ∙ notify-one _ _ _ _ (l .left) (c8 .before .before .before .loop-test .taken)
           ∙ l .inv .2 buckets workers w,
     )
 
--- src/lib.rt:62:1
 same-length-5 : tie.Need-same-length-5 Inv-loop μ-loop
 same-length-5 c = search needs
 
--- src/lib.rt:62:1
 same-length-6 : tie.Need-same-length-6 Inv-loop μ-loop
 same-length-6 c = search needs
 
--- src/lib.rt:62:1
 returns-3 : tie.Need-returns-3 Inv-loop μ-loop
 returns-3 c =
     λ buckets workers w.

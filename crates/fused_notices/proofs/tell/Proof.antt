@@ -1,48 +1,36 @@
-use mathlib.Core.Path.{_≡_, _∙_}
+-- `fused_notices::tell` meets its contract: each plan's stores are the definition's, and a queued job's cell is below
+-- the number of jobs, so that the counter is a word.
+-- Assumes nothing.
 use native.Mathlib.Omega.{arith}
 use borrow.Author.Needs.{needs}
 use Rattle.fused_notices.proofs.Laws.{cell-below, halts}
 use Rattle.fused_notices.proofs.tell.Statement.{statement}
 use Rattle.fused_notices.proofs.tell.Tie as tie
-use Rattle.fused_notices.proofs.tell.Reads as reads
-use Rattle.fused_notices.proofs.tell.Lts as lts
-use Rattle.graph_finish_steps.proofs.plan_notify.Reads as plan-notify-reads
-use Rattle.graph_lists.proofs.queue_job.Reads as queue-job-reads
-use Rattle.graph_words.proofs.put_job.Reads as put-job-reads
 
--- src/lib.rt:41:9
 plan-notify-requires : tie.Need-plan-notify-requires
 plan-notify-requires c κs = search needs
 
--- src/lib.rt:43:24
 enum-known-plan : tie.Need-enum-known-plan
 enum-known-plan c = search needs
 
--- src/lib.rt:44:13
 put-job-requires : tie.Need-put-job-requires
 put-job-requires c κs = search needs
 
--- src/lib.rt:48:13
 enum-known-plan-2 : tie.Need-enum-known-plan-2
 enum-known-plan-2 c = search needs
 
--- src/lib.rt:53:13
 put-job-requires-2 : tie.Need-put-job-requires-2
 put-job-requires-2 c κs = search needs
 
--- src/lib.rt:54:13
 queue-job-requires : tie.Need-queue-job-requires
 queue-job-requires c κs = search needs
 
--- src/lib.rt:34:1
 same-length : tie.Need-same-length
 same-length c = search needs
 
--- src/lib.rt:34:1
 same-length-2 : tie.Need-same-length-2
 same-length-2 c = search needs
 
--- src/lib.rt:34:1
 returns : tie.Need-returns
 returns c =
     λ buckets workers w next.
@@ -50,15 +38,12 @@ returns c =
     let p = c4 .before .before .before .plan-notify in
     rw (← p .ensures, c4 .before .plan .given .1, ← c .before .before .put-job .ensures)
 
--- src/lib.rt:34:1
 same-length-3 : tie.Need-same-length-3
 same-length-3 c = search needs
 
--- src/lib.rt:34:1
 same-length-4 : tie.Need-same-length-4
 same-length-4 c = search needs
 
--- src/lib.rt:34:1
 returns-2 : tie.Need-returns-2
 returns-2 c =
     λ buckets workers w next.
@@ -76,19 +61,17 @@ returns-2 c =
       c .before .before .queue-job .ensures (omega (arith, h, g)),
     )
 
--- src/lib.rt:34:1
 same-length-5 : tie.Need-same-length-5
 same-length-5 c = search needs
 
--- src/lib.rt:34:1
 same-length-6 : tie.Need-same-length-6
 same-length-6 c = search needs
 
--- src/lib.rt:34:1
 returns-3 : tie.Need-returns-3
 returns-3 c =
     λ buckets workers w next.
-    rw (← c .before .plan-notify .ensures) (halts (c .before .plan-notify .result) (c .match .keys3) (c .before .before .before .before .before .before .before .args .arc) w _ next)
+    rw (← c .before .plan-notify .ensures) (halts (c .before .plan-notify .result) (c .match .keys3)
+    (c .before .before .before .before .before .before .before .args .arc) w _ next)
 
 pub tell-spec : {M : Type 1} → statement M
 tell-spec =

@@ -1,50 +1,38 @@
+-- `fused_settle::settle` meets its contract: each way through the code is a case of the definition; a cell is below
+-- the number of jobs, so that the counter is a word.
+-- Assumes nothing.
 use native.Mathlib.Omega.{arith}
 use lib.Dec.{ltb, leb}
+use borrow.Author.Needs.{needs}
 use borrow.Author.Tests.{ltb-true}
 use Rattle.basics.specs.Laws.{and-right}
-use borrow.Author.Needs.{needs}
 use Rattle.fused_settle.proofs.settle.Statement.{statement}
 use Rattle.fused_settle.proofs.settle.Tie as tie
-use Rattle.fused_settle.proofs.settle.Reads as reads
-use Rattle.fused_settle.proofs.settle.Lts as lts
-use Rattle.graph_lists.proofs.queue_job.Reads as queue-job-reads
-use Rattle.graph_words.proofs.header.Reads as header-reads
-use Rattle.graph_words.proofs.less.Reads as less-reads
-use Rattle.graph_words.proofs.put_job.Reads as put-job-reads
 
--- src/lib.rt:37:9
 less-requires : tie.Need-less-requires
 less-requires c κs = search needs
 
--- src/lib.rt:40:13
 header-requires : tie.Need-header-requires
 header-requires c κs = search needs
 
--- src/lib.rt:41:21
 header-requires-2 : tie.Need-header-requires-2
 header-requires-2 c κs = search needs
 
--- src/lib.rt:43:13
 put-job-requires : tie.Need-put-job-requires
 put-job-requires c κs = search needs
 
--- src/lib.rt:44:13
 queue-job-requires : tie.Need-queue-job-requires
 queue-job-requires c κs = search needs
 
--- src/lib.rt:50:9
 put-job-requires-2 : tie.Need-put-job-requires-2
 put-job-requires-2 c κs = search needs
 
--- src/lib.rt:24:1
 same-length : tie.Need-same-length
 same-length c = search needs
 
--- src/lib.rt:24:1
 same-length-2 : tie.Need-same-length-2
 same-length-2 c = search needs
 
--- src/lib.rt:24:1
 returns : tie.Need-returns
 returns c =
     λ arcs buckets workers w held stopped.
@@ -55,7 +43,8 @@ returns c =
     let cell = c12 .header .result in
     let s = c16 .before .before .args .sizes in
     let k = c8 .before .struct-known .given in
-    let h = ltb-true cell (s .jobs) (and-right (leb (c8 .before .before .header2 .result) cell) (ltb cell (s .jobs)) (c8 .if2 .taken)) in
+    let h = ltb-true cell (s .jobs) (and-right (leb (c8 .before .before .header2 .result) cell) (ltb cell (s .jobs))
+    (c8 .if2 .taken)) in
     rw (
       ← c12 .before .before .before .less .ensures,
       c12 .before .before .if1 .taken,
@@ -66,11 +55,9 @@ returns c =
       c4 .before .before .put-job .ensures,
     )
 
--- src/lib.rt:24:1
 same-length-3 : tie.Need-same-length-3
 same-length-3 c = search needs
 
--- src/lib.rt:24:1
 returns-2 : tie.Need-returns-2
 returns-2 c =
     λ arcs buckets workers w held stopped.
@@ -83,11 +70,9 @@ returns-2 c =
       c .if2 .left,
     )
 
--- src/lib.rt:24:1
 same-length-4 : tie.Need-same-length-4
 same-length-4 c = search needs
 
--- src/lib.rt:24:1
 returns-3 : tie.Need-returns-3
 returns-3 c =
     λ arcs buckets workers w held stopped.

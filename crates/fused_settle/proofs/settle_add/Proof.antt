@@ -1,31 +1,23 @@
+-- `fused_settle::settle_add` meets its contract: each way through the code is a case of the definition.
+-- Assumes nothing.
+use borrow.Author.Needs.{needs}
 use Rattle.terms.specs.Runs.{Outcome}
 use Rattle.words.specs.Layout.{Tables, LINKING}
 use Rattle.words.specs.Words.{firstArc}
-use Rattle.fused_words.specs.FusedWorker.{addWorker, halted}
 use Rattle.fused_words.specs.FusedAdd.{settleIn}
-use borrow.Author.Needs.{needs}
+use Rattle.fused_words.specs.FusedWorker.{addWorker, halted}
 use Rattle.fused_settle.proofs.settle_add.Statement.{statement}
 use Rattle.fused_settle.proofs.settle_add.Tie as tie
-use Rattle.fused_settle.proofs.settle_add.Reads as reads
-use Rattle.fused_settle.proofs.settle_add.Lts as lts
-use Rattle.fused_settle.proofs.settle.Reads as settle-reads
-use Rattle.fused_stops.proofs.stop.Reads as stop-reads
-use Rattle.graph_records.proofs.put_bare_worker.Reads as put-bare-worker-reads
-use Rattle.graph_worker_words.proofs.first_arc.Reads as first-arc-reads
 
--- src/lib.rt:82:9
 first-arc-requires : tie.Need-first-arc-requires
 first-arc-requires c κs = search needs
 
--- src/lib.rt:85:9
 stop-requires : tie.Need-stop-requires
 stop-requires c κs = search needs
 
--- src/lib.rt:85:9
 same-length : tie.Need-same-length
 same-length c = search needs
 
--- src/lib.rt:85:9
 returns : tie.Need-returns
 unfolding settleIn
 returns c =
@@ -33,31 +25,24 @@ returns c =
     let c4 = c .before .before .before .before in
     rw (c4 .if1 .left, c .before .before .stop .ensures, c4 .before .first-arc .ensures)
 
--- src/lib.rt:89:9
 settle-requires : tie.Need-settle-requires
 settle-requires c κs = search needs
 
--- src/lib.rt:91:9
 put-bare-worker-requires : tie.Need-put-bare-worker-requires
 put-bare-worker-requires c κs = search needs
 
--- src/lib.rt:94:9
 stop-requires-2 : tie.Need-stop-requires-2
 stop-requires-2 c κs = search needs
 
--- src/lib.rt:57:1
 same-length-2 : tie.Need-same-length-2
 same-length-2 c = search needs
 
--- src/lib.rt:57:1
 same-length-3 : tie.Need-same-length-3
 same-length-3 c = search needs
 
--- src/lib.rt:57:1
 same-length-4 : tie.Need-same-length-4
 same-length-4 c = search needs
 
--- src/lib.rt:57:1
 returns-2 : tie.Need-returns-2
 unfolding settleIn
 returns-2 c =
@@ -73,19 +58,15 @@ returns-2 c =
     rw (c12 .if1 .taken, c .before .before .put-bare-worker .ensures)
     (rw (c4 .if2 .taken) at (c8 .before .settle .ensures arcs buckets (a .workers .now) (a .worker) (a .held) stopped))
 
--- src/lib.rt:57:1
 same-length-5 : tie.Need-same-length-5
 same-length-5 c = search needs
 
--- src/lib.rt:57:1
 same-length-6 : tie.Need-same-length-6
 same-length-6 c = search needs
 
--- src/lib.rt:57:1
 same-length-7 : tie.Need-same-length-7
 same-length-7 c = search needs
 
--- src/lib.rt:57:1
 returns-3 : tie.Need-returns-3
 unfolding settleIn
 returns-3 c =

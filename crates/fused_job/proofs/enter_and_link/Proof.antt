@@ -1,56 +1,42 @@
+-- `fused_job::enter_and_link` meets its contract: entry, links and settling are the definition's, one after the
+-- other.
+-- Assumes nothing.
 use mathlib.Core.List.{[]}
-use Rattle.fused_new_job.proofs.Laws.{joined}
 use borrow.Author.Needs.{needs}
-use Rattle.fused_new_job.proofs.enter_and_link.Statement.{statement}
-use Rattle.fused_new_job.proofs.enter_and_link.Tie as tie
-use Rattle.fused_new_job.proofs.enter_and_link.Reads as reads
-use Rattle.fused_new_job.proofs.enter_and_link.Lts as lts
-use Rattle.fused_entering.proofs.enter_job.Reads as enter-job-reads
-use Rattle.fused_links.proofs.link_all.Reads as link-all-reads
-use Rattle.fused_settle.proofs.settle_add.Reads as settle-add-reads
-use Rattle.graph_words.proofs.header.Reads as header-reads
+use Rattle.fused_job.proofs.Laws.{joined}
+use Rattle.fused_job.proofs.enter_and_link.Statement.{statement}
+use Rattle.fused_job.proofs.enter_and_link.Tie as tie
 
--- src/lib.rt:52:9
 header-requires : tie.Need-header-requires
 header-requires c κs = search needs
 
--- src/lib.rt:53:9
 header-requires-2 : tie.Need-header-requires-2
 header-requires-2 c κs = search needs
 
--- src/lib.rt:54:5
 enter-job-requires : tie.Need-enter-job-requires
 enter-job-requires c κs = search needs
 
--- src/lib.rt:55:9
 link-all-requires : tie.Need-link-all-requires
 link-all-requires c κs = search needs
 
--- src/lib.rt:56:5
 settle-add-requires : tie.Need-settle-add-requires
 settle-add-requires c κs = search needs
 
--- src/lib.rt:26:1
 same-length : tie.Need-same-length
 same-length c = search needs
 
--- src/lib.rt:26:1
 same-length-2 : tie.Need-same-length-2
 same-length-2 c = search needs
 
--- src/lib.rt:26:1
 same-length-3 : tie.Need-same-length-3
 same-length-3 c = search needs
 
--- src/lib.rt:26:1
 same-length-4 : tie.Need-same-length-4
 same-length-4 c = search needs
 
--- src/lib.rt:26:1
 same-length-5 : tie.Need-same-length-5
 same-length-5 c = search needs
 
--- src/lib.rt:26:1
 returns : tie.Need-returns
 returns c =
     λ a b.
@@ -61,7 +47,8 @@ returns c =
     let c20 = c16 .before .before .before .before in
     let c24 = c20 .before .before .before .before in
     let c28 = c24 .before .before .before .before in
-    joined _ _ _ _ _ (c4 .before .before .settle-add .ensures _ _) (c12 .before .before .link-all .ensures _ _ _) (c20 .before .before .before .enter-job .ensures a b _ _ [])
+    joined _ _ _ _ _ (c4 .before .before .settle-add .ensures _ _) (c12 .before .before .link-all .ensures _ _ _)
+    (c20 .before .before .before .enter-job .ensures a b _ _ [])
     (c28 .before .header .ensures) (c24 .before .before .before .header2 .ensures)
 
 pub enter-and-link-spec : {M : Type 1} → statement M

@@ -1,62 +1,48 @@
+-- `fused_mark::close` meets its contract: each way the notices end is a case of the definition.
+-- Assumes nothing.
 use borrow.Author.Needs.{needs}
-use Rattle.fused_finish.proofs.close.Statement.{statement}
-use Rattle.fused_finish.proofs.close.Tie as tie
-use Rattle.fused_finish.proofs.close.Reads as reads
-use Rattle.fused_finish.proofs.close.Lts as lts
-use Rattle.fused_finish.proofs.put_notifying.Reads as put-notifying-reads
-use Rattle.graph_records.proofs.put_bare_worker.Reads as put-bare-worker-reads
+use Rattle.fused_mark.proofs.close.Statement.{statement}
+use Rattle.fused_mark.proofs.close.Tie as tie
 
--- src/lib.rt:45:29
 enum-told : tie.Need-enum-told
 enum-told c = search needs
 
--- src/lib.rt:45:13
 put-bare-worker-requires : tie.Need-put-bare-worker-requires
 put-bare-worker-requires c κs = search needs
 
--- src/lib.rt:48:26
 enum-known-ending : tie.Need-enum-known-ending
 enum-known-ending c = search needs
 
--- src/lib.rt:49:13
 put-notifying-requires : tie.Need-put-notifying-requires
 put-notifying-requires c κs = search needs
 
--- src/lib.rt:55:24
 enum-known-ending-2 : tie.Need-enum-known-ending-2
 enum-known-ending-2 c = search needs
 
--- src/lib.rt:56:13
 put-notifying-requires-2 : tie.Need-put-notifying-requires-2
 put-notifying-requires-2 c κs = search needs
 
--- src/lib.rt:38:1
 same-length : tie.Need-same-length
 same-length c = search needs
 
--- src/lib.rt:38:1
 returns : tie.Need-returns
 returns c =
     λ jobs arcs buckets queue.
     let c4 = c .before .before .before .before in
     rw (c4 .enum-told .given .1, c .before .before .put-bare-worker .ensures)
 
--- src/lib.rt:38:1
 same-length-2 : tie.Need-same-length-2
 same-length-2 c = search needs
 
--- src/lib.rt:38:1
 returns-2 : tie.Need-returns-2
 returns-2 c =
     λ jobs arcs buckets queue.
     let c4 = c .before .before .before .before in
     rw (c4 .before .ending .given .1, c .before .before .put-notifying .ensures)
 
--- src/lib.rt:38:1
 same-length-3 : tie.Need-same-length-3
 same-length-3 c = search needs
 
--- src/lib.rt:38:1
 returns-3 : tie.Need-returns-3
 returns-3 c =
     λ jobs arcs buckets queue.

@@ -1,53 +1,39 @@
-use Rattle.fused_words.specs.FusedFinish.{markIn}
-use Rattle.fused_finish.proofs.Laws.{halts}
+-- `fused_mark::mark_and_tell` meets its contract: the mark, and then the notices or the end; any other plan is a
+-- refusal.
+-- Assumes nothing.
 use borrow.Author.Needs.{needs}
-use Rattle.fused_finish.proofs.mark_and_tell.Statement.{statement}
-use Rattle.fused_finish.proofs.mark_and_tell.Tie as tie
-use Rattle.fused_finish.proofs.mark_and_tell.Reads as reads
-use Rattle.fused_finish.proofs.mark_and_tell.Lts as lts
-use Rattle.fused_finish.proofs.close.Reads as close-reads
-use Rattle.fused_notices.proofs.notices.Reads as notices-reads
-use Rattle.graph_finish_steps.proofs.plan_mark.Reads as plan-mark-reads
-use Rattle.graph_records.proofs.put_bare_worker.Reads as put-bare-worker-reads
-use Rattle.graph_words.proofs.put_job.Reads as put-job-reads
+use Rattle.fused_words.specs.FusedFinish.{markIn}
+use Rattle.fused_mark.proofs.Laws.{halts}
+use Rattle.fused_mark.proofs.mark_and_tell.Statement.{statement}
+use Rattle.fused_mark.proofs.mark_and_tell.Tie as tie
 
--- src/lib.rt:79:9
 plan-mark-requires : tie.Need-plan-mark-requires
 plan-mark-requires c κs = search needs
 
--- src/lib.rt:81:22
 enum-known-plan : tie.Need-enum-known-plan
 enum-known-plan c = search needs
 
--- src/lib.rt:82:13
 put-job-requires : tie.Need-put-job-requires
 put-job-requires c κs = search needs
 
--- src/lib.rt:85:17
 put-bare-worker-requires : tie.Need-put-bare-worker-requires
 put-bare-worker-requires c κs = search needs
 
--- src/lib.rt:88:21
 notices-requires : tie.Need-notices-requires
 notices-requires c κs = search needs
 
--- src/lib.rt:89:17
 close-requires : tie.Need-close-requires
 close-requires c κs = search needs
 
--- src/lib.rt:93:13
 put-bare-worker-requires-2 : tie.Need-put-bare-worker-requires-2
 put-bare-worker-requires-2 c κs = search needs
 
--- src/lib.rt:63:1
 same-length : tie.Need-same-length
 same-length c = search needs
 
--- src/lib.rt:63:1
 same-length-2 : tie.Need-same-length-2
 same-length-2 c = search needs
 
--- src/lib.rt:63:1
 returns : tie.Need-returns
 unfolding markIn
 returns c =
@@ -63,19 +49,15 @@ returns c =
       c .before .before .put-bare-worker .ensures,
     )
 
--- src/lib.rt:63:1
 same-length-3 : tie.Need-same-length-3
 same-length-3 c = search needs
 
--- src/lib.rt:63:1
 same-length-4 : tie.Need-same-length-4
 same-length-4 c = search needs
 
--- src/lib.rt:63:1
 same-length-5 : tie.Need-same-length-5
 same-length-5 c = search needs
 
--- src/lib.rt:63:1
 returns-2 : tie.Need-returns-2
 unfolding markIn
 returns-2 c =
@@ -93,15 +75,12 @@ returns-2 c =
       c12 .before .before .put-job .ensures,
     )
 
--- src/lib.rt:63:1
 same-length-6 : tie.Need-same-length-6
 same-length-6 c = search needs
 
--- src/lib.rt:63:1
 same-length-7 : tie.Need-same-length-7
 same-length-7 c = search needs
 
--- src/lib.rt:63:1
 returns-3 : tie.Need-returns-3
 returns-3 c =
     λ h buckets.
@@ -112,7 +91,8 @@ returns-3 c =
       c .before .before .put-bare-worker2 .ensures,
       h,
     )
-    (halts (c4 .before .plan-mark .result) (c4 .match .keys2) (c8 .before .before .before .args .sizes) _ (c8 .before .before .before .args .worker))
+    (halts (c4 .before .plan-mark .result) (c4 .match .keys2) (c8 .before .before .before .args .sizes) _
+    (c8 .before .before .before .args .worker))
 
 pub mark-and-tell-spec : {M : Type 1} → statement M
 mark-and-tell-spec =

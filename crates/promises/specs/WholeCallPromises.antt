@@ -1,0 +1,196 @@
+-- THE PROMISES of calls that are run whole: an add, a finish, and a sheet of up to 64 adds, each in one call. Each has a
+-- one-line proof that names where it was shown. To believe a statement, read the definitions that it names:
+--   whole calls, a sheet      whole_words: specs/Whole.antt, specs/Sheet.antt, specs/CallEnds.antt
+--   rows and entries          sheet_rows: specs/SheetRows.antt, specs/Arguments.antt (the contracts cite them)
+--   calls, worth in items     host_calls: specs/HostCalls.antt
+--   demand 3 of lists of them host_calls: specs/CallsDemand.antt     (of any machine; wrong ones in Wrong*.antt)
+--   the words' machine        calls_history: specs/WordsCalls.antt
+--   numbers, what is left     whole_answers: specs/Numbers.antt, specs/Left.antt, specs/Worker.antt
+-- Follows docs/RULES.md, "Whole calls". Assumes nothing.
+use mathlib.Core.Path.{_≡_}
+use mathlib.Core.Logic.{_↔_, _≢_, _⊎_}
+use mathlib.Core.Bool.{true, false}
+use mathlib.Core.List.{List, [], map}
+use Prim.Native.Nat.{ℕ, _*_, _%_, _≤_, _<_}
+use lib.ListN.{length, getD, take}
+use Rattle.basics.specs.Base.{contains}
+use Rattle.terms.specs.Terms.{Arguments, Finish, mostEntries, damaged, wrongSizes, noArguments}
+use Rattle.terms.specs.Runs.{after}
+use Rattle.terms.specs.declared.Sizes.{Sizes}
+use Rattle.terms.specs.declared.Answer.{Answer}
+use Rattle.terms.specs.declared.Answer.the-variants.{Laid, Going, Ended, Refused}
+use Rattle.words.specs.Layout.{Tables, none}
+use Rattle.words.specs.Words.{perform, layOut}
+use Rattle.words.specs.Observed.{seen}
+use Rattle.linearization.specs.Calls.{idle}
+use Rattle.sheet_format.specs.Job.{Job}
+use Rattle.sheet_format.specs.NumberLaws.{Bytes}
+use Rattle.sheet_format.specs.Decode.{decodeSheet, jobs, rowWords, readSheet}
+use Rattle.day_rounds.specs.Rounds.{argumentsOf}
+use Rattle.whole_words.specs.Whole.{wholeAdd, wholeFinish}
+use Rattle.whole_words.specs.Sheet.{sheetOutcome, sheetWords}
+use Rattle.whole_words.specs.CallEnds as ends
+use Rattle.sheet_rows.specs.SheetRows.{addsOf, rowsWords}
+use Rattle.fused_words.specs.FusedWorker.{Admitted, isIdle, holdOf, idledWith}
+use Rattle.host_calls.specs.HostCalls.{HostCall, sheet, one, each, replied, worth, replyWorth}
+use Rattle.host_calls.specs.HostCalls as host
+use Rattle.host_calls.specs.CallsDemand.{CallsDemand}
+use Rattle.calls_history.specs.WordsCalls.{turnedWords, answerWords}
+use Rattle.calls_history.specs.Worth.{whole-is-worth}
+use Rattle.calls_history.specs.Theorem.{calls-demand}
+use Rattle.calls_history.specs.NoneCutShort.{now, told}
+use Rattle.calls_history.specs.NoneCutShort as whole
+use Rattle.whole_answers.specs.Worker.{Back}
+use Rattle.whole_answers.specs.Numbers.{AddAnswer, FinishAnswer, sheetNumbers}
+use Rattle.whole_answers.specs.Numbers as numbers
+use Rattle.whole_answers.specs.Left.{addKeeps, addIdles, finishKeeps}
+use Rattle.whole_answers.specs.Left as left
+use Rattle.whole_answers.specs.SheetAdds.{afterAdds}
+use Rattle.whole_answers.specs.Sheets.{Stuck}
+use Rattle.whole_answers.specs.Sheets as sheets
+use Rattle.whole_answers.specs.InC.{EntryTold}
+use Rattle.whole_answers.specs.InC as rows
+use Rattle.whole_answers.specs.ReadRows as read
+use Rattle.whole_answers.specs.Within.{CallWithin}
+use Rattle.whole_answers.specs.Within as within
+use Rattle.whole_answers.specs.SheetWithin.{SheetWithin}
+use Rattle.whole_answers.specs.SheetWithin as sheet-within
+
+-- ---- of every list of calls from tables that were laid out: single items beside adds and finishes run whole, and sheets
+module _ (s : Sizes) (t : Tables) (laid : layOut s t .answer ≡ Laid) (calls : List HostCall) where
+  -- DEMAND 3 of such lists: a call replies what its posts and steps answer, with no other worker's step between; the
+  -- tables, what is read off calls and replies, and the entries are those of these items, of which every clause holds.
+  pub every-list-of-calls-is-right : CallsDemand perform turnedWords answerWords seen s (layOut s t .state) calls
+  every-list-of-calls-is-right = calls-demand s t laid calls
+
+  -- No call is cut short: to an idle worker an add replies that it ended, or 5 to 8; a finish that it ended, or 11; a
+  -- sheet of up to 64 entries has such an answer for each.
+  module _ (w : ℕ) (there : w < s .workers) (free : told s t laid calls .pending w ≡ idle) where
+    pub a-whole-add-ends : (a : Arguments)
+        → (x : Answer) × (answerWords (now s t laid calls) (host.wholeAdd s w a) .reply ≡ one x) × ends.AddAnswer x
+    a-whole-add-ends = whole.add-is-whole s t laid calls w there free
+
+    pub a-whole-finish-ends : (f : Finish)
+        → (x : Answer) × (answerWords (now s t laid calls) (host.wholeFinish s w f) .reply ≡ one x)
+        × ends.FinishAnswer x
+    a-whole-finish-ends = whole.finish-is-whole s t laid calls w there free
+
+    pub a-sheet-has-each-answer : (l : List Arguments) → length l ≤ mostEntries
+        → (xs : List Answer) × (answerWords (now s t laid calls) (sheet s w l) .reply ≡ each 0 xs)
+        × ends.AddAnswers l xs
+    a-sheet-has-each-answer = whole.sheet-is-whole s t laid calls w there free
+
+-- ---- of ALL tables, damaged ones too
+-- "equal those of the single adds with no other worker's step between": a call replies what the items that it is worth
+-- answer, and leaves what they leave.
+pub a-call-is-its-posts-and-steps : (t : Tables) (c : HostCall)
+    → answerWords t c ≡ replied (replyWorth perform turnedWords t c) (after perform t (worth perform turnedWords t c))
+a-call-is-its-posts-and-steps = whole-is-worth
+
+-- an add run whole ends, or is refused by a number of the list, of which 6 alone has a place, one of its list;
+module _ (s : Sizes) (t : Tables) (w : ℕ) (a : Arguments) where
+  pub a-whole-add-is-answered : AddAnswer a (wholeAdd s t w a .answer)
+  a-whole-add-is-answered = numbers.add-answer s t w a
+
+  -- 1, 2, 3 and 5 change nothing; 6, 7 and 8 leave the worker idle and change nothing else;
+  pub a-whole-add-turned-away-changes-nothing : (n i : ℕ) → contains n addKeeps ≡ true
+      → wholeAdd s t w a .answer ≡ Refused n i → wholeAdd s t w a .state ≡ t
+  a-whole-add-turned-away-changes-nothing = left.add-turned-away s t w a
+
+  pub a-whole-add-that-quits-idles : (n i : ℕ) → contains n addIdles ≡ true → wholeAdd s t w a .answer ≡ Refused n i
+      → (wholeAdd s t w a .state ≡ idledWith t w (holdOf t w)) × Back t w (holdOf t w) (wholeAdd s t w a .state)
+  a-whole-add-that-quits-idles = left.add-quit s t w a
+
+  -- 9 changes nothing, or comes in the middle and leaves the call half done;
+  pub a-whole-add-damaged-is-half-done : (i : ℕ) → wholeAdd s t w a .answer ≡ Refused damaged i
+      → (wholeAdd s t w a .state ≡ t) ⊎ (isIdle (wholeAdd s t w a .state) w ≡ false)
+  a-whole-add-damaged-is-half-done = left.add-damaged s t w a
+
+  -- an add that ended puts its worker's words back.
+  pub a-whole-add-that-ends-is-put-back : wholeAdd s t w a .answer ≡ Ended
+      → Back t w (holdOf t w) (wholeAdd s t w a .state)
+  a-whole-add-that-ends-is-put-back = left.add-ended s t w a
+
+-- The same of a finish run whole, which may go on where its budget is used up, half done.
+module _ (s : Sizes) (t : Tables) (w name : ℕ) where
+  pub a-whole-finish-is-answered : FinishAnswer (wholeFinish s t w name .answer)
+  a-whole-finish-is-answered = numbers.finish-answer s t w name
+
+  pub a-whole-finish-turned-away-changes-nothing : (n i : ℕ) → contains n finishKeeps ≡ true
+      → wholeFinish s t w name .answer ≡ Refused n i → wholeFinish s t w name .state ≡ t
+  a-whole-finish-turned-away-changes-nothing = left.finish-turned-away s t w name
+
+  pub a-whole-finish-damaged-is-half-done : (i : ℕ) → wholeFinish s t w name .answer ≡ Refused damaged i
+      → (wholeFinish s t w name .state ≡ t) ⊎ (isIdle (wholeFinish s t w name .state) w ≡ false)
+  a-whole-finish-damaged-is-half-done = left.finish-damaged s t w name
+
+  pub a-whole-finish-that-goes-on-is-half-done : wholeFinish s t w name .answer ≡ Going
+      → isIdle (wholeFinish s t w name .state) w ≡ false
+  a-whole-finish-that-goes-on-is-half-done = left.finish-going s t w name
+
+  pub a-whole-finish-that-ends-is-put-back : wholeFinish s t w name .answer ≡ Ended
+      → Back t w none (wholeFinish s t w name .state)
+  a-whole-finish-that-ends-is-put-back = left.finish-ended s t w name
+
+-- A sheet is served exactly if its worker passes the tests that come first and is idle, and it has at most 64 entries;
+module _ (s : Sizes) (t : Tables) (w : ℕ) (l : List Arguments) where
+  pub a-sheet-is-served-exactly : (sheetWords s t w l .number ≡ 0)
+      ↔ (Admitted s t w × (isIdle t w ≡ true) × (length l ≤ mostEntries))
+  a-sheet-is-served-exactly = sheets.sheet-accepted s t w l
+
+  -- turned away, by one of 1, 2, 9, 3 and 16, it answers no entry and changes nothing;
+  pub a-sheet-is-turned-away-by-its-numbers : contains (sheetWords s t w l .number) sheetNumbers ≡ true
+  a-sheet-is-turned-away-by-its-numbers = numbers.sheet-number s t w l
+
+  pub a-sheet-turned-away-changes-nothing : sheetWords s t w l .number ≢ 0
+      → sheetWords s t w l ≡ sheetOutcome (sheetWords s t w l .number) [] t
+  a-sheet-turned-away-changes-nothing = sheets.sheet-turned-away s t w l
+
+  -- served, it has an answer for each entry, that of its add on the tables as the adds before left them,
+  pub a-sheet-answers-each-entry : sheetWords s t w l .number ≡ 0 → (i : ℕ) → i < length l
+      → getD (sheetWords s t w l .answers) i Laid
+      ≡ wholeAdd s (afterAdds s w (take i l) t) w (getD l i noArguments) .answer
+  a-sheet-answers-each-entry = sheets.sheet-answer s t w l
+
+  pub a-sheet-has-as-many-answers : sheetWords s t w l .number ≡ 0
+      → length (sheetWords s t w l .answers) ≡ length l
+  a-sheet-has-as-many-answers = sheets.sheet-count s t w l
+
+  pub a-sheet-leaves-what-its-adds-leave : sheetWords s t w l .number ≡ 0
+      → sheetWords s t w l .state ≡ afterAdds s w l t
+  a-sheet-leaves-what-its-adds-leave = sheets.sheet-state s t w l
+
+  -- and where damage stopped an add half done, each later entry gets 3, and changes nothing.
+  pub after-damage-each-entry-gets-3 : (i : ℕ) → sheetWords s t w l .number ≡ 0 → i ≤ length l
+      → isIdle (afterAdds s w (take i l) t) w ≡ false
+      → Stuck i l (afterAdds s w (take i l) t) (sheetWords s t w l)
+  after-damage-each-entry-gets-3 = sheets.sheet-stuck s t w l
+
+-- As a host has it: words that make no whole rows are 1; else each entry's number and place are those that its add would
+-- answer in C, and 0 just if it ended; past the last entry they are 0.
+module _ (s : Sizes) (t : Tables) (w : ℕ) (words : List ℕ) where
+  pub no-whole-rows-are-1 : length words % rowWords ≢ 0 → rowsWords s t w words ≡ sheetOutcome wrongSizes [] t
+  no-whole-rows-are-1 = rows.rows-cut s t w words
+
+  pub an-entry-is-told-as-its-add : rowsWords s t w words .number ≡ 0 → (i : ℕ) → i < length (addsOf words)
+      → EntryTold (rowsWords s t w words) i
+      (wholeAdd s (afterAdds s w (take i (addsOf words)) t) w (getD (addsOf words) i noArguments) .answer)
+  an-entry-is-told-as-its-add = rows.rows-as-adds s t w words
+
+-- The rows of a sheet of bytes that was read are the sheet of its jobs' adds.
+pub a-sheet-that-was-read-is-added : (bytes : List ℕ) (js : List Job) (words : List ℕ) → Bytes bytes
+    → decodeSheet bytes ≡ jobs js → rowWords * length js ≤ length words
+    → (s : Sizes) (t : Tables) (w : ℕ)
+    → rowsWords s t w (take (rowWords * length js) (readSheet (decodeSheet bytes) words .rows))
+    ≡ sheetWords s t w (map argumentsOf js)
+a-sheet-that-was-read-is-added = read.read-sheet
+
+-- Nothing past the need is looked at or changed.
+pub a-whole-add-keeps-to-the-need : (s : Sizes) (w : ℕ) (a : Arguments) → CallWithin s (λ t. wholeAdd s t w a)
+a-whole-add-keeps-to-the-need = within.add-within
+
+pub a-whole-finish-keeps-to-the-need : (s : Sizes) (w name : ℕ) → CallWithin s (λ t. wholeFinish s t w name)
+a-whole-finish-keeps-to-the-need = within.finish-within
+
+pub a-sheet-keeps-to-the-need : (s : Sizes) (w : ℕ) (l : List Arguments) → SheetWithin s (λ t. sheetWords s t w l)
+a-sheet-keeps-to-the-need = sheet-within.sheet-within
