@@ -39,9 +39,8 @@ const MOST_WHOLE: f64 = 1.25;
 /// The most instructions by whole calls and by sheets, as a multiple of the library's own by single calls.
 const MOST_OF_SINGLE: f64 = 0.6;
 
-/// Whether the two limits above are judged. While whole calls are made of single steps they are not kept, and the rows
-/// are only shown; `true` switches the judgement on.
-const WHOLE_IS_JUDGED: bool = false;
+/// Whether the two limits above are judged; where it is `false`, what is over them is named and no failure.
+const WHOLE_IS_JUDGED: bool = true;
 
 const BITS: u32 = 8;
 

@@ -1,6 +1,7 @@
 //! The rules of docs/RULES.md over the same tables of words with the same tests, in plain unproved Rust:
 //! what the proved library is timed beside. The calls are never inlined, as those of the library cannot be.
 
+mod inlined;
 mod whole;
 
 use compare_graph::layout::{

@@ -1,11 +1,11 @@
 //! Calls run whole, and sheets. An add reads all that its steps would read and then stores; where it meets damage,
 //! nothing is stored yet, and it runs by steps, which leave what they must. A finish stores as it goes.
 
-use compare_graph::layout::{job, phase, worker, JOBS_HEADER, JOB_WORDS, NONE, WORKER_WORDS};
+use compare_graph::layout::{job, phase, worker, NONE, WORKER_WORDS};
 use taskgraph::raw::{kind, Answer, Entry, SheetAdded, Sizes, Tables, ENTRY_WORDS, MAX_ENTRIES};
 
 use super::{
-    answer, answered, arguments_fit, post_add, step, Graph, Outcome, DAMAGED, EXECUTING, FINISHED, MAX_NAMES,
+    answer, answered, inlined::judged_list, post_add, step, Graph, Outcome, DAMAGED, EXECUTING, FINISHED, MAX_NAMES,
     UNEXECUTED,
 };
 
@@ -83,10 +83,7 @@ impl Graph<'_> {
     #[inline(always)]
     fn add(&mut self, at: usize, entry: &Entry, cleared: &mut bool) -> Outcome<Answer> {
         self.judge_idle(at)?;
-        if !arguments_fit(entry) {
-            return Err((5, 0));
-        }
-        let list = &entry.names[..entry.count as usize];
+        let list = judged_list(entry)?;
         self.judge_counters()?;
         let found = match self.look(entry, list) {
             Ok(found) => found,
@@ -110,12 +107,12 @@ impl Graph<'_> {
     fn look(&self, entry: &Entry, list: &[u32]) -> Outcome<Found> {
         let mut prerequisites = [0; MAX_NAMES as usize];
         for (place, name) in list.iter().enumerate() {
-            prerequisites[place] = self.find(*name)?;
+            prerequisites[place] = self.search(*name)?;
             if prerequisites[place] == NONE {
                 return Ok(Found::Refused(6, place as u32));
             }
         }
-        if self.find(entry.name)? != NONE {
+        if self.search(entry.name)? != NONE {
             return Ok(Found::Refused(7, 0));
         }
         if self.made() == self.sizes.jobs || self.sizes.arcs - self.reserved() < entry.count {
@@ -126,7 +123,7 @@ impl Graph<'_> {
             tally += self.finished(*prerequisite)?;
         }
         if tally == entry.count {
-            self.judge_room()?;
+            self.judge_queue()?;
         }
         Ok(Found::Enters { prerequisites, tally })
     }
@@ -137,7 +134,7 @@ impl Graph<'_> {
         let words = self.job_read(prerequisite);
         match words[job::LABEL] {
             FINISHED => Ok(1),
-            label if label < FINISHED && self.arc_fits(words[job::LAST]) => Ok(0),
+            label if label < FINISHED && self.arc_is_none_or_used(words[job::LAST]) => Ok(0),
             _ => Err(DAMAGED),
         }
     }
@@ -148,7 +145,7 @@ impl Graph<'_> {
         let (made, reserved, bucket) = (self.made(), self.reserved(), self.bucket(entry.name));
         let Entry { name, count, class, grower, .. } = *entry;
         let head = self.buckets[bucket];
-        self.job(made).copy_from_slice(&[name, UNEXECUTED, count - tally, class, grower, NONE, NONE, head]);
+        self.job_words(made).copy_from_slice(&[name, UNEXECUTED, count - tally, class, grower, NONE, NONE, head]);
         self.buckets[bucket] = made;
         self.jobs[4] = made + 1;
         self.arcs[0] = reserved + count;
@@ -156,11 +153,11 @@ impl Graph<'_> {
             let words = self.job_read(*prerequisite);
             if words[job::LABEL] != FINISHED {
                 let last = words[job::LAST];
-                self.append(*prerequisite, last, reserved + place as u32, made);
+                self.append_arc(*prerequisite, last, reserved + place as u32, made);
             }
         }
         if tally == count {
-            self.enqueue(made);
+            self.put_in_queue(made);
         }
     }
 
@@ -189,11 +186,11 @@ impl Graph<'_> {
         self.judge_counters()?;
         self.clear(at);
         let first = self.job_read(held)[job::FIRST];
-        if self.job_read(held)[job::LABEL] != EXECUTING || !self.arc_fits(first) {
+        if self.job_read(held)[job::LABEL] != EXECUTING || !self.arc_is_none_or_used(first) {
             self.workers[at + worker::PHASE] = phase::MARKING;
             return Err(DAMAGED);
         }
-        self.job(held)[job::LABEL] = FINISHED;
+        self.job_words(held)[job::LABEL] = FINISHED;
         self.workers[at + worker::HELD] = NONE;
         self.tell_dependents(at, first)
     }
@@ -224,8 +221,8 @@ impl Graph<'_> {
     /// Lowers the count of an arc's dependent, and gives the next arc.
     #[inline(always)]
     fn tell(&mut self, arc: u32) -> Outcome<u32> {
-        let (dependent, next) = (self.arc(arc)[0], self.arc(arc)[1]);
-        if dependent >= self.made() || !self.arc_fits(next) {
+        let (dependent, next) = (self.arc_words(arc)[0], self.arc_words(arc)[1]);
+        if dependent >= self.made() || !self.arc_is_none_or_used(next) {
             return Err(DAMAGED);
         }
         let count = self.job_read(dependent)[job::COUNT];
@@ -233,16 +230,11 @@ impl Graph<'_> {
             return Err(DAMAGED);
         }
         if count == 1 {
-            self.judge_room()?;
-            self.enqueue(dependent);
+            self.judge_queue()?;
+            self.put_in_queue(dependent);
         }
-        self.job(dependent)[job::COUNT] = count - 1;
+        self.job_words(dependent)[job::COUNT] = count - 1;
         Ok(next)
-    }
-
-    fn job_read(&self, number: u32) -> &[u32] {
-        let at = JOBS_HEADER + JOB_WORDS * number as usize;
-        &self.jobs[at..at + JOB_WORDS]
     }
 
     #[cold]
