@@ -9,7 +9,7 @@ ghost use Rattle.words.specs.Layout.{view, atEntry, atExit};
 ghost use Rattle.fused_words.specs.FusedAdd.{lookUps, lookIn};
 use fused_look_ups::look_ups;
 use fused_new_job::enter_if_new;
-use fused_stops::stop;
+use fused_stops::stop_looking;
 use fused_stops::turn_away;
 use fused_words::LookUps;
 use graph_words::layout::*;
@@ -59,20 +59,16 @@ pub fn look_up_all(
             grower,
         ),
         LookUps::Unknown { place } => turn_away(workers, worker, held, UNKNOWN_NAME, place),
-        LookUps::Broken { place } => stop(
+        LookUps::Broken { place } => stop_looking(
             workers,
             worker,
-            LOOKING,
             held,
             name,
             names,
             count,
             class,
             grower,
-            0,
             place,
-            NONE,
-            NONE,
         ),
     }
 }

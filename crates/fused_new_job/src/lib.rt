@@ -9,7 +9,7 @@ ghost use Rattle.words.specs.Layout.{workerShape, HELD, view, atEntry, atExit};
 ghost use Rattle.words.specs.Words.{findOf};
 ghost use Rattle.fused_words.specs.FusedAdd.{jobsFound, enterIn};
 use fused_job::enter_and_link;
-use fused_stops::stop;
+use fused_stops::stop_looking;
 use fused_stops::turn_away;
 use graph_find::find;
 use graph_words::header;
@@ -47,20 +47,16 @@ pub fn enter_if_new(
     let at = find(sizes, jobs, buckets, name);
     match at {
         Found::At { job: _ } => turn_away(workers, worker, held, NAME_PRESENT, 0),
-        Found::Damaged => stop(
+        Found::Damaged => stop_looking(
             workers,
             worker,
-            LOOKING,
             held,
             name,
             names,
             count,
             class,
             grower,
-            0,
             count,
-            NONE,
-            NONE,
         ),
         Found::Missing => {
             let full = (sizes.jobs <= header(jobs, MADE))

@@ -14,9 +14,11 @@ use Rattle.fused_words.specs.FusedAdd.{settledTables, queuedTables, cellFree}
 abbrev pub orStop : Bool → ℕ → ℕ → Tables → (Tables → Outcome Tables) → Outcome Tables
 orStop done w held t stopped = pick done (outcome Ended (idledWith t w held)) (stopped t)
 
--- the settling of job j with k of its d prerequisites tallied, whatever stops it
-abbrev pub settling : Sizes → ℕ → ℕ → ℕ → ℕ → ℕ → Tables → (Tables → Outcome Tables) → Outcome Tables
-settling s w held j k d t stopped =
-    pick (settles (d - k) k d)
+-- the settling of job j with k of its d prerequisites tallied, after links that were sound or not, whatever stops it
+abbrev pub settling : Sizes → ℕ → ℕ → ℕ → ℕ → ℕ → Bool → Tables → (Tables → Outcome Tables) → Outcome Tables
+settling s w held j k d sound t stopped =
+    pick sound
+    (pick (settles (d - k) k d)
     (pick (cellFree s (view t)) (outcome Ended (idledWith (queuedTables t j (d - k) (view t .put)) w held)) (stopped t))
-    (outcome Ended (idledWith (settledTables t j (d - k)) w held))
+    (outcome Ended (idledWith (settledTables t j (d - k)) w held)))
+    (stopped t)

@@ -19,8 +19,8 @@ use graph_worker_words::first_arc;
 use terms::Answer;
 use terms::Sizes;
 
-// The job's remaining count falls by the tally, and it is queued or not. Says whether it could: a queue that has no
-// cell left is damaged, and nothing is stored.
+// The job's remaining count falls by the tally, and it is queued or not. Says whether it could: where the links were not
+// sound, or the queue has no cell left, nothing is stored.
 fn settle(
     sizes: Sizes,
     jobs: &mut [u32],
@@ -28,12 +28,16 @@ fn settle(
     job: u32,
     tally: u32,
     count: u32,
+    sound: bool,
 ) -> bool
     ensures { λ r. ⌜ ((arcs buckets workers : List ℕ) (w held : ℕ) (stopped : Tables → Outcome Tables)
         → orStop r w held (tables (now (jobs .exit)) arcs buckets (now (queue .exit)) workers) stopped
-        ≡ settling sizes w held job tally count (tables (now (jobs .entry)) arcs buckets (now (queue .entry)) workers)
-        stopped) ⌝ }
+        ≡ settling sizes w held job tally count sound
+        (tables (now (jobs .entry)) arcs buckets (now (queue .entry)) workers) stopped) ⌝ }
 {
+    if sound {} else {
+        return false;
+    }
     let left = less(count, tally);
     let settles = (left == 0) & ((0 < tally) | (count == 0));
     if settles {
@@ -79,30 +83,12 @@ pub fn settle_add(
 {
     let tally = linked.tally;
     let place = linked.place;
-    let first = first_arc(count, arc);
-    let sound = linked.sound;
-    if sound {} else {
-        return stop(
-            workers,
-            worker,
-            LINKING,
-            held,
-            name,
-            names,
-            count,
-            class,
-            grower,
-            tally,
-            place,
-            job,
-            first,
-        );
-    }
-    let settled = settle(sizes, jobs, queue, job, tally, count);
+    let settled = settle(sizes, jobs, queue, job, tally, count, linked.sound);
     if settled {
         put_bare_worker(workers, worker, IDLE, held);
         Answer::Ended
     } else {
+        let first = first_arc(count, arc);
         stop(
             workers,
             worker,

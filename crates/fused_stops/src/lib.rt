@@ -6,7 +6,7 @@ ghost use mathlib.Core.List.{List};
 ghost use Prim.Native.Nat.{ℕ};
 ghost use Rattle.terms.specs.Runs.{outcome};
 ghost use Rattle.terms.specs.declared.Answer.the-variants.{Refused};
-ghost use Rattle.words.specs.Layout.{tables};
+ghost use Rattle.words.specs.Layout.{none, LOOKING, tables};
 ghost use Rattle.fused_words.specs.FusedWorker.{idledWith, addWorker, halted};
 use graph_posted_add::put_call;
 use graph_records::put_bare_worker;
@@ -67,4 +67,40 @@ pub fn stop(
         number: DAMAGED,
         place: 0,
     }
+}
+
+// The same in its look-ups, at a place of its list or at its own name, which comes after them.
+pub fn stop_looking(
+    workers: &mut [u32],
+    worker: u32,
+    held: u32,
+    name: u32,
+    names: &[u32],
+    count: u32,
+    class: u32,
+    grower: u32,
+    place: u32,
+) -> Answer
+    ensures { λ r. ⌜ ((jobs arcs buckets queue : List ℕ)
+        → outcome r (tables jobs arcs buckets queue (now (workers .exit)))
+        ≡ halted (tables jobs arcs buckets queue (now (workers .entry))) worker
+        (addWorker LOOKING held
+        (record { name = name; count = count; names = now (names .entry); class = class; grower = grower })
+        0 place none none)) ⌝ }
+{
+    stop(
+        workers,
+        worker,
+        LOOKING,
+        held,
+        name,
+        names,
+        count,
+        class,
+        grower,
+        0,
+        place,
+        NONE,
+        NONE,
+    )
 }

@@ -32,8 +32,8 @@ turn-away-requires c κs = search needs
 enum-known-ends-2 : tie.Need-enum-known-ends-2
 enum-known-ends-2 c = search needs
 
-stop-requires : tie.Need-stop-requires
-stop-requires c κs = search needs
+stop-looking-requires : tie.Need-stop-looking-requires
+stop-looking-requires c κs = search needs
 
 same-length : tie.Need-same-length
 same-length c = search needs
@@ -97,7 +97,7 @@ returns-3 c =
     let c8 = c4 .before .before .before .before in
     let c12 = c8 .before .before .before .before in
     broken _ _ _ _ (c12 .worker-word .ensures) (c8 .look-ups .ensures _ _ _ .0) (c4 .before .ends2 .given .1)
-    (c .before .before .stop .ensures _ _ _ _)
+    (c .before .before .stop-looking .ensures _ _ _ _)
 
 pub look-up-all-spec : {M : Type 1} → statement M
 look-up-all-spec =
@@ -112,7 +112,7 @@ look-up-all-spec =
     enum-known-ends
     turn-away-requires
     enum-known-ends-2
-    stop-requires
+    stop-looking-requires
     same-length
     same-length-2
     same-length-3

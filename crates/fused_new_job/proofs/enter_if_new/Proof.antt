@@ -19,8 +19,8 @@ turn-away-requires c κs = search needs
 enum-told-2 : tie.Need-enum-told-2
 enum-told-2 c = search needs
 
-stop-requires : tie.Need-stop-requires
-stop-requires c κs = search needs
+stop-looking-requires : tie.Need-stop-looking-requires
+stop-looking-requires c κs = search needs
 
 enum-told-3 : tie.Need-enum-told-3
 enum-told-3 c = search needs
@@ -76,7 +76,7 @@ returns-2 c =
     λ h i.
     let c4 = c .before .before .before .before in
     stopped _ _ _ _ h (c4 .before .before .find .ensures _ _ _) (c4 .enum-told2 .given .1)
-    (c .before .before .stop .ensures _ _ _ _)
+    (c .before .before .stop-looking .ensures _ _ _ _)
 
 same-length-7 : tie.Need-same-length-7
 same-length-7 c = search needs
@@ -144,7 +144,7 @@ enter-if-new-spec =
     enum-told
     turn-away-requires
     enum-told-2
-    stop-requires
+    stop-looking-requires
     enum-told-3
     header-requires
     cast-full

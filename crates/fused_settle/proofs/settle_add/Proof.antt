@@ -9,6 +9,12 @@ use Rattle.fused_words.specs.FusedWorker.{addWorker, halted}
 use Rattle.fused_settle.proofs.settle_add.Statement.{statement}
 use Rattle.fused_settle.proofs.settle_add.Tie as tie
 
+settle-requires : tie.Need-settle-requires
+settle-requires c κs = search needs
+
+put-bare-worker-requires : tie.Need-put-bare-worker-requires
+put-bare-worker-requires c κs = search needs
+
 first-arc-requires : tie.Need-first-arc-requires
 first-arc-requires c κs = search needs
 
@@ -18,30 +24,35 @@ stop-requires c κs = search needs
 same-length : tie.Need-same-length
 same-length c = search needs
 
-returns : tie.Need-returns
-unfolding settleIn
-returns c =
-    λ arcs buckets.
-    let c4 = c .before .before .before .before in
-    rw (c4 .if1 .left, c .before .before .stop .ensures, c4 .before .first-arc .ensures)
-
-settle-requires : tie.Need-settle-requires
-settle-requires c κs = search needs
-
-put-bare-worker-requires : tie.Need-put-bare-worker-requires
-put-bare-worker-requires c κs = search needs
-
-stop-requires-2 : tie.Need-stop-requires-2
-stop-requires-2 c κs = search needs
-
 same-length-2 : tie.Need-same-length-2
 same-length-2 c = search needs
 
 same-length-3 : tie.Need-same-length-3
 same-length-3 c = search needs
 
+returns : tie.Need-returns
+unfolding settleIn
+returns c =
+    λ arcs buckets.
+    let c4 = c .before .before .before .before in
+    let c8 = c4 .before .before .before .before in
+    let c12 = c8 .before .before .before .before in
+    let c16 = c12 .before .before .before .before in
+    let a = c16 .args in
+    let stopped : Tables → Outcome Tables = λ t. halted t (a .worker) (addWorker LINKING (a .held)
+    (record { name = a .name; count = a .count; names = a .names .now; class = a .class; grower = a .grower })
+    (a .linked .tally) (a .linked .place) (a .job) (firstArc (a .count) (a .arc))) in
+    rw (c .before .before .put-bare-worker .ensures)
+    (rw (c4 .if1 .taken) at (c8 .before .settle .ensures arcs buckets (a .workers .now) (a .worker) (a .held) stopped))
+
 same-length-4 : tie.Need-same-length-4
 same-length-4 c = search needs
+
+same-length-5 : tie.Need-same-length-5
+same-length-5 c = search needs
+
+same-length-6 : tie.Need-same-length-6
+same-length-6 c = search needs
 
 returns-2 : tie.Need-returns-2
 unfolding settleIn
@@ -51,53 +62,27 @@ returns-2 c =
     let c8 = c4 .before .before .before .before in
     let c12 = c8 .before .before .before .before in
     let c16 = c12 .before .before .before .before in
-    let a = c16 .before .before .args in
+    let a = c16 .before .args in
     let stopped : Tables → Outcome Tables = λ t. halted t (a .worker) (addWorker LINKING (a .held)
     (record { name = a .name; count = a .count; names = a .names .now; class = a .class; grower = a .grower })
     (a .linked .tally) (a .linked .place) (a .job) (firstArc (a .count) (a .arc))) in
-    rw (c12 .if1 .taken, c .before .before .put-bare-worker .ensures)
-    (rw (c4 .if2 .taken) at (c8 .before .settle .ensures arcs buckets (a .workers .now) (a .worker) (a .held) stopped))
-
-same-length-5 : tie.Need-same-length-5
-same-length-5 c = search needs
-
-same-length-6 : tie.Need-same-length-6
-same-length-6 c = search needs
-
-same-length-7 : tie.Need-same-length-7
-same-length-7 c = search needs
-
-returns-3 : tie.Need-returns-3
-unfolding settleIn
-returns-3 c =
-    λ arcs buckets.
-    let c4 = c .before .before .before .before in
-    let c8 = c4 .before .before .before .before in
-    let c12 = c8 .before .before .before .before in
-    let c16 = c12 .before .before .before .before in
-    let a = c16 .before .before .args in
-    let stopped : Tables → Outcome Tables = λ t. halted t (a .worker) (addWorker LINKING (a .held)
-    (record { name = a .name; count = a .count; names = a .names .now; class = a .class; grower = a .grower })
-    (a .linked .tally) (a .linked .place) (a .job) (firstArc (a .count) (a .arc))) in
-    rw (c12 .if1 .taken, c .before .before .stop2 .ensures, c12 .before .first-arc .ensures)
-    (rw (c4 .if2 .left) at (c8 .before .settle .ensures arcs buckets (a .workers .now) (a .worker) (a .held) stopped))
+    rw (c .before .before .stop .ensures, c4 .first-arc .ensures)
+    (rw (c4 .before .if1 .left) at (c8 .before .before .settle .ensures arcs buckets (a .workers .now) (a .worker)
+    (a .held) stopped))
 
 pub settle-add-spec : {M : Type 1} → statement M
 settle-add-spec =
     tie.close
     (tie.spec
+    settle-requires
+    put-bare-worker-requires
     first-arc-requires
     stop-requires
     same-length
-    returns
-    settle-requires
-    put-bare-worker-requires
-    stop-requires-2
     same-length-2
     same-length-3
+    returns
     same-length-4
-    returns-2
     same-length-5
     same-length-6
-    same-length-7
-    returns-3)
+    returns-2)
