@@ -7,22 +7,23 @@
 --   the words' machine        calls_history: specs/WordsCalls.antt
 --   numbers, what is left     whole_answers: specs/Numbers.antt, specs/Left.antt, specs/Worker.antt
 -- Follows docs/RULES.md, "Whole calls". Assumes nothing.
-use mathlib.Core.Path.{_≡_}
+use mathlib.Core.Path.{_≡_, refl}
 use mathlib.Core.Logic.{_↔_, _≢_, _⊎_}
 use mathlib.Core.Bool.{true, false}
 use mathlib.Core.List.{List, [], map}
 use Prim.Native.Nat.{ℕ, _*_, _%_, _≤_, _<_}
 use lib.ListN.{length, getD, take}
-use Rattle.basics.specs.Base.{contains}
-use Rattle.terms.specs.Terms.{Arguments, Finish, mostEntries, damaged, wrongSizes, noArguments}
-use Rattle.terms.specs.Runs.{after}
+use Rattle.basics.specs.Base.{contains, occurrences}
+use Rattle.terms.specs.Terms.{Arguments, Finish, mostEntries, damaged, wrongSizes, noArguments, tooManyEntries}
+use Rattle.terms.specs.Runs.{Item, after, events}
 use Rattle.terms.specs.declared.Sizes.{Sizes}
 use Rattle.terms.specs.declared.Answer.{Answer}
 use Rattle.terms.specs.declared.Answer.the-variants.{Laid, Going, Ended, Refused}
 use Rattle.words.specs.Layout.{Tables, none}
-use Rattle.words.specs.Words.{perform, layOut}
+use Rattle.words.specs.Words.{perform, addWords, layOut}
 use Rattle.words.specs.Observed.{seen}
-use Rattle.linearization.specs.Calls.{idle}
+use Rattle.linearization.specs.Calls.{idle, reading, acceptedFinishes}
+use Rattle.linearizability.specs.Demand.{handedOut}
 use Rattle.sheet_format.specs.Job.{Job}
 use Rattle.sheet_format.specs.NumberLaws.{Bytes}
 use Rattle.sheet_format.specs.Decode.{decodeSheet, jobs, rowWords, readSheet}
@@ -30,11 +31,11 @@ use Rattle.day_rounds.specs.Rounds.{argumentsOf}
 use Rattle.whole_words.specs.Whole.{wholeAdd, wholeFinish}
 use Rattle.whole_words.specs.Sheet.{sheetOutcome, sheetWords}
 use Rattle.whole_words.specs.CallEnds as ends
-use Rattle.sheet_rows.specs.SheetRows.{addsOf, rowsWords}
+use Rattle.sheet_rows.specs.SheetRows.{addsOf, rowsWords, sheetAdded}
 use Rattle.fused_words.specs.FusedWorker.{Admitted, isIdle, holdOf, idledWith}
 use Rattle.host_calls.specs.HostCalls.{HostCall, sheet, one, each, replied, worth, replyWorth}
 use Rattle.host_calls.specs.HostCalls as host
-use Rattle.host_calls.specs.CallsDemand.{CallsDemand}
+use Rattle.host_calls.specs.CallsDemand.{CallsDemand, items}
 use Rattle.calls_history.specs.WordsCalls.{turnedWords, answerWords}
 use Rattle.calls_history.specs.Worth.{whole-is-worth}
 use Rattle.calls_history.specs.Theorem.{calls-demand}
@@ -48,6 +49,7 @@ use Rattle.whole_answers.specs.Left as left
 use Rattle.whole_answers.specs.SheetAdds.{afterAdds}
 use Rattle.whole_answers.specs.Sheets.{Stuck}
 use Rattle.whole_answers.specs.Sheets as sheets
+use Rattle.whole_answers.specs.SheetTurned as turned
 use Rattle.whole_answers.specs.InC.{EntryTold}
 use Rattle.whole_answers.specs.InC as rows
 use Rattle.whole_answers.specs.ReadRows as read
@@ -55,6 +57,7 @@ use Rattle.whole_answers.specs.Within.{CallWithin}
 use Rattle.whole_answers.specs.Within as within
 use Rattle.whole_answers.specs.SheetWithin.{SheetWithin}
 use Rattle.whole_answers.specs.SheetWithin as sheet-within
+use Rattle.promises.specs.Promises as of-items
 
 -- ---- of every list of calls from tables that were laid out: single items beside adds and finishes run whole, and sheets
 module _ (s : Sizes) (t : Tables) (laid : layOut s t .answer ≡ Laid) (calls : List HostCall) where
@@ -62,6 +65,19 @@ module _ (s : Sizes) (t : Tables) (laid : layOut s t .answer ≡ Laid) (calls : 
   -- tables, what is read off calls and replies, and the entries are those of these items, of which every clause holds.
   pub every-list-of-calls-is-right : CallsDemand perform turnedWords answerWords seen s (layOut s t .state) calls
   every-list-of-calls-is-right = calls-demand s t laid calls
+
+  -- So what is promised of lists of items (Promises.antt) is promised of the items that the calls are worth. In short,
+  -- the auditor's question: each job is handed out at most once, and finished at most once.
+  abbrev pub worthOf : List Item
+  worthOf = items perform turnedWords answerWords seen s (layOut s t .state) calls
+
+  pub no-job-is-handed-out-twice-by-calls : (j : ℕ)
+      → occurrences j (handedOut (events perform (layOut s t .state) worthOf)) ≤ 1
+  no-job-is-handed-out-twice-by-calls = of-items.no-job-is-handed-out-twice s t laid worthOf
+
+  pub no-job-is-finished-twice-by-calls : (name : ℕ)
+      → occurrences name (acceptedFinishes (reading (events perform (layOut s t .state) worthOf) .calls)) ≤ 1
+  no-job-is-finished-twice-by-calls = of-items.no-job-is-finished-twice s t laid worthOf
 
   -- No call is cut short: to an idle worker an add replies that it ended, or 5 to 8; a finish that it ended, or 11; a
   -- sheet of up to 64 entries has such an answer for each.
@@ -146,6 +162,17 @@ module _ (s : Sizes) (t : Tables) (w : ℕ) (l : List Arguments) where
       → sheetWords s t w l ≡ sheetOutcome (sheetWords s t w l .number) [] t
   a-sheet-turned-away-changes-nothing = sheets.sheet-turned-away s t w l
 
+  -- by any number but 16 it is turned away as any post of an add by this worker is: "1, 2, 9 for the worker's own words,
+  -- 3", and by 16 only where these are passed;
+  pub a-sheet-is-turned-away-as-a-post-is : sheetWords s t w l .number ≢ 0
+      → sheetWords s t w l .number ≢ tooManyEntries → (a : Arguments)
+      → addWords s t w a .answer ≡ Refused (sheetWords s t w l .number) 0
+  a-sheet-is-turned-away-as-a-post-is = turned.sheet-as-post s t w l
+
+  pub sixteen-comes-last : sheetWords s t w l .number ≡ tooManyEntries
+      → Admitted s t w × (isIdle t w ≡ true) × (mostEntries < length l)
+  sixteen-comes-last = turned.sheet-by-16 s t w l
+
   -- served, it has an answer for each entry, that of its add on the tables as the adds before left them,
   pub a-sheet-answers-each-entry : sheetWords s t w l .number ≡ 0 → (i : ℕ) → i < length l
       → getD (sheetWords s t w l .answers) i Laid
@@ -166,16 +193,33 @@ module _ (s : Sizes) (t : Tables) (w : ℕ) (l : List Arguments) where
       → Stuck i l (afterAdds s w (take i l) t) (sheetWords s t w l)
   after-damage-each-entry-gets-3 = sheets.sheet-stuck s t w l
 
--- As a host has it: words that make no whole rows are 1; else each entry's number and place are those that its add would
--- answer in C, and 0 just if it ended; past the last entry they are 0.
+-- As a host has it: words that make no whole rows are 1, and else they are the sheet of their entries;
 module _ (s : Sizes) (t : Tables) (w : ℕ) (words : List ℕ) where
   pub no-whole-rows-are-1 : length words % rowWords ≢ 0 → rowsWords s t w words ≡ sheetOutcome wrongSizes [] t
   no-whole-rows-are-1 = rows.rows-cut s t w words
+
+  pub whole-rows-are-a-sheet : length words % rowWords ≡ 0 → rowsWords s t w words ≡ sheetWords s t w (addsOf words)
+  whole-rows-are-a-sheet = rows.rows-whole s t w words
+
+  -- C is told the number that turned the sheet away; of each entry the number and the place that its add would answer in
+  -- C, which is 0 just if it ended; and 0 past the last entry, for all of them where the sheet was turned away.
+  pub the-number-is-told : sheetAdded (rowsWords s t w words) .number ≡ rowsWords s t w words .number
+  the-number-is-told = refl
 
   pub an-entry-is-told-as-its-add : rowsWords s t w words .number ≡ 0 → (i : ℕ) → i < length (addsOf words)
       → EntryTold (rowsWords s t w words) i
       (wholeAdd s (afterAdds s w (take i (addsOf words)) t) w (getD (addsOf words) i noArguments) .answer)
   an-entry-is-told-as-its-add = rows.rows-as-adds s t w words
+
+  pub an-entry-is-told-0-if-it-ended : rowsWords s t w words .number ≡ 0 → (i : ℕ) → i < length (addsOf words)
+      → (getD (sheetAdded (rowsWords s t w words) .numbers) i 0 ≡ 0)
+      ↔ (wholeAdd s (afterAdds s w (take i (addsOf words)) t) w (getD (addsOf words) i noArguments) .answer ≡ Ended)
+  an-entry-is-told-0-if-it-ended = rows.rows-accepted s t w words
+
+  pub past-the-entries-is-0 : (i : ℕ) → length (rowsWords s t w words .answers) ≤ i
+      → (getD (sheetAdded (rowsWords s t w words) .numbers) i 0 ≡ 0)
+      × (getD (sheetAdded (rowsWords s t w words) .places) i 0 ≡ 0)
+  past-the-entries-is-0 = rows.rows-past s t w words
 
 -- The rows of a sheet of bytes that was read are the sheet of its jobs' adds.
 pub a-sheet-that-was-read-is-added : (bytes : List ℕ) (js : List Job) (words : List ℕ) → Bytes bytes

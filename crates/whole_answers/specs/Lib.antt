@@ -10,3 +10,4 @@ pub mod Requests
 pub mod ReadRows
 pub mod Within
 pub mod SheetWithin
+pub mod SheetTurned
