@@ -1,0 +1,35 @@
+-- `graph_admit::admit` meets its contract: each way through the tests that come first. Assumes nothing.
+use mathlib.Core.Path.{refl}
+use borrow.Author.Needs.{needs}
+use Rattle.graph_own.proofs.Admitted.{wrong-sizes, no-such-worker, unsound, admits}
+use Rattle.graph_admit.proofs.admit.Statement.{statement}
+use Rattle.graph_admit.proofs.admit.Tie as tie
+
+sizes-fit-requires : tie.Need-sizes-fit-requires
+sizes-fit-requires c κs = search needs
+
+own-ok-requires : tie.Need-own-ok-requires
+own-ok-requires c κs = search needs
+
+returns : tie.Need-returns
+returns c =
+    let c4 = c .before .before .before .before in
+    admits _ _ _ _ _ (c4 .before .sizes-fit .ensures) (c .before .own-ok .ensures _ _) (c4 .if1 .taken)
+    (c .before .before .if2 .taken) (c .if3 .taken) refl
+
+returns-2 : tie.Need-returns-2
+returns-2 c =
+    let c4 = c .before .before .before .before in
+    unsound _ _ _ _ _ (c4 .before .sizes-fit .ensures) (c .before .own-ok .ensures _ _) (c4 .if1 .taken)
+    (c .before .before .if2 .taken) (c .if3 .left) refl
+
+returns-3 : tie.Need-returns-3
+returns-3 c =
+    no-such-worker _ _ _ _ _ (c .before .before .before .sizes-fit .ensures) (c .before .before .if1 .taken)
+    (c .if2 .left) refl
+
+returns-4 : tie.Need-returns-4
+returns-4 c = wrong-sizes _ _ _ _ _ (c .before .sizes-fit .ensures) (c .if1 .left) refl
+
+pub admit-spec : {M : Type 1} → statement M
+admit-spec = tie.close (tie.spec sizes-fit-requires own-ok-requires returns returns-2 returns-3 returns-4)
