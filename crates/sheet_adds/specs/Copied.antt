@@ -5,7 +5,6 @@ use Prim.Native.Nat.{ℕ, suc, _+_, _≤_, _<_}
 use native.Mathlib.Omega.{arith}
 use lib.ListN.{length, take, drop, getD, set, drop-of-length-le}
 use lib.Seq.{set-at, drop-cons, take-suc, append-snoc, length-take-le, getD-drop}
-use Rattle.sheet_format.specs.declared.Entry.{Entry}
 
 -- d with its first i elements those of s
 abbrev pub copied : List ℕ → List ℕ → ℕ → List ℕ
@@ -27,7 +26,3 @@ copied-on d l from i h k =
 
 pub copied-all : (d s : List ℕ) (n : ℕ) → length d ≤ n → copied d s n ≡ take n s
 copied-all d s n h = ap (λ (r : List ℕ). take n s ++ r) (drop-of-length-le d h) ∙ append-nil (take n s)
-
--- an entry with other names
-abbrev pub withNames : Entry → List ℕ → Entry
-withNames e l = record { name = e .name; count = e .count; class = e .class; grower = e .grower; names = l }

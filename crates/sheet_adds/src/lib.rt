@@ -2,8 +2,9 @@
 // calls". Assumes nothing.
 ghost use mathlib.Core.Path.{_≡_};
 ghost use Prim.Native.Nat.{_+_, _*_, _≤_};
-ghost use lib.ListN.{length};
+ghost use lib.ListN.{length, take, drop};
 ghost use mathlib.Core.List.{map};
+ghost use Rattle.basics.specs.Limits.{mostNames};
 ghost use Rattle.terms.specs.Terms.{mostEntries};
 ghost use Rattle.terms.specs.Runs.{outcome};
 ghost use Rattle.words.specs.Layout.{atEntry, atExit};
@@ -55,26 +56,34 @@ fn place_of(answer: Answer) -> u32
     }
 }
 
+// The names of a row, from a word on.
+fn row_names(rows: &[u32], from: usize) -> [u32; 32]
+    requires { ⌜ from + mostNames ≤ length (now rows) ⌝ }
+    ensures { λ r. ⌜ r ≡ take mostNames (drop from (now (rows .entry))) ⌝ }
+{
+    let mut names: [u32; 32] = [0; 32];
+    let mut i: usize = 0;
+    while i < 32 {
+        names[i] = rows[from + i];
+        i += 1;
+    }
+    names
+}
+
 // The entry of a row.
 fn row_entry(rows: &[u32], row: usize) -> Entry
     requires { ⌜ rowWords * row + rowWords ≤ length (now rows) ⌝ }
     ensures { λ r. ⌜ r ≡ entryAt (now (rows .entry)) row ⌝ }
 {
     let at = ROW_WORDS * row;
-    let mut entry = Entry {
+    let names = row_names(rows, at + NAMES_WORD);
+    Entry {
         name: rows[at],
         count: rows[at + COUNT_WORD],
         class: rows[at + CLASS_WORD],
         grower: rows[at + GROWER_WORD],
-        names: [0; 32],
-    };
-    let from = at + NAMES_WORD;
-    let mut i: usize = 0;
-    while i < 32 {
-        entry.names[i] = rows[from + i];
-        i += 1;
+        names,
     }
-    entry
 }
 
 // The adds of the first rows, in order, by a worker of which the tests that come first are passed; a refused one does

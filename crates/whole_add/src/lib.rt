@@ -5,12 +5,14 @@ ghost use Rattle.words.specs.Layout.{atEntry, atExit};
 ghost use Rattle.whole_words.specs.Whole.{wholeAdd};
 ghost use Rattle.sheet_rows.specs.Arguments.{argumentsOf};
 use fused_add::add_if_idle;
-use graph_admit::admit;
+use graph_own::own_ok;
+use graph_sizes::sizes_fit;
+use graph_words::numbers::*;
 use sheet_format::Entry;
 use terms::Answer;
 use terms::Sizes;
 
-// An add run whole.
+// An add run whole. The tests that come first stand here as in a step: docs/DECISIONS.md, 43.
 pub fn add_whole(
     sizes: Sizes,
     jobs: &mut [u32],
@@ -24,11 +26,29 @@ pub fn add_whole(
     ensures { λ r. ⌜ outcome r (atExit jobs arcs buckets queue workers)
         ≡ wholeAdd sizes (atEntry jobs arcs buckets queue workers) worker (argumentsOf entry) ⌝ }
 {
-    let number = admit(sizes, jobs, arcs, buckets, queue, workers, worker);
-    let served = number == 0;
-    if served {
-        add_if_idle(sizes, jobs, arcs, buckets, queue, workers, worker, entry)
+    let fit = sizes_fit(sizes, jobs, arcs, buckets, queue, workers);
+    if fit {
+        let known = worker < sizes.workers;
+        if known {
+            let sound = own_ok(sizes, jobs, arcs, workers, worker);
+            if sound {
+                add_if_idle(sizes, jobs, arcs, buckets, queue, workers, worker, entry)
+            } else {
+                Answer::Refused {
+                    number: DAMAGED,
+                    place: 0,
+                }
+            }
+        } else {
+            Answer::Refused {
+                number: NO_SUCH_WORKER,
+                place: 0,
+            }
+        }
     } else {
-        Answer::Refused { number, place: 0 }
+        Answer::Refused {
+            number: WRONG_SIZES,
+            place: 0,
+        }
     }
 }

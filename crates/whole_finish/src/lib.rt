@@ -4,11 +4,13 @@ ghost use Rattle.terms.specs.Runs.{outcome};
 ghost use Rattle.words.specs.Layout.{atEntry, atExit};
 ghost use Rattle.whole_words.specs.Whole.{wholeFinish};
 use fused_finish::finish_if_idle;
-use graph_admit::admit;
+use graph_own::own_ok;
+use graph_sizes::sizes_fit;
+use graph_words::numbers::*;
 use terms::Answer;
 use terms::Sizes;
 
-// A finish run whole.
+// A finish run whole. The tests that come first stand here as in a step: docs/DECISIONS.md, 43.
 pub fn finish_whole(
     sizes: Sizes,
     jobs: &mut [u32],
@@ -22,11 +24,29 @@ pub fn finish_whole(
     ensures { λ r. ⌜ outcome r (atExit jobs arcs buckets queue workers)
         ≡ wholeFinish sizes (atEntry jobs arcs buckets queue workers) worker name ⌝ }
 {
-    let number = admit(sizes, jobs, arcs, buckets, queue, workers, worker);
-    let served = number == 0;
-    if served {
-        finish_if_idle(sizes, jobs, arcs, buckets, queue, workers, worker, name)
+    let fit = sizes_fit(sizes, jobs, arcs, buckets, queue, workers);
+    if fit {
+        let known = worker < sizes.workers;
+        if known {
+            let sound = own_ok(sizes, jobs, arcs, workers, worker);
+            if sound {
+                finish_if_idle(sizes, jobs, arcs, buckets, queue, workers, worker, name)
+            } else {
+                Answer::Refused {
+                    number: DAMAGED,
+                    place: 0,
+                }
+            }
+        } else {
+            Answer::Refused {
+                number: NO_SUCH_WORKER,
+                place: 0,
+            }
+        }
     } else {
-        Answer::Refused { number, place: 0 }
+        Answer::Refused {
+            number: WRONG_SIZES,
+            place: 0,
+        }
     }
 }
