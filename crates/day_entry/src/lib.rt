@@ -44,20 +44,6 @@ pub fn add_entry(
         ≡ wrote limit (page at (now (out .entry)))
         (entered sizes number (atEntry jobs arcs buckets queue workers) (argumentsIn entry)) ⌝ }
 {
-    let names = entry.names;
-    let answer = add_whole(
-        sizes,
-        jobs,
-        arcs,
-        buckets,
-        queue,
-        workers,
-        0,
-        entry.name,
-        names,
-        entry.count,
-        entry.class,
-        entry.grower,
-    );
+    let answer = add_whole(sizes, jobs, arcs, buckets, queue, workers, 0, entry);
     print_refusal(out, limit, at, number, answer)
 }

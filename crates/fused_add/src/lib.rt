@@ -5,12 +5,14 @@ ghost use mathlib.Core.Path.{_≡_};
 ghost use Rattle.terms.specs.Runs.{outcome};
 ghost use Rattle.words.specs.Layout.{atEntry, atExit};
 ghost use Rattle.fused_words.specs.FusedAdd.{addIfIdle};
+ghost use Rattle.sheet_rows.specs.Arguments.{argumentsOf};
 use fused_looking::look_up_all;
 use graph_arguments::arguments_wrong;
 use graph_own::counters_ok;
 use graph_words::layout::*;
 use graph_words::numbers::*;
 use graph_words::worker_word;
+use sheet_format::Entry;
 use terms::Answer;
 use terms::Sizes;
 
@@ -23,15 +25,10 @@ pub fn add_if_idle(
     queue: &mut [u32],
     workers: &mut [u32],
     worker: u32,
-    name: u32,
-    names: [u32; 32],
-    count: u32,
-    class: u32,
-    grower: u32,
+    entry: Entry,
 ) -> Answer
     ensures { λ r. ⌜ outcome r (atExit jobs arcs buckets queue workers)
-        ≡ addIfIdle sizes (atEntry jobs arcs buckets queue workers) worker
-        (record { name = name; count = count; names = names; class = class; grower = grower }) ⌝ }
+        ≡ addIfIdle sizes (atEntry jobs arcs buckets queue workers) worker (argumentsOf entry) ⌝ }
 {
     let idle = worker_word(workers, worker, PHASE) == IDLE;
     if idle {} else {
@@ -40,7 +37,8 @@ pub fn add_if_idle(
             place: 0,
         };
     }
-    let wrong = arguments_wrong(name, names, count, class, grower);
+    let names = entry.names;
+    let wrong = arguments_wrong(entry.name, names, entry.count, entry.class, entry.grower);
     if wrong {
         return Answer::Refused {
             number: WRONG_ARGUMENTS,
@@ -49,20 +47,7 @@ pub fn add_if_idle(
     }
     let counted = counters_ok(sizes, jobs, arcs);
     if counted {
-        look_up_all(
-            sizes,
-            jobs,
-            arcs,
-            buckets,
-            queue,
-            workers,
-            worker,
-            name,
-            &names,
-            count,
-            class,
-            grower,
-        )
+        look_up_all(sizes, jobs, arcs, buckets, queue, workers, worker, entry)
     } else {
         Answer::Refused {
             number: DAMAGED,

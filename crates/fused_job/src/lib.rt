@@ -7,12 +7,14 @@ ghost use Rattle.terms.specs.Runs.{outcome};
 ghost use Rattle.words.specs.Columns.{header};
 ghost use Rattle.words.specs.Layout.{none, MADE, RESERVED, atEntry, atExit};
 ghost use Rattle.fused_words.specs.FusedAdd.{enteredTables, links, settleIn};
+ghost use Rattle.sheet_rows.specs.Arguments.{argumentsOf};
 use fused_entering::enter_job;
 use fused_links::link_all;
 use fused_settle::settle_add;
 use graph_words::header;
 use graph_words::layout::*;
 use graph_words::numbers::*;
+use sheet_format::Entry;
 use terms::Answer;
 use terms::Sizes;
 
@@ -26,27 +28,30 @@ pub fn enter_and_link(
     workers: &mut [u32],
     worker: u32,
     held: u32,
-    name: u32,
-    names: &[u32],
+    entry: Entry,
     found: &[u32],
-    count: u32,
-    class: u32,
-    grower: u32,
 ) -> Answer
-    ensures { λ r. ⌜ (header (now (jobs .entry)) MADE < none → header (now (arcs .entry)) RESERVED + count ≤ none
+    ensures { λ r. ⌜ (header (now (jobs .entry)) MADE < none → header (now (arcs .entry)) RESERVED + entry .count ≤ none
         → outcome r (atExit jobs arcs buckets queue workers)
-        ≡ settleIn sizes worker
-        (record { name = name; count = count; names = now (names .entry); class = class; grower = grower }) held
-        (header (now (jobs .entry)) MADE) (header (now (arcs .entry)) RESERVED)
+        ≡ settleIn sizes worker (argumentsOf entry) held (header (now (jobs .entry)) MADE)
+        (header (now (arcs .entry)) RESERVED)
         (links sizes (header (now (jobs .entry)) MADE) (header (now (arcs .entry)) RESERVED)
-        (prefix count (now (found .entry))) 0
-        (enteredTables sizes (atEntry jobs arcs buckets queue workers)
-        (record { name = name; count = count; names = now (names .entry); class = class; grower = grower })) 0)) ⌝ }
+        (prefix (entry .count) (now (found .entry))) 0
+        (enteredTables sizes (atEntry jobs arcs buckets queue workers) (argumentsOf entry)) 0)) ⌝ }
 {
     let made = header(jobs, MADE);
     let reserved = header(arcs, RESERVED);
-    enter_job(sizes, jobs, arcs, buckets, name, count, class, grower);
-    let linked = link_all(sizes, jobs, arcs, made, reserved, found, count);
+    enter_job(
+        sizes,
+        jobs,
+        arcs,
+        buckets,
+        entry.name,
+        entry.count,
+        entry.class,
+        entry.grower,
+    );
+    let linked = link_all(sizes, jobs, arcs, made, reserved, found, entry.count);
     settle_add(
         sizes,
         jobs,
@@ -54,11 +59,7 @@ pub fn enter_and_link(
         workers,
         worker,
         held,
-        name,
-        names,
-        count,
-        class,
-        grower,
+        entry,
         made,
         reserved,
         linked,

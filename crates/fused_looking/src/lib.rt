@@ -7,6 +7,7 @@ ghost use Rattle.basics.specs.Base.{prefix};
 ghost use Rattle.terms.specs.Runs.{outcome};
 ghost use Rattle.words.specs.Layout.{view, atEntry, atExit};
 ghost use Rattle.fused_words.specs.FusedAdd.{lookUps, lookIn};
+ghost use Rattle.sheet_rows.specs.Arguments.{argumentsOf};
 use fused_look_ups::look_ups;
 use fused_new_job::enter_if_new;
 use fused_stops::stop_looking;
@@ -15,6 +16,7 @@ use fused_words::LookUps;
 use graph_words::layout::*;
 use graph_words::numbers::*;
 use graph_words::worker_word;
+use sheet_format::Entry;
 use terms::Answer;
 use terms::Sizes;
 
@@ -27,20 +29,15 @@ pub fn look_up_all(
     queue: &mut [u32],
     workers: &mut [u32],
     worker: u32,
-    name: u32,
-    names: &[u32],
-    count: u32,
-    class: u32,
-    grower: u32,
+    entry: Entry,
 ) -> Answer
-    ensures { λ r. ⌜ (count ≤ mostNames → outcome r (atExit jobs arcs buckets queue workers)
-        ≡ lookIn sizes (atEntry jobs arcs buckets queue workers) worker
-        (record { name = name; count = count; names = now (names .entry); class = class; grower = grower })
-        (lookUps sizes (view (atEntry jobs arcs buckets queue workers)) (prefix count (now (names .entry))) 0)) ⌝ }
+    ensures { λ r. ⌜ (entry .count ≤ mostNames → outcome r (atExit jobs arcs buckets queue workers)
+        ≡ lookIn sizes (atEntry jobs arcs buckets queue workers) worker (argumentsOf entry)
+        (lookUps sizes (view (atEntry jobs arcs buckets queue workers)) (prefix (entry .count) (entry .names)) 0)) ⌝ }
 {
     let held = worker_word(workers, worker, HELD);
     let mut found = [0u32; 32];
-    let ends = look_ups(sizes, jobs, buckets, names, count, &mut found);
+    let ends = look_ups(sizes, jobs, buckets, &entry.names, entry.count, &mut found);
     match ends {
         LookUps::All => enter_if_new(
             sizes,
@@ -51,24 +48,10 @@ pub fn look_up_all(
             workers,
             worker,
             held,
-            name,
-            names,
+            entry,
             &found,
-            count,
-            class,
-            grower,
         ),
         LookUps::Unknown { place } => turn_away(workers, worker, held, UNKNOWN_NAME, place),
-        LookUps::Broken { place } => stop_looking(
-            workers,
-            worker,
-            held,
-            name,
-            names,
-            count,
-            class,
-            grower,
-            place,
-        ),
+        LookUps::Broken { place } => stop_looking(workers, worker, held, entry, place),
     }
 }

@@ -8,6 +8,7 @@ ghost use Rattle.words.specs.Columns.{columns};
 ghost use Rattle.words.specs.Layout.{workerShape, HELD, view, atEntry, atExit};
 ghost use Rattle.words.specs.Words.{findOf};
 ghost use Rattle.fused_words.specs.FusedAdd.{jobsFound, enterIn};
+ghost use Rattle.sheet_rows.specs.Arguments.{argumentsOf};
 use fused_job::enter_and_link;
 use fused_stops::stop_looking;
 use fused_stops::turn_away;
@@ -15,6 +16,7 @@ use graph_find::find;
 use graph_words::header;
 use graph_words::layout::*;
 use graph_words::numbers::*;
+use sheet_format::Entry;
 use terms::Answer;
 use terms::Sizes;
 use words::Found;
@@ -29,38 +31,23 @@ pub fn enter_if_new(
     workers: &mut [u32],
     worker: u32,
     held: u32,
-    name: u32,
-    names: &[u32],
+    entry: Entry,
     found: &[u32],
-    count: u32,
-    class: u32,
-    grower: u32,
 ) -> Answer
     ensures { λ r. ⌜ (held ≡ columns workerShape (now (workers .entry)) HELD worker
-        → prefix count (now (found .entry))
-        ≡ jobsFound sizes (view (atEntry jobs arcs buckets queue workers)) (prefix count (now (names .entry)))
+        → prefix (entry .count) (now (found .entry))
+        ≡ jobsFound sizes (view (atEntry jobs arcs buckets queue workers)) (prefix (entry .count) (entry .names))
         → outcome r (atExit jobs arcs buckets queue workers)
-        ≡ enterIn sizes (atEntry jobs arcs buckets queue workers) worker
-        (record { name = name; count = count; names = now (names .entry); class = class; grower = grower })
-        (findOf sizes (view (atEntry jobs arcs buckets queue workers)) name)) ⌝ }
+        ≡ enterIn sizes (atEntry jobs arcs buckets queue workers) worker (argumentsOf entry)
+        (findOf sizes (view (atEntry jobs arcs buckets queue workers)) (entry .name))) ⌝ }
 {
-    let at = find(sizes, jobs, buckets, name);
+    let at = find(sizes, jobs, buckets, entry.name);
     match at {
         Found::At { job: _ } => turn_away(workers, worker, held, NAME_PRESENT, 0),
-        Found::Damaged => stop_looking(
-            workers,
-            worker,
-            held,
-            name,
-            names,
-            count,
-            class,
-            grower,
-            count,
-        ),
+        Found::Damaged => stop_looking(workers, worker, held, entry, entry.count),
         Found::Missing => {
             let full = (sizes.jobs <= header(jobs, MADE))
-                | ((sizes.arcs as u64) < (header(arcs, RESERVED) as u64) + (count as u64));
+                | ((sizes.arcs as u64) < (header(arcs, RESERVED) as u64) + (entry.count as u64));
             if full {
                 turn_away(workers, worker, held, NO_ROOM, 0)
             } else {
@@ -73,12 +60,8 @@ pub fn enter_if_new(
                     workers,
                     worker,
                     held,
-                    name,
-                    names,
+                    entry,
                     found,
-                    count,
-                    class,
-                    grower,
                 )
             }
         }

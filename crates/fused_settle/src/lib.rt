@@ -7,6 +7,7 @@ ghost use Rattle.terms.specs.Runs.{Outcome, outcome};
 ghost use Rattle.words.specs.Layout.{Tables, tables};
 ghost use Rattle.fused_words.specs.FusedAdd.{linksTo, settleIn};
 ghost use Rattle.fused_settle.specs.Settling.{orStop, settling};
+ghost use Rattle.sheet_rows.specs.Arguments.{argumentsOf};
 use fused_links::Linked;
 use fused_stops::stop;
 use graph_lists::queue_job;
@@ -16,6 +17,7 @@ use graph_words::layout::*;
 use graph_words::less;
 use graph_words::put_job;
 use graph_worker_words::first_arc;
+use sheet_format::Entry;
 use terms::Answer;
 use terms::Sizes;
 
@@ -65,40 +67,31 @@ pub fn settle_add(
     workers: &mut [u32],
     worker: u32,
     held: u32,
-    name: u32,
-    names: &[u32],
-    count: u32,
-    class: u32,
-    grower: u32,
+    entry: Entry,
     job: u32,
     arc: u32,
     linked: Linked,
 ) -> Answer
     ensures { λ r. ⌜ ((arcs buckets : List ℕ)
         → outcome r (tables (now (jobs .exit)) arcs buckets (now (queue .exit)) (now (workers .exit)))
-        ≡ settleIn sizes worker
-        (record { name = name; count = count; names = now (names .entry); class = class; grower = grower }) held job arc
+        ≡ settleIn sizes worker (argumentsOf entry) held job arc
         (linksTo (tables (now (jobs .entry)) arcs buckets (now (queue .entry)) (now (workers .entry)))
         (linked .place) (linked .tally) (linked .sound))) ⌝ }
 {
     let tally = linked.tally;
     let place = linked.place;
-    let settled = settle(sizes, jobs, queue, job, tally, count, linked.sound);
+    let settled = settle(sizes, jobs, queue, job, tally, entry.count, linked.sound);
     if settled {
         put_bare_worker(workers, worker, IDLE, held);
         Answer::Ended
     } else {
-        let first = first_arc(count, arc);
+        let first = first_arc(entry.count, arc);
         stop(
             workers,
             worker,
             LINKING,
             held,
-            name,
-            names,
-            count,
-            class,
-            grower,
+            entry,
             tally,
             place,
             job,

@@ -8,10 +8,12 @@ ghost use Rattle.terms.specs.Runs.{outcome};
 ghost use Rattle.terms.specs.declared.Answer.the-variants.{Refused};
 ghost use Rattle.words.specs.Layout.{none, LOOKING, tables};
 ghost use Rattle.fused_words.specs.FusedWorker.{idledWith, addWorker, halted};
+ghost use Rattle.sheet_rows.specs.Arguments.{argumentsOf};
 use graph_posted_add::put_call;
 use graph_records::put_bare_worker;
 use graph_words::layout::*;
 use graph_words::numbers::*;
+use sheet_format::Entry;
 use terms::Answer;
 
 // The add is turned away, and its worker is idle.
@@ -31,11 +33,7 @@ pub fn stop(
     worker: u32,
     phase: u32,
     held: u32,
-    name: u32,
-    names: &[u32],
-    count: u32,
-    class: u32,
-    grower: u32,
+    entry: Entry,
     tally: u32,
     place: u32,
     job: u32,
@@ -44,20 +42,18 @@ pub fn stop(
     ensures { λ r. ⌜ ((jobs arcs buckets queue : List ℕ)
         → outcome r (tables jobs arcs buckets queue (now (workers .exit)))
         ≡ halted (tables jobs arcs buckets queue (now (workers .entry))) worker
-        (addWorker phase held
-        (record { name = name; count = count; names = now (names .entry); class = class; grower = grower })
-        tally place job arc)) ⌝ }
+        (addWorker phase held (argumentsOf entry) tally place job arc)) ⌝ }
 {
     put_call(
         workers,
         worker,
         phase,
         held,
-        name,
-        names,
-        count,
-        class,
-        grower,
+        entry.name,
+        &entry.names,
+        entry.count,
+        entry.class,
+        entry.grower,
         tally,
         place,
         job,
@@ -70,37 +66,11 @@ pub fn stop(
 }
 
 // The same in its look-ups, at a place of its list or at its own name, which comes after them.
-pub fn stop_looking(
-    workers: &mut [u32],
-    worker: u32,
-    held: u32,
-    name: u32,
-    names: &[u32],
-    count: u32,
-    class: u32,
-    grower: u32,
-    place: u32,
-) -> Answer
+pub fn stop_looking(workers: &mut [u32], worker: u32, held: u32, entry: Entry, place: u32) -> Answer
     ensures { λ r. ⌜ ((jobs arcs buckets queue : List ℕ)
         → outcome r (tables jobs arcs buckets queue (now (workers .exit)))
         ≡ halted (tables jobs arcs buckets queue (now (workers .entry))) worker
-        (addWorker LOOKING held
-        (record { name = name; count = count; names = now (names .entry); class = class; grower = grower })
-        0 place none none)) ⌝ }
+        (addWorker LOOKING held (argumentsOf entry) 0 place none none)) ⌝ }
 {
-    stop(
-        workers,
-        worker,
-        LOOKING,
-        held,
-        name,
-        names,
-        count,
-        class,
-        grower,
-        0,
-        place,
-        NONE,
-        NONE,
-    )
+    stop(workers, worker, LOOKING, held, entry, 0, place, NONE, NONE)
 }

@@ -10,12 +10,12 @@ ghost use Rattle.terms.specs.Runs.{outcome};
 ghost use Rattle.words.specs.Layout.{atEntry, atExit};
 ghost use Rattle.sheet_format.specs.Decode.{rowWords};
 ghost use Rattle.sheet_format.specs.Write.{entryAt, entriesFrom};
-ghost use Rattle.fused_words.specs.FusedAdd.{addIfIdle};
 ghost use Rattle.fused_add_laws.specs.Sheets.{addEachIfIdle};
 ghost use Rattle.sheet_rows.specs.Arguments.{argumentsOf};
 ghost use Rattle.sheet_rows.specs.SheetRows.{numberOf, placeOf, turnedAway, Added, rowsWords};
 use fused_add::add_if_idle;
 use graph_words::numbers::WRONG_SIZES;
+use sheet_format::Entry;
 use sheet_judge::judge_sheet;
 use sheet_limits::CLASS_WORD;
 use sheet_limits::COUNT_WORD;
@@ -70,42 +70,24 @@ fn row_names(rows: &[u32], from: usize) -> [u32; 32]
     names
 }
 
-// The add of a row's entry, by a worker of which the tests that come first are passed.
-fn add_row(
-    sizes: Sizes,
-    jobs: &mut [u32],
-    arcs: &mut [u32],
-    buckets: &mut [u32],
-    queue: &mut [u32],
-    workers: &mut [u32],
-    worker: u32,
-    rows: &[u32],
-    row: usize,
-) -> Answer
+// The entry of a row.
+fn row_entry(rows: &[u32], row: usize) -> Entry
     requires { ⌜ rowWords * row + rowWords ≤ length (now rows) ⌝ }
-    ensures { λ r. ⌜ outcome r (atExit jobs arcs buckets queue workers)
-        ≡ addIfIdle sizes (atEntry jobs arcs buckets queue workers) worker
-        (argumentsOf (entryAt (now (rows .entry)) row)) ⌝ }
+    ensures { λ r. ⌜ r ≡ entryAt (now (rows .entry)) row ⌝ }
 {
     let at = ROW_WORDS * row;
     let names = row_names(rows, at + NAMES_WORD);
-    add_if_idle(
-        sizes,
-        jobs,
-        arcs,
-        buckets,
-        queue,
-        workers,
-        worker,
-        rows[at],
+    Entry {
+        name: rows[at],
+        count: rows[at + COUNT_WORD],
+        class: rows[at + CLASS_WORD],
+        grower: rows[at + GROWER_WORD],
         names,
-        rows[at + COUNT_WORD],
-        rows[at + CLASS_WORD],
-        rows[at + GROWER_WORD],
-    )
+    }
 }
 
-// The adds of the first rows, in order; a refused one does not stop the next.
+// The adds of the first rows, in order, by a worker of which the tests that come first are passed; a refused one does
+// not stop the next.
 fn add_rows(
     sizes: Sizes,
     jobs: &mut [u32],
@@ -126,17 +108,8 @@ fn add_rows(
     let mut places: [u32; 64] = [0; 64];
     let mut row: usize = 0;
     while row < count {
-        let answer = add_row(
-            sizes,
-            jobs,
-            arcs,
-            buckets,
-            queue,
-            workers,
-            worker,
-            rows,
-            row,
-        );
+        let entry = row_entry(rows, row);
+        let answer = add_if_idle(sizes, jobs, arcs, buckets, queue, workers, worker, entry);
         numbers[row] = number_of(answer);
         places[row] = place_of(answer);
         row += 1;

@@ -25,21 +25,7 @@ pub extern "C" fn tg_add(
     ensures { λ r. ⌜ Gives r (atExit jobs arcs buckets queue workers)
         (wholeAdd sizes (atEntry jobs arcs buckets queue workers) worker (argumentsOf entry)) ⌝ }
 {
-    let names = entry.names;
-    answered(whole_add::add_whole(
-        sizes,
-        jobs,
-        arcs,
-        buckets,
-        queue,
-        workers,
-        worker,
-        entry.name,
-        names,
-        entry.count,
-        entry.class,
-        entry.grower,
-    ))
+    answered(whole_add::add_whole(sizes, jobs, arcs, buckets, queue, workers, worker, entry))
 }
 
 // Finishes the held job of a name.

@@ -3,10 +3,12 @@ ghost use mathlib.Core.Path.{_≡_};
 ghost use Rattle.terms.specs.Runs.{outcome};
 ghost use Rattle.words.specs.Layout.{atEntry, atExit};
 ghost use Rattle.whole_words.specs.Whole.{wholeAdd};
+ghost use Rattle.sheet_rows.specs.Arguments.{argumentsOf};
 use fused_add::add_if_idle;
 use graph_own::own_ok;
 use graph_sizes::sizes_fit;
 use graph_words::numbers::*;
+use sheet_format::Entry;
 use terms::Answer;
 use terms::Sizes;
 
@@ -19,15 +21,10 @@ pub fn add_whole(
     queue: &mut [u32],
     workers: &mut [u32],
     worker: u32,
-    name: u32,
-    names: [u32; 32],
-    count: u32,
-    class: u32,
-    grower: u32,
+    entry: Entry,
 ) -> Answer
     ensures { λ r. ⌜ outcome r (atExit jobs arcs buckets queue workers)
-        ≡ wholeAdd sizes (atEntry jobs arcs buckets queue workers) worker
-        (record { name = name; count = count; names = names; class = class; grower = grower }) ⌝ }
+        ≡ wholeAdd sizes (atEntry jobs arcs buckets queue workers) worker (argumentsOf entry) ⌝ }
 {
     let fit = sizes_fit(sizes, jobs, arcs, buckets, queue, workers);
     if fit {
@@ -35,20 +32,7 @@ pub fn add_whole(
         if known {
             let sound = own_ok(sizes, jobs, arcs, workers, worker);
             if sound {
-                add_if_idle(
-                    sizes,
-                    jobs,
-                    arcs,
-                    buckets,
-                    queue,
-                    workers,
-                    worker,
-                    name,
-                    names,
-                    count,
-                    class,
-                    grower,
-                )
+                add_if_idle(sizes, jobs, arcs, buckets, queue, workers, worker, entry)
             } else {
                 Answer::Refused {
                     number: DAMAGED,

@@ -31,7 +31,9 @@ same-length-6 c = search needs
 returns : tie.Need-returns
 unfolding entered wrote
 returns c =
-    rw (← c .before .before .before .before .before .before .before .before .before .before .before .before .before .before .add-whole .ensures, c .before .before .print-refusal .ensures)
+    let c6 = c .before .before .before .before .before .before in
+    let c14 = c6 .before .before .before .before .before .before .before .before in
+    rw (← c14 .add-whole .ensures, c .before .before .print-refusal .ensures)
 
 pub add-entry-spec : {M : Type 1} → statement M
 add-entry-spec =

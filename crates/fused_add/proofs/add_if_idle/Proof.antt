@@ -32,17 +32,14 @@ returns-2 : tie.Need-returns-2
 unfolding addIfIdle addIn
 returns-2 c =
     rw (
-      ← c .before .before .before .worker-word .ensures,
-      c .before .before .if1 .taken,
+      ← c .before .before .before .before .worker-word .ensures,
+      c .before .before .before .if1 .taken,
       ← c .before .arguments-wrong .ensures,
       c .if2 .taken,
     )
 
 counters-ok-requires : tie.Need-counters-ok-requires
 counters-ok-requires c κs = search needs
-
-slice-aggregate-look-up-all : tie.Need-slice-aggregate-look-up-all
-slice-aggregate-look-up-all c = search needs
 
 look-up-all-requires : tie.Need-look-up-all-requires
 look-up-all-requires c κs = search needs
@@ -71,10 +68,9 @@ returns-3 c =
     let c20 = c16 .before .before .before .before in
     let c24 = c20 .before .before .before .before in
     goes _ _ _ _ (c24 .worker-word .ensures) (c20 .before .before .before .if1 .taken)
-    (c20 .before .before .arguments-wrong .ensures) (c20 .before .if2 .left)
-    (c16 .before .before .counters-ok .ensures [] [] []) (c16 .before .if3 .taken)
-    (c8 .before .before .look-up-all .ensures (short _ (c20 .before .before .arguments-wrong .ensures)
-    (c20 .before .if2 .left)))
+    (c20 .before .arguments-wrong .ensures) (c20 .if2 .left) (c16 .before .counters-ok .ensures [] [] [])
+    (c16 .if3 .taken)
+    (c8 .before .before .look-up-all .ensures (short _ (c20 .before .arguments-wrong .ensures) (c20 .if2 .left)))
 
 same-length-8 : tie.Need-same-length-8
 same-length-8 c = search needs
@@ -88,11 +84,12 @@ same-length-10 c = search needs
 returns-4 : tie.Need-returns-4
 unfolding addIfIdle addIn
 returns-4 c =
+    let c4 = c .before .before .before .before in
     rw (
-      ← c .before .before .before .before .before .before .before .worker-word .ensures,
-      c .before .before .before .before .before .before .if1 .taken,
-      ← c .before .before .before .before .before .arguments-wrong .ensures,
-      c .before .before .before .before .if2 .left,
+      ← c4 .before .before .before .before .worker-word .ensures,
+      c4 .before .before .before .if1 .taken,
+      ← c4 .before .arguments-wrong .ensures,
+      c4 .if2 .left,
       ← c .before .counters-ok .ensures,
       c .if3 .left,
     )
@@ -108,7 +105,6 @@ add-if-idle-spec =
     same-length-2
     returns-2
     counters-ok-requires
-    slice-aggregate-look-up-all
     look-up-all-requires
     same-length-3
     same-length-4

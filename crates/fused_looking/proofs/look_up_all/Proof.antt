@@ -60,8 +60,9 @@ returns c =
     let c20 = c16 .before .before .before .before in
     let c24 = c20 .before .before .before .before in
     let f = c20 .look-ups .ensures _ _ _ in
-    all _ _ _ _ (c24 .worker-word .ensures) (f .0) (c16 .before .enum-told .given .1)
-    (c8 .before .before .enter-if-new .ensures (c24 .worker-word .ensures) (f .1 b (c16 .before .enum-told .given .1)))
+    let held = c24 .before .before .before .worker-word .ensures in
+    all _ _ _ _ held (f .0) (c16 .before .enum-told .given .1)
+    (c8 .before .before .enter-if-new .ensures held (f .1 b (c16 .before .enum-told .given .1)))
 
 same-length-6 : tie.Need-same-length-6
 same-length-6 c = search needs
@@ -78,7 +79,8 @@ returns-2 c =
     let c4 = c .before .before .before .before in
     let c8 = c4 .before .before .before .before in
     let c12 = c8 .before .before .before .before in
-    unknown _ _ _ _ (c12 .worker-word .ensures) (c8 .look-ups .ensures _ _ _ .0) (c4 .before .ends .given .1)
+    let held = c12 .before .before .before .worker-word .ensures in
+    unknown _ _ _ _ held (c8 .look-ups .ensures _ _ _ .0) (c4 .before .ends .given .1)
     (c .before .before .turn-away .ensures _ _ _ _)
 
 same-length-9 : tie.Need-same-length-9
@@ -96,7 +98,8 @@ returns-3 c =
     let c4 = c .before .before .before .before in
     let c8 = c4 .before .before .before .before in
     let c12 = c8 .before .before .before .before in
-    broken _ _ _ _ (c12 .worker-word .ensures) (c8 .look-ups .ensures _ _ _ .0) (c4 .before .ends2 .given .1)
+    let held = c12 .before .before .before .worker-word .ensures in
+    broken _ _ _ _ held (c8 .look-ups .ensures _ _ _ .0) (c4 .before .ends2 .given .1)
     (c .before .before .stop-looking .ensures _ _ _ _)
 
 pub look-up-all-spec : {M : Type 1} → statement M

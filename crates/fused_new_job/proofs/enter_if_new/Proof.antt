@@ -37,6 +37,9 @@ header-requires-2 c κs = search needs
 cast-full-2 : tie.Need-cast-full-2
 cast-full-2 c = search needs
 
+cast-full-3 : tie.Need-cast-full-3
+cast-full-3 c = search needs
+
 add-full : tie.Need-add-full
 add-full c = search needs
 
@@ -96,8 +99,8 @@ returns-3 c =
     let c4 = c .before .before .before .before in
     let c8 = c4 .before .before .before .before in
     let c12 = c8 .before .before .before .before in
-    full _ _ _ _ h (c12 .before .find .ensures _ _ _) (c8 .before .before .before .enum-told3 .given .1)
-    (c8 .before .header .ensures) (c4 .before .header2 .ensures)
+    full _ _ _ _ h (c12 .before .before .find .ensures _ _ _) (c12 .enum-told3 .given .1)
+    (c8 .before .before .header .ensures) (c4 .before .before .header2 .ensures)
     (c4 .if1 .taken) (c .before .before .turn-away2 .ensures _ _ _ _)
 
 same-length-11 : tie.Need-same-length-11
@@ -126,15 +129,16 @@ returns-4 c =
     let c24 = c20 .before .before .before .before in
     let c28 = c24 .before .before .before .before in
     let c32 = c28 .before .before .before .before in
-    let k = room (c32 .before .before .before .args .sizes) (c20 .before .header .result)
-    (c16 .before .header2 .result) (c32 .before .before .before .args .count) (c16 .if1 .left) in
-    let x = c20 .struct-known .given in
-    let y = c16 .before .before .before .struct-known2 .given in
-    entered _ _ _ _ h (c24 .before .find .ensures _ _ _) (c20 .before .before .before .enum-told3 .given .1)
-    (c20 .before .header .ensures)
-    (c16 .before .header2 .ensures) (c16 .if1 .left) i
-    (c8 .before .before .enter-and-link .ensures (rw (← c20 .before .header .ensures) (omega arith))
-    (rw (← c16 .before .header2 .ensures) (omega arith)))
+    let made = c20 .before .before .header in
+    let reserved = c16 .before .before .header2 in
+    let a = c32 .before .before .before .args in
+    let k = room (a .sizes) (made .result) (reserved .result) (a .entry .count) (c16 .if1 .left) in
+    let x = c20 .before .struct-known .given in
+    let y = c20 .struct-known2 .given in
+    entered _ _ _ _ h (c24 .before .before .find .ensures _ _ _) (c24 .enum-told3 .given .1) (made .ensures)
+    (reserved .ensures) (c16 .if1 .left) i
+    (c8 .before .before .enter-and-link .ensures (rw (← made .ensures) (omega arith))
+    (rw (← reserved .ensures) (omega arith)))
 
 pub enter-if-new-spec : {M : Type 1} → statement M
 enter-if-new-spec =
@@ -150,6 +154,7 @@ enter-if-new-spec =
     cast-full
     header-requires-2
     cast-full-2
+    cast-full-3
     add-full
     turn-away-requires-2
     enter-and-link-requires

@@ -4,6 +4,7 @@ use borrow.Author.Needs.{needs}
 use Rattle.terms.specs.Runs.{Outcome}
 use Rattle.words.specs.Layout.{Tables, LINKING}
 use Rattle.words.specs.Words.{firstArc}
+use Rattle.sheet_rows.specs.Arguments.{argumentsOf}
 use Rattle.fused_words.specs.FusedAdd.{settleIn}
 use Rattle.fused_words.specs.FusedWorker.{addWorker, halted}
 use Rattle.fused_settle.proofs.settle_add.Statement.{statement}
@@ -37,11 +38,9 @@ returns c =
     let c4 = c .before .before .before .before in
     let c8 = c4 .before .before .before .before in
     let c12 = c8 .before .before .before .before in
-    let c16 = c12 .before .before .before .before in
-    let a = c16 .args in
+    let a = c12 .before .before .before .args in
     let stopped : Tables → Outcome Tables = λ t. halted t (a .worker) (addWorker LINKING (a .held)
-    (record { name = a .name; count = a .count; names = a .names .now; class = a .class; grower = a .grower })
-    (a .linked .tally) (a .linked .place) (a .job) (firstArc (a .count) (a .arc))) in
+    (argumentsOf (a .entry)) (a .linked .tally) (a .linked .place) (a .job) (firstArc (a .entry .count) (a .arc))) in
     rw (c .before .before .put-bare-worker .ensures)
     (rw (c4 .if1 .taken) at (c8 .before .settle .ensures arcs buckets (a .workers .now) (a .worker) (a .held) stopped))
 
@@ -62,10 +61,9 @@ returns-2 c =
     let c8 = c4 .before .before .before .before in
     let c12 = c8 .before .before .before .before in
     let c16 = c12 .before .before .before .before in
-    let a = c16 .before .args in
+    let a = c16 .args in
     let stopped : Tables → Outcome Tables = λ t. halted t (a .worker) (addWorker LINKING (a .held)
-    (record { name = a .name; count = a .count; names = a .names .now; class = a .class; grower = a .grower })
-    (a .linked .tally) (a .linked .place) (a .job) (firstArc (a .count) (a .arc))) in
+    (argumentsOf (a .entry)) (a .linked .tally) (a .linked .place) (a .job) (firstArc (a .entry .count) (a .arc))) in
     rw (c .before .before .stop .ensures, c4 .first-arc .ensures)
     (rw (c4 .before .if1 .left) at (c8 .before .before .settle .ensures arcs buckets (a .workers .now) (a .worker)
     (a .held) stopped))

@@ -11,7 +11,8 @@ use Rattle.sheet_adds.proofs.add_rows.Statement.{statement}
 use Rattle.sheet_adds.proofs.add_rows.Tie as tie
 
 abbrev Inv-loop : tie.InvT-loop
-Inv-loop sizes jobs₀ arcs₀ buckets₀ queue₀ workers₀ worker rows count numbers₀ places₀ row₀ jobs arcs buckets queue workers numbers places row =
+Inv-loop sizes jobs₀ arcs₀ buckets₀ queue₀ workers₀ worker rows count numbers₀ places₀ row₀ jobs arcs buckets queue workers
+    numbers places row =
     (length jobs ≡ length jobs₀)
     × (length arcs ≡ length arcs₀)
     × (length buckets ≡ length buckets₀)
@@ -23,7 +24,8 @@ Inv-loop sizes jobs₀ arcs₀ buckets₀ queue₀ workers₀ worker rows count 
     (left sizes worker rows 0 count (tables jobs₀ arcs₀ buckets₀ queue₀ workers₀)))
 
 abbrev μ-loop : tie.MeasureT-loop
-μ-loop sizes jobs₀ arcs₀ buckets₀ queue₀ workers₀ worker rows count numbers₀ places₀ row₀ jobs arcs buckets queue workers numbers places row =
+μ-loop sizes jobs₀ arcs₀ buckets₀ queue₀ workers₀ worker rows count numbers₀ places₀ row₀ jobs arcs buckets queue workers
+    numbers places row =
     count - row
 
 loop-holds : tie.Need-loop-holds Inv-loop μ-loop
@@ -31,8 +33,11 @@ loop-holds c =
     let a = c .before .before .before .before .before .before .args in
     (refl, refl, refl, refl, refl, omega arith, all-left (a .sizes) (a .worker) (a .rows .now) (a .count) _ _ _)
 
-add-row-requires : tie.Need-add-row-requires Inv-loop μ-loop
-add-row-requires c κs = omega arith
+row-entry-requires : tie.Need-row-entry-requires Inv-loop μ-loop
+row-entry-requires c κs = omega arith
+
+add-if-idle-requires : tie.Need-add-if-idle-requires Inv-loop μ-loop
+add-if-idle-requires c κs = search needs
 
 number-of-requires : tie.Need-number-of-requires Inv-loop μ-loop
 number-of-requires c κs = search needs
@@ -61,10 +66,12 @@ loop-less c = omega arith
 loop-again : tie.Need-loop-again Inv-loop μ-loop
 loop-again c =
     let c8 = c .before .before .before .before .before .before .before .before in
-    let f = c8 .before .before .before .before .add-row in
+    let f = c8 .before .before .before .before .add-if-idle in
     let c16 = c8 .before .before .before .before .before .before .before .before in
-    let l = c16 .before .before .before .loop in
-    let a = c16 .before .before .before .before .before .before .before .before .before .before .args in
+    let row = c16 .before .before .row-entry in
+    let l = c16 .before .before .before .before .loop in
+    let a = c16 .before .before .before .before .before .before .before .before .before .before .before .args in
+    let e = rw (row .ensures) at (f .ensures) in
     let more : a .count - l .row ≡ suc (a .count - (l .row + 1)) = omega arith in (
       f .kept .1 .0 ∙ l .inv .0,
       f .kept .1 .1 .0 ∙ l .inv .1,
@@ -73,7 +80,7 @@ loop-again c =
       f .kept .1 .1 .1 .1 .1 .0 ∙ l .inv .4,
       omega arith,
       rw (c .place-of .ensures, c .before .number-of .ensures)
-          (row-told (a .sizes) (a .worker) (a .rows .now) (l .row) _ _ _ _ (l .numbers) (l .places) more (f .ensures))
+          (row-told (a .sizes) (a .worker) (a .rows .now) (l .row) _ _ _ _ (l .numbers) (l .places) more e)
           ∙ l .inv .6,
     )
 
@@ -105,6 +112,6 @@ returns c =
 pub add-rows-spec : {M : Type 1} → statement M
 add-rows-spec =
     tie.close
-    (tie.spec Inv-loop μ-loop loop-holds add-row-requires number-of-requires mul-numbers array-write-numbers
-    place-of-requires mul-places array-write-places add-row loop-less loop-again same-length same-length-2
+    (tie.spec Inv-loop μ-loop loop-holds row-entry-requires add-if-idle-requires number-of-requires mul-numbers
+    array-write-numbers place-of-requires mul-places array-write-places add-row loop-less loop-again same-length same-length-2
     same-length-3 same-length-4 same-length-5 returns)
