@@ -37,8 +37,13 @@ pub fn add_if_idle(
             place: 0,
         };
     }
-    let names = entry.names;
-    let wrong = arguments_wrong(entry.name, names, entry.count, entry.class, entry.grower);
+    let wrong = arguments_wrong(
+        entry.name,
+        &entry.names,
+        entry.count,
+        entry.class,
+        entry.grower,
+    );
     if wrong {
         return Answer::Refused {
             number: WRONG_ARGUMENTS,

@@ -41,14 +41,14 @@ fn any_repeats(names: &[u32; 32], count: usize) -> bool
     false
 }
 
-pub fn arguments_wrong(name: u32, names: [u32; 32], count: u32, class: u32, grower: u32) -> bool
+pub fn arguments_wrong(name: u32, names: &[u32; 32], count: u32, class: u32, grower: u32) -> bool
     ensures { λ r. ⌜ r ≡ argumentsWrong
-        (record { name = name; count = count; names = names; class = class; grower = grower }) ⌝ }
+        (record { name = name; count = count; names = now (names .entry); class = class; grower = grower }) ⌝ }
 {
     let over = (MOST_CLASS < class) | (MOST_GROWER < grower) | (MOST_NAMES < count);
     if over {
         true
     } else {
-        listed_from(&names, 0, count as usize, name) | any_repeats(&names, count as usize)
+        listed_from(names, 0, count as usize, name) | any_repeats(names, count as usize)
     }
 }

@@ -10,6 +10,7 @@ ghost use Rattle.terms.specs.Terms.{argumentsWrong, halfDone, wrongArguments, d
 ghost use Rattle.words.specs.Columns.{columns};
 ghost use Rattle.words.specs.Layout.{workerShape, PHASE, IDLE, tables, atEntry, view};
 ghost use Rattle.words.specs.Words.{admitted, refusal, judgedAdd, holdsName, judgedFinish};
+ghost use Rattle.sheet_rows.specs.Arguments.{argumentsOf};
 use graph_arguments::arguments_wrong;
 use graph_own::counters_ok;
 use graph_own::own_ok;
@@ -18,32 +19,34 @@ use graph_words::job_word;
 use graph_words::layout::*;
 use graph_words::numbers::*;
 use graph_words::worker_word;
+use sheet_format::Entry;
 use terms::Sizes;
 
+// What turns a post away whose other tests are passed: counters that are off their range.
+fn judge_counters(counted: bool) -> u32
+    ensures { λ r. ⌜ r ≡ pick counted 0 damaged ⌝ }
+{
+    if counted { 0 } else { DAMAGED }
+}
+
 // What turns the post of an add away, given whether the counters are within their range.
-fn judge_admitted_add(
-    workers: &[u32],
-    worker: u32,
-    counted: bool,
-    name: u32,
-    names: [u32; 32],
-    count: u32,
-    class: u32,
-    grower: u32,
-) -> u32
+fn judge_admitted_add(workers: &[u32], worker: u32, counted: bool, entry: Entry) -> u32
     ensures { λ r. ⌜ r ≡ pick (eqb (columns workerShape (now (workers .entry)) PHASE worker) IDLE)
-        (pick (argumentsWrong (record { name = name; count = count; names = names; class = class; grower = grower }))
-        wrongArguments (pick counted 0 damaged)) halfDone ⌝ }
+        (pick (argumentsWrong (argumentsOf entry)) wrongArguments (pick counted 0 damaged)) halfDone ⌝ }
 {
     let idle = worker_word(workers, worker, PHASE) == IDLE;
     if idle {
-        let wrong = arguments_wrong(name, names, count, class, grower);
+        let wrong = arguments_wrong(
+            entry.name,
+            &entry.names,
+            entry.count,
+            entry.class,
+            entry.grower,
+        );
         if wrong {
             WRONG_ARGUMENTS
-        } else if counted {
-            0
         } else {
-            DAMAGED
+            judge_counters(counted)
         }
     } else {
         HALF_DONE
@@ -59,15 +62,10 @@ pub fn judge_add(
     queue: &[u32],
     workers: &[u32],
     worker: u32,
-    name: u32,
-    names: [u32; 32],
-    count: u32,
-    class: u32,
-    grower: u32,
+    entry: Entry,
 ) -> u32
     ensures { λ r. ⌜ r ≡ admitted sizes (atEntry jobs arcs buckets queue workers) worker refusal
-        (judgedAdd sizes (view (atEntry jobs arcs buckets queue workers)) worker
-        (record { name = name; count = count; names = names; class = class; grower = grower })) ⌝ }
+        (judgedAdd sizes (view (atEntry jobs arcs buckets queue workers)) worker (argumentsOf entry)) ⌝ }
 {
     let fit = sizes_fit(sizes, jobs, arcs, buckets, queue, workers);
     if fit {
@@ -76,7 +74,7 @@ pub fn judge_add(
             let sound = own_ok(sizes, jobs, arcs, workers, worker);
             if sound {
                 let counted = counters_ok(sizes, jobs, arcs);
-                judge_admitted_add(workers, worker, counted, name, names, count, class, grower)
+                judge_admitted_add(workers, worker, counted, entry)
             } else {
                 DAMAGED
             }
@@ -110,7 +108,7 @@ fn judge_admitted_finish(
         }
         let holds = job_word(jobs, held, NAME) == name;
         if holds {
-            if counted { 0 } else { DAMAGED }
+            judge_counters(counted)
         } else {
             NOT_HELD
         }

@@ -4,14 +4,16 @@ ghost use mathlib.Core.Path.{_≡_};
 ghost use Rattle.terms.specs.Runs.{outcome};
 ghost use Rattle.words.specs.Layout.{atEntry, atExit};
 ghost use Rattle.words.specs.Words.{addWords};
+ghost use Rattle.sheet_rows.specs.Arguments.{argumentsOf};
 use graph_judge::judge_add;
 use graph_posted_add::put_adding_worker;
 use graph_words::layout::HELD;
 use graph_words::worker_word;
+use sheet_format::Entry;
 use terms::Answer;
 use terms::Sizes;
 
-// Posts an add of the job `name`, whose prerequisites are the first `count` of `names`.
+// Posts an add of the entry's job, whose prerequisites are the first `count` of `names`.
 pub fn post_add(
     sizes: Sizes,
     jobs: &mut [u32],
@@ -20,33 +22,25 @@ pub fn post_add(
     queue: &mut [u32],
     workers: &mut [u32],
     worker: u32,
-    name: u32,
-    names: [u32; 32],
-    count: u32,
-    class: u32,
-    grower: u32,
+    entry: Entry,
 ) -> Answer
     ensures { λ r. ⌜ outcome r (atExit jobs arcs buckets queue workers)
-        ≡ addWords sizes (atEntry jobs arcs buckets queue workers) worker
-        (record { name = name; count = count; names = names; class = class; grower = grower }) ⌝ }
+        ≡ addWords sizes (atEntry jobs arcs buckets queue workers) worker (argumentsOf entry) ⌝ }
 {
-    let number = judge_add(
-        sizes,
-        jobs,
-        arcs,
-        buckets,
-        queue,
-        workers,
-        worker,
-        name,
-        names,
-        count,
-        class,
-        grower,
-    );
+    let number = judge_add(sizes, jobs, arcs, buckets, queue, workers, worker, entry);
     if number == 0 {
         let held = worker_word(workers, worker, HELD);
-        put_adding_worker(workers, worker, held, name, names, count, class, grower);
+        let names = entry.names;
+        put_adding_worker(
+            workers,
+            worker,
+            held,
+            entry.name,
+            names,
+            entry.count,
+            entry.class,
+            entry.grower,
+        );
         Answer::Posted
     } else {
         Answer::Refused { number, place: 0 }

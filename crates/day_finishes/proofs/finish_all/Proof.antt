@@ -61,13 +61,19 @@ loop-less c = search needs
 
 loop-again : tie.Need-loop-again Inv-loop μ-loop
 loop-again c =
-    let l = c .before .before .before .before .before .before .before .before .before .before .before .before .before .before .before .before .before .before .before .before .before .loop in
-    let n = c .before .before .before .before .before .before .before .before .before .before .before .before .before .before .before .before .before .before .before .before .before .before .before .before .before .before .before .before .before .args .holders .count in
-    let e = c .before .before .before .before .before .before .before .before .before .before .finish-whole in
+    let c10 = c .before .before .before .before .before .before .before .before .before .before in
+    let c16 = c10 .before .before .before .before .before .before in
+    let c18 = c16 .before .before in
+    let c20 = c18 .before .before in
+    let c21 = c20 .before in
+    let c29 = c21 .before .before .before .before .before .before .before .before in
+    let l = c21 .loop in
+    let n = c29 .args .holders .count in
+    let e = c10 .finish-whole in
     let k : n - (l .left - 1) ≡ suc (n - l .left) =
     omega (
       arith,
-      c .before .before .before .before .before .before .before .before .before .before .before .before .before .before .before .before .before .before .before .before .loop-test .taken,
+      c20 .loop-test .taken,
       l .inv .5,
     ) in (
       e .kept .1 .0 ∙ l .inv .0,
@@ -80,8 +86,8 @@ loop-again c =
         k,
         finish-next,
         ← l .inv .6,
-        ← c .before .before .before .before .before .before .before .before .before .before .before .before .before .before .before .before .before .before .word .ensures,
-        ← c .before .before .before .before .before .before .before .before .before .before .before .before .before .before .before .before .word2 .ensures,
+        ← c18 .word .ensures,
+        ← c16 .word2 .ensures,
       )
           (ap (λ (o : Outcome Tables). o .state) (e .ensures)),
     )

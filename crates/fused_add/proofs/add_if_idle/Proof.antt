@@ -16,11 +16,7 @@ same-length c = search needs
 
 returns : tie.Need-returns
 unfolding addIfIdle addIn
-returns c =
-    rw (
-      ← c .before .worker-word .ensures,
-      c .if1 .left,
-    )
+returns c = rw (← c .before .worker-word .ensures, c .if1 .left)
 
 arguments-wrong-requires : tie.Need-arguments-wrong-requires
 arguments-wrong-requires c κs = search needs
@@ -32,8 +28,8 @@ returns-2 : tie.Need-returns-2
 unfolding addIfIdle addIn
 returns-2 c =
     rw (
-      ← c .before .before .before .before .worker-word .ensures,
-      c .before .before .before .if1 .taken,
+      ← c .before .before .before .before .before .worker-word .ensures,
+      c .before .before .before .before .if1 .taken,
       ← c .before .arguments-wrong .ensures,
       c .if2 .taken,
     )
@@ -67,7 +63,7 @@ returns-3 c =
     let c16 = c12 .before .before .before .before in
     let c20 = c16 .before .before .before .before in
     let c24 = c20 .before .before .before .before in
-    goes _ _ _ _ (c24 .worker-word .ensures) (c20 .before .before .before .if1 .taken)
+    goes _ _ _ _ (c24 .before .worker-word .ensures) (c24 .if1 .taken)
     (c20 .before .arguments-wrong .ensures) (c20 .if2 .left) (c16 .before .counters-ok .ensures [] [] [])
     (c16 .if3 .taken)
     (c8 .before .before .look-up-all .ensures (short _ (c20 .before .arguments-wrong .ensures) (c20 .if2 .left)))
@@ -86,8 +82,8 @@ unfolding addIfIdle addIn
 returns-4 c =
     let c4 = c .before .before .before .before in
     rw (
-      ← c4 .before .before .before .before .worker-word .ensures,
-      c4 .before .before .before .if1 .taken,
+      ← c4 .before .before .before .before .before .worker-word .ensures,
+      c4 .before .before .before .before .if1 .taken,
       ← c4 .before .arguments-wrong .ensures,
       c4 .if2 .left,
       ← c .before .counters-ok .ensures,

@@ -19,15 +19,14 @@ few class grower count e =
 
 listed-from-requires : tie.Need-listed-from-requires
 listed-from-requires c κs =
-    let a = c .before .before .args in
-    let short : a .count ≤ mostNames = few (a .class) (a .grower) (a .count) (c .before .if1 .left) in
+    let a = c .before .args in
+    let short : a .count ≤ mostNames = few (a .class) (a .grower) (a .count) (c .if1 .left) in
     omega arith
 
 any-repeats-requires : tie.Need-any-repeats-requires
 any-repeats-requires c κs =
-    let c4 = c .before .before .before .before in
-    let a = c4 .args in
-    few (a .class) (a .grower) (a .count) (c .before .before .before .if1 .left)
+    let a = c .before .before .args in
+    few (a .class) (a .grower) (a .count) (c .before .if1 .left)
 
 returns : tie.Need-returns
 unfolding argumentsWrong
@@ -36,10 +35,9 @@ returns c = rw (c .if1 .taken)
 returns-2 : tie.Need-returns-2
 unfolding argumentsWrong
 returns-2 c =
-    let c4 = c .before .before .before .before in
     rw (
-      c4 .if1 .left,
-      ← c .before .before .listed-from .ensures,
+      c .before .before .if1 .left,
+      ← c .before .listed-from .ensures,
       ← c .any-repeats .ensures,
     )
 

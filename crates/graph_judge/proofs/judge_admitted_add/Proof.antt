@@ -13,36 +13,27 @@ arguments-wrong-requires c κs = search needs
 returns : tie.Need-returns
 returns c =
     rw (
-      ← c .before .before .before .worker-word .ensures,
-      c .before .before .if1 .taken,
+      ← c .before .before .before .before .before .worker-word .ensures,
+      c .before .before .before .before .if1 .taken,
       ← c .before .arguments-wrong .ensures,
       c .if2 .taken,
     )
 
+judge-counters-requires : tie.Need-judge-counters-requires
+judge-counters-requires c κs = search needs
+
 returns-2 : tie.Need-returns-2
 returns-2 c =
-    let c4 = c .before .before .before .before in
     rw (
-      ← c4 .worker-word .ensures,
-      c .before .before .before .if1 .taken,
+      ← c .before .before .before .before .before .before .worker-word .ensures,
+      c .before .before .before .before .before .if1 .taken,
       ← c .before .before .arguments-wrong .ensures,
       c .before .if2 .left,
-      c .if3 .taken,
+      ← c .judge-counters .ensures,
     )
 
 returns-3 : tie.Need-returns-3
 returns-3 c =
-    let c4 = c .before .before .before .before in
-    rw (
-      ← c4 .worker-word .ensures,
-      c .before .before .before .if1 .taken,
-      ← c .before .before .arguments-wrong .ensures,
-      c .before .if2 .left,
-      c .if3 .left,
-    )
-
-returns-4 : tie.Need-returns-4
-returns-4 c =
     rw (
       ← c .before .worker-word .ensures,
       c .if1 .left,
@@ -51,4 +42,4 @@ returns-4 c =
 pub judge-admitted-add-spec : {M : Type 1} → statement M
 judge-admitted-add-spec =
     tie.close
-    (tie.spec worker-word-requires arguments-wrong-requires returns returns-2 returns-3 returns-4)
+    (tie.spec worker-word-requires arguments-wrong-requires judge-counters-requires returns returns-2 returns-3)

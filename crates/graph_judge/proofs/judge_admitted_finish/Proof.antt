@@ -23,6 +23,9 @@ returns c =
 job-word-requires : tie.Need-job-word-requires
 job-word-requires c κs = search needs
 
+judge-counters-requires : tie.Need-judge-counters-requires
+judge-counters-requires c κs = search needs
+
 returns-2 : tie.Need-returns-2
 returns-2 c =
     λ arcs buckets queue.
@@ -34,25 +37,11 @@ returns-2 c =
       c .before .before .before .if2 .left,
       ← c .before .before .job-word .ensures,
       c .before .if3 .taken,
-      c .if4 .taken,
+      ← c .judge-counters .ensures,
     )
 
 returns-3 : tie.Need-returns-3
 returns-3 c =
-    λ arcs buckets queue.
-    let c4 = c .before .before .before .before in
-    rw (
-      ← c4 .before .before .worker-word .ensures,
-      c4 .before .if1 .taken,
-      ← c4 .worker-word2 .ensures,
-      c .before .before .before .if2 .left,
-      ← c .before .before .job-word .ensures,
-      c .before .if3 .taken,
-      c .if4 .left,
-    )
-
-returns-4 : tie.Need-returns-4
-returns-4 c =
     λ arcs buckets queue.
     let c4 = c .before .before .before .before in
     rw (
@@ -64,16 +53,11 @@ returns-4 c =
       c .if3 .left,
     )
 
-returns-5 : tie.Need-returns-5
-returns-5 c =
-    λ arcs buckets queue.
-    rw (
-      ← c .before .worker-word .ensures,
-      c .if1 .left,
-    )
+returns-4 : tie.Need-returns-4
+returns-4 c = λ arcs buckets queue. rw (← c .before .worker-word .ensures, c .if1 .left)
 
 pub judge-admitted-finish-spec : {M : Type 1} → statement M
 judge-admitted-finish-spec =
     tie.close
-    (tie.spec worker-word-requires worker-word-requires-2 returns job-word-requires returns-2 returns-3 returns-4
-    returns-5)
+    (tie.spec worker-word-requires worker-word-requires-2 returns job-word-requires judge-counters-requires returns-2
+    returns-3 returns-4)

@@ -36,10 +36,10 @@ unfolding addWords posted
 returns c =
     let c4 = c .before .before .before .before in
     rw (
-      ← c4 .before .before .before .judge-add .ensures,
-      c4 .before .before .if1 .taken,
+      ← c4 .before .before .before .before .judge-add .ensures,
+      c4 .before .before .before .if1 .taken,
       c .before .before .put-adding-worker .ensures,
-      c4 .worker-word .ensures,
+      c4 .before .worker-word .ensures,
     )
 
 same-length-6 : tie.Need-same-length-6

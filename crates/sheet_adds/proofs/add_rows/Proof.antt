@@ -11,8 +11,8 @@ use Rattle.sheet_adds.proofs.add_rows.Statement.{statement}
 use Rattle.sheet_adds.proofs.add_rows.Tie as tie
 
 abbrev Inv-loop : tie.InvT-loop
-Inv-loop sizes jobs₀ arcs₀ buckets₀ queue₀ workers₀ worker rows count numbers₀ places₀ row₀ jobs arcs buckets queue workers
-    numbers places row =
+Inv-loop sizes jobs₀ arcs₀ buckets₀ queue₀ workers₀ worker rows count numbers₀ places₀ row₀ jobs arcs buckets queue
+    workers numbers places row =
     (length jobs ≡ length jobs₀)
     × (length arcs ≡ length arcs₀)
     × (length buckets ≡ length buckets₀)
@@ -24,8 +24,8 @@ Inv-loop sizes jobs₀ arcs₀ buckets₀ queue₀ workers₀ worker rows count 
     (left sizes worker rows 0 count (tables jobs₀ arcs₀ buckets₀ queue₀ workers₀)))
 
 abbrev μ-loop : tie.MeasureT-loop
-μ-loop sizes jobs₀ arcs₀ buckets₀ queue₀ workers₀ worker rows count numbers₀ places₀ row₀ jobs arcs buckets queue workers
-    numbers places row =
+μ-loop sizes jobs₀ arcs₀ buckets₀ queue₀ workers₀ worker rows count numbers₀ places₀ row₀ jobs arcs buckets queue
+    workers numbers places row =
     count - row
 
 loop-holds : tie.Need-loop-holds Inv-loop μ-loop
@@ -113,5 +113,5 @@ pub add-rows-spec : {M : Type 1} → statement M
 add-rows-spec =
     tie.close
     (tie.spec Inv-loop μ-loop loop-holds row-entry-requires add-if-idle-requires number-of-requires mul-numbers
-    array-write-numbers place-of-requires mul-places array-write-places add-row loop-less loop-again same-length same-length-2
-    same-length-3 same-length-4 same-length-5 returns)
+    array-write-numbers place-of-requires mul-places array-write-places add-row loop-less loop-again same-length
+    same-length-2 same-length-3 same-length-4 same-length-5 returns)

@@ -1,4 +1,5 @@
--- `add_whole` runs an add whole: the tests that come first, and then an add of an idle worker in one go. Assumes nothing.
+-- `add_whole` runs an add whole: the tests that come first, and then an add of an idle worker in one go.
+-- Assumes nothing.
 use mathlib.Core.Path.{refl, sym, _∙_}
 use borrow.Author.Needs.{needs}
 use Rattle.graph_own.proofs.Admitted.{wrong-sizes, no-such-worker, unsound, admits}
@@ -34,12 +35,11 @@ returns : tie.Need-returns
 returns c =
     let c10 = c .before .before .before .before .before .before .before .before .before .before in
     let c16 = c10 .before .before .before .before .before .before in
-    let c17 = c16 .before in
-    let c21 = c17 .before .before .before .before in
+    let c21 = c16 .before .before .before .before .before in
     let c24 = c21 .before .before .before in
     let a = c24 .before .before .before .before .before .before .before .before .before .before .before .args in
-    admits _ _ _ _ _ (c24 .sizes-fit .ensures) (c17 .own-ok .ensures _ _) (c21 .before .before .if1 .taken)
-    (c21 .if2 .taken) (c16 .if3 .taken) (c10 .add-if-idle .ensures)
+    admits _ _ _ _ _ (c24 .sizes-fit .ensures) (c16 .before .own-ok .ensures _ _)
+    (c21 .before .before .if1 .taken) (c21 .if2 .taken) (c16 .if3 .taken) (c10 .add-if-idle .ensures)
     ∙ sym (whole-add (a .sizes) _ (a .worker) _)
 
 same-length-6 : tie.Need-same-length-6
@@ -61,8 +61,9 @@ returns-2 : tie.Need-returns-2
 returns-2 c =
     let c8 = c .before .before .before .before .before .before .before .before in
     let a = c8 .before .before .before .before .before .before .before .before .before .before .before .args in
-    unsound _ _ _ _ _ (c8 .sizes-fit .ensures) (c .before .own-ok .ensures _ _) (c .before .before .before .before .before .before .before .if1 .taken)
-    (c .before .before .before .before .before .if2 .taken) (c .if3 .left) refl
+    let c5 = c .before .before .before .before .before in
+    unsound _ _ _ _ _ (c8 .sizes-fit .ensures) (c .before .own-ok .ensures _ _) (c5 .before .before .if1 .taken)
+    (c5 .if2 .taken) (c .if3 .left) refl
     ∙ sym (whole-add (a .sizes) _ (a .worker) _)
 
 same-length-11 : tie.Need-same-length-11
@@ -111,31 +112,7 @@ returns-4 c =
 pub add-whole-spec : {M : Type 1} → statement M
 add-whole-spec =
     tie.close
-    (tie.spec
-    sizes-fit-requires
-    own-ok-requires
-    add-if-idle-requires
-    same-length
-    same-length-2
-    same-length-3
-    same-length-4
-    same-length-5
-    returns
-    same-length-6
-    same-length-7
-    same-length-8
-    same-length-9
-    same-length-10
-    returns-2
-    same-length-11
-    same-length-12
-    same-length-13
-    same-length-14
-    same-length-15
-    returns-3
-    same-length-16
-    same-length-17
-    same-length-18
-    same-length-19
-    same-length-20
-    returns-4)
+    (tie.spec sizes-fit-requires own-ok-requires add-if-idle-requires same-length same-length-2 same-length-3
+    same-length-4 same-length-5 returns same-length-6 same-length-7 same-length-8 same-length-9 same-length-10
+    returns-2 same-length-11 same-length-12 same-length-13 same-length-14 same-length-15 returns-3 same-length-16
+    same-length-17 same-length-18 same-length-19 same-length-20 returns-4)
