@@ -1,5 +1,5 @@
-// An add's job from its entry to its settling, in one go. Follows docs/RULES.md, "Steps". Nothing is required of a table
-// or of the arguments. Assumes nothing.
+// An add's job from its entry to its settling, in one go. Follows docs/RULES.md, "Steps". Nothing is required of a
+// table or of the arguments. Assumes nothing.
 ghost use mathlib.Core.Path.{_≡_};
 ghost use Prim.Native.Nat.{_+_, _<_, _≤_};
 ghost use Rattle.basics.specs.Base.{prefix};

@@ -1,5 +1,5 @@
-// An add run in one go from its look-ups on. Follows docs/RULES.md, "Steps" and "Turned-away calls". Nothing is required
-// of a table or of the arguments. Assumes nothing.
+// An add run in one go from its look-ups on. Follows docs/RULES.md, "Steps" and "Turned-away calls". Nothing is
+// required of a table or of the arguments. Assumes nothing.
 ghost use mathlib.Core.Path.{_≡_};
 ghost use Prim.Native.Nat.{_≤_};
 ghost use Rattle.basics.specs.Limits.{mostNames};

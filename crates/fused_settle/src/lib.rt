@@ -21,8 +21,8 @@ use sheet_format::Entry;
 use terms::Answer;
 use terms::Sizes;
 
-// The job's remaining count falls by the tally, and it is queued or not. Says whether it could: where the links were not
-// sound, or the queue has no cell left, nothing is stored.
+// The job's remaining count falls by the tally, and it is queued or not. Says whether it could: where the links were
+// not sound, or the queue has no cell left, nothing is stored.
 fn settle(
     sizes: Sizes,
     jobs: &mut [u32],

@@ -72,7 +72,8 @@ fn listed_of(count: u32) -> usize
 // The listed names, and 0 past them.
 fn put_names(workers: &mut [u32], worker: u32, names: &[u32], count: u32)
     ensures { λ _. ⌜ now (workers .exit)
-        ≡ sets (now (workers .entry)) (place workerShape worker NAMES) (prefix mostNames (prefix count (now (names .entry)))) ⌝ }
+        ≡ sets (now (workers .entry)) (place workerShape worker NAMES)
+        (prefix mostNames (prefix count (now (names .entry)))) ⌝ }
 {
     let from = names_at(worker);
     let listed = listed_of(count);

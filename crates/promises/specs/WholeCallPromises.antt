@@ -1,5 +1,5 @@
--- THE PROMISES of calls that are run whole: an add, a finish, and a sheet of up to 64 adds, each in one call. Each has a
--- one-line proof that names where it was shown. To believe a statement, read the definitions that it names:
+-- THE PROMISES of calls that are run whole: an add, a finish, and a sheet of up to 64 adds, each in one call. Each has
+-- a one-line proof that names where it was shown. To believe a statement, read the definitions that it names:
 --   whole calls, a sheet      whole_words: specs/Whole.antt, specs/Sheet.antt, specs/CallEnds.antt
 --   rows and entries          sheet_rows: specs/SheetRows.antt, specs/Arguments.antt (the contracts cite them)
 --   calls, worth in items     host_calls: specs/HostCalls.antt
@@ -59,7 +59,8 @@ use Rattle.whole_answers.specs.SheetWithin.{SheetWithin}
 use Rattle.whole_answers.specs.SheetWithin as sheet-within
 use Rattle.promises.specs.Promises as of-items
 
--- ---- of every list of calls from tables that were laid out: single items beside adds and finishes run whole, and sheets
+-- ---- of every list of calls from tables that were laid out: single items beside adds and finishes run whole, and
+-- sheets
 module _ (s : Sizes) (t : Tables) (laid : layOut s t .answer ≡ Laid) (calls : List HostCall) where
   -- DEMAND 3 of such lists: a call replies what its posts and steps answer, with no other worker's step between; the
   -- tables, what is read off calls and replies, and the entries are those of these items, of which every clause holds.
@@ -162,8 +163,8 @@ module _ (s : Sizes) (t : Tables) (w : ℕ) (l : List Arguments) where
       → sheetWords s t w l ≡ sheetOutcome (sheetWords s t w l .number) [] t
   a-sheet-turned-away-changes-nothing = sheets.sheet-turned-away s t w l
 
-  -- by any number but 16 it is turned away as any post of an add by this worker is: "1, 2, 9 for the worker's own words,
-  -- 3", and by 16 only where these are passed;
+  -- by any number but 16 it is turned away as any post of an add by this worker is: "1, 2, 9 for the worker's own
+  -- words, 3", and by 16 only where these are passed;
   pub a-sheet-is-turned-away-as-a-post-is : sheetWords s t w l .number ≢ 0
       → sheetWords s t w l .number ≢ tooManyEntries → (a : Arguments)
       → addWords s t w a .answer ≡ Refused (sheetWords s t w l .number) 0
@@ -201,8 +202,8 @@ module _ (s : Sizes) (t : Tables) (w : ℕ) (words : List ℕ) where
   pub whole-rows-are-a-sheet : length words % rowWords ≡ 0 → rowsWords s t w words ≡ sheetWords s t w (addsOf words)
   whole-rows-are-a-sheet = rows.rows-whole s t w words
 
-  -- C is told the number that turned the sheet away; of each entry the number and the place that its add would answer in
-  -- C, which is 0 just if it ended; and 0 past the last entry, for all of them where the sheet was turned away.
+  -- C is told the number that turned the sheet away; of each entry the number and the place that its add would answer
+  -- in C, which is 0 just if it ended; and 0 past the last entry, for all of them where the sheet was turned away.
   pub the-number-is-told : sheetAdded (rowsWords s t w words) .number ≡ rowsWords s t w words .number
   the-number-is-told = refl
 

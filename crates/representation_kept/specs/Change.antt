@@ -12,8 +12,8 @@ use lib.ListN.{length, getD, set, length-set}
 use Rattle.basics.specs.Laws.{set-all, update-other}
 use Rattle.terms.specs.declared.Sizes.{Sizes}
 use Rattle.words.specs.Columns.{put, store, Rows, rows-put, stores}
-use Rattle.words.specs.Layout.{jobShape, NAME, LABEL, COUNT, CLASS, GROWER, FIRST, LAST, NEXT, queueShape, sizesKept, Tables}
-use Rattle.words.specs.Layout.{tables, view, View}
+use Rattle.words.specs.Layout.{jobShape, NAME, LABEL, COUNT, CLASS, GROWER, FIRST, LAST, NEXT, queueShape, sizesKept}
+use Rattle.words.specs.Layout.{Tables, tables, view, View}
 use Rattle.rules.specs.Rules.{Job, Worker, Graph, noJob, job, withJobs, withQueue, withWorkers}
 use Rattle.rules.specs.Sound.{started, startedBy}
 use Rattle.representation.specs.Rep.{Ghost, Row, TablesRep, Stands}
@@ -46,7 +46,8 @@ row-other f j q x k h o =
     }
 
 -- the tables after a store of x in field k of job j, and with another queue q
-pub job-stands : (s : Sizes) (t : Tables) (g : Graph) (G : Ghost) → Stands s t g G → (j k x : ℕ) (q l : List ℕ) (h : Graph)
+pub job-stands : (s : Sizes) (t : Tables) (g : Graph) (G : Ghost) → Stands s t g G
+    → (j k x : ℕ) (q l : List ℕ) (h : Graph)
     → Rows queueShape (s .jobs) q
     → TablesRep s (view (tables (put jobShape (t .jobs) j k x) (t .arcs) (t .buckets) q l)) h G
     → TablesStand s (tables (put jobShape (t .jobs) j k x) (t .arcs) (t .buckets) q l) h G

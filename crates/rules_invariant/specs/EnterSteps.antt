@@ -59,7 +59,8 @@ module _ (s : Sizes) (g : Graph) (r : Reading) (x : State) (K : Kept s g r x) (I
     }
 
     unstarted : x .label n ≡ unexecuted
-    unstarted = startedBy-none (x .label n) (omega (arith, I .queued n, I .gates .entry n, I .gates .gate-new n (omega arith)))
+    unstarted =
+        startedBy-none (x .label n) (omega (arith, I .queued n, I .gates .entry n, I .gates .gate-new n (omega arith)))
 
     new-known : Known later (suc n) n ps (a .name) (listed a)
     new-known = record {
@@ -103,7 +104,8 @@ module _ (s : Sizes) (g : Graph) (r : Reading) (x : State) (K : Kept s g r x) (I
         right = own .right;
         there = omega (arith, longer);
         list = ap (λ (y : Job). y .list) (getD-append-seam (g .jobs) (newJob a) [] noJob);
-        place = rw (K .size) (omega (arith, I .counts .linked-within n, ap length (I .places .new-prerequisites n (omega arith))));
+        place = rw (K .size)
+            (omega (arith, I .counts .linked-within n, ap length (I .places .new-prerequisites n (omega arith))));
         tallied = rw (K .size) (sym (I .counts .adder-done n (I .places .new-adder n (omega arith)) .1));
       };
       paced = (refl, sym (ap (λ (y : Job). y .name) (getD-append-seam (g .jobs) (newJob a) [] noJob)));

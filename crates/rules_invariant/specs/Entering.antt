@@ -111,7 +111,8 @@ module _ (s : State) (I : Invariant s) where
         new-dependents = λ k l. I .places .new-dependents k (omega arith);
         new-prerequisites = λ k l. update-other (s .prerequisites) fresh ps k (omega arith)
             ∙ I .places .new-prerequisites k (omega arith);
-        new-adder = λ k l. update-other (s .adder) fresh (some w) k (omega arith) ∙ I .places .new-adder k (omega arith);
+        new-adder = λ k l. update-other (s .adder) fresh (some w) k (omega arith)
+            ∙ I .places .new-adder k (omega arith);
       };
       adders = owns-take adding (s .stage) (s .adder) (I .adders) w fresh adding-injective
           (λ i e. omega (arith, ap tag (sym f ∙ e)))
@@ -144,7 +145,8 @@ module _ (s : State) (I : Invariant s) where
               rw (update-other (s .gate) fresh (1 - length ps) k e, update-other (s .prerequisites) fresh ps k e)
               (I .gates .gate-within k)
         ];
-        gate-new = λ k l. update-other (s .gate) fresh (1 - length ps) k (omega arith) ∙ I .gates .gate-new k (omega arith);
+        gate-new = λ k l. update-other (s .gate) fresh (1 - length ps) k (omega arith)
+            ∙ I .gates .gate-new k (omega arith);
         gate-adding = λ k v a. elim (ℕ-discrete k fresh) [
           | yes e ↦ fresh-gate k e
           | no e ↦

@@ -118,13 +118,17 @@ module _ (s : State) (I : Invariant s) where
 
   pub entered-there : (j : ℕ) → 0 < s .entries j → j < s .size
   entered-there j h =
-      elim (decLt j (s .size)) [ yes z ↦ z | no z ↦ absurd (omega (arith, I .gates .entry j, I .gates .gate-new j (omega arith))) ]
+      elim (decLt j (s .size)) [
+        | yes z ↦ z
+        | no z ↦ absurd (omega (arith, I .gates .entry j, I .gates .gate-new j (omega arith)))
+      ]
 
   pub counted-there : (j : ℕ) → 0 < s .count j → j < s .size
   counted-there j h =
       elim (decLt j (s .size)) [
         | yes z ↦ z
-        | no z ↦ absurd (omega (arith, I .counts .count-within j, ap length (I .places .new-prerequisites j (omega arith))))
+        | no z ↦ absurd
+            (omega (arith, I .counts .count-within j, ap length (I .places .new-prerequisites j (omega arith))))
       ]
 
   pub adding-there : (w j : ℕ) → s .stage w ≡ adding j → j < s .size
@@ -151,7 +155,8 @@ module _ (s : State) (I : Invariant s) where
           I .counts .linked-within j,
           sum-le (s .size) (λ r. unserved s r j) p (I .places .prerequisites-there j .at i l),
           I .arcs p j u,
-          ap (occurrences p) (take-all (s .linked j) (s .prerequisites j) (omega (arith, I .gates .entry j, I .counts .balance j))),
+          ap (occurrences p)
+              (take-all (s .linked j) (s .prerequisites j) (omega (arith, I .gates .entry j, I .counts .balance j))),
           occurrences-getD (s .prerequisites j) i l,
         ))
       ]

@@ -151,7 +151,8 @@ module _ (s : State) (I : Invariant s) where
           dependents-there = λ r. record {
             at = λ i. elim (ℕ-discrete r place) [
               | yes e ↦ rw (update-at (s .dependents) place (s .dependents place ++ (j ∷ [])) r e)
-                  (below-snoc (s .size) (s .dependents place) j (I .places .dependents-there place) (adding-there s I w j f) i)
+                  (below-snoc (s .size) (s .dependents place) j (I .places .dependents-there place)
+                  (adding-there s I w j f) i)
               | no e ↦ rw (update-other (s .dependents) place (s .dependents place ++ (j ∷ [])) r e)
                   (I .places .dependents-there r .at i)
             ];

@@ -28,7 +28,9 @@ use Rattle.rules_invariant.specs.Turns.{Next, own-stage, own-call, other
 -- whether a notified job is queued is right
 module _ (x : State) (I : Invariant x) (j : ℕ) (some-left : 0 < x .count j) where
   by-test : (b : Bool) → eqb (x .count j - 1) 0 ≡ b → x .entries j + bit b ≡ 1 - ((x .count j - 1) + x .gate j)
-  by-test true e = omega (arith, I .gates .entry j, I .counts .count-within j, I .gates .gate-within j, eqb-true (x .count j - 1) 0 e)
+  by-test true e =
+      let last = eqb-true (x .count j - 1) 0 e in
+      omega (arith, I .gates .entry j, I .counts .count-within j, I .gates .gate-within j, last)
   by-test false e = let more : x .count j - 1 ≢ 0 = eqb-false (x .count j - 1) 0 e in omega (arith, I .gates .entry j)
 
   pub serves-right : x .entries j + bit (eqb (x .count j - 1) 0) ≡ 1 - ((x .count j - 1) + x .gate j)

@@ -29,7 +29,8 @@ pub record Told : Type 0 where
 abbrev pub told : List ℕ → List ℕ → ℕ → SheetOutcome → Told
 told numbers places row o = record { added = toldFrom numbers places row (o .answers); state = o .state }
 
-pub row-told : (s : Sizes) (w : ℕ) (rows : List ℕ) (row n m : ℕ) (t : Tables) (o : Outcome Tables) (numbers places : List ℕ)
+pub row-told : (s : Sizes) (w : ℕ) (rows : List ℕ) (row n m : ℕ) (t : Tables) (o : Outcome Tables)
+    (numbers places : List ℕ)
     → m ≡ suc n → o ≡ addIfIdle s t w (argumentsOf (entryAt rows row))
     → told (set numbers row (numberOf (o .answer))) (set places row (placeOf (o .answer))) (row + 1)
     (left s w rows (row + 1) n (o .state))

@@ -1,7 +1,7 @@
 // A sheet of adds in one call, as C has it: the sizes, the five lent tables, then the worker and the rows of the
-// entries. A slice is a pointer and a count of elements in C; answers are structs by value. include/taskgraph.h declares
-// all of this. Follows docs/RULES.md, "Whole calls". Assumes nothing but that a pointer with a count points to that many
-// elements.
+// entries. A slice is a pointer and a count of elements in C; answers are structs by value. include/taskgraph.h
+// declares all of this. Follows docs/RULES.md, "Whole calls". Assumes nothing but that a pointer with a count points to
+// that many elements.
 ghost use Rattle.words.specs.Layout.{atEntry, atExit};
 ghost use Rattle.sheet_rows.specs.SheetRows.{Added, rowsWords};
 use sheet_adds::add_sheet;

@@ -37,8 +37,8 @@ module _ (s : Sizes) (t : Tables) (w n : ℕ) where
           ≢ tooManyEntries
           → posted (pick x (pick y (pick z (pick i m halfDone) damaged) noSuchWorker) wrongSizes) t w
           (addingWorker (view t .worker HELD w) a) .answer
-          ≡ Refused (pick x (pick y (pick z (pick i (pick e 0 tooManyEntries) halfDone) damaged) noSuchWorker) wrongSizes)
-          0
+          ≡ Refused
+          (pick x (pick y (pick z (pick i (pick e 0 tooManyEntries) halfDone) damaged) noSuchWorker) wrongSizes) 0
       go true true true true true m h k = absurd (h refl)
       go true true true true false m h k = absurd (k refl)
       go true true true false e m h k = refl
