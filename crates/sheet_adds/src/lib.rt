@@ -12,49 +12,21 @@ ghost use Rattle.sheet_format.specs.Decode.{rowWords};
 ghost use Rattle.sheet_format.specs.Write.{entryAt, entriesFrom};
 ghost use Rattle.fused_add_laws.specs.Sheets.{addEachIfIdle};
 ghost use Rattle.sheet_rows.specs.Arguments.{argumentsOf};
-ghost use Rattle.sheet_rows.specs.SheetRows.{numberOf, placeOf, turnedAway, Added, rowsWords};
+ghost use Rattle.sheet_rows.specs.SheetRows.{Added, rowsWords};
 use fused_add::add_if_idle;
 use graph_words::numbers::WRONG_SIZES;
 use sheet_format::Entry;
 use sheet_judge::judge_sheet;
+use sheet_judge::number_of;
+use sheet_judge::place_of;
+use sheet_judge::turned_away;
 use sheet_limits::CLASS_WORD;
 use sheet_limits::COUNT_WORD;
 use sheet_limits::GROWER_WORD;
 use sheet_limits::NAMES_WORD;
 use sheet_limits::ROW_WORDS;
 use sheet_rows::SheetAdded;
-use terms::Answer;
 use terms::Sizes;
-
-// The number that refused an add, or 0.
-fn number_of(answer: Answer) -> u32
-    ensures { λ r. ⌜ r ≡ numberOf answer ⌝ }
-{
-    match answer {
-        Answer::Laid => 0,
-        Answer::Posted => 0,
-        Answer::Going => 0,
-        Answer::Ended => 0,
-        Answer::NoneReady => 0,
-        Answer::Handed { .. } => 0,
-        Answer::Refused { number, place: _ } => number,
-    }
-}
-
-// The place that came with it, or 0.
-fn place_of(answer: Answer) -> u32
-    ensures { λ r. ⌜ r ≡ placeOf answer ⌝ }
-{
-    match answer {
-        Answer::Laid => 0,
-        Answer::Posted => 0,
-        Answer::Going => 0,
-        Answer::Ended => 0,
-        Answer::NoneReady => 0,
-        Answer::Handed { .. } => 0,
-        Answer::Refused { number: _, place } => place,
-    }
-}
 
 // The names of a row, from a word on.
 fn row_names(rows: &[u32], from: usize) -> [u32; 32]
@@ -118,17 +90,6 @@ fn add_rows(
         number: 0,
         numbers,
         places,
-    }
-}
-
-// A sheet that was turned away.
-fn turned_away(number: u32) -> SheetAdded
-    ensures { λ r. ⌜ r ≡ turnedAway number ⌝ }
-{
-    SheetAdded {
-        number,
-        numbers: [0; 64],
-        places: [0; 64],
     }
 }
 

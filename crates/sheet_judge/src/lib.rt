@@ -1,5 +1,6 @@
-// What turns a sheet of adds away, before any entry: it reads and judges, and stores nothing. Follows docs/RULES.md,
-// "Whole calls". Assumes nothing: the definition holds of all tables and arguments.
+// What turns a sheet of adds away, before any entry: it reads and judges, and stores nothing; and what is told of such a
+// sheet and of an entry. Follows docs/RULES.md, "Whole calls". Assumes nothing: the definitions hold of all tables and
+// arguments.
 ghost use mathlib.Core.Path.{_≡_};
 ghost use lib.Dec.{leb, eqb};
 ghost use Rattle.basics.specs.Base.{pick};
@@ -7,11 +8,14 @@ ghost use Rattle.terms.specs.Terms.{mostEntries, tooManyEntries, halfDone};
 ghost use Rattle.words.specs.Columns.{columns};
 ghost use Rattle.words.specs.Layout.{workerShape, PHASE, IDLE, atEntry};
 ghost use Rattle.whole_words.specs.Sheet.{judgedSheet};
+ghost use Rattle.sheet_rows.specs.SheetRows.{numberOf, placeOf, turnedAway};
 use graph_own::own_ok;
 use graph_sizes::sizes_fit;
 use graph_words::layout::*;
 use graph_words::numbers::*;
 use graph_words::worker_word;
+use sheet_rows::SheetAdded;
+use terms::Answer;
 use terms::Sizes;
 
 // What turns a sheet of so many entries away where the worker is known and sound.
@@ -56,5 +60,46 @@ pub fn judge_sheet(
         }
     } else {
         WRONG_SIZES
+    }
+}
+
+// The number that refused an add, or 0.
+pub fn number_of(answer: Answer) -> u32
+    ensures { λ r. ⌜ r ≡ numberOf answer ⌝ }
+{
+    match answer {
+        Answer::Laid => 0,
+        Answer::Posted => 0,
+        Answer::Going => 0,
+        Answer::Ended => 0,
+        Answer::NoneReady => 0,
+        Answer::Handed { .. } => 0,
+        Answer::Refused { number, place: _ } => number,
+    }
+}
+
+// The place that came with it, or 0.
+pub fn place_of(answer: Answer) -> u32
+    ensures { λ r. ⌜ r ≡ placeOf answer ⌝ }
+{
+    match answer {
+        Answer::Laid => 0,
+        Answer::Posted => 0,
+        Answer::Going => 0,
+        Answer::Ended => 0,
+        Answer::NoneReady => 0,
+        Answer::Handed { .. } => 0,
+        Answer::Refused { number: _, place } => place,
+    }
+}
+
+// A sheet that was turned away.
+pub fn turned_away(number: u32) -> SheetAdded
+    ensures { λ r. ⌜ r ≡ turnedAway number ⌝ }
+{
+    SheetAdded {
+        number,
+        numbers: [0; 64],
+        places: [0; 64],
     }
 }
