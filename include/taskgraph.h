@@ -17,10 +17,10 @@
 extern "C" {
 #endif
 
-#define TG_VERSION_MAJOR 1
-#define TG_VERSION_MINOR 1
+#define TG_VERSION_MAJOR 2
+#define TG_VERSION_MINOR 0
 #define TG_VERSION_PATCH 0
-#define TG_VERSION "1.1.0"
+#define TG_VERSION "2.0.0"
 
 /* The numbers of the refusals (docs/RULES.md, "Turned-away calls"), as they stand in a `number`. docs/NUMBERS.md
  * says what a host does about each. */
@@ -204,7 +204,8 @@ typedef struct {
  *            class, grower, first arc, last arc, next job in its bucket
  *   arcs     the arcs reserved; then 2 words an arc: dependent, next arc
  *   buckets  2 to the power b heads
- *   queue    taken, put; then a cell for each of R jobs
+ *   queue    taken, put; then 3 words for each of R places: its cell, which has the job that waits there; a slot
+ *            of the index, which has the place of a waiting job; its position, which is the slot that has it
  *   workers  42 words a worker: phase, held job, name, list count, class, grower, tally, list place, job,
  *            arc, 32 names */
 #define TG_TABLES                                                                                       \
@@ -232,7 +233,8 @@ tg_answer tg_post_finish(tg_sizes sizes, TG_TABLES, uint32_t worker, uint32_t na
 /* One step of the worker's call: going on, ended, or refused with 1, 2, 9, 4, 6, 7 or 8. */
 tg_answer tg_step(tg_sizes sizes, TG_TABLES, uint32_t worker);
 
-/* Takes the job longest in the queue: handed out, none ready, or refused with 1, 2, 9, 3 or 10. */
+/* Takes the waiting job with the most minutes, of equal minutes the one that entered the queue first: handed out,
+ * none ready, or refused with 1, 2, 9, 3 or 10. */
 tg_answer tg_get(tg_sizes sizes, TG_TABLES, uint32_t worker);
 
 /* An add run whole: posted, and stepped to its end with no other call between. Ended, or refused with 1, 2, 9,

@@ -260,7 +260,7 @@ static void check_totals(void)
 /* ---- the task graph ---- */
 
 /* Tables for up to 8 jobs, 8 arcs, 4 buckets and 2 workers. */
-static uint32_t jobs[5 + 8 * 8], arcs[1 + 2 * 8], buckets[4], queue[2 + 8], workers[2 * 42];
+static uint32_t jobs[5 + 8 * 8], arcs[1 + 2 * 8], buckets[4], queue[2 + 3 * 8], workers[2 * 42];
 
 #define LEN(table) (sizeof table / sizeof *table)
 #define LENT jobs, LEN(jobs), arcs, LEN(arcs), buckets, LEN(buckets), queue, LEN(queue), workers, LEN(workers)
@@ -327,6 +327,12 @@ static void check_lay_out(void)
     answers("tg_lay_out, a table too short", tg_lay_out(sizes, jobs, LEN(jobs), arcs, LEN(arcs) - 1, buckets,
                                                         LEN(buckets), queue, LEN(queue), workers, LEN(workers)),
             refused(TG_SIZE, 0));
+    const size_t too_short[2] = {2 + 8, LEN(queue) - 1};
+    for (size_t i = 0; i < LEN(too_short); i++)
+        answers("tg_lay_out, a queue without a whole index",
+                tg_lay_out(sizes, jobs, LEN(jobs), arcs, LEN(arcs), buckets, LEN(buckets), queue, too_short[i], workers,
+                           LEN(workers)),
+                refused(TG_SIZE, 0));
     same("tg_lay_out, refused: the queue", queue[0], 0x07070707);
     answers("tg_lay_out", tg_lay_out(sizes, LENT), laid_out);
     same_bytes("tg_lay_out: the sizes", jobs, &sizes, sizeof sizes);
@@ -337,7 +343,9 @@ static void check_lay_out(void)
     same("tg_lay_out: last arc", arcs[LEN(arcs) - 1], UINT32_MAX);
     same("tg_lay_out: last bucket", buckets[3], UINT32_MAX);
     same("tg_lay_out: put", queue[1], 0);
-    same("tg_lay_out: last cell", queue[LEN(queue) - 1], UINT32_MAX);
+    same("tg_lay_out: last cell", queue[LEN(queue) - 3], UINT32_MAX);
+    same("tg_lay_out: last slot", queue[LEN(queue) - 2], UINT32_MAX);
+    same("tg_lay_out: last position", queue[LEN(queue) - 1], UINT32_MAX);
     same("tg_lay_out: worker 1, held", workers[42 + 1], UINT32_MAX);
     same("tg_lay_out: worker 1, last name", workers[42 + 41], 0);
 }
@@ -368,9 +376,59 @@ static void check_graph(void)
         answers("tg_post_finish", tg_post_finish(sizes, LENT, name - 1, name), posted);
         answers("tg_step, a finish", run_whole("a mark and an arc", name - 1, 2), ended);
     }
-    answers("tg_get, the longest waiting", tg_get(sizes, LENT, 1), handed_out(2, 3));
-    answers("tg_get, the next", tg_get(sizes, LENT, 0), handed_out(3, 4));
+    answers("tg_get, the most minutes", tg_get(sizes, LENT, 1), handed_out(3, 4));
+    answers("tg_get, the next", tg_get(sizes, LENT, 0), handed_out(2, 3));
     answers("tg_step, idle", tg_step(sizes, LENT, 0), refused(TG_IDLE, 0));
+}
+
+/* Gets a job and finishes it. */
+static void works_on(const char *what, uint32_t job, uint32_t name)
+{
+    answers(what, tg_get(sizes, LENT, 0), handed_out(job, name));
+    answers(what, tg_finish(sizes, LENT, 0, name), ended);
+}
+
+/* A place of the queue: its cell, the slot of its number, its position. */
+enum { CELL = 0, SLOT = 1, POSITION = 2 };
+
+static uint32_t *of_place(uint32_t place, uint32_t field)
+{
+    return queue + 2 + 3 * place + field;
+}
+
+/* The counters, the places that were put, and those that were not. */
+static void queue_is(const char *what, uint32_t taken, uint32_t put, const uint32_t (*places)[3])
+{
+    const uint32_t none = UINT32_MAX, blank[3] = {none, none, none};
+    same(what, queue[0], taken);
+    same(what, queue[1], put);
+    for (uint32_t place = 0; place < sizes.jobs; place++)
+        same_bytes(what, of_place(place, CELL), places && place < put ? places[place] : blank, sizeof blank);
+}
+
+/* Long jobs first, equal minutes by entry, and the words of the queue and of the index beside it. */
+static void check_order(void)
+{
+    answers("tg_lay_out", tg_lay_out(sizes, LENT), laid_out);
+    const uint32_t classes[5] = {3, 0, 3, 15, 0};
+    for (uint32_t i = 0; i < LEN(classes); i++)
+        answers("tg_add", tg_add(sizes, LENT, 0, (tg_entry){.name = 10 + i, .class_ = classes[i]}), ended);
+    const uint32_t none = UINT32_MAX;
+    const uint32_t five[5][3] = {{0, 3, 1}, {1, 0, 3}, {2, 2, 2}, {3, 1, 0}, {4, 4, 4}};
+    queue_is("the queue, five jobs", 0, 5, five);
+    works_on("tg_get, the heaviest", 3, 13);
+    const uint32_t four[5][3] = {{0, 0, 0}, {1, 1, 1}, {2, 2, 2}, {none, 4, none}, {4, none, 3}};
+    queue_is("the queue, the heaviest taken", 1, 5, four);
+    works_on("tg_get, of equal minutes the first", 0, 10);
+    answers("tg_add, heavier", tg_add(sizes, LENT, 0, (tg_entry){.name = 15, .class_ = 4}), ended);
+    answers("tg_add, lighter", tg_add(sizes, LENT, 0, (tg_entry){.name = 16, .class_ = 1}), ended);
+    works_on("tg_get, a heavier one that entered later", 5, 15);
+    works_on("tg_get, of equal minutes the second", 2, 12);
+    works_on("tg_get, before the lightest", 6, 16);
+    works_on("tg_get, of the lightest the first", 1, 11);
+    works_on("tg_get, the last", 4, 14);
+    answers("tg_get, none left", tg_get(sizes, LENT, 0), none_ready);
+    queue_is("the queue, all taken", 7, 7, NULL);
 }
 
 static void check_graph_refusals(void)
@@ -417,6 +475,44 @@ static void unchanged(const char *what)
     static uint32_t now[LEN(kept)];
     copy_tables(now);
     same_bytes(what, now, kept, sizeof kept);
+}
+
+/* Sets a word to a wrong value, under which a get changes nothing, and puts it right. */
+static void get_is_damaged(const char *what, uint32_t *word, uint32_t wrong)
+{
+    const uint32_t right = *word;
+    *word = wrong;
+    copy_tables(kept);
+    answers(what, tg_get(sizes, LENT, 0), refused(TG_DAMAGED, 0));
+    unchanged(what);
+    *word = right;
+}
+
+/* A slot that does not hold the place of a waiting job is damage for the calls that read it, and for no others. Four jobs
+ * of one class: place i is in slot i. */
+static void check_index_damaged(void)
+{
+    answers("tg_lay_out", tg_lay_out(sizes, LENT), laid_out);
+    for (uint32_t name = 1; name <= 4; name++)
+        answers("tg_add", tg_add(sizes, LENT, 0, (tg_entry){.name = name}), ended);
+    for (uint32_t slot = 0; slot < 4; slot++) {
+        get_is_damaged("tg_get, a slot with none", of_place(slot, SLOT), UINT32_MAX);
+        get_is_damaged("tg_get, a slot with a place that was not put", of_place(slot, SLOT), 4);
+        get_is_damaged("tg_get, a slot with the place of another", of_place(slot, SLOT), 3 - slot);
+        get_is_damaged("tg_get, the position of a place is another slot", of_place(slot, POSITION), 3 - slot);
+        get_is_damaged("tg_get, the position of a place is none", of_place(slot, POSITION), UINT32_MAX);
+        get_is_damaged("tg_get, a cell with a job that was not made", of_place(slot, CELL), 4);
+        get_is_damaged("tg_get, a job of class 16", jobs + 5 + 8 * slot + 3, 16);
+    }
+    *of_place(1, SLOT) = 7;
+    answers("tg_add, a wrong slot on its way", tg_add(sizes, LENT, 0, (tg_entry){.name = 5}), refused(TG_DAMAGED, 0));
+    *of_place(1, SLOT) = 1, *of_place(1, POSITION) = 0;
+    answers("tg_step, a wrong position on its way", tg_step(sizes, LENT, 0), refused(TG_DAMAGED, 0));
+    *of_place(1, POSITION) = 1, *of_place(2, SLOT) = 7;
+    answers("tg_step, a wrong slot that it does not pass", tg_step(sizes, LENT, 0), ended);
+    *of_place(0, SLOT) = 2, *of_place(2, POSITION) = 0;
+    *of_place(2, SLOT) = 0, *of_place(0, POSITION) = 2;
+    answers("tg_get, the index's first", tg_get(sizes, LENT, 0), handed_out(2, 3));
 }
 
 /* Jobs 1 and 2 needing 1: added, worked and finished by whole calls. */
@@ -676,7 +772,9 @@ int main(void)
     check_words_needed();
     check_lay_out();
     check_graph();
+    check_order();
     check_graph_refusals();
+    check_index_damaged();
     check_whole_calls();
     check_whole_refusals();
     check_whole_damaged();

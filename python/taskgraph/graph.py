@@ -140,7 +140,10 @@ class Graph:
         return bool(self._answer("tg_step", _worker(worker)).kind == GOING_ON)
 
     def get(self, worker: int) -> Job | None:
-        """Takes the job longest in the queue, or None where none is ready. Refused by 1, 2, 9, 3 or 10."""
+        """Takes the waiting job with the most minutes, of equal minutes the one that has waited longest, or None.
+
+        Refused by 1, 2, 9, 3 or 10.
+        """
         answer = self._answer("tg_get", _worker(worker))
         return Job(answer.job, answer.name) if answer.kind == HANDED_OUT else None
 

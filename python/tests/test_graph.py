@@ -70,10 +70,27 @@ class Calls(unittest.TestCase):
         graph = Graph(SMALL)
         for name, class_ in enumerate([15, 1, 3, 0]):
             graph.add(0, Entry(name, class_=class_))
-        self.assertEqual((graph.get(0), graph.get(1)), (Job(0, 0), Job(1, 1)))
+        self.assertEqual((graph.get(0), graph.get(1)), (Job(0, 0), Job(2, 2)))
         graph.finish(0, 0)
-        self.assertEqual(graph.totals(), ((2, 1, 1), (6, 2, 480)))
+        self.assertEqual(graph.totals(), ((2, 1, 1), (3, 5, 480)))
         self.assertEqual(graph.totals().minutes.finished, 480)
+
+    def test_long_jobs_first(self):
+        source = seeded("order")
+        graph = Graph(Sizes(jobs=200, arcs=0, bits=8, workers=1))
+        waiting = []
+        for name in range(200):
+            class_ = source.randrange(16)
+            graph.add(0, Entry(name, class_=class_))
+            waiting.append((-class_, name))  # by minutes, which rise with the class, then by entry
+            if source.random() < 0.4:
+                self.assertEqual(graph.get(0).name, min(waiting)[1])
+                graph.finish(0, min(waiting)[1])
+                waiting.remove(min(waiting))
+        for _, name in sorted(waiting):
+            self.assertEqual(graph.get(0).name, name)
+            graph.finish(0, name)
+        self.assertIsNone(graph.get(0))
 
     def test_held_and_drained(self):
         graph = Graph(SMALL)
@@ -175,7 +192,7 @@ class WholeSheets(unittest.TestCase):
 
 class Memory(unittest.TestCase):
     def test_room(self):
-        self.assertEqual(Graph.words(SMALL), Words(5 + 8 * 4, 1 + 2 * 4, 4, 2 + 4, 42 * 2))
+        self.assertEqual(Graph.words(SMALL), Words(5 + 8 * 4, 1 + 2 * 4, 4, 2 + 3 * 4, 42 * 2))
         self.assertEqual(Graph.room(SMALL), 4 * sum(Graph.words(SMALL)))
 
     def each(self):

@@ -307,7 +307,7 @@ extern "C" {
         workers_len: usize,
         worker: u32,
     ) -> Answer;
-    /// Takes the job longest in the queue.
+    /// Takes the waiting job with the most minutes, of equal minutes the one that entered the queue first.
     pub fn tg_get(
         sizes: Sizes,
         jobs: *mut u32,

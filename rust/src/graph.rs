@@ -123,10 +123,22 @@ pub trait TaskGraph {
         in_parts(jobs, |part| self.add_sheet(worker, part))
     }
 
-    /// Takes the job that waits longest, or none where no job waits.
+    /// Takes the waiting job with the most minutes, or none where no job waits. Of equal minutes it is the job that has
+    /// waited longest.
     ///
     /// # Errors
     /// 10 where the worker holds a job; 3 where its call is half done.
+    ///
+    /// ```
+    /// # use taskgraph::{Graph, Job, Refusal, Sizes, TaskGraph};
+    /// let mut graph = Graph::create(Sizes { jobs: 16, arcs: 64, bits: 4, workers: 1 })?;
+    /// graph.add_all(0, &[Job::new(1, &[]), Job::new(2, &[]), Job { class: 15, ..Job::new(3, &[]) }])?;
+    /// for name in [3, 1, 2] {
+    ///     assert_eq!(graph.get(0)?.map(|job| job.name), Some(name));
+    ///     graph.finish(0, name)?;
+    /// }
+    /// # Ok::<(), Refusal>(())
+    /// ```
     fn get(&mut self, worker: u32) -> Result<Option<HandedOut>, Refusal> {
         let answer = accepted(raw::get(self.sizes(), &mut self.tables(), worker))?;
         Ok((answer.kind == kind::HANDED_OUT).then_some(HandedOut { job: answer.job, name: answer.name }))

@@ -43,7 +43,7 @@ pub struct Tables<'a> {
     pub arcs: &'a mut [u32],
     /// The first job of each bucket.
     pub buckets: &'a mut [u32],
-    /// Jobs taken and put, and a cell for each job.
+    /// Jobs taken and put, and for each place of the queue its cell, a slot of the index and its position.
     pub queue: &'a mut [u32],
     /// A record for each worker.
     pub workers: &'a mut [u32],
@@ -99,7 +99,7 @@ pub fn step(sizes: Sizes, tables: &mut Tables, worker: u32) -> Answer {
     call!(tg_step, sizes, tables, worker)
 }
 
-/// Takes the job longest in the queue.
+/// Takes the waiting job with the most minutes, of equal minutes the one that entered the queue first.
 pub fn get(sizes: Sizes, tables: &mut Tables, worker: u32) -> Answer {
     call!(tg_get, sizes, tables, worker)
 }

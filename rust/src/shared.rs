@@ -141,7 +141,8 @@ impl SharedGraph {
         Ok(())
     }
 
-    /// Takes the job that waits longest, or none where no job waits.
+    /// Takes the waiting job with the most minutes, of equal minutes the one that has waited longest, or none where no
+    /// job waits.
     ///
     /// # Errors
     /// As [`TaskGraph::get`], and as [`lock`](SharedGraph::lock).

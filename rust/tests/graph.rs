@@ -27,6 +27,22 @@ fn a_small_day() {
 }
 
 #[test]
+fn long_jobs_first() {
+    let mut graph = fresh();
+    let chores = [Job::new(1, &[]), Job::new(2, &[])];
+    assert_eq!(graph.add_sheet(0, &chores), Ok(vec![Ok(()); 2]));
+    assert_eq!(graph.add(0, &Job { class: 15, ..Job::new(3, &[]) }), Ok(()));
+    assert_eq!(graph.add(0, &Job { class: 15, ..Job::new(4, &[3]) }), Ok(()));
+    let mut order = Vec::new();
+    while let Some(job) = graph.get(1).expect("the worker holds no job") {
+        order.push(job.name);
+        assert_eq!(graph.finish(1, job.name), Ok(()));
+    }
+    // The finish of 3 readies 4, which overtakes the chores; of these the first to enter is the first.
+    assert_eq!(order, [3, 4, 1, 2]);
+}
+
+#[test]
 fn step_by_step() {
     let mut graph = fresh();
     assert_eq!(graph.add(0, &Job::new(1, &[])), Ok(()));

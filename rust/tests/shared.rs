@@ -207,7 +207,7 @@ fn files_that_are_no_graph() {
     drop(graph);
     let whole = fs::read(&file.0).expect("the file can be read");
     let mut other_number = whole.clone();
-    other_number[15] = b'2';
+    other_number[15] = b'1';
     let mut other_sizes = whole.clone();
     other_sizes[16] = 0;
     for bytes in [&[], &whole[..255], &whole[..whole.len() - 4], &other_number[..], &other_sizes[..]] {

@@ -61,5 +61,6 @@ SAID = {
     "JOB_SHAPE": [(TABLES, "Jobs: {} R words")],
     "ARC_SHAPE": [(TABLES, "Arcs: {} A words")],
     "QUEUE_SHAPE": [(TABLES, "Queue: {} R words")],
+    "LEVELS": [(RULES, "an entry looks at no more than {} slots")],
     "WORKER_SHAPE": [(TABLES, "Workers: {} P words")],
 }

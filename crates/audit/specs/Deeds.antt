@@ -37,11 +37,12 @@ use Rattle.rules_follow_model.specs.Booked.{held-kept}
 use Rattle.rules_follow_model.specs.Entries.{listed-length}
 
 -- ---- what is kept and what is done
--- the jobs that were there keep their names and lists, and a job that enters lists names that are found
+-- the jobs that were there keep their names, lists and classes, and a job that enters lists names that are found
 pub record Grown (g h : Graph) : Type 0 where
   pub longer : length (g .jobs) ≤ length (h .jobs)
   pub name : (j : ℕ) → j < length (g .jobs) → job h j .name ≡ job g j .name
   pub list : (j : ℕ) → j < length (g .jobs) → job h j .list ≡ job g j .list
+  pub class : (j : ℕ) → j < length (g .jobs) → job h j .class ≡ job g j .class
   pub new : (j : ℕ) → length (g .jobs) ≤ j → j < length (h .jobs) → (i : ℕ) → i < length (job h j .list)
       → Named g (getD (job h j .list) i 0)
 
@@ -101,19 +102,21 @@ no-finish l x e = finishes-then l x ∙ rw e (append-nil (acceptedFinishes l))
 module _ (s : Sizes) (g : Graph) (r : Reading) (S : Sound s g) where
   -- ---- the jobs
   grown-same : (h : Graph) → length (h .jobs) ≡ length (g .jobs) → ((j : ℕ) → job h j .name ≡ job g j .name)
-      → ((j : ℕ) → job h j .list ≡ job g j .list) → Grown g h
-  grown-same h n e f = record {
+      → ((j : ℕ) → job h j .list ≡ job g j .list) → ((j : ℕ) → job h j .class ≡ job g j .class) → Grown g h
+  grown-same h n e f c = record {
     longer = omega arith;
     name = λ j l. e j;
     list = λ j l. f j;
+    class = λ j l. c j;
     new = λ j k l. absurd (omega arith);
   }
 
   grown-set : (h : Graph) (p : ℕ) (y : Job) → h .jobs ≡ set (g .jobs) p y → y .name ≡ job g p .name
-      → y .list ≡ job g p .list → Grown g h
-  grown-set h p y e n l = grown-same h (rw e (length-set (g .jobs) p y))
+      → y .list ≡ job g p .list → y .class ≡ job g p .class → Grown g h
+  grown-set h p y e n l c = grown-same h (rw e (length-set (g .jobs) p y))
       (λ j. rw e (kept-field (λ (x : Job). x .name) (g .jobs) p y noJob n j))
       (λ j. rw e (kept-field (λ (x : Job). x .list) (g .jobs) p y noJob l j))
+      (λ j. rw e (kept-field (λ (x : Job). x .class) (g .jobs) p y noJob c j))
 
   labels-set : (h : Graph) (p : ℕ) (l : Label) → h .jobs ≡ set (g .jobs) p (withLabel (job g p) l)
       → p < length (g .jobs) → Labels g h p l
@@ -134,6 +137,7 @@ module _ (s : Sizes) (g : Graph) (r : Reading) (S : Sound s g) where
     longer = omega (arith, length-append (g .jobs) (newJob a ∷ []));
     name = λ j h. ap (λ (x : Job). x .name) (List·getD-append (g .jobs) (newJob a ∷ []) noJob j h);
     list = λ j h. ap (λ (x : Job). x .list) (List·getD-append (g .jobs) (newJob a ∷ []) noJob j h);
+    class = λ j h. ap (λ (x : Job). x .class) (List·getD-append (g .jobs) (newJob a ∷ []) noJob j h);
     new = λ j k l i m.
         let last : j ≡ length (g .jobs) = omega (arith, length-append (g .jobs) (newJob a ∷ [])) in
         let lists : job (entered g w a) j .list ≡ listed a =
@@ -158,14 +162,15 @@ module _ (s : Sizes) (g : Graph) (r : Reading) (S : Sound s g) where
   alone : {w : ℕ} {x : Answer} {h : Graph} {q : Reading} → HandsNone x → h .jobs ≡ g .jobs
       → ((v : ℕ) → h .workers v .held ≡ g .workers v .held)
       → acceptedFinishes (q .calls) ≡ acceptedFinishes (r .calls) → Did s g r w x h q
-  alone {h = h} z e v f = plainly z (grown-same h (ap length e) (λ j. rw e) (λ j. rw e)) (λ j. rw e) v f
+  alone {h = h} z e v f = plainly z (grown-same h (ap length e) (λ j. rw e) (λ j. rw e) (λ j. rw e)) (λ j. rw e) v f
 
   -- one job's count or dependents change
   changed : {w : ℕ} {x : Answer} {h : Graph} {q : Reading} (p : ℕ) (y : Job) → HandsNone x → h .jobs ≡ set (g .jobs) p y
       → entryOf y ≡ entryOf (job g p) → ((v : ℕ) → h .workers v .held ≡ g .workers v .held)
       → acceptedFinishes (q .calls) ≡ acceptedFinishes (r .calls) → Did s g r w x h q
   changed {h = h} p y z e k v f =
-      plainly z (grown-set h p y e (ap (λ (m : Entry). m .name) k) (ap (λ (m : Entry). m .list) k))
+      plainly z (grown-set h p y e (ap (λ (m : Entry). m .name) k) (ap (λ (m : Entry). m .list) k)
+      (ap (λ (m : Entry). m .class) k))
       (labels-kept h p y e (ap (λ (m : Entry). m .label) k)) v f
 
   marking : {w : ℕ} {x : Answer} {q : Reading} (p : ℕ) (c : rules.Call) → HandsNone x → g .workers w .held ≡ some p
@@ -173,7 +178,7 @@ module _ (s : Sizes) (g : Graph) (r : Reading) (S : Sound s g) where
       → Did s g r w x (marked g w p c) q
   unfolding acceptedFinishes
   marking {w} p c z h e = record {
-    grown = grown-set (marked g w p c) p (withLabel (job g p) finished) refl refl refl;
+    grown = grown-set (marked g w p c) p (withLabel (job g p) finished) refl refl refl refl;
     effect = rw (e, finishes-then (r .calls) (record { call = finish w (finishOf (job g p .name)); end = accepted }))
         (marks p z h (labels-set (marked g w p c) p finished refl (S .held-there w p h))
         (λ v u. ap (λ (y : Worker). y .held) (update-other (g .workers) w _ v u)));
@@ -187,7 +192,7 @@ module _ (s : Sizes) (g : Graph) (r : Reading) (S : Sound s g) where
       let queued : 0 < occurrences j (g .queue) = first-occurs (order g) (g .queue) j e in
       let after : Graph = handedOut g w j (without j (g .queue)) in
       record {
-        grown = grown-set after j (withLabel (job g j) executing) refl refl refl;
+        grown = grown-set after j (withLabel (job g j) executing) refl refl refl refl;
         effect = rw (no-finish (r .calls) (record { call = get w; end = handed (handOut g j) }) refl)
             (hands j b queued h (labels-set after j executing refl (S .queue-there j queued))
             (ap (λ (y : Worker). y .held) (update-same (g .workers) w _))

@@ -12,7 +12,7 @@ use Rattle.terms.specs.declared.Sizes.{Sizes}
 use Rattle.rules.specs.Rules.{Graph, job}
 use Rattle.linearization.specs.Calls.{Reading}
 use Rattle.rules_history.specs.History.{History, AllIdle, entriesOf}
-use Rattle.rules_invariant.specs.Base.{occurrences-nil}
+use Rattle.basics.specs.Counting.{occurrences-nil}
 use Rattle.rules_invariant.specs.Start.{reached}
 use Rattle.rules_invariant.specs.Sound.{sound}
 use Rattle.rules_invariant.specs.Balanced.{balanced}

@@ -19,7 +19,7 @@ use Rattle.rules.specs.Sound.{Sound}
 use Rattle.linearization.specs.Calls.{Reading, unread, reading, acceptedFinishes}
 use Rattle.rules_history.specs.History.{History, start, then}
 use Rattle.rules_history.specs.Onward.{onward}
-use Rattle.rules_invariant.specs.Base.{hit-same, hit-other, occurrences-nil, occurrences-snoc}
+use Rattle.basics.specs.Counting.{hit-same, hit-other, occurrences-nil, occurrences-snoc}
 use Rattle.rules_invariant.specs.Sound.{sound}
 use Rattle.audit.specs.Deeds.{Grown, Effect, plain, marks, hands, deeds}
 

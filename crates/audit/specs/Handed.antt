@@ -14,7 +14,7 @@ use Rattle.rules.specs.Sound.{startedBy, Sound}
 use Rattle.linearization.specs.Calls.{Reading}
 use Rattle.rules_history.specs.History.{History, start, then}
 use Rattle.linearizability.specs.Demand.{orHanded, handedOut}
-use Rattle.rules_invariant.specs.Base.{hit-same, hit-other, occurrences-nil, occurrences-cons}
+use Rattle.basics.specs.Counting.{hit-same, hit-other, occurrences-nil, occurrences-cons}
 use Rattle.rules_invariant.specs.Sound.{sound}
 use Rattle.audit.specs.Deeds.{Effect, plain, marks, hands, deeds}
 

@@ -6,3 +6,4 @@ pub mod Held
 pub mod Earlier
 pub mod Drained
 pub mod TurnedAway
+pub mod LongFirst

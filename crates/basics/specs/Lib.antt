@@ -1,3 +1,4 @@
 pub mod Base
 pub mod Laws
 pub mod Limits
+pub mod Counting

@@ -22,7 +22,7 @@ use Rattle.rules_cases.specs.Deed as by
 use Rattle.rules_cases.specs.Deed.{Stepped, Deed}
 use Rattle.rules_cases.specs.Deeds.{deed}
 use Rattle.linearization.specs.Calls.{Reading}
-use Rattle.rules_invariant.specs.Base.{occurrences-append}
+use Rattle.basics.specs.Counting.{occurrences-append}
 use Rattle.representation_kept.specs.Queue.{waiting-queue}
 use Rattle.words_refine_rules.specs.Items.{item}
 use Rattle.words_history.specs.Theorem.{after-items}

@@ -5,13 +5,15 @@ use Prim.Native.Nat.{_^_}
 use lib.ListN.{replicate}
 use Rattle.basics.specs.Base.{contains, repeats, prefix}
 use Rattle.bucket.specs.Bucket.{productOf, bucketOf}
+use Rattle.heap.specs.Sift.{siftUp, siftDown}
 use Rattle.terms.specs.Terms.{argumentsWrong, withinLimits}
 use Rattle.terms.specs.Starred.{S}
 use Rattle.terms.specs.declared.Answer.the-variants.{Laid}
 use Rattle.words.specs.Columns.{columns, header, put, putHeader}
 use Rattle.words.specs.Layout.{Tables, tables, need, jobShape, arcShape, bucketShape, queueShape, workerShape}
 use Rattle.words.specs.Layout.{longEnough, sizesKept, repeated, freshTables}
-use Rattle.words.specs.Words.{perform, ownOk, walk, findOf, planLookUp, planEnter, planAppend, planLink, withCell}
+use Rattle.words.specs.Index.{waits, seatFor, firstSeatBy, shiftedDown, shiftedUp, putSeat, takeSeat}
+use Rattle.words.specs.Words.{perform, ownOk, walk, findOf, planLookUp, planEnter, planAppend, planLink, withSeat}
 use Rattle.words.specs.Words.{planSettle, planMark, planNotify, planAdd, planLinks, planCall, planPhase, admitted}
 use Rattle.words.specs.Words.{applied, stepWords, planTake, planQueue, planGet, appliedGet, getWords, posted, addWords}
 use Rattle.words.specs.Words.{finishWords, layOut}
@@ -37,10 +39,10 @@ laid-out = refl
 
 pub replies-so : repliesTo answerWords (layOut S old .state) everyKind ≡ itsReplies
 unfolding contains repeats prefix argumentsWrong withinLimits productOf bucketOf columns header put putHeader longEnough
-    sizesKept repeated freshTables perform ownOk walk findOf planLookUp planEnter planAppend planLink withCell
-    planSettle planMark planNotify planAdd planLinks planCall planPhase admitted applied stepWords planTake planQueue
-    planGet appliedGet getWords posted addWords finishWords layOut stepsOf wholeAdd wholeFinish addEach served
-    sheetWords answerWords repliesTo
+    sizesKept repeated freshTables siftUp siftDown waits seatFor firstSeatBy shiftedDown shiftedUp putSeat takeSeat
+    perform ownOk walk findOf planLookUp planEnter planAppend planLink withSeat planSettle planMark planNotify planAdd
+    planLinks planCall planPhase admitted applied stepWords planTake planQueue planGet appliedGet getWords posted
+    addWords finishWords layOut stepsOf wholeAdd wholeFinish addEach served sheetWords answerWords repliesTo
 replies-so = refl
 
 pub example-holds : CallsDemand perform turnedWords answerWords seen S (layOut S old .state) everyKind

@@ -12,19 +12,27 @@ use Rattle.basics.specs.Laws.{and-left, and-right, or-left, or-right}
 use Rattle.terms.specs.Terms.{settles, mostJobs, mostArcs, mostBits, mostWorkers, withinLimits}
 use Rattle.terms.specs.declared.Sizes.{Sizes}
 use Rattle.terms.specs.declared.HandOut.{HandOut}
-use Rattle.words.specs.Layout.{none, LABEL, COUNT, FIRST, LAST, DEPENDENT, AFTER, PHASE, HELD, LIST-COUNT, OWN-CLASS}
+use Rattle.words.specs.Layout.{none, LABEL, COUNT, FIRST, LAST, DEPENDENT, AFTER, PHASE, HELD, LIST-COUNT}
+use Rattle.words.specs.Layout.{OWN-CLASS}
 use Rattle.words.specs.Layout.{OWN-GROWER, TALLY, PLACE, OWN-JOB, OWN-ARC, IDLE, LOOKING, LINKING, MARKING, NOTIFYING}
 use Rattle.words.specs.Layout.{Tables, View, view, longEnough, sizesKept, roomFor, sizesFit}
 use Rattle.words.specs.Words.{placeOk, isPlace, countersOk, ownOk, planLookUp, planEnter, planAppend, planLink}
-use Rattle.words.specs.Words.{withCell, planSettle, planMark, planNotify, planAdd, planLinks, planCall, planPhase}
-use Rattle.words.specs.Words.{admitted, planStep, planTake, planQueue, planGet, planGetOf}
+use Rattle.words.specs.Words.{withSeat, planSettle, planMark, planNotify, planAdd, planLinks, planCall}
+use Rattle.words.specs.Words.{planPhase}
+use Rattle.words.specs.Words.{admitted, planStep, nextJob, takeFrom, planTake, planQueue, planGet, planGetOf}
+use Rattle.words.specs.Index.{firstSeat}
+use Rattle.words.specs.declared.Seat.{Seat}
+use Rattle.words.specs.declared.Seating.{Seating}
+use Rattle.words.specs.declared.Seating.the-variants.{Seated, Unseated}
 use Rattle.words.specs.declared.Found.{Found}
 use Rattle.words.specs.declared.Found.the-variants.{At, Missing, Damaged}
 use Rattle.words.specs.declared.Plan.{Plan}
 use Rattle.words.specs.declared.Plan.the-variants.{Refuse, Quit, Pass, Enter, Tally, LinkFirst, LinkAfter, Settle}
 use Rattle.words.specs.declared.Plan.the-variants.{SettleQueue, Mark, Notify, NotifyQueue}
+use Rattle.words.specs.declared.GetPlan.{GetPlan}
 use Rattle.words.specs.declared.GetPlan.the-variants.{RefuseGet, Wait, Take}
 use Rattle.fitting.specs.Fitting.{Fitting, FittingGet}
+use Rattle.fitting.specs.Seats.{with-seat}
 
 -- what holds of both plans of a choice holds of the chosen
 choice : {A : Type 0} (P : A → Type 0) (b : Bool) (x y : A) → (b ≡ true → P x) → (b ≡ false → P y) → P (pick b x y)
@@ -112,9 +120,9 @@ module _ (s : Sizes) (v : View) (w : ℕ) (jobs : s .jobs ≤ mostJobs) (arcs : 
   unfolding Fitting
   settled j c = tt
 
-  settled-queue : (j c q : ℕ) → q < none → Fine (SettleQueue j c q)
+  settled-queue : (j c : ℕ) (e : Seat) → e .place < none → Fine (SettleQueue j c e)
   unfolding Fitting
-  settled-queue j c q h = h
+  settled-queue j c e h = h
 
   marked : (p x : ℕ) → Fine (Mark p x)
   unfolding Fitting
@@ -124,9 +132,9 @@ module _ (s : Sizes) (v : View) (w : ℕ) (jobs : s .jobs ≤ mostJobs) (arcs : 
   unfolding Fitting
   notified j c x = tt
 
-  notified-queue : (j c x q : ℕ) → q < none → Fine (NotifyQueue j c x q)
+  notified-queue : (j c x : ℕ) (e : Seat) → e .place < none → Fine (NotifyQueue j c x e)
   unfolding Fitting
-  notified-queue j c x q h = h
+  notified-queue j c x e h = h
 
   -- the planning functions
   look-up : (i : ℕ) (f : Found) → Fine (planLookUp i f)
@@ -166,19 +174,15 @@ module _ (s : Sizes) (v : View) (w : ℕ) (jobs : s .jobs ≤ mostJobs) (arcs : 
   link x j Missing = refuse _
   link x j Damaged = refuse _
 
-  cell : (plan : ℕ → Plan) → ((q : ℕ) → q < none → Fine (plan q)) → Fine (withCell s v plan)
-  unfolding withCell
-  cell plan f =
-      choice Fine (leb (v .taken) (v .put) && ltb (v .put) (s .jobs)) _ _
-      (λ h. let a = ltb-true (v .put) (s .jobs) (and-right (leb (v .taken) (v .put)) (ltb (v .put) (s .jobs)) h) in
-      f (v .put) (omega arith))
-      (λ _. refuse _)
+  seat-fits : (j : ℕ) (plan : Seat → Plan) → ((e : Seat) → e .place < none → Fine (plan e)) → Fine (withSeat s v j plan)
+  seat-fits j plan f = with-seat Fine s v j plan (λ e h. f e (omega arith)) (refuse _)
 
   settle : (j t d : ℕ) → Fine (planSettle s v j t d)
   unfolding planSettle
   settle j t d =
       choice Fine (isPlace j && leb (v .job COUNT j) mostNames && leb t (v .job COUNT j)) _ _
-      (λ _. choice Fine (settles (v .job COUNT j - t) t d) _ _ (λ _. cell _ (settled-queue _ _)) (λ _. settled _ _))
+      (λ _. choice Fine (settles (v .job COUNT j - t) t d) _ _ (λ _. seat-fits _ _ (settled-queue _ _))
+      (λ _. settled _ _))
       (λ _. refuse _)
 
   mark : (p : ℕ) → Fine (planMark s v p)
@@ -201,7 +205,7 @@ module _ (s : Sizes) (v : View) (w : ℕ) (jobs : s .jobs ≤ mostJobs) (arcs : 
       && leb (v .job COUNT j) mostNames)
       _
       _
-      (λ _. choice Fine (eqb (v .job COUNT j) 1) _ _ (λ _. cell _ (notified-queue _ _ _)) (λ _. notified _ _ _))
+      (λ _. choice Fine (eqb (v .job COUNT j) 1) _ _ (λ _. seat-fits _ _ (notified-queue _ _ _)) (λ _. notified _ _ _))
       (λ _. refuse _)
 
   adding : Fine (planAdd s v w)
@@ -241,43 +245,46 @@ planStep-fits s t w =
     phase s (view t) w (h .0) (h .1) (k .0) (k .1))
 
 -- ---- a get's plans
-refuse-get : (n : ℕ) → FittingGet (RefuseGet n)
-unfolding FittingGet
-refuse-get n = tt
+module _ (v : View) where
+  abbrev FineGet : GetPlan → Type 0
+  FineGet p = FittingGet p v
 
-waits : FittingGet Wait
-unfolding FittingGet
-waits = tt
+  refuse-get : (n : ℕ) → FineGet (RefuseGet n)
+  unfolding FittingGet
+  refuse-get n = tt
 
-takes : (h : HandOut) (q : ℕ) → q < none → FittingGet (Take h q)
-unfolding FittingGet
-takes h q b = b
+  holds-off : FineGet Wait
+  unfolding FittingGet
+  holds-off = tt
 
-take-fits : (v : View) (j : ℕ) → v .taken < none → FittingGet (planTake v j)
-unfolding planTake
-take-fits v j h =
-    choice FittingGet (ltb j (v .made) && eqb (v .job LABEL j) 0) _ _ (λ _. takes _ _ h) (λ _. refuse-get _)
+  takes : (h : HandOut) (e : Seat) → v .taken < none → FineGet (Take h e)
+  unfolding FittingGet
+  takes h e b = b
 
-queue-fits : (s : Sizes) (v : View) → s .jobs ≤ mostJobs → FittingGet (planQueue s v)
-unfolding planQueue
-queue-fits s v jobs =
-    choice FittingGet (countersOk s v && leb (v .taken) (v .put) && leb (v .put) (s .jobs)) _ _
-    (λ h. let start = countersOk s v && leb (v .taken) (v .put) in
-    let ordered = and-right (countersOk s v) (leb (v .taken) (v .put)) (and-left start (leb (v .put) (s .jobs)) h) in
-    let a = leb-true (v .taken) (v .put) ordered in
-    let b = leb-true (v .put) (s .jobs) (and-right start (leb (v .put) (s .jobs)) h) in
-    choice FittingGet (eqb (v .taken) (v .put)) _ _ (λ _. waits)
-    (λ _. take-fits v (v .cell 0 (v .taken)) (omega arith)))
-    (λ _. refuse-get _)
+  take-fits : (r : Seating) → v .taken < none → FineGet (takeFrom v r)
+  take-fits (Seated e) h =
+      choice FineGet (eqb (v .job LABEL (nextJob v)) 0) _ _ (λ _. takes _ _ h) (λ _. refuse-get _)
+  take-fits Unseated h = refuse-get _
 
-get-fits : (s : Sizes) (v : View) (w : ℕ) → s .jobs ≤ mostJobs → FittingGet (planGet s v w)
-unfolding planGet
-get-fits s v w jobs =
-    choice FittingGet (eqb (v .worker PHASE w) IDLE) _ _
-    (λ _. choice FittingGet (eqb (v .worker HELD w) none) _ _ (λ _. queue-fits s v jobs) (λ _. refuse-get _))
-    (λ _. refuse-get _)
+  queue-fits : (s : Sizes) → s .jobs ≤ mostJobs → FineGet (planQueue s v)
+  unfolding planQueue planTake
+  queue-fits s jobs =
+      choice FineGet (countersOk s v && leb (v .taken) (v .put) && leb (v .put) (s .jobs)) _ _
+      (λ h. let start = countersOk s v && leb (v .taken) (v .put) in
+      let ordered = and-right (countersOk s v) (leb (v .taken) (v .put)) (and-left start (leb (v .put) (s .jobs)) h) in
+      let a = leb-true (v .taken) (v .put) ordered in
+      let b = leb-true (v .put) (s .jobs) (and-right start (leb (v .put) (s .jobs)) h) in
+      choice FineGet (eqb (v .taken) (v .put)) _ _ (λ _. holds-off) (λ _. take-fits (firstSeat v) (omega arith)))
+      (λ _. refuse-get _)
 
-pub planGet-fits : (s : Sizes) (t : Tables) (w : ℕ) → FittingGet (planGetOf s t w)
+  get-fits : (s : Sizes) (w : ℕ) → s .jobs ≤ mostJobs → FineGet (planGet s v w)
+  unfolding planGet
+  get-fits s w jobs =
+      choice FineGet (eqb (v .worker PHASE w) IDLE) _ _
+      (λ _. choice FineGet (eqb (v .worker HELD w) none) _ _ (λ _. queue-fits s jobs) (λ _. refuse-get _))
+      (λ _. refuse-get _)
+
+pub planGet-fits : (s : Sizes) (t : Tables) (w : ℕ) → FittingGet (planGetOf s t w) (view t)
 planGet-fits s t w =
-    let-in FittingGet s t w RefuseGet (planGet s (view t) w) refuse-get
-    (λ fit _. get-fits s (view t) w (few s (fit-within s t fit) .0))
+    let-in (λ p. FittingGet p (view t)) s t w RefuseGet (planGet s (view t) w) (refuse-get (view t))
+    (λ fit _. get-fits (view t) s w (few s (fit-within s t fit) .0))

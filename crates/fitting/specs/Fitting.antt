@@ -19,13 +19,13 @@ Fitting Tally v w = (v .worker PLACE w < none) × (v .worker TALLY w < none)
 Fitting (LinkFirst p x j) v w = v .worker PLACE w < none
 Fitting (LinkAfter p l x j) v w = v .worker PLACE w < none
 Fitting (Settle j c) v w = Unit {0}
-Fitting (SettleQueue j c q) v w = q < none
+Fitting (SettleQueue j c e) v w = e .place < none
 Fitting (Mark p x) v w = Unit {0}
 Fitting (Notify j c x) v w = Unit {0}
-Fitting (NotifyQueue j c x q) v w = q < none
+Fitting (NotifyQueue j c x e) v w = e .place < none
 
 -- what a get raises: the jobs taken out of the queue
-unfoldable pub FittingGet : GetPlan → Type 0
-FittingGet (RefuseGet n) = Unit {0}
-FittingGet Wait = Unit {0}
-FittingGet (Take h q) = q < none
+unfoldable pub FittingGet : GetPlan → View → Type 0
+FittingGet (RefuseGet n) v = Unit {0}
+FittingGet Wait v = Unit {0}
+FittingGet (Take h e) v = v .taken < none

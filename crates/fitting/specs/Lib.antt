@@ -1,3 +1,4 @@
 pub mod Fitting
+pub mod Seats
 pub mod Fits
 pub mod Kinds

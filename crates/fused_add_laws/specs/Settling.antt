@@ -13,12 +13,15 @@ use Rattle.terms.specs.Runs.{outcome}
 use Rattle.terms.specs.declared.Sizes.{Sizes}
 use Rattle.terms.specs.declared.Answer.the-variants.{Ended, Refused}
 use Rattle.words.specs.Layout.{Tables, View, view}
-use Rattle.words.specs.Words.{placeOk, planSettle, withCell, firstArc, answerOf}
+use Rattle.words.specs.Words.{placeOk, planSettle, inSeat, withSeat, firstArc, answerOf}
+use Rattle.words.specs.Index.{seatFor}
+use Rattle.words.specs.declared.Seating.{Seating}
+use Rattle.words.specs.declared.Seating.the-variants.{Seated, Unseated}
 use Rattle.words.specs.declared.Plan.{Plan}
-use Rattle.words.specs.declared.Plan.the-variants.{Refuse, Settle, SettleQueue}
+use Rattle.words.specs.declared.Plan.the-variants.{Settle, SettleQueue}
 use Rattle.whole_words.specs.Whole.{andThen, stepsOf}
 use Rattle.fused_words.specs.FusedWorker.{withWorker, idledWith, halted}
-use Rattle.fused_words.specs.FusedAdd.{linksTo, cellFree, settleIn, settledTables, queuedTables}
+use Rattle.fused_words.specs.FusedAdd.{linksTo, queueIn, settleIn, settledTables, queuedTables}
 use Rattle.fused_laws.specs.Plans.{recordPlan}
 use Rattle.fused_laws.specs.Deeds.{recordBy, storedBy}
 use Rattle.fused_laws.specs.Kept.{entersNone, stored-fits, stored-made, stored-counters}
@@ -46,13 +49,12 @@ module _ (s : Sizes) (v : View) (w : ℕ) (known : w < s .workers) (a : Argument
   abbrev c : ℕ
   c = a .count - k
 
-  abbrev settlePlan : Bool → Bool → Plan
-  settlePlan queues free =
-      pick queues (pick free (SettleQueue (v .made) c (view u .put)) (Refuse damaged)) (Settle (v .made) c)
+  abbrev settlePlan : Bool → Seating → Plan
+  settlePlan queues seating = pick queues (inSeat seating (SettleQueue (v .made) c)) (Settle (v .made) c)
 
   planned : recordPlan s (view u) (linkWords v a held k (a .count))
-      ≡ settlePlan (settles c k (a .count)) (cellFree s (view u))
-  unfolding planSettle withCell
+      ≡ settlePlan (settles c k (a .count)) (seatFor s (view u) (v .made))
+  unfolding planSettle withSeat
   planned =
       settle-plan s (view u) held a k (a .count) (v .made) (firstArc (a .count) (v .reserved)) (omega arith)
       ∙ rw (
@@ -65,24 +67,24 @@ module _ (s : Sizes) (v : View) (w : ℕ) (known : w < s .workers) (a : Argument
   O : Open s held u
   O = linking-open s v w known a fine held hold more arcs u S
 
-  after-plan : (n : ℕ) (queues free : Bool)
+  after-plan : (n : ℕ) (queues : Bool) (seating : Seating)
       → Run s w
-      (andThen (answerOf (settlePlan queues free))
-      (withWorker (storedBy (settlePlan queues free) u r) w (recordBy (settlePlan queues free) r)) (stepsOf n s w))
-      (pick queues
-      (pick free (outcome Ended (idledWith (queuedTables u (v .made) c (view u .put)) w held)) (halted u w r))
+      (andThen (answerOf (settlePlan queues seating))
+      (withWorker (storedBy (settlePlan queues seating) u r) w (recordBy (settlePlan queues seating) r))
+      (stepsOf n s w))
+      (pick queues (queueIn seating u w held (v .made) c (halted u w r))
       (outcome Ended (idledWith (settledTables u (v .made) c) w held)))
   unfolding storedBy
-  after-plan n true true =
+  after-plan n true (Seated e) =
       run-ends Ended _ refl
-      (idle-admitted s w known held (queuedTables u (v .made) c (view u .put))
-      (open-stored s held u (SettleQueue (v .made) c (view u .put)) r refl O))
+      (idle-admitted s w known held (queuedTables u (v .made) c e)
+      (open-stored s held u (SettleQueue (v .made) c e) r refl O))
       ended
-  after-plan n true false =
+  after-plan n true Unseated =
       run-ends (Refused damaged 0) _ refl
       (linking-stays s v w known a fine held hold more arcs u S k (a .count) hk (omega arith))
       (refused damaged 0)
-  after-plan n false free =
+  after-plan n false seating =
       run-ends Ended _ refl
       (idle-admitted s w known held (settledTables u (v .made) c) (open-stored s held u (Settle (v .made) c) r refl O))
       ended
@@ -94,5 +96,5 @@ module _ (s : Sizes) (v : View) (w : ℕ) (known : w < s .workers) (a : Argument
   settle-run n =
       run-on
       (linking-steps s v w known a fine held hold more arcs u S k (a .count) hk (omega arith)
-      (settlePlan (settles c k (a .count)) (cellFree s (view u))) planned n)
-      (after-plan n (settles c k (a .count)) (cellFree s (view u)))
+      (settlePlan (settles c k (a .count)) (seatFor s (view u) (v .made))) planned n)
+      (after-plan n (settles c k (a .count)) (seatFor s (view u) (v .made)))

@@ -13,7 +13,12 @@ use Rattle.terms.specs.Runs.{outcome}
 use Rattle.terms.specs.declared.Sizes.{Sizes}
 use Rattle.terms.specs.declared.Answer.the-variants.{Ended}
 use Rattle.words.specs.Layout.{Tables, View, view, none, COUNT, DEPENDENT, AFTER, IDLE, bareWorker, sizesFit}
-use Rattle.words.specs.Words.{placeOk, isPlace, countersOk, withCell, planNotify, goingUnless, answerOf, stepWords}
+use Rattle.words.specs.Words.{placeOk, isPlace, countersOk, inSeat, withSeat, planNotify, goingUnless, answerOf}
+use Rattle.words.specs.Words.{stepWords}
+use Rattle.words.specs.Index.{seatFor}
+use Rattle.words.specs.declared.Seat.{Seat}
+use Rattle.words.specs.declared.Seating.{Seating}
+use Rattle.words.specs.declared.Seating.the-variants.{Seated, Unseated}
 use Rattle.words.specs.declared.Plan.{Plan}
 use Rattle.words.specs.declared.Plan.the-variants.{Refuse, Notify, NotifyQueue}
 use Rattle.whole_words.specs.Whole.{andThen, stepsOf}
@@ -30,9 +35,14 @@ third a b c d e h = and-right (a && b) c (and-left (a && b && c) d (and-left (a 
 
 module _ (s : Sizes) (v : View) (Q : Plan → Type 0) (refuses : Q (Refuse damaged))
     (notifies : (j c y : ℕ) → placeOk y (v .reserved) (s .arcs) ≡ true → Q (Notify j c y))
-    (queues : (j c y q : ℕ) → placeOk y (v .reserved) (s .arcs) ≡ true → Q (NotifyQueue j c y q)) where
+    (queues : (j c y : ℕ) (d : Seat) → placeOk y (v .reserved) (s .arcs) ≡ true → Q (NotifyQueue j c y d)) where
+  seated-plans : (j c y : ℕ) → placeOk y (v .reserved) (s .arcs) ≡ true → (r : Seating)
+      → Q (inSeat r (NotifyQueue j c y))
+  seated-plans j c y ok (Seated d) = queues j c y d ok
+  seated-plans j c y ok Unseated = refuses
+
   notice-plans : (x : ℕ) → Q (planNotify s v x)
-  unfolding planNotify withCell
+  unfolding planNotify withSeat
   notice-plans x =
       let j = v .arc DEPENDENT x in
       let y = v .arc AFTER x in
@@ -42,9 +52,7 @@ module _ (s : Sizes) (v : View) (Q : Plan → Type 0) (refuses : Q (Refuse damag
       (λ e. let ok = third (isPlace x) (ltb j (v .made)) (placeOk y (v .reserved) (s .arcs)) (leb 1 (v .job COUNT j))
       (leb (v .job COUNT j) mostNames) e in
       pick-by Q (eqb (v .job COUNT j) 1)
-      (λ _. pick-by Q (leb (v .taken) (v .put) && ltb (v .put) (s .jobs))
-      (λ _. queues j (v .job COUNT j - 1) y (v .put) ok)
-      (λ _. refuses))
+      (λ _. seated-plans j (v .job COUNT j - 1) y ok (seatFor s v j))
       (λ _. notifies j (v .job COUNT j - 1) y ok))
       (λ _. refuses)
 
@@ -82,8 +90,8 @@ module _ (s : Sizes) (w : ℕ) (known : w < s .workers) where
       refl
       (λ j c y e. on-or-end n y (toldTables t j c) (eqb y none) (notices n y (toldTables t j c)
       (stored-fits s (Notify j c y) t r ∙ fit) (stored-counters s (Notify j c y) t r refl ∙ counters) e))
-      (λ j c y q e. on-or-end n y (toldQueued t j c q) (eqb y none) (notices n y (toldQueued t j c q)
-      (stored-fits s (NotifyQueue j c y q) t r ∙ fit) (stored-counters s (NotifyQueue j c y q) t r refl ∙ counters) e))
+      (λ j c y d e. on-or-end n y (toldQueued t j c d) (eqb y none) (notices n y (toldQueued t j c d)
+      (stored-fits s (NotifyQueue j c y d) t r ∙ fit) (stored-counters s (NotifyQueue j c y d) t r refl ∙ counters) e))
       x
     where
       r : List ℕ

@@ -10,7 +10,8 @@ use Rattle.words.specs.Columns.{place, put, putHeader}
 use Rattle.words.specs.Layout.{Tables, tables, none, jobShape, MADE, LABEL, FIRST, LAST, arcShape, RESERVED, AFTER}
 use Rattle.words.specs.Layout.{bucketShape, PHASE, HELD, OWN-NAME, LIST-COUNT, OWN-CLASS, OWN-GROWER, TALLY, PLACE}
 use Rattle.words.specs.Layout.{OWN-JOB, OWN-ARC, IDLE, LINKING, NOTIFYING, bareWorker}
-use Rattle.words.specs.Words.{firstArc, putCell, putCount, newArc}
+use Rattle.words.specs.Words.{firstArc, putCount, newArc}
+use Rattle.words.specs.Index.{putSeat}
 use Rattle.words.specs.declared.Plan.{Plan}
 use Rattle.words.specs.declared.Plan.the-variants.{Refuse, Quit, Pass, Enter, Tally, LinkFirst, LinkAfter, Settle}
 use Rattle.words.specs.declared.Plan.the-variants.{SettleQueue, Mark, Notify, NotifyQueue}
@@ -32,11 +33,11 @@ recordBy Tally r = set (nextRecord r) TALLY (getD r TALLY 0 + 1)
 recordBy (LinkFirst p x j) r = nextRecord r
 recordBy (LinkAfter p l x j) r = nextRecord r
 recordBy (Settle j c) r = idleRecord r
-recordBy (SettleQueue j c q) r = idleRecord r
+recordBy (SettleQueue j c e) r = idleRecord r
 recordBy (Mark p x) r =
     pick (eqb x none) (bareWorker IDLE none) (set (set (set r PHASE NOTIFYING) HELD none) OWN-ARC x)
 recordBy (Notify j c x) r = pick (eqb x none) (idleRecord r) (set r OWN-ARC x)
-recordBy (NotifyQueue j c x q) r = pick (eqb x none) (idleRecord r) (set r OWN-ARC x)
+recordBy (NotifyQueue j c x e) r = pick (eqb x none) (idleRecord r) (set r OWN-ARC x)
 
 -- ---- the other tables as a plan leaves them
 abbrev pub recordJob : List ℕ → ℕ → List ℕ
@@ -61,9 +62,9 @@ storedBy (LinkAfter p l x j) t r =
     tables (put jobShape (t .jobs) p LAST x) (put arcShape (newArc (t .arcs) x j) l AFTER x) (t .buckets) (t .queue)
     (t .workers)
 storedBy (Settle j c) t r = tables (putCount (t .jobs) j c) (t .arcs) (t .buckets) (t .queue) (t .workers)
-storedBy (SettleQueue j c q) t r =
-    tables (putCount (t .jobs) j c) (t .arcs) (t .buckets) (putCell (t .queue) q j) (t .workers)
+storedBy (SettleQueue j c e) t r =
+    tables (putCount (t .jobs) j c) (t .arcs) (t .buckets) (putSeat (t .queue) e j) (t .workers)
 storedBy (Mark p x) t r = tables (put jobShape (t .jobs) p LABEL 2) (t .arcs) (t .buckets) (t .queue) (t .workers)
 storedBy (Notify j c x) t r = tables (putCount (t .jobs) j c) (t .arcs) (t .buckets) (t .queue) (t .workers)
-storedBy (NotifyQueue j c x q) t r =
-    tables (putCount (t .jobs) j c) (t .arcs) (t .buckets) (putCell (t .queue) q j) (t .workers)
+storedBy (NotifyQueue j c x e) t r =
+    tables (putCount (t .jobs) j c) (t .arcs) (t .buckets) (putSeat (t .queue) e j) (t .workers)

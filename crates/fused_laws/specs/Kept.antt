@@ -3,17 +3,22 @@
 use mathlib.Core.Path.{_≡_, refl, _∙_}
 use mathlib.Core.Bool.{Bool, true, false}
 use mathlib.Core.List.{List}
-use Prim.Native.Nat.{ℕ, _+_, _<_}
+use Prim.Native.Nat.{ℕ, zero, suc, _+_, _<_}
 use native.Mathlib.Omega.{arith}
+use lib.Dec.{eqb}
 use lib.ListN.{length, getD}
 use lib.Seq.{sets, length-sets}
 use borrow.Author.Tests.{lt-ltb, ne-eqb}
-use Rattle.basics.specs.Laws.{never}
+use Rattle.basics.specs.Laws.{never, pick-by}
+use Rattle.heap.specs.Sift.{above}
 use Rattle.terms.specs.declared.Sizes.{Sizes}
 use Rattle.words.specs.Columns.{place, header, put, putHeader, header-put, header-other}
-use Rattle.words.specs.Layout.{Tables, view, none, jobShape, arcShape, queueShape, bucketShape, MADE, RESERVED}
-use Rattle.words.specs.Layout.{LABEL, COUNT, FIRST, LAST, DEPENDENT, AFTER, PUT, LIST-COUNT, sizesFit}
-use Rattle.words.specs.Words.{putCell, newArc, countersOk}
+use Rattle.words.specs.Layout.{Tables, view, none, jobShape, arcShape, queueShape, bucketShape, MADE, sizesFit}
+use Rattle.words.specs.Layout.{LABEL, COUNT, FIRST, LAST, DEPENDENT, AFTER, PUT, CELL, SLOT, POSITION}
+use Rattle.words.specs.Layout.{RESERVED, LIST-COUNT}
+use Rattle.words.specs.Index.{levels, slotIn, putSlot, shiftedDown, putSeat}
+use Rattle.words.specs.Words.{newArc, countersOk}
+use Rattle.words.specs.declared.Seat.{Seat}
 use Rattle.words.specs.declared.Plan.{Plan}
 use Rattle.words.specs.declared.Plan.the-variants.{Refuse, Quit, Pass, Enter, Tally, LinkFirst, LinkAfter, Settle}
 use Rattle.words.specs.declared.Plan.the-variants.{SettleQueue, Mark, Notify, NotifyQueue}
@@ -52,8 +57,24 @@ alike : {t u : Tables} → Jobs (t .jobs) (u .jobs) → length (u .arcs) ≡ len
     → length (u .workers) ≡ length (t .workers) → Alike t u
 alike a b c d e = record { jobs = a .long; arcs = b; buckets = c; queue = d; workers = e; kept = a .kept }
 
-cell-long : (l : List ℕ) (q j : ℕ) → length (putCell l q j) ≡ length l
-cell-long l q j = length-putHeader (put queueShape l q 0 j) PUT (q + 1) ∙ length-put queueShape l q 0 j
+slot-long : (l : List ℕ) (i p : ℕ) → length (putSlot l i p) ≡ length l
+slot-long l i p = length-put queueShape (put queueShape l i SLOT p) p POSITION i ∙ length-put queueShape l i SLOT p
+
+shift-long : (n : ℕ) (l : List ℕ) (x i k : ℕ) → length (shiftedDown n l x i k) ≡ length l
+unfolding shiftedDown
+shift-long zero l x i k = slot-long l i x
+shift-long (suc n) l x i k =
+    let moved = slotIn l (above i) in
+    pick-by {A = List ℕ} (λ m. length m ≡ length l) (eqb i k) (λ _. slot-long l i x)
+    (λ _. shift-long n (putSlot l i moved) x (above i) k ∙ slot-long l i moved)
+
+seat-long : (l : List ℕ) (e : Seat) (j : ℕ) → length (putSeat l e j) ≡ length l
+unfolding putSeat
+seat-long l e j =
+    let m = put queueShape l (e .place) CELL j in
+    length-putHeader (shiftedDown levels m (e .place) (e .last) (e .slot)) PUT (e .place + 1)
+    ∙ shift-long levels m (e .place) (e .last) (e .slot)
+    ∙ length-put queueShape l (e .place) CELL j
 
 arc-long : (l : List ℕ) (x j : ℕ) → length (newArc l x j) ≡ length l
 arc-long l x j = length-put arcShape (put arcShape l x DEPENDENT j) x AFTER none ∙ length-put arcShape l x DEPENDENT j
@@ -77,10 +98,10 @@ stored-alike (LinkAfter p y x j) t r =
     alike (job-put start p LAST x)
     (length-put arcShape (newArc (t .arcs) x j) y AFTER x ∙ arc-long (t .arcs) x j) refl refl refl
 stored-alike (Settle j c) t r = alike (job-put start j COUNT c) refl refl refl refl
-stored-alike (SettleQueue j c q) t r = alike (job-put start j COUNT c) refl refl (cell-long (t .queue) q j) refl
+stored-alike (SettleQueue j c e) t r = alike (job-put start j COUNT c) refl refl (seat-long (t .queue) e j) refl
 stored-alike (Mark p x) t r = alike (job-put start p LABEL 2) refl refl refl refl
 stored-alike (Notify j c x) t r = alike (job-put start j COUNT c) refl refl refl refl
-stored-alike (NotifyQueue j c x q) t r = alike (job-put start j COUNT c) refl refl (cell-long (t .queue) q j) refl
+stored-alike (NotifyQueue j c x e) t r = alike (job-put start j COUNT c) refl refl (seat-long (t .queue) e j) refl
 
 pub stored-fits : (s : Sizes) (p : Plan) (t : Tables) (r : List ℕ) → sizesFit s (storedBy p t r) ≡ sizesFit s t
 stored-fits s p t r = alike-fits s t (storedBy p t r) (stored-alike p t r)
@@ -105,10 +126,10 @@ entersNone Tally = true
 entersNone (LinkFirst p x j) = true
 entersNone (LinkAfter p y x j) = true
 entersNone (Settle j c) = true
-entersNone (SettleQueue j c q) = true
+entersNone (SettleQueue j c e) = true
 entersNone (Mark p x) = true
 entersNone (Notify j c x) = true
-entersNone (NotifyQueue j c x q) = true
+entersNone (NotifyQueue j c x e) = true
 
 pub stored-made : (p : Plan) (t : Tables) (r : List ℕ) → entersNone p ≡ true
     → view (storedBy p t r) .made ≡ view t .made
@@ -122,10 +143,10 @@ stored-made (LinkFirst p x j) t r e =
     made-put (put jobShape (t .jobs) p FIRST x) p LAST x ∙ made-put (t .jobs) p FIRST x
 stored-made (LinkAfter p y x j) t r e = made-put (t .jobs) p LAST x
 stored-made (Settle j c) t r e = made-put (t .jobs) j COUNT c
-stored-made (SettleQueue j c q) t r e = made-put (t .jobs) j COUNT c
+stored-made (SettleQueue j c d) t r e = made-put (t .jobs) j COUNT c
 stored-made (Mark p x) t r e = made-put (t .jobs) p LABEL 2
 stored-made (Notify j c x) t r e = made-put (t .jobs) j COUNT c
-stored-made (NotifyQueue j c x q) t r e = made-put (t .jobs) j COUNT c
+stored-made (NotifyQueue j c x d) t r e = made-put (t .jobs) j COUNT c
 
 pub stored-reserved : (p : Plan) (t : Tables) (r : List ℕ) → entersNone p ≡ true
     → view (storedBy p t r) .reserved ≡ view t .reserved
@@ -138,10 +159,10 @@ stored-reserved Tally t r e = refl
 stored-reserved (LinkFirst p x j) t r e = reserved-new (t .arcs) x j
 stored-reserved (LinkAfter p y x j) t r e = reserved-put (newArc (t .arcs) x j) y AFTER x ∙ reserved-new (t .arcs) x j
 stored-reserved (Settle j c) t r e = refl
-stored-reserved (SettleQueue j c q) t r e = refl
+stored-reserved (SettleQueue j c d) t r e = refl
 stored-reserved (Mark p x) t r e = refl
 stored-reserved (Notify j c x) t r e = refl
-stored-reserved (NotifyQueue j c x q) t r e = refl
+stored-reserved (NotifyQueue j c x d) t r e = refl
 
 pub stored-counters : (s : Sizes) (p : Plan) (t : Tables) (r : List ℕ) → entersNone p ≡ true
     → countersOk s (view (storedBy p t r)) ≡ countersOk s (view t)

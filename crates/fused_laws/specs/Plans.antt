@@ -11,7 +11,8 @@ use Rattle.basics.specs.Base.{pick}
 use Rattle.terms.specs.declared.Sizes.{Sizes}
 use Rattle.words.specs.Layout.{View, PHASE, HELD, OWN-NAME, LIST-COUNT, OWN-CLASS, OWN-GROWER, TALLY, PLACE, OWN-JOB}
 use Rattle.words.specs.Layout.{OWN-ARC, NAMES, LOOKING, LINKING, MARKING, NOTIFYING}
-use Rattle.words.specs.Words.{placeOk, ownOk, findOf, planLookUp, planEnter, planAppend, planLink, withCell, planSettle}
+use Rattle.words.specs.Words.{placeOk, ownOk, findOf, planLookUp, planEnter, planAppend, planLink, withSeat, planSettle}
+use Rattle.words.specs.Index.{seatFor, waits}
 use Rattle.words.specs.Words.{planMark, planNotify, planAdd, planLinks, planCall}
 use Rattle.words.specs.declared.Found.{Found}
 use Rattle.words.specs.declared.Found.the-variants.{At, Missing, Damaged}
@@ -81,7 +82,7 @@ module _ (s : Sizes) (v : View) (f : ℕ → ℕ → ℕ) where
   link-with x j Damaged = refl
 
   settle-with : (j t d : ℕ) → planSettle s (viewWith v f) j t d ≡ planSettle s v j t d
-  unfolding planSettle withCell
+  unfolding planSettle withSeat seatFor waits
   settle-with j t d = refl
 
   mark-with : (p : ℕ) → planMark s (viewWith v f) p ≡ planMark s v p
@@ -89,7 +90,7 @@ module _ (s : Sizes) (v : View) (f : ℕ → ℕ → ℕ) where
   mark-with p = refl
 
   notify-with : (x : ℕ) → planNotify s (viewWith v f) x ≡ planNotify s v x
-  unfolding planNotify withCell
+  unfolding planNotify withSeat seatFor waits
   notify-with x = refl
 
   -- worker w has the words r

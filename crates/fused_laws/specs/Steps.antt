@@ -135,11 +135,11 @@ module _ (s : Sizes) (t : Tables) (w : ℕ) (r : List ℕ) (fit : sizesFit s t �
   applied-by-record (LinkFirst p x j) = with-workers (storedBy (LinkFirst p x j) t r) (nextRecord r) next
   applied-by-record (LinkAfter p y x j) = with-workers (storedBy (LinkAfter p y x j) t r) (nextRecord r) next
   applied-by-record (Settle j c) = with-workers (storedBy (Settle j c) t r) (idleRecord r) idled
-  applied-by-record (SettleQueue j c q) = with-workers (storedBy (SettleQueue j c q) t r) (idleRecord r) idled
+  applied-by-record (SettleQueue j c e) = with-workers (storedBy (SettleQueue j c e) t r) (idleRecord r) idled
   applied-by-record (Mark p x) = with-workers (storedBy (Mark p x) t r) (recordBy (Mark p x) r) (marked x)
   applied-by-record (Notify j c x) = with-workers (storedBy (Notify j c x) t r) (recordBy (Notify j c x) r) (from x)
-  applied-by-record (NotifyQueue j c x q) =
-      with-workers (storedBy (NotifyQueue j c x q) t r) (recordBy (NotifyQueue j c x q) r) (from x)
+  applied-by-record (NotifyQueue j c x e) =
+      with-workers (storedBy (NotifyQueue j c x e) t r) (recordBy (NotifyQueue j c x e) r) (from x)
 
   -- a step of a call half done, whose words are sound
   module _ (own : recordOk s (view t) r ≡ true) (counters : countersOk s (view t) ≡ true)

@@ -1,32 +1,32 @@
 -- The plan of a notice, by what it asks for; and the notices of a finish, one at a time. Assumes nothing.
 use mathlib.Core.Path.{_≡_, refl}
-use mathlib.Core.Bool.{Bool, true, false, _&&_}
+use mathlib.Core.Bool.{_&&_}
 use mathlib.Core.Logic.{inl, inr}
 use mathlib.Core.List.{[], _∷_}
 use Prim.Native.Nat.{ℕ, zero, suc, _<_, _≤_, _-_}
 use native.Mathlib.Omega.{arith}
 use native.Mathlib.Numerals.{sub-one}
 use lib.Dec.{ltb, leb, eqb}
-use borrow.Author.Tests.{ltb-true}
 use types.Run.{OneOf}
 use Rattle.basics.specs.Limits.{mostNames}
-use Rattle.basics.specs.Base.{pick}
-use Rattle.basics.specs.Laws.{and-right}
+use Rattle.basics.specs.Laws.{pick-by}
 use Rattle.terms.specs.Runs.{Outcome, outcome}
 use Rattle.terms.specs.declared.Answer.the-variants.{Going}
 use Rattle.terms.specs.declared.Sizes.{Sizes}
 use Rattle.words.specs.Layout.{Tables, View, view, COUNT, DEPENDENT, AFTER}
-use Rattle.words.specs.Words.{isPlace, placeOk, withCell, planNotify}
+use Rattle.words.specs.Words.{isPlace, placeOk, planNotify}
+use Rattle.words.specs.declared.Seat.{Seat}
 use Rattle.words.specs.declared.Plan.{Plan}
 use Rattle.words.specs.declared.Plan.the-variants.{Refuse, Quit, Pass, Enter, Tally, LinkFirst, LinkAfter, Settle}
 use Rattle.words.specs.declared.Plan.the-variants.{SettleQueue, Mark, Notify, NotifyQueue}
 use Rattle.fitting.specs.Kinds.{tag, apart}
+use Rattle.fitting.specs.Seats.{with-seat}
 use Rattle.fused_words.specs.FusedWorker.{withWorker, notifyWorker, halted}
 use Rattle.fused_words.specs.FusedFinish.{notifyBy, notifyIn}
 
--- ---- a notice that queues takes a cell below the number of jobs
+-- ---- a notice that queues takes a place below the number of jobs
 abbrev Below : ℕ → Plan → Type 0
-Below n (NotifyQueue j c y q) = q < n
+Below n (NotifyQueue j c y e) = e .place < n
 Below n (Notify j c y) = Unit {0}
 Below n (Refuse k) = Unit {0}
 Below n (Quit k i) = Unit {0}
@@ -36,40 +36,31 @@ Below n Tally = Unit {0}
 Below n (LinkFirst p y j) = Unit {0}
 Below n (LinkAfter p l y j) = Unit {0}
 Below n (Settle j c) = Unit {0}
-Below n (SettleQueue j c q) = Unit {0}
+Below n (SettleQueue j c e) = Unit {0}
 Below n (Mark p y) = Unit {0}
 
-choice : (P : Plan → Type 0) (b : Bool) (x y : Plan) → (b ≡ true → P x) → P y → P (pick b x y)
-choice P true x y f g = f refl
-choice P false x y f g = g
-
 below : (s : Sizes) (v : View) (x : ℕ) → Below (s .jobs) (planNotify s v x)
-unfolding planNotify withCell
+unfolding planNotify
 below s v x =
     let j = v .arc DEPENDENT x in
-    choice (Below (s .jobs))
+    pick-by (Below (s .jobs))
     (isPlace x && ltb j (v .made) && placeOk (v .arc AFTER x) (v .reserved) (s .arcs)
     && leb 1 (v .job COUNT j)
     && leb (v .job COUNT j) mostNames)
-    _
-    _
-    (λ _. choice (Below (s .jobs)) (eqb (v .job COUNT j) 1) _ _
-    (λ _. choice (Below (s .jobs)) (leb (v .taken) (v .put) && ltb (v .put) (s .jobs)) _ _
-    (λ h. ltb-true (v .put) (s .jobs) (and-right (leb (v .taken) (v .put)) (ltb (v .put) (s .jobs)) h))
-    tt)
-    tt)
-    tt
+    (λ _. pick-by (Below (s .jobs)) (eqb (v .job COUNT j) 1) (λ _. with-seat (Below (s .jobs)) s v j _ (λ e h. h) tt)
+    (λ _. tt))
+    (λ _. tt)
 
-pub cell-below : (s : Sizes) (v : View) (x : ℕ) (p : Plan) {j c y q : ℕ} → p ≡ planNotify s v x
-    → p ≡ NotifyQueue j c y q → q < s .jobs
-cell-below s v x p e f = rw (← e, f) at (below s v x)
+pub seat-below : (s : Sizes) (v : View) (x : ℕ) (p : Plan) {j c y : ℕ} {e : Seat} → p ≡ planNotify s v x
+    → p ≡ NotifyQueue j c y e → e .place < s .jobs
+seat-below s v x p g f = rw (← g, f) at (below s v x)
 
 -- ---- any other plan leaves the finish half done
 pub halts : (p : Plan) → OneOf (0 ∷ 1 ∷ 2 ∷ 3 ∷ 4 ∷ 5 ∷ 6 ∷ 7 ∷ 8 ∷ 9 ∷ []) (tag p) → (x w : ℕ) (t : Tables)
     (next : ℕ → Tables → Outcome Tables) → halted t w (notifyWorker x) ≡ notifyBy p x w t next
 halts (Notify j c y) k x w t next =
     absurd (apart (10 ∷ 11 ∷ []) (0 ∷ 1 ∷ 2 ∷ 3 ∷ 4 ∷ 5 ∷ 6 ∷ 7 ∷ 8 ∷ 9 ∷ []) 10 tt (inl refl) k)
-halts (NotifyQueue j c y q) k x w t next =
+halts (NotifyQueue j c y e) k x w t next =
     absurd (apart (10 ∷ 11 ∷ []) (0 ∷ 1 ∷ 2 ∷ 3 ∷ 4 ∷ 5 ∷ 6 ∷ 7 ∷ 8 ∷ 9 ∷ []) 11 tt (inr refl) k)
 halts (Refuse n) k x w t next = refl
 halts (Quit n q) k x w t next = refl
@@ -79,7 +70,7 @@ halts Tally k x w t next = refl
 halts (LinkFirst p y j) k x w t next = refl
 halts (LinkAfter p l y j) k x w t next = refl
 halts (Settle j c) k x w t next = refl
-halts (SettleQueue j c q) k x w t next = refl
+halts (SettleQueue j c e) k x w t next = refl
 halts (Mark p y) k x w t next = refl
 
 -- ---- one notice of those that are left

@@ -10,7 +10,7 @@ ghost use Rattle.words.specs.Words.{planNotify};
 ghost use Rattle.fused_words.specs.FusedFinish.{notifyBy, notifyIn};
 ghost use Rattle.fused_notices.specs.Notices.{toldTo, closed};
 use graph_finish_steps::plan_notify;
-use graph_lists::queue_job;
+use graph_queue::put_seat;
 use graph_words::layout::*;
 use graph_words::put_job;
 use terms::Sizes;
@@ -48,10 +48,10 @@ fn tell(sizes: Sizes, jobs: &mut [u32], arcs: &[u32], queue: &mut [u32], arc: u3
             job,
             count,
             next,
-            cell,
+            seat,
         } => {
             put_job(jobs, job, COUNT, count);
-            queue_job(queue, cell, job);
+            put_seat(queue, seat, job);
             Told::Next { arc: next }
         }
         _ => Told::Halt,

@@ -7,8 +7,9 @@ use Rattle.terms.specs.Runs.{Outcome, outcome}
 use Rattle.terms.specs.declared.Sizes.{Sizes}
 use Rattle.terms.specs.declared.Answer.the-variants.{Ended}
 use Rattle.words.specs.Layout.{Tables, view}
+use Rattle.words.specs.Index.{seatFor}
 use Rattle.fused_words.specs.FusedWorker.{idledWith}
-use Rattle.fused_words.specs.FusedAdd.{settledTables, queuedTables, cellFree}
+use Rattle.fused_words.specs.FusedAdd.{settledTables, queueIn}
 
 -- a job that could be settled ends its add, and else the add stops
 abbrev pub orStop : Bool → ℕ → ℕ → Tables → (Tables → Outcome Tables) → Outcome Tables
@@ -19,6 +20,6 @@ abbrev pub settling : Sizes → ℕ → ℕ → ℕ → ℕ → ℕ → Bool →
 settling s w held j k d sound t stopped =
     pick sound
     (pick (settles (d - k) k d)
-    (pick (cellFree s (view t)) (outcome Ended (idledWith (queuedTables t j (d - k) (view t .put)) w held)) (stopped t))
+    (queueIn (seatFor s (view t) j) t w held j (d - k) (stopped t))
     (outcome Ended (idledWith (settledTables t j (d - k)) w held)))
     (stopped t)

@@ -10,9 +10,9 @@ ghost use Rattle.fused_settle.specs.Settling.{orStop, settling};
 ghost use Rattle.sheet_rows.specs.Arguments.{argumentsOf};
 use fused_links::Linked;
 use fused_stops::stop;
-use graph_lists::queue_job;
+use graph_index::seat_for;
+use graph_queue::put_seat;
 use graph_records::put_bare_worker;
-use graph_words::header;
 use graph_words::layout::*;
 use graph_words::less;
 use graph_words::put_job;
@@ -20,9 +20,10 @@ use graph_worker_words::first_arc;
 use sheet_format::Entry;
 use terms::Answer;
 use terms::Sizes;
+use words::Seating;
 
 // The job's remaining count falls by the tally, and it is queued or not. Says whether it could: where the links were
-// not sound, or the queue has no cell left, nothing is stored.
+// not sound, or no seat is found, nothing is stored.
 fn settle(
     sizes: Sizes,
     jobs: &mut [u32],
@@ -43,14 +44,14 @@ fn settle(
     let left = less(count, tally);
     let settles = (left == 0) & ((0 < tally) | (count == 0));
     if settles {
-        let cell = header(queue, PUT);
-        let free = (header(queue, TAKEN) <= cell) & (cell < sizes.jobs);
-        if free {
-            put_job(jobs, job, COUNT, left);
-            queue_job(queue, cell, job);
-            true
-        } else {
-            false
+        let seating = seat_for(sizes, jobs, queue, job);
+        match seating {
+            Seating::Seated { seat } => {
+                put_job(jobs, job, COUNT, left);
+                put_seat(queue, seat, job);
+                true
+            }
+            Seating::Unseated => false,
         }
     } else {
         put_job(jobs, job, COUNT, left);

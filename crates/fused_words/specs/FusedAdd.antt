@@ -1,6 +1,6 @@
 -- An add of an idle worker in one go: all look-ups, entering, all links by the jobs that were found, settling. The
 -- worker's words are stored once, at the end. (That this is the post and its steps: fused_calls.) Assumes nothing.
-use mathlib.Core.Bool.{Bool, true, false, _&&_, _||_}
+use mathlib.Core.Bool.{Bool, true, false, _||_}
 use mathlib.Core.List.{List, [], _∷_}
 use Prim.Native.Nat.{ℕ, suc, _+_, _-_}
 use lib.Dec.{ltb, leb, eqb}
@@ -15,7 +15,11 @@ use Rattle.terms.specs.declared.Answer.the-variants.{Ended, Refused}
 use Rattle.words.specs.Columns.{place, put, putHeader}
 use Rattle.words.specs.Layout.{Tables, tables, View, view, none, jobShape, bucketShape, MADE, LABEL, FIRST, LAST}
 use Rattle.words.specs.Layout.{RESERVED, arcShape, AFTER, LOOKING, LINKING}
-use Rattle.words.specs.Words.{countersOk, findOf, planLink, firstArc, putCount, putCell, newArc}
+use Rattle.words.specs.Index.{seatFor, putSeat}
+use Rattle.words.specs.Words.{countersOk, findOf, planLink, firstArc, putCount, newArc}
+use Rattle.words.specs.declared.Seat.{Seat}
+use Rattle.words.specs.declared.Seating.{Seating}
+use Rattle.words.specs.declared.Seating.the-variants.{Seated, Unseated}
 use Rattle.words.specs.declared.Found.{Found}
 use Rattle.words.specs.declared.Found.the-variants.{At, Missing, Damaged}
 use Rattle.words.specs.declared.Plan.{Plan}
@@ -89,10 +93,10 @@ linkBy (Quit n q) t i k next = linksTo t i k false
 linkBy Pass t i k next = linksTo t i k false
 linkBy (Enter j b h x) t i k next = linksTo t i k false
 linkBy (Settle j c) t i k next = linksTo t i k false
-linkBy (SettleQueue j c q) t i k next = linksTo t i k false
+linkBy (SettleQueue j c e) t i k next = linksTo t i k false
 linkBy (Mark p x) t i k next = linksTo t i k false
 linkBy (Notify j c x) t i k next = linksTo t i k false
-linkBy (NotifyQueue j c x q) t i k next = linksTo t i k false
+linkBy (NotifyQueue j c x e) t i k next = linksTo t i k false
 
 -- the links of job j to these jobs, the first of them being at place i; arc x is that of place 0
 unfoldable pub links : Sizes → ℕ → ℕ → List ℕ → ℕ → Tables → ℕ → Links
@@ -104,12 +108,13 @@ links s j x (p ∷ l) i t k =
 abbrev pub settledTables : Tables → ℕ → ℕ → Tables
 settledTables t j c = tables (putCount (t .jobs) j c) (t .arcs) (t .buckets) (t .queue) (t .workers)
 
-abbrev pub queuedTables : Tables → ℕ → ℕ → ℕ → Tables
-queuedTables t j c q = tables (putCount (t .jobs) j c) (t .arcs) (t .buckets) (putCell (t .queue) q j) (t .workers)
+abbrev pub queuedTables : Tables → ℕ → ℕ → Seat → Tables
+queuedTables t j c e = tables (putCount (t .jobs) j c) (t .arcs) (t .buckets) (putSeat (t .queue) e j) (t .workers)
 
--- the queue has a cell left
-abbrev pub cellFree : Sizes → View → Bool
-cellFree s v = leb (v .taken) (v .put) && ltb (v .put) (s .jobs)
+-- the add ends with its job queued, or stops
+abbrev pub queueIn : Seating → Tables → ℕ → ℕ → ℕ → ℕ → Outcome Tables → Outcome Tables
+queueIn (Seated e) t w held j c stopped = outcome Ended (idledWith (queuedTables t j c e) w held)
+queueIn Unseated t w held j c stopped = stopped
 
 unfoldable pub settleIn : Sizes → ℕ → Arguments → ℕ → ℕ → ℕ → Links → Outcome Tables
 settleIn s w a held j x r =
@@ -118,7 +123,7 @@ settleIn s w a held j x r =
     let stopped = halted t w (addWorker LINKING held a (r .tally) (r .place) j (firstArc (a .count) x)) in
     pick (r .sound)
     (pick (settles c (r .tally) (a .count))
-    (pick (cellFree s (view t)) (outcome Ended (idledWith (queuedTables t j c (view t .put)) w held)) stopped)
+    (queueIn (seatFor s (view t) j) t w held j c stopped)
     (outcome Ended (idledWith (settledTables t j c) w held)))
     stopped
 

@@ -11,7 +11,9 @@ use Rattle.terms.specs.declared.Sizes.{Sizes}
 use Rattle.terms.specs.declared.Answer.the-variants.{Going, Ended, Refused}
 use Rattle.words.specs.Columns.{put}
 use Rattle.words.specs.Layout.{Tables, tables, view, none, jobShape, LABEL, MARKING, bareWorker}
-use Rattle.words.specs.Words.{countersOk, holdsName, planMark, planNotify, putCount, putCell}
+use Rattle.words.specs.Words.{countersOk, holdsName, planMark, planNotify, putCount}
+use Rattle.words.specs.Index.{putSeat}
+use Rattle.words.specs.declared.Seat.{Seat}
 use Rattle.words.specs.declared.Plan.{Plan}
 use Rattle.words.specs.declared.Plan.the-variants.{Refuse, Quit, Pass, Enter, Tally, LinkFirst, LinkAfter, Settle}
 use Rattle.words.specs.declared.Plan.the-variants.{SettleQueue, Mark, Notify, NotifyQueue}
@@ -22,8 +24,8 @@ use Rattle.fused_words.specs.FusedWorker.{isIdle, holdOf, withWorker, id
 abbrev pub toldTables : Tables → ℕ → ℕ → Tables
 toldTables t j c = tables (putCount (t .jobs) j c) (t .arcs) (t .buckets) (t .queue) (t .workers)
 
-abbrev pub toldQueued : Tables → ℕ → ℕ → ℕ → Tables
-toldQueued t j c q = tables (putCount (t .jobs) j c) (t .arcs) (t .buckets) (putCell (t .queue) q j) (t .workers)
+abbrev pub toldQueued : Tables → ℕ → ℕ → Seat → Tables
+toldQueued t j c e = tables (putCount (t .jobs) j c) (t .arcs) (t .buckets) (putSeat (t .queue) e j) (t .workers)
 
 -- after the last arc the finish ends, and else it goes on
 abbrev pub orEnd : ℕ → ℕ → Tables → (ℕ → Tables → Outcome Tables) → Outcome Tables
@@ -32,7 +34,7 @@ orEnd x w t next = pick (eqb x none) (outcome Ended (idledWith t w none)) (next 
 -- the notice along the arc x by its plan, and then what follows
 abbrev pub notifyBy : Plan → ℕ → ℕ → Tables → (ℕ → Tables → Outcome Tables) → Outcome Tables
 notifyBy (Notify j c y) x w t next = orEnd y w (toldTables t j c) next
-notifyBy (NotifyQueue j c y q) x w t next = orEnd y w (toldQueued t j c q) next
+notifyBy (NotifyQueue j c y e) x w t next = orEnd y w (toldQueued t j c e) next
 notifyBy (Refuse n) x w t next = halted t w (notifyWorker x)
 notifyBy (Quit n q) x w t next = halted t w (notifyWorker x)
 notifyBy Pass x w t next = halted t w (notifyWorker x)
@@ -41,7 +43,7 @@ notifyBy Tally x w t next = halted t w (notifyWorker x)
 notifyBy (LinkFirst p y j) x w t next = halted t w (notifyWorker x)
 notifyBy (LinkAfter p l y j) x w t next = halted t w (notifyWorker x)
 notifyBy (Settle j c) x w t next = halted t w (notifyWorker x)
-notifyBy (SettleQueue j c q) x w t next = halted t w (notifyWorker x)
+notifyBy (SettleQueue j c e) x w t next = halted t w (notifyWorker x)
 notifyBy (Mark p y) x w t next = halted t w (notifyWorker x)
 
 -- at most n arcs, from x on; more than were reserved come only of damaged lists
@@ -63,9 +65,9 @@ markIn s t w Tally = halted t w (bareWorker MARKING (holdOf t w))
 markIn s t w (LinkFirst p x j) = halted t w (bareWorker MARKING (holdOf t w))
 markIn s t w (LinkAfter p l x j) = halted t w (bareWorker MARKING (holdOf t w))
 markIn s t w (Settle j c) = halted t w (bareWorker MARKING (holdOf t w))
-markIn s t w (SettleQueue j c q) = halted t w (bareWorker MARKING (holdOf t w))
+markIn s t w (SettleQueue j c e) = halted t w (bareWorker MARKING (holdOf t w))
 markIn s t w (Notify j c x) = halted t w (bareWorker MARKING (holdOf t w))
-markIn s t w (NotifyQueue j c x q) = halted t w (bareWorker MARKING (holdOf t w))
+markIn s t w (NotifyQueue j c x e) = halted t w (bareWorker MARKING (holdOf t w))
 
 -- ---- the whole finish: what its post is refused by, then the mark and what follows
 unfoldable pub finishIn : Sizes → Tables → ℕ → ℕ → Outcome Tables

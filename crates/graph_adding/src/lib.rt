@@ -12,12 +12,13 @@ ghost use Rattle.fitting.specs.Kinds.{Linking, Settling, Stored};
 use graph_lists::append_arc;
 use graph_lists::new_arc;
 use graph_lists::put_only_arc;
-use graph_lists::queue_job;
+use graph_queue::put_seat;
 use graph_words::layout::*;
 use graph_words::put_job;
 use graph_worker_words::count_place;
 use graph_worker_words::idle_worker;
 use words::Plan;
+use words::Seat;
 
 // A link appends an arc to an empty list.
 fn link_first(
@@ -105,16 +106,16 @@ fn settle_queue(
     worker: u32,
     job: u32,
     count: u32,
-    cell: u32,
+    seat: Seat,
 )
-    ensures { λ _. ⌜ (cell < none →
+    ensures { λ _. ⌜ (seat .place < none →
         (arcs buckets : List ℕ) →
         tables (now (jobs .exit)) arcs buckets (now (queue .exit)) (now (workers .exit))
-        ≡ applied (SettleQueue job count cell)
+        ≡ applied (SettleQueue job count seat)
         (tables (now (jobs .entry)) arcs buckets (now (queue .entry)) (now (workers .entry))) worker) ⌝ }
 {
     put_job(jobs, job, COUNT, count);
-    queue_job(queue, cell, job);
+    put_seat(queue, seat, job);
     idle_worker(workers, worker);
 }
 
@@ -134,14 +135,14 @@ pub fn apply_settle(
 {
     match plan {
         Plan::Settle { job, count } => settle(jobs, workers, worker, job, count),
-        Plan::SettleQueue { job, count, cell } => settle_queue(
+        Plan::SettleQueue { job, count, seat } => settle_queue(
             jobs,
             queue,
             workers,
             worker,
             job,
             count,
-            cell,
+            seat,
         ),
         _ => {}
     }

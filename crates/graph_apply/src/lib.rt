@@ -91,8 +91,8 @@ pub fn apply_get(
     worker: u32,
     plan: GetPlan,
 )
-    ensures { λ _. ⌜ (FittingGet plan →
-        (arcs buckets : List ℕ) →
+    ensures { λ _. ⌜ ((arcs buckets : List ℕ) →
+        FittingGet plan (view (tables (now (jobs .entry)) arcs buckets (now (queue .entry)) (now (workers .entry)))) →
         tables (now (jobs .exit)) arcs buckets (now (queue .exit)) (now (workers .exit))
         ≡ appliedGet plan (tables (now (jobs .entry)) arcs buckets (now (queue .entry)) (now (workers .entry)))
         worker) ⌝ }
@@ -100,6 +100,6 @@ pub fn apply_get(
     match plan {
         GetPlan::RefuseGet { .. } => {}
         GetPlan::Wait => {}
-        GetPlan::Take { out, cell } => take(jobs, queue, workers, worker, out, cell),
+        GetPlan::Take { out, seat } => take(jobs, queue, workers, worker, out, seat),
     }
 }

@@ -5,7 +5,8 @@ ghost use mathlib.Core.Path.{_≡_};
 ghost use mathlib.Core.List.{List};
 ghost use Prim.Native.Nat.{ℕ};
 ghost use Rattle.words.specs.Layout.{tables, view};
-ghost use Rattle.words.specs.Words.{planMark, planNotify, withCell};
+ghost use Rattle.words.specs.Words.{planMark, planNotify, withSeat};
+use graph_index::seat_for;
 use graph_own::place_ok;
 use graph_words::arc_word;
 use graph_words::header;
@@ -15,6 +16,7 @@ use graph_words::less;
 use graph_words::numbers::*;
 use terms::Sizes;
 use words::Plan;
+use words::Seating;
 
 // The job's words are read only where it is one: a read of none would lie past the table.
 pub fn plan_mark(sizes: Sizes, jobs: &[u32], arcs: &[u32], job: u32) -> Plan
@@ -36,23 +38,21 @@ pub fn plan_mark(sizes: Sizes, jobs: &[u32], arcs: &[u32], job: u32) -> Plan
     }
 }
 
-// The cell of the queue that the job is put in, where its count reaches 0.
-fn notify_queue(sizes: Sizes, queue: &[u32], job: u32, count: u32, next: u32) -> Plan
-    ensures { λ r. ⌜ ((jobs arcs buckets workers : List ℕ)
-        → r ≡ withCell sizes (view (tables jobs arcs buckets (now (queue .entry)) workers))
+// The seat of the job in the queue, where its count reaches 0.
+fn notify_queue(sizes: Sizes, jobs: &[u32], queue: &[u32], job: u32, count: u32, next: u32) -> Plan
+    ensures { λ r. ⌜ ((arcs buckets workers : List ℕ)
+        → r ≡ withSeat sizes (view (tables (now (jobs .entry)) arcs buckets (now (queue .entry)) workers)) job
         (Plan.NotifyQueue job count next)) ⌝ }
 {
-    let cell = header(queue, PUT);
-    let free = (header(queue, TAKEN) <= cell) & (cell < sizes.jobs);
-    if free {
-        Plan::NotifyQueue {
+    let seating = seat_for(sizes, jobs, queue, job);
+    match seating {
+        Seating::Seated { seat } => Plan::NotifyQueue {
             job,
             count,
             next,
-            cell,
-        }
-    } else {
-        Plan::Refuse { number: DAMAGED }
+            seat,
+        },
+        Seating::Unseated => Plan::Refuse { number: DAMAGED },
     }
 }
 
@@ -79,7 +79,7 @@ pub fn plan_notify(sizes: Sizes, jobs: &[u32], arcs: &[u32], queue: &[u32], arc:
         let left = less(count, 1);
         let last = count == 1;
         if last {
-            notify_queue(sizes, queue, job, left, next)
+            notify_queue(sizes, jobs, queue, job, left, next)
         } else {
             Plan::Notify {
                 job,

@@ -4,13 +4,14 @@
 ghost use mathlib.Core.Path.{_≡_};
 ghost use mathlib.Core.List.{List};
 ghost use Prim.Native.Nat.{ℕ, _<_};
-ghost use Rattle.words.specs.Layout.{none, tables};
+ghost use Rattle.words.specs.Columns.{header};
+ghost use Rattle.words.specs.Layout.{none, TAKEN, tables};
 ghost use Rattle.words.specs.Words.{applied, appliedGet};
 ghost use Rattle.words.specs.declared.Plan.the-variants.{Mark, Notify, NotifyQueue};
 ghost use Rattle.words.specs.declared.GetPlan.the-variants.{Take};
 ghost use Rattle.fitting.specs.Kinds.{Finishing, Stored};
-use graph_lists::queue_job;
-use graph_lists::take_job;
+use graph_queue::put_seat;
+use graph_queue::take_seat;
 use graph_words::layout::*;
 use graph_words::put_job;
 use graph_words::put_worker;
@@ -18,6 +19,7 @@ use graph_worker_words::arcs_from;
 use graph_worker_words::mark_worker;
 use terms::HandOut;
 use words::Plan;
+use words::Seat;
 
 // The finish marks its job.
 fn mark(jobs: &mut [u32], workers: &mut [u32], worker: u32, job: u32, first: u32)
@@ -50,16 +52,16 @@ fn notify_queue(
     job: u32,
     count: u32,
     next: u32,
-    cell: u32,
+    seat: Seat,
 )
-    ensures { λ _. ⌜ (cell < none →
+    ensures { λ _. ⌜ (seat .place < none →
         (arcs buckets : List ℕ) →
         tables (now (jobs .exit)) arcs buckets (now (queue .exit)) (now (workers .exit))
-        ≡ applied (NotifyQueue job count next cell)
+        ≡ applied (NotifyQueue job count next seat)
         (tables (now (jobs .entry)) arcs buckets (now (queue .entry)) (now (workers .entry))) worker) ⌝ }
 {
     put_job(jobs, job, COUNT, count);
-    queue_job(queue, cell, job);
+    put_seat(queue, seat, job);
     arcs_from(workers, worker, next);
 }
 
@@ -84,28 +86,28 @@ pub fn apply_finish(
             job,
             count,
             next,
-            cell,
-        } => notify_queue(jobs, queue, workers, worker, job, count, next, cell),
+            seat,
+        } => notify_queue(jobs, queue, workers, worker, job, count, next, seat),
         _ => {}
     }
 }
 
-// The job at the head of the queue is handed to the worker.
+// The job of the index's first place is handed to the worker.
 pub fn take(
     jobs: &mut [u32],
     queue: &mut [u32],
     workers: &mut [u32],
     worker: u32,
     out: HandOut,
-    cell: u32,
+    seat: Seat,
 )
-    ensures { λ _. ⌜ (cell < none →
+    ensures { λ _. ⌜ (header (now (queue .entry)) TAKEN < none →
         (arcs buckets : List ℕ) →
         tables (now (jobs .exit)) arcs buckets (now (queue .exit)) (now (workers .exit))
-        ≡ appliedGet (Take out cell)
+        ≡ appliedGet (Take out seat)
         (tables (now (jobs .entry)) arcs buckets (now (queue .entry)) (now (workers .entry))) worker) ⌝ }
 {
     put_job(jobs, out.job, LABEL, EXECUTING);
-    take_job(queue, cell);
+    take_seat(queue, seat);
     put_worker(workers, worker, HELD, out.job);
 }

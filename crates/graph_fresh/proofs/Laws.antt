@@ -1,11 +1,11 @@
--- Runs of equal records: one record of what is left to store, and records of two equal words. Assumes nothing.
-use mathlib.Core.Path.{_≡_, refl, ap}
-use mathlib.Core.List.{List, [], _∷_}
+-- Runs of equal records: one record of what is left to store, and records of equal words. Assumes nothing.
+use mathlib.Core.Path.{_≡_, refl}
+use mathlib.Core.List.{List}
 use Prim.Native.Nat.{ℕ, zero, suc, _+_, _*_, _-_, _≤_, _<_}
 use native.Mathlib.Omega.{arith}
-use native.Mathlib.Nat.{mul-suc}
+use native.Mathlib.Nat.{add-comm, mul-suc}
 use native.Mathlib.Numerals.{add-one}
-use lib.ListN.{length, replicate}
+use lib.ListN.{length, replicate, replicate-append-replicate}
 use lib.Seq.{sets}
 use Rattle.words.specs.Columns.{Shape, place}
 use Rattle.words.specs.Layout.{repeated}
@@ -25,9 +25,9 @@ module _ (s : Shape) (r : List ℕ) (whole : length r ≡ s .width) where
   unfolding repeated
   record-none l i n h = let z : n - i ≡ 0 = omega arith in rw z
 
--- records of two equal words
-pub repeated-two : (n v : ℕ) → repeated n (v ∷ v ∷ []) ≡ replicate (2 * n) v
+-- records of w equal words
+pub repeated-same : (w n v : ℕ) → repeated n (replicate w v) ≡ replicate (w * n) v
 unfolding repeated
-repeated-two zero v = refl
-repeated-two (suc n) v = let z : 2 * suc n ≡ suc (suc (2 * n)) = omega arith in
-    rw z (ap (λ (l : List ℕ). v ∷ v ∷ l) (repeated-two n v))
+repeated-same w zero v = let z : w * 0 ≡ 0 = omega arith in rw z
+repeated-same w (suc n) v =
+    rw (repeated-same w n v, replicate-append-replicate w (w * n) v, mul-suc w n, add-comm w (w * n))

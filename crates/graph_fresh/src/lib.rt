@@ -81,7 +81,12 @@ fn fresh_queue(sizes: Sizes, queue: &mut [u32])
 {
     put_header(queue, TAKEN, 0);
     put_header(queue, PUT, 0);
-    fill(queue, QUEUE_HEAD as usize, sizes.jobs as usize, NONE);
+    fill(
+        queue,
+        QUEUE_HEAD as usize,
+        (QUEUE_WIDTH as usize) * (sizes.jobs as usize),
+        NONE,
+    );
 }
 
 // The five tables of a fresh graph.

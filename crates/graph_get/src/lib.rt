@@ -21,7 +21,7 @@ fn answer_get(plan: GetPlan) -> Answer
     }
 }
 
-// Hands the worker the job at the head of the queue.
+// Hands the worker the job that is first by the order of hand-outs.
 pub fn get(
     sizes: Sizes,
     jobs: &mut [u32],

@@ -5,8 +5,9 @@ ghost use mathlib.Core.Path.{_≡_};
 ghost use mathlib.Core.List.{List};
 ghost use Prim.Native.Nat.{ℕ};
 ghost use Rattle.words.specs.Layout.{tables, atEntry, view};
-ghost use Rattle.words.specs.Words.{planAppend, planLink, withCell, planSettle, planLinks};
+ghost use Rattle.words.specs.Words.{planAppend, planLink, withSeat, planSettle, planLinks};
 use graph_find::find;
+use graph_index::seat_for;
 use graph_own::place_ok;
 use graph_words::header;
 use graph_words::job_word;
@@ -18,6 +19,7 @@ use graph_words::worker_word;
 use terms::Sizes;
 use words::Found;
 use words::Plan;
+use words::Seating;
 
 // The arc has 64 bits: the first reserved arc may be none, and the sum with a place then passes 32 bits.
 fn plan_append(
@@ -85,18 +87,16 @@ pub fn plan_link(sizes: Sizes, jobs: &[u32], arcs: &[u32], arc: u64, job: u32, f
     }
 }
 
-// The cell of the queue that the job is put in, where its count reaches 0.
-fn settle_queue(sizes: Sizes, queue: &[u32], job: u32, count: u32) -> Plan
-    ensures { λ r. ⌜ ((jobs arcs buckets workers : List ℕ)
-        → r ≡ withCell sizes (view (tables jobs arcs buckets (now (queue .entry)) workers))
+// The seat of the job in the queue, where its count reaches 0.
+fn settle_queue(sizes: Sizes, jobs: &[u32], queue: &[u32], job: u32, count: u32) -> Plan
+    ensures { λ r. ⌜ ((arcs buckets workers : List ℕ)
+        → r ≡ withSeat sizes (view (tables (now (jobs .entry)) arcs buckets (now (queue .entry)) workers)) job
         (Plan.SettleQueue job count)) ⌝ }
 {
-    let cell = header(queue, PUT);
-    let free = (header(queue, TAKEN) <= cell) & (cell < sizes.jobs);
-    if free {
-        Plan::SettleQueue { job, count, cell }
-    } else {
-        Plan::Refuse { number: DAMAGED }
+    let seating = seat_for(sizes, jobs, queue, job);
+    match seating {
+        Seating::Seated { seat } => Plan::SettleQueue { job, count, seat },
+        Seating::Unseated => Plan::Refuse { number: DAMAGED },
     }
 }
 
@@ -116,7 +116,7 @@ fn plan_settle(sizes: Sizes, jobs: &[u32], queue: &[u32], job: u32, tally: u32, 
         let left = less(count, tally);
         let settles = (left == 0) & ((0 < tally) | (listed == 0));
         if settles {
-            settle_queue(sizes, queue, job, left)
+            settle_queue(sizes, jobs, queue, job, left)
         } else {
             Plan::Settle { job, count: left }
         }

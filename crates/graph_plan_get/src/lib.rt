@@ -4,21 +4,49 @@ ghost use mathlib.Core.Path.{_≡_};
 ghost use mathlib.Core.List.{List};
 ghost use Prim.Native.Nat.{ℕ};
 ghost use Rattle.words.specs.Layout.{tables, atEntry, view};
-ghost use Rattle.words.specs.Words.{planQueue, planGet, planGetOf};
+ghost use Rattle.words.specs.Words.{planTake, planQueue, planGet, planGetOf};
+use graph_index::first_seat;
 use graph_own::counters_ok;
 use graph_own::own_ok;
 use graph_sizes::sizes_fit;
-use graph_words::cell;
 use graph_words::header;
 use graph_words::job_word;
 use graph_words::layout::*;
 use graph_words::numbers::*;
+use graph_words::queue_word;
 use graph_words::worker_word;
 use terms::HandOut;
 use terms::Sizes;
 use words::GetPlan;
+use words::Seating;
 
-// The job's label is read only where its number is that of a job.
+// The job of the index's first place. Its label is read only where that place waits.
+fn plan_take(jobs: &[u32], queue: &[u32]) -> GetPlan
+    ensures { λ r. ⌜ ((arcs buckets workers : List ℕ)
+        → r ≡ planTake (view (tables (now (jobs .entry)) arcs buckets (now (queue .entry)) workers))) ⌝ }
+{
+    let seating = first_seat(jobs, queue);
+    match seating {
+        Seating::Seated { seat } => {
+            let place = queue_word(queue, 0, SLOT);
+            let job = queue_word(queue, place, CELL);
+            let unexecuted = job_word(jobs, job, LABEL) == UNEXECUTED;
+            if unexecuted {
+                GetPlan::Take {
+                    out: HandOut {
+                        job,
+                        name: job_word(jobs, job, NAME),
+                    },
+                    seat,
+                }
+            } else {
+                GetPlan::RefuseGet { number: DAMAGED }
+            }
+        }
+        Seating::Unseated => GetPlan::RefuseGet { number: DAMAGED },
+    }
+}
+
 fn plan_queue(sizes: Sizes, jobs: &[u32], arcs: &[u32], queue: &[u32]) -> GetPlan
     ensures { λ r. ⌜ ((buckets workers : List ℕ)
         → r ≡ planQueue sizes (view (tables (now (jobs .entry)) (now (arcs .entry)) buckets
@@ -32,24 +60,9 @@ fn plan_queue(sizes: Sizes, jobs: &[u32], arcs: &[u32], queue: &[u32]) -> GetPla
     }
     let empty = taken == put;
     if empty {
-        return GetPlan::Wait;
-    }
-    let job = cell(queue, taken);
-    let known = job < header(jobs, MADE);
-    if known {} else {
-        return GetPlan::RefuseGet { number: DAMAGED };
-    }
-    let unexecuted = job_word(jobs, job, LABEL) == UNEXECUTED;
-    if unexecuted {
-        GetPlan::Take {
-            out: HandOut {
-                job,
-                name: job_word(jobs, job, NAME),
-            },
-            cell: taken,
-        }
+        GetPlan::Wait
     } else {
-        GetPlan::RefuseGet { number: DAMAGED }
+        plan_take(jobs, queue)
     }
 }
 

@@ -46,10 +46,20 @@ pub const DEPENDENT: u32 = 0;
 
 pub const AFTER: u32 = 1;
 
-// The counters of the queue.
+// The counters of the queue, and the fields of a place: its cell, the slot of the index that shares its record, and the
+// place's own position, which is the slot that holds it.
 pub const TAKEN: u32 = 0;
 
 pub const PUT: u32 = 1;
+
+pub const CELL: u32 = 0;
+
+pub const SLOT: u32 = 1;
+
+pub const POSITION: u32 = 2;
+
+// The levels of the index below its first slot.
+pub const LEVELS: u32 = 12;
 
 // A worker's fields; the list of names follows the last.
 pub const PHASE: u32 = 0;
@@ -100,7 +110,7 @@ pub const BUCKET_WIDTH: u32 = 1;
 
 pub const QUEUE_HEAD: u32 = 2;
 
-pub const QUEUE_WIDTH: u32 = 1;
+pub const QUEUE_WIDTH: u32 = 3;
 
 pub const WORKER_HEAD: u32 = 0;
 

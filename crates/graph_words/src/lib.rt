@@ -96,17 +96,17 @@ pub fn put_bucket(buckets: &mut [u32], bucket: u32, v: u32)
     put_column(buckets, BUCKET_HEAD, BUCKET_WIDTH, bucket, 0, v);
 }
 
-// A cell of the queue.
-pub fn cell(queue: &[u32], i: u32) -> u32
-    ensures { λ r. ⌜ r ≡ columns queueShape (now (queue .entry)) 0 i ⌝ }
+// The cell or the position of a place of the queue, or the slot of the index that shares its record.
+pub fn queue_word(queue: &[u32], place: u32, field: u32) -> u32
+    ensures { λ r. ⌜ r ≡ columns queueShape (now (queue .entry)) field place ⌝ }
 {
-    column(queue, QUEUE_HEAD, QUEUE_WIDTH, i, 0)
+    column(queue, QUEUE_HEAD, QUEUE_WIDTH, place, field as usize)
 }
 
-pub fn put_cell(queue: &mut [u32], i: u32, v: u32)
-    ensures { λ _. ⌜ now (queue .exit) ≡ put queueShape (now (queue .entry)) i 0 v ⌝ }
+pub fn put_queue(queue: &mut [u32], place: u32, field: u32, v: u32)
+    ensures { λ _. ⌜ now (queue .exit) ≡ put queueShape (now (queue .entry)) place field v ⌝ }
 {
-    put_column(queue, QUEUE_HEAD, QUEUE_WIDTH, i, 0, v);
+    put_column(queue, QUEUE_HEAD, QUEUE_WIDTH, place, field, v);
 }
 
 pub fn worker_word(workers: &[u32], worker: u32, field: u32) -> u32

@@ -1,6 +1,9 @@
 pub mod Demand
 pub mod Ends
+pub mod LongFirst
+pub mod ByCount
 pub mod Wrong
 pub mod WrongIdle
 pub mod WrongTexts
 pub mod WrongOthers
+pub mod WrongOrders

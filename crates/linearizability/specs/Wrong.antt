@@ -1,5 +1,5 @@
 -- How a system is shown to be wrong: the clauses of the claim one by one, and the rules with one part put otherwise.
--- The systems stand in WrongIdle.antt, WrongTexts.antt and WrongOthers.antt. Assumes nothing.
+-- The systems stand in WrongIdle.antt, WrongTexts.antt, WrongOthers.antt and WrongOrders.antt. Assumes nothing.
 use mathlib.Core.Path.{_≡_, refl, sym, ap, subst}
 use mathlib.Core.Bool.{false}
 use mathlib.Core.List.{List, [], _∷_}
@@ -10,6 +10,7 @@ use lib.Dec.{eqb}
 use lib.ListN.{length, getD, take}
 use borrow.Author.Tests.{eqb-false}
 use Rattle.basics.specs.Base.{update, contains, repeats, occurrences, prefix}
+use Rattle.minutes.specs.Minutes.{minutesIn, fixedMinutes}
 use Rattle.terms.specs.Terms.{Arguments, argumentsWrong, sameSizes, alreadyHolding}
 use Rattle.terms.specs.Runs.{Item, postAdd, postFinish, step, get, Outcome, outcome, Event, after, events, entries}
 use Rattle.terms.specs.Order.{earliest, firstBy, without}
@@ -134,7 +135,7 @@ unfoldable pub running : ℕ
 unfolding update contains repeats occurrences prefix earliest firstBy without argumentsWrong sameSizes after events
     entries steps empty seek
     lookUp enter linkTo link markDependents mark notify stepCall whenIdle addPosted finishPosted takeNext getJob
-    admitted perform
+    admitted perform minutesIn fixedMinutes
 running = 0
 
 unfoldable pub booking : ℕ

@@ -18,7 +18,8 @@ use Rattle.terms.specs.declared.Sizes.{Sizes}
 use Rattle.terms.specs.declared.Answer.the-variants.{Laid, Refused}
 use Rattle.words.specs.Columns.{rows}
 use Rattle.words.specs.Layout.{none, jobShape, arcShape, bucketShape, queueShape, workerShape, IDLE, Tables, tables}
-use Rattle.words.specs.Layout.{need, bareWorker, repeated, freshJob, freshArc, freshJobs, freshArcs, freshBuckets}
+use Rattle.words.specs.Layout.{need, bareWorker, repeated, freshJob, freshArc, freshPlace, freshJobs, freshArcs}
+use Rattle.words.specs.Layout.{freshBuckets}
 use Rattle.words.specs.Layout.{freshQueue, freshWorkers, freshTables, longEnough, roomFor}
 use Rattle.words.specs.Words.{layOut}
 use Rattle.locality.specs.Parts.{test, rest, joined, parts, Long, long}
@@ -42,7 +43,7 @@ lay-fresh s t h i =
     let jobs = length-repeated (s .jobs) freshJob in
     let arcs = length-repeated (s .arcs) freshArc in
     let buckets = length-replicate (2 ^ s .bits) none in
-    let queue = length-replicate (s .jobs) none in
+    let queue = length-repeated (s .jobs) freshPlace in
     let workers = length-repeated (s .workers) (bareWorker IDLE none) in
     tables (lay-table (freshJobs s) (t .jobs) (need jobShape (s .jobs)) (omega arith) (h .jobs) i)
     (lay-table (freshArcs s) (t .arcs) (need arcShape (s .arcs)) (omega arith) (h .arcs) i)

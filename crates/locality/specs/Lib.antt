@@ -1,7 +1,13 @@
 pub mod Parts
+pub mod Seats
 pub mod Plans
 pub mod Stores
 pub mod Within
 pub mod Refusals
 pub mod Laying
 pub mod Numbers
+pub mod Compared
+pub mod Classes
+pub mod IndexFirst
+pub mod Looked
+pub mod Queued

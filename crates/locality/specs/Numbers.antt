@@ -18,10 +18,15 @@ use Rattle.terms.specs.declared.HandOut.{HandOut}
 use Rattle.terms.specs.declared.Answer.{Answer}
 use Rattle.terms.specs.declared.Answer.the-variants.{Posted, Going, Ended, NoneReady, Handed, Refused}
 use Rattle.words.specs.Layout.{HELD, LIST-COUNT, PLACE, MARKING, Tables, View, view, bareWorker}
-use Rattle.words.specs.Words.{ownOk, planLookUp, planEnter, planAppend, planLink, withCell, planSettle, planMark}
+use Rattle.words.specs.Words.{ownOk, planLookUp, planEnter, planAppend, planLink, inSeat, withSeat, planSettle}
+use Rattle.words.specs.Words.{planMark}
 use Rattle.words.specs.Words.{planNotify, planAdd, planLinks, planCall, planPhase, admitted, planStep, goingUnless}
-use Rattle.words.specs.Words.{answerOf, stepWords, planTake, planQueue, planGet, answerGet, planGetOf, getWords}
+use Rattle.words.specs.Words.{answerOf, stepWords, takeFrom, planTake, planQueue, planGet, answerGet, planGetOf}
+use Rattle.words.specs.Words.{getWords}
 use Rattle.words.specs.Words.{judgedAdd, judgedFinish, addingWorker, posted, refusal, addWords, finishWords, perform}
+use Rattle.words.specs.declared.Seat.{Seat}
+use Rattle.words.specs.declared.Seating.{Seating}
+use Rattle.words.specs.declared.Seating.the-variants.{Seated, Unseated}
 use Rattle.words.specs.declared.Found.{Found}
 use Rattle.words.specs.declared.Found.the-variants.{At, Missing, Damaged}
 use Rattle.words.specs.declared.Plan.{Plan}
@@ -95,17 +100,22 @@ module _ (s : Sizes) (v : View) (w : ℕ) where
   link x j Missing = search answers
   link x j Damaged = search answers
 
+  in-seat : (plan : Seat → Plan) → ((e : Seat) → Step (plan e)) → (r : Seating) → Step (inSeat r plan)
+  unfolding contains
+  in-seat plan f (Seated e) = f e
+  in-seat plan f Unseated = search answers
+
   settle : (j t d : ℕ) → Step (planSettle s v j t d)
-  unfolding planSettle withCell contains
-  settle j t d = search answers
+  unfolding planSettle withSeat contains
+  settle j t d = search (answers, in-seat)
 
   mark : (p : ℕ) → Step (planMark s v p)
   unfolding planMark contains
   mark p = search answers
 
   notify : (x : ℕ) → Step (planNotify s v x)
-  unfolding planNotify withCell contains
-  notify x = search answers
+  unfolding planNotify withSeat contains
+  notify x = search (answers, in-seat)
 
   -- a look-up's place lies below the count of its list, which is one "of at most 32 names"
   adding : ownOk s v w ≡ true → Step (planAdd s v w)
@@ -120,9 +130,14 @@ module _ (s : Sizes) (v : View) (w : ℕ) where
   stepping o = search (answers, adding, link, settle, mark, notify) depth 9
 
   -- ---- a get
+  taking : (r : Seating) → Says (get s w) answerGet (takeFrom v r)
+  unfolding contains
+  taking (Seated e) = search answers
+  taking Unseated = search answers
+
   getting : Says (get s w) answerGet (planGet s v w)
   unfolding planGet planQueue planTake contains
-  getting = search answers depth 9
+  getting = search (answers, taking) depth 9
 
 -- ---- the theorems
 -- demand 1: "either served or turned away by a number from the paper's list"

@@ -10,7 +10,7 @@ use native.Mathlib.Decide.{decLt}
 use lib.Dec.{ltb, leb}
 use lib.ListN.{length, getD, take, drop, take-append-drop, drop-of-length-le, length-append, List·getD-append}
 use lib.Seq.{getD-take, length-take-le, take-all, take-at, drop-at}
-use borrow.Author.Tests.{ltb-true, leb-true, le-leb}
+use borrow.Author.Tests.{ltb-true, leb-true, lt-ltb, le-leb}
 use Rattle.basics.specs.Base.{pick}
 use Rattle.terms.specs.declared.Sizes.{Sizes}
 use Rattle.words.specs.Columns.{Shape, place, Rows, rows, columns, header, put, inside}
@@ -157,6 +157,24 @@ clip-joined s t r h i = record {
   cell = clip-columns queueShape (s .jobs) (t .queue) (r .queue) (h .queue) i;
   worker = clip-columns workerShape (s .workers) (t .workers) (r .workers) (h .workers) i;
 }
+
+-- ---- two plans are one, which keeps to P
+abbrev pub Alike : {A : Type 0} (P : A → Type 0) → A → A → Type 0
+Alike P x y = (x ≡ y) × P x
+
+-- what is planned by reading v is planned by reading it within the sizes alone
+abbrev pub Reads : {A : Type 0} → Sizes → View → (A → Type 0) → (View → A) → Type 0
+Reads s v P f = Alike P (f v) (f (clip s v))
+
+pub choose : {A : Type 0} (P : A → Type 0) (b : Bool) {x y x′ y′ : A}
+    → (b ≡ true → Alike P x x′) → (b ≡ false → Alike P y y′)
+    → Alike P (pick b x y) (pick b x′ y′)
+choose P true f g = f refl
+choose P false f g = g refl
+
+-- what lies below a counter in its range lies within its size
+pub within : (j c n : ℕ) → leb c n ≡ true → ltb j c ≡ true → ltb j n ≡ true
+within j c n a b = lt-ltb j n (omega (arith, leb-true c n a, ltb-true j c b))
 
 -- ---- tables cut and joined again
 pub whole : (s : Sizes) (t : Tables) → joined (needed s t) (rest s t) ≡ t

@@ -1,11 +1,11 @@
 -- What the calls plan is read within the sizes, and names only places within the sizes; and which numbers a plan can
 -- refuse with. Follows docs/RULES.md, "Tables and their measures" and "Turned-away calls". Assumes nothing.
-use mathlib.Core.Path.{_≡_, refl}
+use mathlib.Core.Path.{_≡_, refl, ap}
 use mathlib.Core.Bool.{Bool, true, false, _&&_, _||_}
-use Prim.Native.Nat.{ℕ, zero, suc, _+_, _-_, _^_}
+use Prim.Native.Nat.{ℕ, zero, suc, _+_, _-_, _^_, _≤_, _<_}
 use native.Mathlib.Omega.{arith}
 use lib.Dec.{ltb, leb, eqb}
-use borrow.Author.Tests.{ltb-true, leb-true, leb-false, eqb-true, eqb-false, lt-ltb}
+use borrow.Author.Tests.{leb-true, leb-false, eqb-true, eqb-false, lt-ltb}
 use Rattle.basics.specs.Limits.{mostNames}
 use Rattle.basics.specs.Base.{pick}
 use Rattle.bucket.specs.Bucket.{bucketOf}
@@ -17,9 +17,14 @@ use Rattle.words.specs.Layout.{none, NAME, LABEL, COUNT, FIRST, LAST, NEXT, DEP
 use Rattle.words.specs.Layout.{LIST-COUNT, PLACE, OWN-JOB, OWN-ARC, IDLE, LOOKING, LINKING, MARKING, Tables, View, view}
 use Rattle.words.specs.Layout.{sizesFit}
 use Rattle.words.specs.Words.{placeOk, isPlace, countersOk, ownOk, walk, findOf, planLookUp, planEnter, planAppend}
-use Rattle.words.specs.Words.{planLink, withCell, planSettle, planMark, planNotify, nameAt, planAdd, planLinks}
-use Rattle.words.specs.Words.{planCall, planPhase, admitted, planTake, planQueue, planGet, judgedCounters, judgedAdd}
+use Rattle.words.specs.Words.{planLink, inSeat, withSeat, planSettle, planMark, planNotify, nameAt, planAdd, planLinks}
+use Rattle.words.specs.Words.{planCall, planPhase, admitted, nextJob, takeFrom, planTake, planQueue, planGet}
+use Rattle.words.specs.Words.{judgedCounters, judgedAdd}
 use Rattle.words.specs.Words.{judgedFinish}
+use Rattle.words.specs.Index.{seatFor, firstSeat}
+use Rattle.words.specs.declared.Seat.{Seat}
+use Rattle.words.specs.declared.Seating.{Seating}
+use Rattle.words.specs.declared.Seating.the-variants.{Seated, Unseated}
 use Rattle.words.specs.declared.Found.{Found}
 use Rattle.words.specs.declared.Found.the-variants.{At, Missing, Damaged}
 use Rattle.words.specs.declared.Plan.{Plan}
@@ -27,7 +32,8 @@ use Rattle.words.specs.declared.Plan.the-variants.{Refuse, Quit, Pass, Enter, T
 use Rattle.words.specs.declared.Plan.the-variants.{SettleQueue, Mark, Notify, NotifyQueue}
 use Rattle.words.specs.declared.GetPlan.{GetPlan}
 use Rattle.words.specs.declared.GetPlan.the-variants.{RefuseGet, Wait, Take}
-use Rattle.locality.specs.Parts.{test, right, parts, clip}
+use Rattle.locality.specs.Parts.{test, right, parts, clip, Alike, Reads, choose, within}
+use Rattle.locality.specs.Seats.{Entering, Leaving, InSeating, seat-alike, InFirst, first-alike}
 
 -- ---- what every plan keeps to
 -- 6, 7 and 8 end an add that was accepted by its post
@@ -36,38 +42,24 @@ quitsBy n = eqb n unknownName || eqb n namePresent || eqb n tablesFull
 
 -- the places that a plan stores at lie within the sizes; only `Quit` has a number that ends a call; m says that the
 -- step is a mark
-abbrev pub Inside : Sizes → Bool → Plan → Type 0
-Inside s m (Refuse n) = quitsBy n ≡ false
-Inside s m (Quit n i) = (quitsBy n ≡ true) × (m ≡ false)
-Inside s m Pass = Unit {0}
-Inside s m (Enter j k h x) = (ltb j (s .jobs) ≡ true) × (ltb k (2 ^ s .bits) ≡ true)
-Inside s m Tally = Unit {0}
-Inside s m (LinkFirst p x j) = (ltb p (s .jobs) ≡ true) × (ltb x (s .arcs) ≡ true)
-Inside s m (LinkAfter p l x j) = (ltb p (s .jobs) ≡ true) × (ltb x (s .arcs) ≡ true) × (ltb l (s .arcs) ≡ true)
-Inside s m (Settle j c) = (ltb j (s .jobs) ≡ true) × (m ≡ false)
-Inside s m (SettleQueue j c q) = (ltb j (s .jobs) ≡ true) × (ltb q (s .jobs) ≡ true) × (m ≡ false)
-Inside s m (Mark p x) = (ltb p (s .jobs) ≡ true) × (m ≡ true)
-Inside s m (Notify j c x) = (ltb j (s .jobs) ≡ true) × (m ≡ false)
-Inside s m (NotifyQueue j c x q) = (ltb j (s .jobs) ≡ true) × (ltb q (s .jobs) ≡ true) × (m ≡ false)
+abbrev pub Inside : Sizes → View → Bool → Plan → Type 0
+Inside s v m (Refuse n) = quitsBy n ≡ false
+Inside s v m (Quit n i) = (quitsBy n ≡ true) × (m ≡ false)
+Inside s v m Pass = Unit {0}
+Inside s v m (Enter j k h x) = (ltb j (s .jobs) ≡ true) × (ltb k (2 ^ s .bits) ≡ true)
+Inside s v m Tally = Unit {0}
+Inside s v m (LinkFirst p x j) = (ltb p (s .jobs) ≡ true) × (ltb x (s .arcs) ≡ true)
+Inside s v m (LinkAfter p l x j) = (ltb p (s .jobs) ≡ true) × (ltb x (s .arcs) ≡ true) × (ltb l (s .arcs) ≡ true)
+Inside s v m (Settle j c) = (ltb j (s .jobs) ≡ true) × (m ≡ false)
+Inside s v m (SettleQueue j c e) = (ltb j (s .jobs) ≡ true) × Entering s v e × (m ≡ false)
+Inside s v m (Mark p x) = (ltb p (s .jobs) ≡ true) × (m ≡ true)
+Inside s v m (Notify j c x) = (ltb j (s .jobs) ≡ true) × (m ≡ false)
+Inside s v m (NotifyQueue j c x e) = (ltb j (s .jobs) ≡ true) × Entering s v e × (m ≡ false)
 
-abbrev pub InsideGet : Sizes → GetPlan → Type 0
-InsideGet s (RefuseGet n) = quitsBy n ≡ false
-InsideGet s Wait = Unit {0}
-InsideGet s (Take h q) = (ltb (h .job) (s .jobs) ≡ true) × (ltb q (s .jobs) ≡ true)
-
--- two plans are one, which keeps to P
-abbrev pub Alike : {A : Type 0} (P : A → Type 0) → A → A → Type 0
-Alike P x y = (x ≡ y) × P x
-
--- what is planned by reading v is planned by reading it within the sizes alone
-abbrev pub Reads : {A : Type 0} → Sizes → View → (A → Type 0) → (View → A) → Type 0
-Reads s v P f = Alike P (f v) (f (clip s v))
-
-choose : {A : Type 0} (P : A → Type 0) (b : Bool) {x y x′ y′ : A}
-    → (b ≡ true → Alike P x x′) → (b ≡ false → Alike P y y′)
-    → Alike P (pick b x y) (pick b x′ y′)
-choose P true f g = f refl
-choose P false f g = g refl
+abbrev pub InsideGet : Sizes → View → GetPlan → Type 0
+InsideGet s v (RefuseGet n) = quitsBy n ≡ false
+InsideGet s v Wait = Unit {0}
+InsideGet s v (Take h e) = (ltb (h .job) (s .jobs) ≡ true) × Leaving s v e
 
 -- ---- places
 neither : (a b : Bool) → (a || b) ≡ false → a ≡ false
@@ -78,10 +70,6 @@ neither false b e = refl
 pub place-cases : {A : Type 0} (j c n : ℕ) → placeOk j c n ≡ true
     → (eqb j none ≡ true → A) → (eqb j none ≡ false → ltb j n ≡ true → A) → A
 place-cases j c n e f g = test (eqb j none) f (λ h. g h (right (ltb j c) (ltb j n) (rw h at e)))
-
--- so does one below a counter that is in its range
-within : (j c n : ℕ) → leb c n ≡ true → ltb j c ≡ true → ltb j n ≡ true
-within j c n a b = lt-ltb j n (omega (arith, leb-true c n a, ltb-true j c b))
 
 -- ---- the plans of a step, with counters in their range
 module _ (s : Sizes) (v : View) (made : leb (v .made) (s .jobs) ≡ true)
@@ -110,12 +98,12 @@ module _ (s : Sizes) (v : View) (made : leb (v .made) (s .jobs) ≡ true)
 
   module _ (m : Bool) where
     abbrev Planned : (View → Plan) → Type 0
-    Planned = Reads s v (Inside s m)
+    Planned = Reads s v (Inside s v m)
 
     damage : Planned (λ _. Refuse damaged)
     damage = (refl, refl)
 
-    look-up : m ≡ false → (i : ℕ) (f : Found) → Inside s m (planLookUp i f)
+    look-up : m ≡ false → (i : ℕ) (f : Found) → Inside s v m (planLookUp i f)
     unfolding planLookUp
     look-up z i (At j) = tt
     look-up z i Missing = (refl, z)
@@ -126,7 +114,8 @@ module _ (s : Sizes) (v : View) (made : leb (v .made) (s .jobs) ≡ true)
     enter z name d (At j) = (refl, (refl, z))
     enter z name d Missing =
         let h = lt-ltb (bucketOf name (s .bits)) (2 ^ s .bits) (below name (s .bits)) in
-        rw h (choose (Inside s m) (leb (s .jobs) (v .made) || ltb (s .arcs) (v .reserved + d)) (λ _. (refl, (refl, z)))
+        rw h (choose (Inside s v m) (leb (s .jobs) (v .made) || ltb (s .arcs) (v .reserved + d))
+        (λ _. (refl, (refl, z)))
         (λ e. let o = leb-false (s .jobs) (v .made) (neither _ (ltb (s .arcs) (v .reserved + d)) e) in
         (refl, (lt-ltb (v .made) (s .jobs) o, h))))
     enter z name d Damaged = damage
@@ -135,7 +124,7 @@ module _ (s : Sizes) (v : View) (made : leb (v .made) (s .jobs) ≡ true)
     unfolding planAppend
     append p x j h =
         let last = v .job LAST p in
-        rw h (choose (Inside s m) (ltb j (v .made) && ltb x (v .reserved) && placeOk last (v .reserved) (s .arcs))
+        rw h (choose (Inside s v m) (ltb j (v .made) && ltb x (v .reserved) && placeOk last (v .reserved) (s .arcs))
         (λ e. let i = within x (v .reserved) (s .arcs) reserved (search parts) in
         place-cases last (v .reserved) (s .arcs) (search parts) (λ n. rw n (refl, (h, i)))
         (λ n k. rw n (refl, (h, i, k))))
@@ -144,31 +133,37 @@ module _ (s : Sizes) (v : View) (made : leb (v .made) (s .jobs) ≡ true)
     link : (x j : ℕ) (f : Found) → InFound f → Planned (λ u. planLink s u x j f)
     unfolding planLink
     link x j (At p) h =
-        rw h (choose (Inside s m) (leb (v .job LABEL p) 2)
-        (λ _. choose (Inside s m) (eqb (v .job LABEL p) 2) (λ _. (refl, tt)) (λ _. append p x j h))
+        rw h (choose (Inside s v m) (leb (v .job LABEL p) 2)
+        (λ _. choose (Inside s v m) (eqb (v .job LABEL p) 2) (λ _. (refl, tt)) (λ _. append p x j h))
         (λ _. damage))
     link x j Missing h = damage
     link x j Damaged h = damage
 
-    cell : (plan : ℕ → Plan) → ((q : ℕ) → ltb q (s .jobs) ≡ true → Inside s m (plan q))
-        → Planned (λ u. withCell s u plan)
-    unfolding withCell
-    cell plan f =
-        choose (Inside s m) (leb (v .taken) (v .put) && ltb (v .put) (s .jobs)) (λ e. (refl, f (v .put) (search parts)))
-        (λ _. damage)
+    in-seat : (plan : Seat → Plan) → ((e : Seat) → Entering s v e → Inside s v m (plan e)) → (r : Seating)
+        → InSeating s v r → Inside s v m (inSeat r plan)
+    in-seat plan f (Seated e) i = f e i
+    in-seat plan f Unseated i = refl
+
+    seat-planned : (j : ℕ) → ltb j (s .jobs) ≡ true → (plan : Seat → Plan)
+        → ((e : Seat) → Entering s v e → Inside s v m (plan e))
+        → Planned (λ u. withSeat s u j plan)
+    unfolding withSeat
+    seat-planned j h plan f =
+        let same = seat-alike s v made j h in
+        (ap (λ r. inSeat r plan) (same .0), in-seat plan f (seatFor s v j) (same .1))
 
     settle : m ≡ false → (j t d : ℕ) → placeOk j (v .made) (s .jobs) ≡ true → Planned (λ u. planSettle s u j t d)
     unfolding planSettle
     settle z j t d o = place-cases j (v .made) (s .jobs) o (λ e. rw e damage)
-        (λ _ h. rw h (choose (Inside s m) (isPlace j && leb (v .job COUNT j) mostNames && leb t (v .job COUNT j))
-        (λ _. choose (Inside s m) (settles (v .job COUNT j - t) t d) (λ _. cell _ (λ q e. (h, e, z)))
+        (λ _ h. rw h (choose (Inside s v m) (isPlace j && leb (v .job COUNT j) mostNames && leb t (v .job COUNT j))
+        (λ _. choose (Inside s v m) (settles (v .job COUNT j - t) t d) (λ _. seat-planned j h _ (λ e i. (h, i, z)))
         (λ _. (refl, (h, z))))
         (λ _. damage)))
 
     mark : m ≡ true → (p : ℕ) → placeOk p (v .made) (s .jobs) ≡ true → Planned (λ u. planMark s u p)
     unfolding planMark
     mark z p o = place-cases p (v .made) (s .jobs) o (λ e. rw e damage)
-        (λ _ h. rw h (choose (Inside s m)
+        (λ _ h. rw h (choose (Inside s v m)
         (isPlace p && eqb (v .job LABEL p) 1 && placeOk (v .job FIRST p) (v .reserved) (s .arcs)) (λ _. (refl, (h, z)))
         (λ _. damage)))
 
@@ -178,9 +173,10 @@ module _ (s : Sizes) (v : View) (made : leb (v .made) (s .jobs) ≡ true)
         (λ i h. let j = v .arc DEPENDENT x in
         rw (i, h) (test (ltb j (v .made))
         (λ e. let k = within j (v .made) (s .jobs) made e in
-        rw (e, k) (choose (Inside s m)
+        rw (e, k) (choose (Inside s v m)
         (placeOk (v .arc AFTER x) (v .reserved) (s .arcs) && leb 1 (v .job COUNT j) && leb (v .job COUNT j) mostNames)
-        (λ _. choose (Inside s m) (eqb (v .job COUNT j) 1) (λ _. cell _ (λ q y. (k, y, z))) (λ _. (refl, (k, z))))
+        (λ _. choose (Inside s v m) (eqb (v .job COUNT j) 1) (λ _. seat-planned j k _ (λ e y. (k, y, z)))
+        (λ _. (refl, (k, z))))
         (λ _. damage)))
         (λ e. rw e damage)))
 
@@ -190,14 +186,14 @@ module _ (s : Sizes) (v : View) (made : leb (v .made) (s .jobs) ≡ true)
       adding z =
           let i = v .worker PLACE w in let d = v .worker LIST-COUNT w in let name = v .worker OWN-NAME w in
           rw (known, ← (find-alike (nameAt v w) .0), ← (find-alike name .0))
-          (choose (Inside s m) (ltb i d) (λ _. (refl, look-up z i _)) (λ _. enter z name d _))
+          (choose (Inside s v m) (ltb i d) (λ _. (refl, look-up z i _)) (λ _. enter z name d _))
 
       linking : m ≡ false → placeOk (v .worker OWN-JOB w) (v .made) (s .jobs) ≡ true → Planned (λ u. planLinks s u w)
       unfolding planLinks
       linking z o =
           let found = find-alike (nameAt v w) in
           rw (known, ← (found .0))
-          (choose (Inside s m) (ltb (v .worker PLACE w) (v .worker LIST-COUNT w)) (λ _. link _ _ _ (found .1))
+          (choose (Inside s v m) (ltb (v .worker PLACE w) (v .worker LIST-COUNT w)) (λ _. link _ _ _ (found .1))
           (λ _. settle z _ _ _ o))
 
 -- a worker's own words: its hold, the job and the arc of its call are none or in use
@@ -222,7 +218,7 @@ module _ (s : Sizes) (v : View) (w : ℕ) (known : ltb w (s .workers) ≡ true) 
   phase = v .worker PHASE w
 
   abbrev pub P : Plan → Type 0
-  P = Inside s (marking v w)
+  P = Inside s v (marking v w)
 
   step-alike : leb (v .made) (s .jobs) ≡ true → leb (v .reserved) (s .arcs) ≡ true → Reads s v P (λ u. planCall s u w)
   unfolding planCall
@@ -240,29 +236,33 @@ module _ (s : Sizes) (v : View) (w : ℕ) (known : ltb w (s .workers) ≡ true) 
       (λ _. choose P (countersOk s v) (λ e. step-alike (search parts) (search parts)) (λ _. (refl, refl))))
 
   -- a get
-  take-alike : leb (v .made) (s .jobs) ≡ true → ltb (v .taken) (s .jobs) ≡ true → (j : ℕ)
-      → Reads s v (InsideGet s) (λ u. planTake u j)
+  take-alike : leb (v .made) (s .jobs) ≡ true → v .put ≤ s .jobs → v .taken < v .put
+      → Reads s v (InsideGet s v) planTake
   unfolding planTake
-  take-alike a b j = test (ltb j (v .made))
-      (λ e. let h = within j (v .made) (s .jobs) a e in
-      rw (e, h) (choose (InsideGet s) (eqb (v .job LABEL j) 0) (λ _. (refl, (h, b))) (λ _. (refl, refl))))
-      (λ e. rw e (refl, refl))
+  take-alike a b c =
+      let same = first-alike s v a b c in
+      rw (← (same .0)) (go (firstSeat v) (same .1))
+    where
+      go : (r : Seating) → InFirst s v a r → Alike (InsideGet s v) (takeFrom v r) (takeFrom (clip s v) r)
+      go (Seated e) i =
+          rw (lt-ltb 0 (s .jobs) (omega arith), i .1, i .2)
+          (choose (InsideGet s v) (eqb (v .job LABEL (nextJob v)) 0) (λ _. (refl, (i .2, i .0))) (λ _. (refl, refl)))
+      go Unseated i = (refl, refl)
 
-  queue-alike : Reads s v (InsideGet s) (λ u. planQueue s u)
+  queue-alike : Reads s v (InsideGet s v) (λ u. planQueue s u)
   unfolding planQueue
   queue-alike =
-      choose (InsideGet s) (countersOk s v && leb (v .taken) (v .put) && leb (v .put) (s .jobs))
-      (λ e. choose (InsideGet s) (eqb (v .taken) (v .put)) (λ _. (refl, tt))
+      choose (InsideGet s v) (countersOk s v && leb (v .taken) (v .put) && leb (v .put) (s .jobs))
+      (λ e. choose (InsideGet s v) (eqb (v .taken) (v .put)) (λ _. (refl, tt))
       (λ n. let a = leb-true (v .taken) (v .put) (search parts) in let b = leb-true (v .put) (s .jobs) (search parts) in
-      let h = lt-ltb (v .taken) (s .jobs) (omega (arith, eqb-false (v .taken) (v .put) n)) in
-      rw h (take-alike (search parts) h (v .cell 0 (v .taken)))))
+      take-alike (search parts) b (omega (arith, eqb-false (v .taken) (v .put) n))))
       (λ _. (refl, refl))
 
-  pub get-alike : Reads s v (InsideGet s) (λ u. planGet s u w)
+  pub get-alike : Reads s v (InsideGet s v) (λ u. planGet s u w)
   unfolding planGet
   get-alike =
-      rw known (choose (InsideGet s) (eqb phase IDLE)
-      (λ _. choose (InsideGet s) (eqb (v .worker HELD w) none) (λ _. queue-alike) (λ _. (refl, refl)))
+      rw known (choose (InsideGet s v) (eqb phase IDLE)
+      (λ _. choose (InsideGet s v) (eqb (v .worker HELD w) none) (λ _. queue-alike) (λ _. (refl, refl)))
       (λ _. (refl, refl)))
 
   -- posts

@@ -89,7 +89,7 @@ module _ (s : Sizes) (t : Tables) (w : ℕ) (h : Long s t) (known : ltb w (s .wo
   bare : (held : ℕ) → record-of w (putWorker (t .workers) w (bareWorker IDLE held)) ≡ bareWorker IDLE held
   bare held = put-back (s .workers) (t .workers) w (bareWorker IDLE held) (h .workers) known refl
 
-  step-left : (p : Plan) → Inside s (marking (view t) w) p → Left t w (outcome (answerOf p) (applied p t w))
+  step-left : (p : Plan) → Inside s (view t) (marking (view t) w) p → Left t w (outcome (answerOf p) (applied p t w))
   unfolding applied
   step-left (Refuse n) i = (rw i, rw i tt)
   step-left (Quit n j) i = (rw (i .0), rw (i .0, i .1) (refl, bare _))
@@ -99,17 +99,17 @@ module _ (s : Sizes) (t : Tables) (w : ℕ) (h : Long s t) (known : ltb w (s .wo
   step-left (LinkFirst p x j) i = (tt, tt)
   step-left (LinkAfter p l x j) i = (tt, tt)
   step-left (Settle j c) i = (tt, rw (i .1) (refl, bare _))
-  step-left (SettleQueue j c q) i = (tt, rw (i .2) (refl, bare _))
+  step-left (SettleQueue j c d) i = (tt, rw (i .2) (refl, bare _))
   step-left (Mark p x) i = test (eqb x none) (λ e. rw e (tt, rw (i .1) (refl, bare _))) (λ e. rw e (tt, tt))
   step-left (Notify j c x) i = test (eqb x none) (λ e. rw e (tt, rw (i .1) (refl, bare _))) (λ e. rw e (tt, tt))
-  step-left (NotifyQueue j c x q) i = test (eqb x none) (λ e. rw e (tt, rw (i .2) (refl, bare _))) (λ e. rw e (tt, tt))
+  step-left (NotifyQueue j c x d) i = test (eqb x none) (λ e. rw e (tt, rw (i .2) (refl, bare _))) (λ e. rw e (tt, tt))
 
-get-left : (s : Sizes) (t : Tables) (w : ℕ) (p : GetPlan) → InsideGet s p
+get-left : (s : Sizes) (t : Tables) (w : ℕ) (p : GetPlan) → InsideGet s (view t) p
     → Left t w (outcome (answerGet p) (appliedGet p t w))
 unfolding appliedGet
 get-left s t w (RefuseGet n) i = (rw i, rw i tt)
 get-left s t w Wait i = (refl, tt)
-get-left s t w (Take h q) i = (tt, tt)
+get-left s t w (Take h e) i = (tt, tt)
 
 post-left : (t : Tables) (w : ℕ) (x : List ℕ) (n : ℕ) → quitsBy n ≡ false → Left t w (posted n t w x)
 unfolding posted

@@ -4,27 +4,35 @@
 use mathlib.Core.Path.{_≡_, refl, _∙_}
 use mathlib.Core.Bool.{Bool, true, false}
 use mathlib.Core.List.{List, [], _∷_, _++_}
-use Prim.Native.Nat.{ℕ, suc, _+_, _*_, _^_, _≤_, _<_}
+use Prim.Native.Nat.{ℕ, zero, suc, _+_, _*_, _^_, _≤_, _<_}
 use native.Mathlib.Omega.{arith}
 use lib.Dec.{ltb, eqb, lit≤, lit<}
 use lib.ListN.{length, set, length-set}
 use lib.Seq.{sets, set-append-left, getD-set-other}
-use borrow.Author.Tests.{ltb-true, leb-true}
-use Rattle.basics.specs.Base.{pick}
+use borrow.Author.Tests.{ltb-true, leb-true, lt-ltb}
+use Rattle.basics.specs.Base.{pick, update}
+use Rattle.basics.specs.Laws.{pick-by}
+use Rattle.heap.specs.Sift.{above}
+use Rattle.heap.specs.Way.{WayUp, WayFirst, up-weaker, first-weaker}
 use Rattle.terms.specs.declared.Sizes.{Sizes}
-use Rattle.words.specs.Columns.{Shape, place, Rows, rows, columns, header, put, putHeader, inside}
+use Rattle.words.specs.Columns.{Shape, place, Rows, rows, columns, header, put, putHeader, inside, rows-put}
+use Rattle.words.specs.Columns.{columns-put}
 use Rattle.words.specs.Layout.{none, jobShape, JOBS, ARCS, BITS, WORKERS, MADE, LABEL, COUNT, FIRST, LAST, arcShape}
-use Rattle.words.specs.Layout.{RESERVED, DEPENDENT, AFTER, bucketShape, queueShape, TAKEN, PUT, workerShape, PHASE}
+use Rattle.words.specs.Layout.{RESERVED, DEPENDENT, AFTER, bucketShape, queueShape, TAKEN, PUT, CELL, SLOT, POSITION}
+use Rattle.words.specs.Layout.{workerShape, PHASE}
 use Rattle.words.specs.Layout.{HELD, OWN-NAME, LIST-COUNT, OWN-CLASS, OWN-GROWER, TALLY, PLACE, OWN-JOB, OWN-ARC, IDLE}
 use Rattle.words.specs.Layout.{LINKING, NOTIFYING, Tables, tables, view, bareWorker}
 use Rattle.words.specs.Words.{applied, appliedGet, idleWorker, putWorker, enteredJob, putField, nextPlace, arcsFrom}
 use Rattle.words.specs.Words.{markedWorker}
+use Rattle.words.specs.Index.{levels, slotIn, putSlot, shiftedDown, shiftedUp, putSeat, takeSeat}
+use Rattle.words.specs.declared.Seat.{Seat}
 use Rattle.words.specs.declared.Plan.{Plan}
 use Rattle.words.specs.declared.Plan.the-variants.{Refuse, Quit, Pass, Enter, Tally, LinkFirst, LinkAfter, Settle}
 use Rattle.words.specs.declared.Plan.the-variants.{SettleQueue, Mark, Notify, NotifyQueue}
 use Rattle.words.specs.declared.GetPlan.{GetPlan}
 use Rattle.words.specs.declared.GetPlan.the-variants.{RefuseGet, Wait, Take}
-use Rattle.locality.specs.Parts.{joined, lengths, laidOut, Long, columns-joined, record-ends}
+use Rattle.locality.specs.Parts.{test, joined, lengths, laidOut, Long, header-joined, columns-joined, record-ends}
+use Rattle.locality.specs.Seats.{Entering, Leaving}
 use Rattle.locality.specs.Plans.{Inside, InsideGet}
 
 -- ---- one table: its words and more behind them; its first words are the sizes that it keeps, which nothing stores in
@@ -145,6 +153,83 @@ module _ (s : Sizes) (t r : Tables) (h : Long s t) where
   pub unchanged : Carried t (joined t r)
   unchanged = carried start start start start start
 
+  -- ---- the queue and its index: slots are read within the table, and stored in from a slot up
+  read : {x y : List ℕ} → Stored Q x y → (i : ℕ) → i < s .jobs → slotIn y i ≡ slotIn x i
+  unfolding rows
+  read {x} d i o =
+      let e : Rows queueShape (s .jobs) x = rw (d .lengths) (h .queue) in
+      rw (d .joined) (columns-joined queueShape (s .jobs) x (r .queue) e SLOT i (lt-ltb i (s .jobs) o))
+
+  put-slot : {x y : List ℕ} → Stored Q x y → (i p : ℕ) → i < s .jobs → p < s .jobs
+      → Stored Q (putSlot x i p) (putSlot y i p)
+  put-slot d i p o a =
+      field (field d i SLOT p refl (lt-ltb i (s .jobs) o)) p POSITION i refl (lt-ltb p (s .jobs) a)
+
+  -- a slot that holds a place within the table
+  abbrev Holds : List ℕ → ℕ → Type 0
+  Holds x i = slotIn x i < s .jobs
+
+  -- and it still does when such a place is put in one
+  holds : {x y : List ℕ} → Stored Q x y → (i p : ℕ) → i < s .jobs → p < s .jobs
+      → (k : ℕ) → Holds x k → Holds (putSlot x i p) k
+  unfolding rows update
+  holds {x} d i p o a k b =
+      let e : Rows queueShape (s .jobs) x = rw (d .lengths) (h .queue) in
+      let f : Rows queueShape (s .jobs) (put queueShape x i SLOT p) = rows-put queueShape (s .jobs) x i SLOT p ∙ e in
+      rw (
+        columns-put queueShape (s .jobs) (put queueShape x i SLOT p) p POSITION i refl f a,
+        columns-put queueShape (s .jobs) x i SLOT p refl e o,
+      )
+      (pick-by (λ q. q < s .jobs) (eqb k i) (λ _. a) (λ _. b))
+
+  slots-down : (n : ℕ) {x y : List ℕ} → Stored Q x y → (p i k : ℕ) → p < s .jobs → i < s .jobs
+      → WayUp (Holds x) n i k
+      → Stored Q (shiftedDown n x p i k) (shiftedDown n y p i k)
+  unfolding shiftedDown
+  slots-down zero d p i k a o way = put-slot d i p o a
+  slots-down (suc n) {x} d p i k a o way = test (eqb i k) (λ e. rw e (put-slot d i p o a))
+      (λ e. let on : Holds x (above i) × WayUp (Holds x) n (above i) k = rw e at way in
+      rw (e, read d (above i) (omega arith))
+      (slots-down n (put-slot d i _ o (on .0)) p (above i) k a (omega arith)
+      (up-weaker (holds d i _ o (on .0)) n (above i) k (on .1))))
+
+  slots-up : (n : ℕ) {x y : List ℕ} → Stored Q x y → (p k : ℕ) → p < s .jobs → k < s .jobs → WayFirst (Holds x) n k
+      → Stored Q (shiftedUp n x p k) (shiftedUp n y p k)
+  unfolding shiftedUp
+  slots-up zero d p k a o way = put-slot d k p o a
+  slots-up (suc n) {x} d p k a o way = test (eqb k 0) (λ e. rw e (put-slot d k p o a))
+      (λ e. let on : Holds x k × WayFirst (Holds x) n (above k) = rw e at way in
+      rw (e, read d k o)
+      (slots-up n (put-slot d k p o a) _ (above k) (on .0) (omega arith)
+      (first-weaker (holds d k p o a) n (above k) (on .1))))
+
+  put-seat : (e : Seat) (j : ℕ) → Entering s (view t) e
+      → Stored Q (putSeat (t .queue) e j) (putSeat (t .queue ++ r .queue) e j)
+  unfolding putSeat
+  put-seat e j i =
+      let at = ltb-true (e .place) (s .jobs) (i .0) in
+      let same : (k : ℕ) → Holds (t .queue) k → Holds (put queueShape (t .queue) (e .place) CELL j) k = λ k b.
+      rw (columns-put queueShape (s .jobs) (t .queue) (e .place) CELL j refl (h .queue) at) b in
+      counter
+      (slots-down levels (field start (e .place) CELL j refl (i .0)) _ _ _ at (ltb-true _ _ (i .1))
+      (up-weaker same levels (e .last) (e .slot) (i .2)))
+      PUT _ refl
+      (omega arith)
+
+  take-seat : (e : Seat) → Leaving s (view t) e → Stored Q (takeSeat (t .queue) e) (takeSeat (t .queue ++ r .queue) e)
+  unfolding takeSeat
+  take-seat e i =
+      let last = ltb-true (e .last) (s .jobs) (i .1) in
+      let slot = ltb-true (e .slot) (s .jobs) (i .2) in
+      rw (read start (e .last) last, header-joined queueShape (s .jobs) (t .queue) (r .queue) (h .queue) TAKEN refl)
+      (counter
+      (field (field
+      (field (slots-up levels start _ _ (i .3) slot (i .4)) (e .last) SLOT none refl (i .1))
+      (e .place) CELL none refl (i .0))
+      (e .place) POSITION none refl (i .0))
+      TAKEN _ refl
+      (omega arith))
+
   module _ (w : ℕ) (known : ltb w (s .workers) ≡ true) where
     -- what the worker's record says
     pub own : (k : ℕ) → columns workerShape (t .workers ++ r .workers) k w ≡ columns workerShape (t .workers) k w
@@ -177,13 +262,8 @@ module _ (s : Sizes) (t r : Tables) (h : Long s t) where
         either (eqb x none) (fields start w (bareWorker IDLE none) known refl)
         (mine (mine (mine start PHASE NOTIFYING refl) HELD none refl) OWN-ARC x refl)
 
-    -- a cell of the queue, and a counter
-    cell : (q x k v : ℕ) → ltb q (s .jobs) ≡ true → ltb k (queueShape .head) ≡ true
-        → Stored Q (putHeader (put queueShape (t .queue) q 0 x) k v)
-        (putHeader (put queueShape (t .queue ++ r .queue) q 0 x) k v)
-    cell q x k v e o = counter (field start q 0 x refl e) k v o (omega arith)
-
-    pub step-carried : (m : Bool) (p : Plan) → Inside s m p → Carried (applied p t w) (applied p (joined t r) w)
+    pub step-carried : (m : Bool) (p : Plan) → Inside s (view t) m p
+        → Carried (applied p t w) (applied p (joined t r) w)
     unfolding applied
     step-carried m (Refuse n) i = unchanged
     step-carried m (Quit n j) i = carried start start start start idle
@@ -209,17 +289,17 @@ module _ (s : Sizes) (t r : Tables) (h : Long s t) where
         start
         next
     step-carried m (Settle j c) i = carried (field start j COUNT c refl (i .0)) start start start idle
-    step-carried m (SettleQueue j c q) i =
-        carried (field start j COUNT c refl (i .0)) start start (cell q j PUT (q + 1) (i .1) refl) idle
+    step-carried m (SettleQueue j c e) i =
+        carried (field start j COUNT c refl (i .0)) start start (put-seat e j (i .1)) idle
     step-carried m (Mark p x) i = carried (field start p LABEL 2 refl (i .0)) start start start (marked x)
     step-carried m (Notify j c x) i = carried (field start j COUNT c refl (i .0)) start start start (from x)
-    step-carried m (NotifyQueue j c x q) i =
-        carried (field start j COUNT c refl (i .0)) start start (cell q j PUT (q + 1) (i .1) refl) (from x)
+    step-carried m (NotifyQueue j c x e) i =
+        carried (field start j COUNT c refl (i .0)) start start (put-seat e j (i .1)) (from x)
 
-    pub get-carried : (p : GetPlan) → InsideGet s p → Carried (appliedGet p t w) (appliedGet p (joined t r) w)
+    pub get-carried : (p : GetPlan) → InsideGet s (view t) p → Carried (appliedGet p t w) (appliedGet p (joined t r) w)
     unfolding appliedGet
     get-carried (RefuseGet n) i = unchanged
     get-carried Wait i = unchanged
-    get-carried (Take h q) i =
-        carried (field start (h .job) LABEL 1 refl (i .0)) start start (cell q none TAKEN (q + 1) (i .1) refl)
+    get-carried (Take h e) i =
+        carried (field start (h .job) LABEL 1 refl (i .0)) start start (take-seat e (i .1))
         (mine start HELD (h .job) refl)

@@ -9,34 +9,43 @@
 --   whole calls               linearization: specs/Calls.antt              (read off items and answers alone)
 --   demand 3                  linearizability: specs/Demand.antt           (of any machine; wrong ones in Wrong*.antt)
 --   how calls end             linearizability: specs/Ends.antt
+--   long jobs first           linearizability: specs/LongFirst.antt; words: specs/Index.antt; heap: specs/Sift.antt
 --   the board                 graph_board: specs/Board.antt, specs/Accounted.antt
 --   held and drained          worker_state: specs/Held.antt, specs/Drained.antt; state_history: specs/Told.antt
 --   words needed, and rest    locality: specs/Parts.antt, specs/Refusals.antt, specs/Numbers.antt
+--   what a get compares       locality: specs/Compared.antt, specs/Classes.antt
+--   what it looks at, takes   locality: specs/Looked.antt, specs/IndexFirst.antt
+--   the index is exact        words_history: specs/IndexExact.antt
 -- An item is a post, a step or a get, by any worker, with any sizes and arguments, right or wrong; `events` are the
 -- items with their answers, and `after` is the state that they leave. "Laid out" means: `layOut s t` answered so,
 -- whatever the tables t held before. Assumes nothing.
-use mathlib.Core.Path.{_≡_}
+use mathlib.Core.Path.{_≡_, refl}
 use mathlib.Core.Logic.{_↔_, _≢_}
-use mathlib.Core.Bool.{true, false}
+use mathlib.Core.Bool.{true, false, _&&_}
 use mathlib.Core.List.{List, [], _∷_, _++_}
 use mathlib.Core.Option.{none}
-use Prim.Native.Nat.{ℕ, _+_, _^_, _≤_, _<_}
+use Prim.Native.Nat.{ℕ, suc, _+_, _*_, _^_, _≤_, _<_}
+use native.Mathlib.Omega.{arith}
 use lib.ListN.{length, getD}
 use lib.Seq.{sets}
 use Rattle.basics.specs.Limits.{mostNames}
 use Rattle.basics.specs.Base.{pick, contains, occurrences}
 use Rattle.bucket.specs.Bucket.{bucketOf}
 use Rattle.terms.specs.Terms.{Arguments, withinLimits, sameSizes, wrongSizes, noSuchWorker, damaged}
-use Rattle.terms.specs.Terms.{halfDone, nothingToStep, mostWorkers, Finish}
+use Rattle.terms.specs.Terms.{halfDone, nothingToStep, mostJobs, mostWorkers, Finish}
+use Rattle.terms.specs.Order.{First}
 use Rattle.terms.specs.Runs.{Item, step, get, sizesOf, workerOf, outcome, after, events}
 use Rattle.terms.specs.Seen.{Same, idle, handOut}
 use Rattle.terms.specs.declared.Sizes.{Sizes}
 use Rattle.terms.specs.declared.HandOut.{HandOut}
 use Rattle.terms.specs.declared.Answer.the-variants.{Laid, Posted, Ended, NoneReady, Handed, Refused}
-use Rattle.words.specs.Layout.{Tables, view, workerShape, NAME, LABEL, HELD, LIST-COUNT, NAMES, IDLE, bareWorker}
+use Rattle.heap.specs.Compared.{Alike}
+use Rattle.words.specs.Layout.{Tables, View, view, workerShape, NAME, LABEL, HELD, LIST-COUNT, NAMES, IDLE, bareWorker}
 use Rattle.words.specs.Layout.{roomFor}
 use Rattle.words.specs.Layout as words
-use Rattle.words.specs.Words.{putWorker, finishWords, stepWords, getWords, perform, layOut}
+use Rattle.words.specs.Index.{levels, rankOf, waits, filled, firstPlace, firstSeat, seatFor}
+use Rattle.words.specs.Words as by-words
+use Rattle.words.specs.Words.{nextJob, putWorker, finishWords, stepWords, getWords, perform, layOut}
 use Rattle.words.specs.Observed.{waiting, bucketFrom, newestFirst, seen}
 use Rattle.rules.specs.Rules.{empty}
 use Rattle.rules.specs.Rules as rules
@@ -45,8 +54,10 @@ use Rattle.linearization.specs.Calls.{adding, finishing, Reading, reading, Quie
 use Rattle.linearization.specs.Calls as reading
 use Rattle.linearizability.specs.Demand.{Demand, addOf, HandedRightly, JobFinished, gives, handedOut}
 use Rattle.linearizability.specs.Ends.{AddStep, FinishOf}
+use Rattle.linearizability.specs.LongFirst.{longFirst, TakesLongest, ByCount}
 use Rattle.words_history.specs.Theorem as shown
 use Rattle.words_history.specs.Lifted as lifted
+use Rattle.words_history.specs.IndexExact.{IndexExact, index-exact}
 use Rattle.locality.specs.Parts.{needed, rest, joined, lengths, laidOut}
 use Rattle.locality.specs.Plans.{quitsBy}
 use Rattle.locality.specs.Numbers.{Fits}
@@ -54,6 +65,12 @@ use Rattle.locality.specs.Numbers as list
 use Rattle.locality.specs.Refusals.{idled, ends, wordsOf, holdAfter}
 use Rattle.locality.specs.Refusals as refusals
 use Rattle.locality.specs.Within as within
+use Rattle.locality.specs.Compared.{index, reach, planAt, placesByGet, comparedByGet, few-compared}
+use Rattle.locality.specs.Classes.{ButClasses, Classed, withJobs, SameGet, get-by-classes}
+use Rattle.locality.specs.IndexFirst.{FirstTaken, planned, first-taken, none-ready-empty}
+use Rattle.locality.specs.Looked.{eachWaits, isSeated, lookedByGet, takesFirst, lookedByEntry, mayEnter}
+use Rattle.locality.specs.Looked as looked
+use Rattle.locality.specs.Queued.{SettlesRightly, NotifiesRightly, settles-rightly, notifies-rightly}
 use Rattle.locality.specs.Laying.{fresh}
 use Rattle.locality.specs.Laying as laying
 use Rattle.sheet_format.specs.Job.{Job}
@@ -111,10 +128,11 @@ module _ (s : Sizes) (t : Tables) (laid : layOut s t .answer ≡ Laid) (items : 
   pub no-job-is-finished-twice : (name : ℕ) → occurrences name (acceptedFinishes (read .calls)) ≤ 1
   no-job-is-finished-twice = lifted.once-finished s t laid items
 
-  -- And none is forgotten: a worker that is idle and jobless is handed the job longest in the queue, if one is there;
-  pub a-waiting-job-is-handed-out : (w j : ℕ) (rest : List ℕ) → w < s .workers → seen at-end .call w ≡ idle
+  -- And none is forgotten: a worker that is idle and jobless is handed the first of the waiting jobs by the order of
+  -- hand-outs, if one waits;
+  pub a-waiting-job-is-handed-out : (w j : ℕ) → w < s .workers → seen at-end .call w ≡ idle
       → seen at-end .held w ≡ none
-      → seen at-end .waiting ≡ j ∷ rest
+      → First (longFirst (seen at-end)) (seen at-end .waiting) j
       → perform at-end (get s w) .answer ≡ Handed (handOut (seen at-end) j)
   a-waiting-job-is-handed-out = lifted.hands-out s t laid items
 
@@ -169,12 +187,20 @@ module _ (s : Sizes) (t : Tables) (laid : layOut s t .answer ≡ Laid) (items : 
       × (seen at-end .waiting ≡ []))
   none-ready-exactly = lifted.none-ready s t laid items
 
-  -- First in, first out: a job with k jobs before it in the queue is the one that the (k+1)th get that hands one out
-  -- hands out.
-  pub first-in-first-out : (later : List Item) (k : ℕ) → k < length (handedOut (events perform at-end later))
-      → k < length (waiting at-end)
-      → getD (handedOut (events perform at-end later)) k 0 ≡ getD (waiting at-end) k 0
-  first-in-first-out = shown.in-turn s t laid items
+  -- ---- long jobs first. "Get takes the waiting job with the most minutes, equal minutes by earlier entry into the
+  -- queue": an idle and jobless worker takes it if one waits, nothing else is ever handed out, and the jobs wait in the
+  -- order in which they entered;
+  pub long-jobs-go-first : TakesLongest perform seen s at-end
+  long-jobs-go-first = lifted.takes-longest s t laid items
+
+  -- a job with k jobs before it in this order is the one that the (k+1)th get that hands one out hands out, while no
+  -- heavier job enters, and waits until then.
+  pub a-job-is-handed-out-in-its-turn : ByCount perform seen s at-end
+  a-job-is-handed-out-in-its-turn = lifted.by-count s t laid items
+
+  -- "From a fresh graph the index holds exactly the waiting jobs after every step."
+  pub the-index-holds-the-waiting-jobs : IndexExact perform (layOut s t .state) items
+  the-index-holds-the-waiting-jobs = index-exact s t laid items
 
   -- ---- the words of workers. "A call that ends puts the words of its call back": of a worker in no call all words but
   -- the hold are as laid out,
@@ -282,6 +308,80 @@ pub a-list-keeps-to-the-need : (t : Tables) (items : List Item)
     × (after perform t items ≡ joined (after perform (needed (laidOut t) t) items) (rest (laidOut t) t))
     × (rest (laidOut t) (after perform t items) ≡ rest (laidOut t) t)
 a-list-keeps-to-the-need = within.list-within
+
+-- ---- the index beside the queue, on ALL tables
+module _ (s : Sizes) (t : Tables) (w : ℕ) where
+  -- "a get compares at most 64 pairs of jobs": a definition lists them, and they are 24 at most;
+  pub a-get-compares-at-most-64-pairs : length (comparedByGet s t w) ≤ 64
+  a-get-compares-at-most-64-pairs = omega (arith, few-compared s t w)
+
+  pub a-get-compares-at-most-24-pairs : length (comparedByGet s t w) ≤ 24
+  a-get-compares-at-most-24-pairs = few-compared s t w
+
+  -- and no other pair decides: with other classes within their limit that order these pairs alike the get answers and
+  -- leaves the same.
+  pub no-other-pair-decides : (m : List ℕ) → ButClasses (t .jobs) m → Classed (t .jobs) → Classed m
+      → Alike (rankOf (view t)) (rankOf (view (withJobs t m))) (placesByGet s t w)
+      → SameGet s t m w
+  no-other-pair-decides m = get-by-classes s t m w
+
+  -- How far a get comes decides what it plans: a refusal before it looks at the queue, "none ready" over an empty
+  -- queue, or what the index gives.
+  pub a-get-plans-by-how-far-it-comes : by-words.planGetOf s t w
+      ≡ planAt (reach s t w) (by-words.takeFrom (view t) (firstSeat (view t)))
+  a-get-plans-by-how-far-it-comes = planned s t w
+
+  -- Of a get that comes to the index: "where a call finds that" it does not hold exactly the waiting jobs, "that is
+  -- number 9": one of the slots that it looks at does not wait, or the first job is not unexecuted;
+  module _ (comes : reach s t w ≡ index) where
+    pub a-wrong-index-that-is-seen-is-9 : takesFirst (view t) ≡ false → getWords s t w ≡ outcome (Refused damaged 0) t
+    a-wrong-index-that-is-seen-is-9 = looked.refused-at-index s t w comes
+
+    pub an-empty-index-is-seen : firstPlace (view t) ≡ words.none → getWords s t w ≡ outcome (Refused damaged 0) t
+    an-empty-index-is-seen = looked.empty-at-index s t w comes
+
+    -- "and where no word read shows it, get takes the index's first", whatever the order of its slots.
+    pub a-get-takes-the-indexs-first : takesFirst (view t) ≡ true
+        → getWords s t w .answer ≡ Handed (by-words.handOut (view t) (nextJob (view t)))
+    a-get-takes-the-indexs-first = looked.handed-at-index s t w comes
+
+    pub slots-that-wait-are-trusted : ((k : ℕ) → k < filled (view t) → waits (view t) k ≡ true)
+        → view t .job LABEL (nextJob (view t)) ≡ 0
+        → getWords s t w .answer ≡ Handed (by-words.handOut (view t) (nextJob (view t)))
+    slots-that-wait-are-trusted = looked.trusted-at-index s t w comes
+
+  -- No get hands out another job, and none says "none ready" over a filled queue.
+  pub only-the-indexs-first-is-handed-out : (h : HandOut) → getWords s t w .answer ≡ Handed h → FirstTaken (view t) h
+  only-the-indexs-first-is-handed-out = first-taken s t w
+
+  pub none-ready-is-an-empty-queue : getWords s t w .answer ≡ NoneReady → view t .taken ≡ view t .put
+  none-ready-is-an-empty-queue = none-ready-empty s t w
+
+module _ (v : View) where
+  -- A job that enters has a seat exactly if there is room, its class is within the limit, and each slot that it looks
+  -- at waits;
+  pub a-job-is-seated-exactly : (s : Sizes) (j : ℕ)
+      → isSeated (seatFor s v j) ≡ (mayEnter s v j && eachWaits v (lookedByEntry v j))
+  a-job-is-seated-exactly s = looked.entry-exact s v
+
+  -- and no step leaves a job out of the queue: one whose count settles, or falls to 0, is queued in its seat, and
+  -- without a seat the step is refused by 9.
+  pub a-settled-job-is-queued : (s : Sizes) (j t d : ℕ) → SettlesRightly s v t d (by-words.planSettle s v j t d)
+  a-settled-job-is-queued s = settles-rightly s v
+
+  pub a-notified-job-is-queued : (s : Sizes) (x : ℕ) → NotifiesRightly s v (by-words.planNotify s v x)
+  a-notified-job-is-queued s = notifies-rightly s v
+
+  -- The slots looked at, so the cost, grow with the logarithm of the waiting jobs, of an entry and of a get.
+  pub an-entry-looks-at-few-slots : (j k : ℕ) → filled v + 1 < 2 ^ suc k → length (lookedByEntry v j) ≤ k
+  an-entry-looks-at-few-slots = looked.log-by-entry v
+
+  pub a-get-looks-at-few-slots : (k : ℕ) → filled v ≤ 2 ^ suc k → length (lookedByGet v) ≤ 2 + 2 * k
+  a-get-looks-at-few-slots = looked.log-by-get v
+
+-- The levels of the index suffice for the greatest number of jobs.
+pub the-levels-suffice : 2 ^ levels ≡ mostJobs
+the-levels-suffice = refl
 
 -- What a worker holds is answered, or turned away by 1, 2 or 9; whether the graph is drained, by 1 or 9.
 module _ (s : Sizes) (t : Tables) where

@@ -21,9 +21,10 @@ use Rattle.terms.specs.declared.Answer.{Answer}
 use Rattle.terms.specs.declared.Answer.the-variants.{Laid, Going, Ended, Refused}
 use Rattle.words.specs.Layout.{Tables, none}
 use Rattle.words.specs.Words.{perform, addWords, layOut}
-use Rattle.words.specs.Observed.{seen}
+use Rattle.words.specs.Observed.{waiting, indexed, seen}
 use Rattle.linearization.specs.Calls.{idle, reading, acceptedFinishes}
 use Rattle.linearizability.specs.Demand.{handedOut}
+use Rattle.linearizability.specs.LongFirst.{TakesLongest, ByCount}
 use Rattle.sheet_format.specs.Job.{Job}
 use Rattle.sheet_format.specs.NumberLaws.{Bytes}
 use Rattle.sheet_format.specs.Decode.{decodeSheet, jobs, rowWords, readSheet}
@@ -33,7 +34,7 @@ use Rattle.whole_words.specs.Sheet.{sheetOutcome, sheetWords}
 use Rattle.whole_words.specs.CallEnds as ends
 use Rattle.sheet_rows.specs.SheetRows.{addsOf, rowsWords, sheetAdded}
 use Rattle.fused_words.specs.FusedWorker.{Admitted, isIdle, holdOf, idledWith}
-use Rattle.host_calls.specs.HostCalls.{HostCall, sheet, one, each, replied, worth, replyWorth}
+use Rattle.host_calls.specs.HostCalls.{HostCall, sheet, one, each, replied, worth, replyWorth, afterCalls}
 use Rattle.host_calls.specs.HostCalls as host
 use Rattle.host_calls.specs.CallsDemand.{CallsDemand, items}
 use Rattle.calls_history.specs.WordsCalls.{turnedWords, answerWords}
@@ -79,6 +80,24 @@ module _ (s : Sizes) (t : Tables) (laid : layOut s t .answer ≡ Laid) (calls : 
   pub no-job-is-finished-twice-by-calls : (name : ℕ)
       → occurrences name (acceptedFinishes (reading (events perform (layOut s t .state) worthOf) .calls)) ≤ 1
   no-job-is-finished-twice-by-calls = of-items.no-job-is-finished-twice s t laid worthOf
+
+  -- After such calls too long jobs go first, each in its turn, and the index holds exactly the waiting jobs. (Later
+  -- whole calls count as the items that they are worth.)
+  abbrev pub after-calls : Tables
+  after-calls = afterCalls answerWords (layOut s t .state) calls
+
+  pub long-jobs-go-first-after-calls : TakesLongest perform seen s after-calls
+  long-jobs-go-first-after-calls =
+      rw (calls-demand s t laid calls .leaves) (of-items.long-jobs-go-first s t laid worthOf)
+
+  pub a-job-is-handed-out-in-its-turn-after-calls : ByCount perform seen s after-calls
+  a-job-is-handed-out-in-its-turn-after-calls =
+      rw (calls-demand s t laid calls .leaves) (of-items.a-job-is-handed-out-in-its-turn s t laid worthOf)
+
+  pub the-index-holds-the-waiting-jobs-after-calls : (j : ℕ)
+      → occurrences j (indexed after-calls) ≡ occurrences j (waiting after-calls)
+  the-index-holds-the-waiting-jobs-after-calls =
+      rw (calls-demand s t laid calls .leaves) (of-items.the-index-holds-the-waiting-jobs s t laid worthOf .jobs)
 
   -- No call is cut short: to an idle worker an add replies that it ended, or 5 to 8; a finish that it ended, or 11; a
   -- sheet of up to 64 entries has such an answer for each.

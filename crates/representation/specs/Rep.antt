@@ -1,6 +1,6 @@
 -- The relation between the words of the tables and the graph of the rules. Assumes nothing.
 use mathlib.Core.Path.{_≡_}
-use mathlib.Core.Bool.{true}
+use mathlib.Core.Bool.{true, _&&_}
 use mathlib.Core.List.{List, [], _∷_, _++_}
 use mathlib.Core.Option.{Option, none, some}
 use Prim.Native.Nat.{ℕ, zero, suc, _+_, _-_, _^_, _<_}
@@ -9,15 +9,18 @@ use lib.ListN.{length, getD}
 use Rattle.basics.specs.Limits.{mostNames}
 use Rattle.basics.specs.Base.{pick, update}
 use Rattle.bucket.specs.Bucket.{bucketOf}
+use Rattle.heap.specs.Heap.{Heap, count}
 use Rattle.terms.specs.Terms.{labelNumber, Arguments, listed, withinLimits}
 use Rattle.terms.specs.declared.Sizes.{Sizes}
 use Rattle.words.specs.Columns.{Rows}
 use Rattle.words.specs.Layout.{jobShape, NAME, LABEL, COUNT, CLASS, GROWER, FIRST, LAST, NEXT, arcShape, DEPENDENT}
 use Rattle.words.specs.Layout.{AFTER, bucketShape, queueShape, workerShape, PHASE, HELD, OWN-NAME, LIST-COUNT}
 use Rattle.words.specs.Layout.{OWN-CLASS, OWN-GROWER, TALLY, PLACE, OWN-JOB, OWN-ARC, NAMES, IDLE, LOOKING, LINKING}
-use Rattle.words.specs.Layout.{MARKING, NOTIFYING, view, sizesKept, Tables, View}
+use Rattle.words.specs.Layout.{MARKING, NOTIFYING, CELL, SLOT, POSITION, view, sizesKept, Tables, View}
 use Rattle.words.specs.Layout as words
-use Rattle.words.specs.Words.{firstArc}
+use Rattle.words.specs.Index.{rankOf}
+use Rattle.words.specs.Words.{isPlace, firstArc}
+use Rattle.words.specs.Observed.{jobsIn}
 use Rattle.rules.specs.Rules.{Job, Call, idle, looking, linking, marking, notifying, Worker, Graph, job}
 use Rattle.rules.specs.Sound.{started}
 
@@ -88,13 +91,20 @@ pub record Linked (f : ℕ → ℕ → ℕ) (G : Ghost) (reserved p i a n d : �
   pub rank : G .rank a ≡ i
   pub spent : a < G .base (G .owner a) + G .linked (G .owner a)
 
+-- ---- the index: a heap of the places whose cells have a job, each in one of the n filled slots, which is its position
+pub record Index (v : View) (n : ℕ) : Type 0 where
+  pub places : (p : ℕ) → count n (v .cell SLOT) p ≡ pick (ltb p (v .put) && isPlace (v .cell CELL p)) 1 0
+  pub positions : (k : ℕ) → k < n → v .cell POSITION (v .cell SLOT k) ≡ k
+  pub heap : Heap (rankOf v) n (v .cell SLOT)
+
 -- ---- jobs, arcs, buckets and queue
 pub record TablesRep (s : Sizes) (v : View) (g : Graph) (G : Ghost) : Type 0 where
   pub made : v .made ≡ length (g .jobs)
   pub reserved : v .reserved ≡ g .reserved
   pub taken : v .taken ≡ started (g .jobs)
   pub put : v .put ≡ v .taken + length (g .queue)
-  pub cells : (i : ℕ) → i < length (g .queue) → v .cell 0 (v .taken + i) ≡ getD (g .queue) i 0
+  pub queue : jobsIn (v .cell CELL) 0 (v .put) ≡ g .queue
+  pub index : Index v (length (g .queue))
   pub rows : (j : ℕ) → j < s .jobs → Row (v .job) j (G .via j) (job g j)
   pub buckets : (k : ℕ) → k < 2 ^ s .bits
       → Bucket (v .job NEXT) (λ j. bucketOf (v .job NAME j) (s .bits)) k (v .bucket 0 k) (length (g .jobs))

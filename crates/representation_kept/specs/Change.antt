@@ -12,11 +12,12 @@ use lib.ListN.{length, getD, set, length-set}
 use Rattle.basics.specs.Laws.{set-all, update-other}
 use Rattle.terms.specs.declared.Sizes.{Sizes}
 use Rattle.words.specs.Columns.{put, store, Rows, rows-put, stores}
-use Rattle.words.specs.Layout.{jobShape, NAME, LABEL, COUNT, CLASS, GROWER, FIRST, LAST, NEXT, queueShape, sizesKept}
-use Rattle.words.specs.Layout.{Tables, tables, view, View}
+use Rattle.words.specs.Layout.{jobShape, NAME, LABEL, COUNT, CLASS, GROWER, FIRST, LAST, NEXT, queueShape, CELL}
+use Rattle.words.specs.Layout.{sizesKept, Tables, tables, view, View}
+use Rattle.words.specs.Observed.{jobsIn}
 use Rattle.rules.specs.Rules.{Job, Worker, Graph, noJob, job, withJobs, withQueue, withWorkers}
 use Rattle.rules.specs.Sound.{started, startedBy}
-use Rattle.representation.specs.Rep.{Ghost, Row, TablesRep, Stands}
+use Rattle.representation.specs.Rep.{Ghost, Row, Index, TablesRep, Stands}
 use Rattle.representation_kept.specs.Stand.{TablesStand, viewOf}
 
 pub kept-put : (s : Sizes) (l : List ℕ) (i k x : ℕ) → sizesKept s (put jobShape l i k x) ≡ sizesKept s l
@@ -94,17 +95,19 @@ module _ (s : Sizes) (v : View) (g : Graph) (G : Ghost) (R : TablesRep s v g G) 
 
   pub change-rep : (j < s .jobs → Row f j (G .via j) y) → ((k : ℕ) → k ≢ j → k < s .jobs → Row f k (G .via k) (job g k))
       → taken ≡ started (set (g .jobs) j y) → put ≡ taken + length q
-      → ((i : ℕ) → i < length q → c 0 (taken + i) ≡ getD q i 0)
+      → jobsIn (c CELL) 0 put ≡ q
+      → Index (viewOf (v .made) (v .reserved) taken put f (v .arc) (v .bucket) c r) (length q)
       → TablesRep s
       (viewOf (v .made) (v .reserved) taken put f (v .arc) (v .bucket) c r)
       (withJobs (withQueue (withWorkers g h) q) (set (g .jobs) j y))
       G
-  change-rep here there a b d = record {
+  change-rep here there a b d I = record {
     made = R .made ∙ sym count;
     reserved = R .reserved;
     taken = a;
     put = b;
-    cells = d;
+    queue = d;
+    index = I;
     rows = all (λ k z. k < s .jobs → Row f k (G .via k) z) here there;
     buckets = λ k o. rw (count, names, nexts) (R .buckets k o);
     lengths = λ p. R .lengths p ∙ sym (ap length (dependents-then p));

@@ -4,25 +4,28 @@ use mathlib.Core.Path.{_≡_, refl, _∙_}
 use mathlib.Core.Logic.{_≢_}
 use mathlib.Core.Bool.{true, false}
 use mathlib.Core.List.{List, [], _∷_, _++_}
-use Prim.Native.Nat.{ℕ, _+_, _-_, _<_}
+use Prim.Native.Nat.{ℕ, suc, _+_, _-_, _<_}
 use native.Mathlib.Omega.{arith}
 use lib.Dec.{eqb}
 use lib.ListN.{length, set, length-append}
 use Rattle.terms.specs.Terms.{settles}
 use Rattle.basics.specs.Laws.{update-same}
 use Rattle.terms.specs.declared.Sizes.{Sizes}
-use Rattle.words.specs.Columns.{columns, columns-put, put, store, header-putHeader}
-use Rattle.words.specs.Columns.{stores}
-use Rattle.words.specs.Layout.{jobShape, COUNT, queueShape, workerShape, tables, view, Tables, View}
-use Rattle.words.specs.Words.{applied, putCount, putCell}
+use Rattle.words.specs.Columns.{columns, columns-put, put, store, stores}
+use Rattle.words.specs.Layout.{jobShape, COUNT, CELL, workerShape, tables, view, Tables, View}
+use Rattle.words.specs.Index.{putSeat}
+use Rattle.words.specs.Words.{applied, putCount}
+use Rattle.words.specs.Observed.{jobsIn}
 use Rattle.words.specs.declared.Plan.the-variants.{Settle, SettleQueue, Notify, NotifyQueue}
 use Rattle.rules.specs.Rules.{Call, Worker, Graph, job, withCount, settled, notified, withJobs, withQueue}
 use Rattle.rules.specs.Rules.{withWorkers}
 use Rattle.rules.specs.Sound.{Sound, MayQueue, started}
-use Rattle.representation.specs.Rep.{Ghost, Row, TablesRep, Stands}
+use Rattle.representation.specs.Rep.{Ghost, Row, Index, TablesRep, Stands}
 use Rattle.representation_kept.specs.Stand.{TablesStand, viewOf}
 use Rattle.representation_kept.specs.Change.{started-set, change-rep, row-other, job-stands}
-use Rattle.representation_kept.specs.Queue.{cells-put}
+use Rattle.representation_kept.specs.Places.{index-kept}
+use Rattle.representation_kept.specs.Slots.{seat-put}
+use Rattle.representation_kept.specs.Queue.{seatOf, entering, put-fits, queue-put, index-put, slots-within}
 
 -- the graph with job j's count c, and the queue q
 abbrev counted : Graph → ℕ → ℕ → List ℕ → (ℕ → Worker) → Graph
@@ -60,27 +63,26 @@ module _ (s : Sizes) (v : View) (g : Graph) (G : Ghost) (R : TablesRep s v g G) 
       (g .queue) r h here there
       (R .taken ∙ same)
       (R .put)
-      (R .cells)
+      (R .queue)
+      (index-kept v (length (g .queue)) (R .index) _ _ _ f _ _ r (λ p b e. refl))
 
-  -- the job is put in cell i
-  queue-rep : (i : ℕ) → i ≡ v .taken + length (g .queue)
-      → TablesRep s (viewOf (v .made) (v .reserved) (v .taken) (i + 1) f (v .arc) (v .bucket) (store (v .cell) i 0 j) r)
+  -- the job is put in the queue
+  queue-rep : (taken puts : ℕ) (k : ℕ → ℕ → ℕ) → taken ≡ v .taken → puts ≡ v .put + 1
+      → jobsIn (k CELL) 0 puts ≡ g .queue ++ (j ∷ [])
+      → Index (viewOf (v .made) (v .reserved) taken puts f (v .arc) (v .bucket) k r) (suc (length (g .queue)))
+      → TablesRep s (viewOf (v .made) (v .reserved) taken puts f (v .arc) (v .bucket) k r)
       (counted g j c (g .queue ++ (j ∷ [])) h)
       G
-  queue-rep i e =
-      rw e
-      (change-rep s v g G R j hj (withCount (job g j) c) refl refl f
-      (store (v .cell) (v .taken + length (g .queue)) 0 j) refl refl
-      (v .taken)
-      (v .taken + length (g .queue) + 1)
-      (g .queue ++ (j ∷ []))
-      r
-      h
+  queue-rep taken puts k a b q I =
+      let longer : length (g .queue ++ (j ∷ [])) ≡ suc (length (g .queue)) =
+      omega (arith, length-append (g .queue) (j ∷ [])) in
+      change-rep s v g G R j hj (withCount (job g j) c) refl refl f k refl refl taken puts (g .queue ++ (j ∷ [])) r h
       here
       there
-      (R .taken ∙ same)
-      (omega (arith, length-append (g .queue) (j ∷ [])))
-      (cells-put (v .cell) (v .taken) j (g .queue) (R .cells)))
+      (a ∙ R .taken ∙ same)
+      (omega (arith, R .put))
+      q
+      (rw longer I)
 
 -- ---- over the words
 module _ (s : Sizes) (t : Tables) (g : Graph) (G : Ghost) (S : Stands s t g G) (O : Sound s g) where
@@ -96,35 +98,31 @@ module _ (s : Sizes) (t : Tables) (g : Graph) (G : Ghost) (S : Stands s t g G) (
       (simp (stores, columns-put jobShape (s .jobs), S .jobs)
       (count-rep s (view t) g G R j hj c (columns workerShape l) h))
 
-  queue-stands : (j : ℕ) → j < length (g .jobs) → MayQueue g j → (c : ℕ) (l : List ℕ) (h : ℕ → Worker)
+  queue-stands : (j : ℕ) (hj : j < length (g .jobs)) (M : MayQueue g j) (c : ℕ) (l : List ℕ) (h : ℕ → Worker)
       → TablesStand s
-      (tables (putCount (t .jobs) j c) (t .arcs) (t .buckets)
-      (putCell (t .queue) (started (g .jobs) + length (g .queue)) j) l)
+      (tables (putCount (t .jobs) j c) (t .arcs) (t .buckets) (putSeat (t .queue) (seatOf s t g G S O j hj M) j) l)
       (counted g j c (g .queue ++ (j ∷ [])) h)
       G
   queue-stands j hj M c l h =
       let b : j < s .jobs = omega (arith, O .jobs) in
-      let d : started (g .jobs) + length (g .queue) < s .jobs = omega (arith, M .room, O .jobs) in
-      job-stands s t g G S j COUNT c _ l _ (simp (stores, S .queue))
-      (simp (
-        stores,
-        columns-put jobShape (s .jobs),
-        columns-put queueShape (s .jobs),
-        header-putHeader queueShape (s .jobs),
-        S .jobs,
-        S .queue,
-      )
-      (queue-rep s (view t) g G R j hj c (columns workerShape l) h (started (g .jobs) + length (g .queue))
-      (omega (arith, R .taken))))
+      let d : view t .put < s .jobs = put-fits s t g G S O j hj M in
+      let q = seat-put (s .jobs) (t .queue) (S .queue) j (view t .put) (length (g .queue))
+      (entering s t g G S O j hj M .at) d (omega (arith, R .put)) (entering s t g G S O j hj M .within)
+      (slots-within s t g G S O) in
+      job-stands s t g G S j COUNT c _ l _ (q .rows)
+      (simp (stores, columns-put jobShape (s .jobs), S .jobs)
+      (queue-rep s (view t) g G R j hj c (columns workerShape l) h _ _ _ (q .taken) (q .puts)
+      (rw (q .puts, q .cells) (queue-put s t g G S O j hj M))
+      (index-put s t g G S O j hj M _ (q .puts) refl (q .cells) (q .slots) (q .positions))))
 
   pub settle-stands : (w j u d : ℕ) → j < length (g .jobs) → settles (job g j .count - u) u d ≡ false
       → TablesStand s (applied (Settle j (job g j .count - u)) t w) (settled g w j u d) G
   unfolding applied
   settle-stands w j u d hj e = rw e (count-stands j hj (job g j .count - u) _ _)
 
-  pub settle-queue-stands : (w j u d : ℕ) → j < length (g .jobs) → settles (job g j .count - u) u d ≡ true
-      → MayQueue g j
-      → TablesStand s (applied (SettleQueue j (job g j .count - u) (started (g .jobs) + length (g .queue))) t w)
+  pub settle-queue-stands : (w j u d : ℕ) (hj : j < length (g .jobs)) → settles (job g j .count - u) u d ≡ true
+      → (M : MayQueue g j)
+      → TablesStand s (applied (SettleQueue j (job g j .count - u) (seatOf s t g G S O j hj M)) t w)
       (settled g w j u d) G
   unfolding applied
   settle-queue-stands w j u d hj e M = rw e (queue-stands j hj M (job g j .count - u) _ _)
@@ -134,9 +132,9 @@ module _ (s : Sizes) (t : Tables) (g : Graph) (G : Ghost) (S : Stands s t g G) (
   unfolding applied
   notify-stands w j x c hj e = rw e (count-stands j hj (job g j .count - 1) _ _)
 
-  pub notify-queue-stands : (w j x : ℕ) (c : Call) → j < length (g .jobs) → eqb (job g j .count - 1) 0 ≡ true
-      → MayQueue g j
-      → TablesStand s (applied (NotifyQueue j (job g j .count - 1) x (started (g .jobs) + length (g .queue))) t w)
+  pub notify-queue-stands : (w j x : ℕ) (c : Call) (hj : j < length (g .jobs)) → eqb (job g j .count - 1) 0 ≡ true
+      → (M : MayQueue g j)
+      → TablesStand s (applied (NotifyQueue j (job g j .count - 1) x (seatOf s t g G S O j hj M)) t w)
       (notified g w j c) G
   unfolding applied
   notify-queue-stands w j x c hj e M = rw e (queue-stands j hj M (job g j .count - 1) _ _)

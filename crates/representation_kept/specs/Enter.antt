@@ -12,7 +12,7 @@ use lib.Dec.{eqb}
 use lib.ListN.{length, getD, length-append, List·getD-eq-default}
 use lib.Seq.{sets}
 use borrow.Author.Tests.{lt-ltb, le-ltb, eqb-true, eqb-false}
-use Rattle.basics.specs.Base.{pick}
+use Rattle.basics.specs.Base.{pick, occurrences}
 use Rattle.basics.specs.Laws.{update-same, update-at, update-other, length-prefix}
 use Rattle.bucket.specs.Bucket.{bucketOf}
 use Rattle.bucket.specs.Laws.{below}
@@ -21,7 +21,8 @@ use Rattle.terms.specs.declared.Sizes.{Sizes}
 use Rattle.words.specs.Columns.{place, Rows, columns, columns-put, put, store}
 use Rattle.words.specs.Columns.{putHeader, header-putHeader, rows-putHeader, stores}
 use Rattle.words.specs.Layout.{none, jobShape, JOBS, ARCS, BITS, WORKERS, MADE, NAME, LABEL, COUNT, CLASS, GROWER}
-use Rattle.words.specs.Layout.{FIRST, LAST, NEXT, arcShape, bucketShape, LIST-COUNT, view, sizesKept, Tables, View}
+use Rattle.words.specs.Layout.{FIRST, LAST, NEXT, arcShape, bucketShape, CELL, LIST-COUNT, view, sizesKept, Tables}
+use Rattle.words.specs.Layout.{View}
 use Rattle.words.specs.Words.{applied, enteredJob}
 use Rattle.words.specs.declared.Plan.the-variants.{Enter}
 use Rattle.rules.specs.Rules.{Job, Graph, noJob, job, newJob, entered}
@@ -30,6 +31,8 @@ use Rattle.representation.specs.Rep.{Bucket, Ghost, enterGhost, Row, Linked, Ta
 use Rattle.representation_kept.specs.Lists.{append-all}
 use Rattle.representation_kept.specs.Records.{rows-sets, record-at, record-off, header-record}
 use Rattle.representation_kept.specs.Stand.{TablesStand, viewOf}
+use Rattle.representation_kept.specs.Places.{index-kept}
+use Rattle.representation_kept.specs.Cells.{cell-occurs}
 use Rattle.representation_kept.specs.Change.{started-append}
 
 -- ---- a bucket reads only the jobs below its end
@@ -63,7 +66,8 @@ pub record NewRow (f : ℕ → ℕ → ℕ) (n head : ℕ) (a : Arguments) : Typ
 module _ (s : Sizes) (v : View) (g : Graph) (G : Ghost) (R : TablesRep s v g G) (w : ℕ) (a : Arguments)
     (f r : ℕ → ℕ → ℕ)
     (new : NewRow f (length (g .jobs)) (v .bucket 0 (bucketOf (a .name) (s .bits))) a)
-    (old : (q k : ℕ) → k ≢ length (g .jobs) → f q k ≡ v .job q k) where
+    (old : (q k : ℕ) → k ≢ length (g .jobs) → f q k ≡ v .job q k)
+    (queued : (j : ℕ) → 0 < occurrences j (g .queue) → j < length (g .jobs)) where
   abbrev n : ℕ
   n = length (g .jobs)
 
@@ -180,7 +184,10 @@ module _ (s : Sizes) (v : View) (g : Graph) (G : Ghost) (R : TablesRep s v g G) 
     reserved = omega arith;
     taken = omega (arith, R .taken, started-append (g .jobs) x);
     put = R .put;
-    cells = R .cells;
+    queue = R .queue;
+    index = index-kept v (length (g .queue)) (R .index) _ _ _ f _ _ r
+        (λ p b e. old CLASS (v .cell CELL p)
+        (omega (arith, queued (v .cell CELL p) (rw (R .queue) at (cell-occurs (v .cell CELL) (v .put) p b e)))));
     rows = rows;
     buckets = λ k b. rw (more, new .name) (chains k b (eqb (bucket (a .name)) k) refl);
     lengths = all (λ k y. length (G .via k) ≡ length (y .dependents)) bare (λ k e. R .lengths k);
@@ -201,7 +208,8 @@ kept-record s l i x r h =
 
 module _ (s : Sizes) (t : Tables) (g : Graph) (G : Ghost) (S : Stands s t g G) (w : ℕ) (a : Arguments)
     (ph ta pl jo ar : ℕ)
-    (own : AddWords (view t .worker) w a ph ta pl jo ar) (room : length (g .jobs) < s .jobs) where
+    (own : AddWords (view t .worker) w a ph ta pl jo ar) (room : length (g .jobs) < s .jobs)
+    (queued : (j : ℕ) → 0 < occurrences j (g .queue) → j < length (g .jobs)) where
   abbrev N : ℕ
   N = length (g .jobs)
 
@@ -254,6 +262,7 @@ module _ (s : Sizes) (t : Tables) (g : Graph) (G : Ghost) (S : Stands s t g G) (
         )
             (enter-rep s (view t) g G (S .rep) w a (columns jobShape jobs) _ new-row
             (λ q j e. record-off jobShape (s .jobs) (t .jobs) N row (omega arith) q j e)
+            queued
             (view t .worker LIST-COUNT w)
             (own .count));
       }
@@ -267,4 +276,4 @@ module _ (s : Sizes) (t : Tables) (g : Graph) (G : Ghost) (S : Stands s t g G) (
       (view t .bucket 0 (bucketOf (a .name) (s .bits))) (g .reserved)) t w)
       (entered g w a)
       (enterGhost G (length (g .jobs)) (g .reserved))
-  enter-stands w a ph ta pl jo ar own room space = enter-all s t g G S w a ph ta pl jo ar own room
+  enter-stands w a ph ta pl jo ar own room space = enter-all s t g G S w a ph ta pl jo ar own room (O .queue-there)

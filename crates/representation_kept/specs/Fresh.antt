@@ -8,7 +8,8 @@ use native.Mathlib.Omega.{arith}
 use lib.Dec.{leb}
 use lib.ListN.{length, getD}
 use lib.Seq.{sets}
-use borrow.Author.Tests.{eq-eqb}
+use borrow.Author.Tests.{eq-eqb, le-ltb}
+use Rattle.basics.specs.Counting.{sum}
 use Rattle.terms.specs.Terms.{withinLimits}
 use Rattle.terms.specs.declared.Sizes.{Sizes}
 use Rattle.words.specs.Columns.{rows, Rows, columns, header}
@@ -17,9 +18,10 @@ use Rattle.words.specs.Layout as words
 use Rattle.words.specs.Layout.{jobShape, JOBS, ARCS, BITS, WORKERS, MADE, NAME, LABEL, COUNT, CLASS, GROWER, FIRST}
 use Rattle.words.specs.Layout.{LAST, arcShape, RESERVED, bucketShape, queueShape, TAKEN, PUT, workerShape, PHASE, HELD}
 use Rattle.words.specs.Layout.{OWN-NAME, LIST-COUNT, OWN-CLASS, OWN-GROWER, TALLY, PLACE, OWN-JOB, OWN-ARC, IDLE, need}
-use Rattle.words.specs.Layout.{longEnough, sizesKept, roomFor, freshJob, freshArc, bareWorker, freshJobs, freshArcs}
-use Rattle.words.specs.Layout.{freshBuckets, freshQueue, freshWorkers, freshTables, tables, view, Tables}
+use Rattle.words.specs.Layout.{longEnough, sizesKept, roomFor, freshJob, freshArc, freshPlace, bareWorker, freshJobs}
+use Rattle.words.specs.Layout.{freshArcs, freshBuckets, freshQueue, freshWorkers, freshTables, tables, view, Tables}
 use Rattle.words.specs.Layout.{NAMES}
+use Rattle.words.specs.Observed.{jobsIn}
 use Rattle.rules.specs.Rules.{idle, noJob, empty}
 use Rattle.rules.specs.Sound.{started}
 use Rattle.representation.specs.Rep.{Ghost, Row, TablesRep, WorkerRep, Stands}
@@ -105,8 +107,7 @@ module _ (s : Sizes) (t : Tables) (L : Long s t) where
       (laid-at bucketShape (2 ^ s .bits) (t .buckets) [] (words.none ∷ []) refl refl (L .buckets) k 0 h (omega arith))
 
   counter : (q : ℕ) → q < 2 → header Q q ≡ getD (0 ∷ 0 ∷ []) q 0
-  counter q h = rw (repeated-one (s .jobs) words.none)
-      (laid-header queueShape (s .jobs) (t .queue) (0 ∷ 0 ∷ []) (words.none ∷ []) refl refl (L .queue) q h)
+  counter q h = laid-header queueShape (s .jobs) (t .queue) (0 ∷ 0 ∷ []) freshPlace refl refl (L .queue) q h
 
   worker-word : (w q : ℕ) → w < s .workers → q < workerShape .width
       → columns workerShape W q w ≡ getD (bareWorker IDLE words.none) q 0
@@ -158,13 +159,18 @@ module _ (s : Sizes) (t : Tables) (L : Long s t) where
   }
 
   fresh-rep : TablesRep s (view (tables J A B Q W)) empty noGhost
-  unfolding empty started
+  unfolding empty started jobsIn sum
   fresh-rep = record {
     made = size MADE (omega arith);
     reserved = reserved;
     taken = counter TAKEN (omega arith);
     put = omega (arith, counter PUT (omega arith), counter TAKEN (omega arith));
-    cells = λ i h. absurd (omega arith);
+    queue = rw (counter PUT (omega arith)) refl;
+    index = record {
+      places = λ p. rw (counter PUT (omega arith), le-ltb p 0 (omega arith)) refl;
+      positions = λ k h. absurd (omega arith);
+      heap = record { ordered = λ a b h. absurd (omega arith) };
+    };
     rows = fresh-row;
     buckets = bucket-word;
     lengths = λ p. refl;

@@ -1,26 +1,31 @@
--- Marking and getting: a label stored, and for a get the first job taken from the queue. Follows docs/RULES.md,
+-- Marking and getting: a label stored, and for a get the next job taken from the queue. Follows docs/RULES.md,
 -- "Steps": the mark of a finish, and get. Assumes nothing.
-use mathlib.Core.Path.{_≡_, refl, sym, ap}
+use mathlib.Core.Path.{_≡_, refl, ap}
 use mathlib.Core.Logic.{_≢_}
-use mathlib.Core.List.{List, _∷_}
-use Prim.Native.Nat.{ℕ, _+_, _<_}
+use mathlib.Core.List.{List}
+use Prim.Native.Nat.{ℕ, suc, _+_, _<_}
 use native.Mathlib.Omega.{arith}
 use lib.ListN.{length, set}
 use Rattle.basics.specs.Laws.{update-same}
 use Rattle.terms.specs.Terms.{Label, executing, finished, labelNumber}
+use Rattle.terms.specs.Order.{without}
 use Rattle.terms.specs.declared.Sizes.{Sizes}
-use Rattle.terms.specs.declared.HandOut.{HandOut}
-use Rattle.words.specs.Columns.{columns-put, put, store, header-putHeader, stores}
-use Rattle.words.specs.Layout.{none, jobShape, LABEL, queueShape, view, Tables, View}
+use Rattle.words.specs.Columns.{columns-put, put, store, stores}
+use Rattle.words.specs.Layout.{jobShape, LABEL, CELL, SLOT, view, Tables, View}
+use Rattle.words.specs.Observed.{jobsIn}
 use Rattle.words.specs.Words.{applied, appliedGet}
 use Rattle.words.specs.declared.Plan.the-variants.{Mark}
 use Rattle.words.specs.declared.GetPlan.the-variants.{Take}
-use Rattle.rules.specs.Rules.{Call, Worker, Graph, job, withLabel, marked, handedOut, withJobs, withQueue, withWorkers}
-use Rattle.rules.specs.Sound.{Sound, started, startedBy}
-use Rattle.representation.specs.Rep.{Ghost, Row, TablesRep, Stands}
+use Rattle.rules.specs.Rules.{Call, Worker, Graph, job, withLabel, marked, handOut, handedOut, withJobs, withQueue}
+use Rattle.rules.specs.Rules.{withWorkers}
+use Rattle.rules.specs.Sound.{Sound, startedBy}
+use Rattle.representation.specs.Rep.{Ghost, Row, Index, TablesRep, Stands}
 use Rattle.representation_kept.specs.Stand.{TablesStand, viewOf}
 use Rattle.representation_kept.specs.Change.{started-set, change-rep, row-other, job-stands}
-use Rattle.representation_kept.specs.Queue.{cells-take, next-job}
+use Rattle.representation_kept.specs.Places.{index-kept}
+use Rattle.representation_kept.specs.Slots.{seat-take}
+use Rattle.representation_kept.specs.Queue.{seatLeft, leaving, next-there, next-waits, slots-fit, queue-take}
+use Rattle.representation_kept.specs.Queue.{length-take, index-take, slots-within}
 
 -- the graph with job j's label l, and the queue q
 abbrev labelled : Graph → ℕ → Label → List ℕ → (ℕ → Worker) → Graph
@@ -58,19 +63,21 @@ module _ (s : Sizes) (v : View) (g : Graph) (G : Ghost) (R : TablesRep s v g G) 
       (g .queue) r h here there
       (omega (arith, R .taken, started-set (g .jobs) j (withLabel (job g j) l) hj))
       (R .put)
-      (R .cells)
+      (R .queue)
+      (index-kept v (length (g .queue)) (R .index) _ _ _ f _ _ r (λ p b e. refl))
 
-  -- a job that is started, from the head of the queue, whose cell is i
-  take-rep : (q : List ℕ) (i : ℕ) → i ≡ v .taken → g .queue ≡ j ∷ q → startedBy (job g j .label) ≡ 0 → startedBy l ≡ 1
-      → TablesRep s (viewOf (v .made) (v .reserved) (i + 1) (v .put) f (v .arc) (v .bucket)
-      (store (v .cell) i 0 none) r) (labelled g j l q h) G
-  take-rep q i e c a b =
-      rw e
-      (change-rep s v g G R j hj (withLabel (job g j) l) refl refl f (store (v .cell) (v .taken) 0 none) refl refl
-      (v .taken + 1) (v .put) q r h here there
+  -- a job that is started, and no more in the queue, which then is q
+  take-rep : (taken puts : ℕ) (k : ℕ → ℕ → ℕ) (q : List ℕ) → taken ≡ v .taken + 1 → puts ≡ v .put
+      → length (g .queue) ≡ suc (length q) → startedBy (job g j .label) ≡ 0 → startedBy l ≡ 1
+      → jobsIn (k CELL) 0 puts ≡ q
+      → Index (viewOf (v .made) (v .reserved) taken puts f (v .arc) (v .bucket) k r) (length q)
+      → TablesRep s (viewOf (v .made) (v .reserved) taken puts f (v .arc) (v .bucket) k r) (labelled g j l q h) G
+  take-rep taken puts k q a b c x y d I =
+      change-rep s v g G R j hj (withLabel (job g j) l) refl refl f k refl refl taken puts q r h here there
       (omega (arith, R .taken, started-set (g .jobs) j (withLabel (job g j) l) hj))
-      (omega (arith, R .put, ap length c))
-      (cells-take (v .cell) (v .taken) j none q (rw c at (R .cells))))
+      (omega (arith, R .put))
+      d
+      I
 
 -- ---- over the words
 module _ (s : Sizes) (t : Tables) (g : Graph) (G : Ghost) (S : Stands s t g G) (O : Sound s g) where
@@ -86,22 +93,26 @@ module _ (s : Sizes) (t : Tables) (g : Graph) (G : Ghost) (S : Stands s t g G) (
       (simp (stores, columns-put jobShape (s .jobs), S .jobs)
       (label-rep s (view t) g G R p hp finished _ _ (ap startedBy e)))
 
-  pub get-stands : (w : ℕ) (h : HandOut) (q : List ℕ) → g .queue ≡ h .job ∷ q
-      → TablesStand s (appliedGet (Take h (started (g .jobs))) t w) (handedOut g w (h .job) q) G
+  pub get-stands : (w n : ℕ) (full : length (g .queue) ≡ suc n)
+      → let j = view t .cell CELL (view t .cell SLOT 0) in
+      TablesStand s (appliedGet (Take (handOut g j) (seatLeft s t g G S O n full)) t w)
+      (handedOut g w j (without j (g .queue)))
+      G
   unfolding appliedGet
-  get-stands w h q e =
-      let j : ℕ = h .job in
-      let n = next-job s t g G S O j q e in
-      let b : j < s .jobs = omega (arith, O .jobs, n .0) in
-      let d : started (g .jobs) < s .jobs = omega (arith, O .jobs, O .queue-room, ap length e) in
-      job-stands s t g G S j LABEL 1 _ _ _ (simp (stores, S .queue))
-      (simp (
-        stores,
-        columns-put jobShape (s .jobs),
-        columns-put queueShape (s .jobs),
-        header-putHeader queueShape (s .jobs),
-        S .jobs,
-        S .queue,
-      )
-      (take-rep s (view t) g G R j (n .0) executing _ _ q (started (g .jobs)) (sym (R .taken)) e
-      (ap startedBy (n .1)) refl))
+  get-stands w n full =
+      let j : ℕ = view t .cell CELL (view t .cell SLOT 0) in
+      let there : j < length (g .jobs) = next-there s t g G S O n full in
+      let b : j < s .jobs = omega (arith, O .jobs) in
+      let fits = slots-fit s t g G S O n full in
+      let left : length (without j (g .queue)) ≡ n = length-take s t g G S O n full in
+      let q = seat-take (s .jobs) (t .queue) (S .queue) (view t .cell SLOT 0) n (leaving s t g G S O n full .at)
+      (fits .0) (fits .1) (leaving s t g G S O n full .within)
+      (rw full at (slots-within s t g G S O)) in
+      job-stands s t g G S j LABEL 1 _ _ _ (q .rows)
+      (simp (stores, columns-put jobShape (s .jobs), S .jobs)
+      (take-rep s (view t) g G R j there executing _ _ _ _ _ (without j (g .queue)) (q .taken) (q .puts)
+      (omega arith)
+      (ap startedBy (O .queue-unexecuted j (next-waits s t g G S O n full)))
+      refl
+      (rw (q .puts, q .cells) (queue-take s t g G S O n full))
+      (rw left (index-take s t g G S O n full _ (q .puts) refl (q .cells) (q .slots) (q .positions)))))

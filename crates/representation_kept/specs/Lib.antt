@@ -1,8 +1,11 @@
 pub mod Lists
 pub mod Records
 pub mod Stand
+pub mod Places
 pub mod Find
 pub mod Fresh
+pub mod Cells
+pub mod Slots
 pub mod Change
 pub mod Queue
 pub mod Arcs

@@ -12,10 +12,12 @@ use Rattle.basics.specs.Base.{update}
 use Rattle.basics.specs.Laws.{update-same, update-at, update-other, set-all}
 use Rattle.terms.specs.declared.Sizes.{Sizes}
 use Rattle.words.specs.Columns.{store}
-use Rattle.words.specs.Layout.{none, NAME, LABEL, COUNT, CLASS, GROWER, FIRST, LAST, NEXT, DEPENDENT, AFTER, View}
+use Rattle.words.specs.Layout.{none, NAME, LABEL, COUNT, CLASS, GROWER, FIRST, LAST, NEXT, DEPENDENT, AFTER}
+use Rattle.words.specs.Layout.{CELL, View}
 use Rattle.rules.specs.Rules.{Job, Worker, Graph, noJob, job, withDependent, withJobs, withWorkers}
 use Rattle.representation.specs.Rep.{Ghost, linkGhost, Row, Linked, TablesRep}
 use Rattle.representation_kept.specs.Stand.{viewOf}
+use Rattle.representation_kept.specs.Places.{index-kept}
 use Rattle.representation_kept.specs.Change.{started-set}
 use Rattle.representation_kept.specs.Keep.{spent-more}
 
@@ -170,7 +172,8 @@ module _ (s : Sizes) (v : View) (g : Graph) (G : Ghost) (R : TablesRep s v g G) 
         reserved = R .reserved;
         taken = omega (arith, R .taken, started-set (g .jobs) p y hp);
         put = R .put;
-        cells = R .cells;
+        queue = R .queue;
+        index = index-kept v _ (R .index) _ _ _ f a _ r (λ q b e. ap (λ c. c (v .cell CELL q)) classes);
         rows = rows;
         buckets = λ k b. rw (count, names, nexts) (R .buckets k b);
         lengths = all (λ k z. length (H .via k) ≡ length (z .dependents))

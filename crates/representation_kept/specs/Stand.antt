@@ -71,7 +71,12 @@ rep-with s v g G R f h linked spent =
       reserved = R .reserved;
       taken = R .taken;
       put = R .put;
-      cells = R .cells;
+      queue = R .queue;
+      index = record {
+        places = R .index .places;
+        positions = R .index .positions;
+        heap = R .index .heap;
+      };
       rows = R .rows;
       buckets = R .buckets;
       lengths = R .lengths;

@@ -7,10 +7,11 @@ use Prim.Native.Nat.{ℕ, suc, _+_, _-_}
 use lib.Dec.{ltb, leb, eqb}
 use lib.ListN.{length, getD, set}
 use Rattle.basics.specs.Base.{pick, update}
+use Rattle.minutes.specs.Minutes.{minutesIn, fixedMinutes}
 use Rattle.terms.specs.Terms.{settles, Label, unexecuted, executing, finished, Arguments, listed, argumentsWrong}
 use Rattle.terms.specs.Terms.{sameSizes, wrongSizes, noSuchWorker, halfDone, nothingToStep, wrongArguments, unknownName}
 use Rattle.terms.specs.Terms.{namePresent, tablesFull, damaged, alreadyHolding, notHeld, Finish}
-use Rattle.terms.specs.Order.{Order, inQueue, firstBy, without}
+use Rattle.terms.specs.Order.{Order, heavierFirst, firstBy, without}
 use Rattle.terms.specs.Runs.{Item, postAdd, postFinish, step, get, Outcome, outcome}
 use Rattle.terms.specs.declared.Sizes.{Sizes}
 use Rattle.terms.specs.declared.HandOut.{HandOut}
@@ -238,7 +239,7 @@ finishPosted g w f none = outcome (Refused notHeld 0) g
 finishPosted g w f (some p) =
     pick (eqb (job g p .name) (f .name)) (outcome Posted (withCall g w marking)) (outcome (Refused notHeld 0) g)
 
--- a get "takes the job longest in the queue, labels it executing and records it as held"
+-- a get takes a job out of the queue, "labels it executing and records it as held"
 abbrev pub handedOut : Graph → ℕ → ℕ → List ℕ → Graph
 handedOut g w j q =
     withJobs (withQueue (withWorkers g (update (g .workers) w (record { held = some j; call = idle }))) q)
@@ -248,9 +249,13 @@ handedOut g w j q =
 abbrev pub handOut : Graph → ℕ → HandOut
 handOut g j = record { job = j; name = job g j .name }
 
--- the order of hand-outs, and the job that is next by it
+-- the order of hand-outs: "the waiting job with the most minutes, equal minutes by earlier entry into the queue"; and
+-- the job that is next by it
+abbrev pub minutesOf : Graph → ℕ → ℕ
+minutesOf g j = minutesIn fixedMinutes (job g j .class)
+
 abbrev pub order : Graph → Order
-order g = inQueue
+order g = heavierFirst (minutesOf g)
 
 abbrev pub nextOut : Graph → Option ℕ
 nextOut g = firstBy (order g) (g .queue)

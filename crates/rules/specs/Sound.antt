@@ -6,7 +6,7 @@ use mathlib.Core.List.{List, [], _∷_}
 use mathlib.Core.Option.{Option, none, some}
 use Prim.Native.Nat.{ℕ, _+_, _-_, _≤_, _<_}
 use lib.ListN.{length, getD}
-use Rattle.basics.specs.Limits.{mostNames}
+use Rattle.basics.specs.Limits.{mostNames, mostClass}
 use Rattle.basics.specs.Base.{occurrences}
 use Rattle.terms.specs.Terms.{settles, Label, unexecuted, executing, finished, Arguments, listed, argumentsWrong}
 use Rattle.terms.specs.declared.Sizes.{Sizes}
@@ -74,6 +74,7 @@ pub record Sound (s : Sizes) (g : Graph) : Type 0 where
   pub arcs : g .reserved ≤ s .arcs
   pub names : (i j : ℕ) → i < length (g .jobs) → j < length (g .jobs) → job g i .name ≡ job g j .name → i ≡ j
   pub counts : (j : ℕ) → job g j .count ≤ mostNames
+  pub classes : (j : ℕ) → job g j .class ≤ mostClass
   pub dependents : (p i : ℕ) → i < length (job g p .dependents) → getD (job g p .dependents) i 0 < length (g .jobs)
   pub queue-there : (j : ℕ) → 0 < occurrences j (g .queue) → j < length (g .jobs)
   pub queue-unexecuted : (j : ℕ) → 0 < occurrences j (g .queue) → job g j .label ≡ unexecuted

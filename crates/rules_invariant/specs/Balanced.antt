@@ -19,8 +19,8 @@ use Rattle.rules.specs.Sound.{startedBy}
 use Rattle.sequential_model.specs.Book.{unfinished, awaited, awaitedNames}
 use Rattle.linearization.specs.Calls.{Reading}
 use Rattle.rules_history.specs.History.{History, AllIdle, Balanced, entriesOf}
-use Rattle.rules_invariant.specs.Base.{hit, hit-same, hit-other, occurrences-nil, occurrences-cons, sum, sum-at}
-use Rattle.rules_invariant.specs.Base.{sum-same, sum-zero}
+use Rattle.basics.specs.Counting.{hit, hit-same, hit-other, occurrences-nil, occurrences-cons, sum, sum-at}
+use Rattle.basics.specs.Counting.{sum-same, sum-zero}
 use Rattle.rules_invariant.specs.State.{State, apart, tag}
 use Rattle.rules_invariant.specs.Invariant.{Invariant, Below, unserved, startedBy-none, once}
 use Rattle.rules_invariant.specs.Names.{at-injective, missing-not-at, sought}

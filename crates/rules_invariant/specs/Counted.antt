@@ -15,7 +15,7 @@ use Rattle.rules.specs.Rules.{Graph, job}
 use Rattle.linearization.specs.Calls.{Reading}
 use Rattle.rules_history.specs.History as history
 use Rattle.rules_history.specs.History.{History}
-use Rattle.rules_invariant.specs.Base.{occurrences-nil, place-of, sum-zero}
+use Rattle.basics.specs.Counting.{occurrences-nil, place-of, sum-zero}
 use Rattle.rules_invariant.specs.State.{State}
 use Rattle.rules_invariant.specs.Invariant.{Invariant, unserved, once, entered-there}
 use Rattle.rules_invariant.specs.Names.{at-injective}

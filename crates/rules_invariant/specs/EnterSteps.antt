@@ -18,7 +18,7 @@ use Rattle.rules_invariant.specs.State.{adding, State, enter}
 use Rattle.rules_invariant.specs.Invariant.{Invariant, Below, startedBy-none}
 use Rattle.rules_invariant.specs.Entering.{enter-keeps}
 use Rattle.rules_invariant.specs.Names.{Extends, extends-append, Numbers, sought-there, seek-new}
-use Rattle.rules_invariant.specs.Names.{few}
+use Rattle.rules_invariant.specs.Names.{few, low}
 use Rattle.rules_invariant.specs.Relation.{Kept, Known, jobRel, WorkerRel, snoc-all, finished-keeps}
 use Rattle.rules_invariant.specs.Turns.{Next, own-stage, own-call, workers-after}
 
@@ -62,12 +62,13 @@ module _ (s : Sizes) (g : Graph) (r : Reading) (x : State) (K : Kept s g r x) (I
     unstarted =
         startedBy-none (x .label n) (omega (arith, I .queued n, I .gates .entry n, I .gates .gate-new n (omega arith)))
 
-    new-known : Known later (suc n) n ps (a .name) (listed a)
+    new-known : Known later (suc n) n ps (a .name) (listed a) (a .class)
     new-known = record {
       named = λ z. seek-new (a .name) (g .jobs) (newJob a) 0 refl fresh
           ∙ ap at (let last : 0 + length (g .jobs) ≡ n = omega (arith, K .size) in last);
       same-length = N .same-length;
       short = omega (arith, long, few a (own .right));
+      within = low a (own .right);
       found = λ q h. further .found _ _ (N .found q h);
     }
 
@@ -91,6 +92,7 @@ module _ (s : Sizes) (g : Graph) (r : Reading) (x : State) (K : Kept s g r x) (I
             named = λ h. further .found _ _ (o .known .named (omega arith));
             same-length = o .known .same-length;
             short = o .known .short;
+            within = o .known .within;
             found = λ q h. further .found _ _ (o .known .found q h);
           });
         }

@@ -9,7 +9,7 @@ use lib.ListN.{length}
 use lib.Seq.{drop-nil}
 use Rattle.basics.specs.Base.{update, occurrences}
 use Rattle.basics.specs.Laws.{update-same, update-at, update-other}
-use Rattle.rules_invariant.specs.Base.{occurrences-nil, sum-suc}
+use Rattle.basics.specs.Counting.{occurrences-nil, sum-suc}
 use Rattle.rules_invariant.specs.Own.{owns-frame, owns-take}
 use Rattle.rules_invariant.specs.State.{apart, adding, finishing, tag, State, enter}
 use Rattle.rules_invariant.specs.Invariant.{Invariant, unserved, Below, adding-injective}

@@ -12,8 +12,8 @@ use Rattle.basics.specs.Base.{update, occurrences}
 use Rattle.basics.specs.Laws.{update-same, update-at, update-other}
 use Rattle.terms.specs.Terms.{unexecuted, executing, finished}
 use Rattle.rules.specs.Sound.{startedBy}
-use Rattle.rules_invariant.specs.Base.{hit, hit-same, hit-other}
-use Rattle.rules_invariant.specs.Base.{occurrences-drop, sum, sum-at}
+use Rattle.basics.specs.Counting.{hit, hit-same, hit-other}
+use Rattle.basics.specs.Counting.{occurrences-drop, sum, sum-at}
 use Rattle.rules_invariant.specs.Own.{owns-frame, owns-take, owns-drop}
 use Rattle.rules_invariant.specs.State.{apart, adding, finishing, tag, State, bit, hand, mark, serve, close}
 use Rattle.rules_invariant.specs.Invariant.{Invariant, unserved, finishing-injective, finished-not-unexecuted}

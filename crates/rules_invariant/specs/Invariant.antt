@@ -14,7 +14,7 @@ use Rattle.basics.specs.Base.{occurrences}
 use Rattle.terms.specs.Terms.{Label, unexecuted, executing, finished, Label-discrete}
 use Rattle.rules.specs.Rules.{enqueue}
 use Rattle.rules.specs.Sound.{startedBy}
-use Rattle.rules_invariant.specs.Base.{hit-same, hit-other, occurrences-snoc, occurrences-getD, sum, sum-le}
+use Rattle.basics.specs.Counting.{hit-same, hit-other, occurrences-snoc, occurrences-getD, sum, sum-le}
 use Rattle.rules_invariant.specs.Own.{Owns}
 use Rattle.rules_invariant.specs.State.{adding, finishing, State, bit, hitIf}
 

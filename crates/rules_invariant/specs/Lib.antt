@@ -1,4 +1,3 @@
-pub mod Base
 pub mod Own
 pub mod State
 pub mod Invariant

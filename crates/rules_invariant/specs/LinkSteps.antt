@@ -15,7 +15,7 @@ use Rattle.terms.specs.declared.Sizes.{Sizes}
 use Rattle.rules.specs.Rules.{Job, idle, linking, Graph, noJob, job, find, at, withCall, withDependent, withCount}
 use Rattle.rules.specs.Rules.{linked, settled, enqueue}
 use Rattle.linearization.specs.Calls.{Pending, Reading, becomes, addEnded}
-use Rattle.rules_invariant.specs.Base.{hit, hit-same, hit-other}
+use Rattle.basics.specs.Counting.{hit, hit-same, hit-other}
 use Rattle.rules_invariant.specs.State.{apart, adding, State, bit, linkDependent, settle}
 use Rattle.rules_invariant.specs.Invariant.{Invariant, occurrences-enqueue}
 use Rattle.rules_invariant.specs.Linking.{link-finished-keeps, link-dependent-keeps, settle-keeps, settles-right}

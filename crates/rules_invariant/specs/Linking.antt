@@ -17,9 +17,9 @@ use lib.Seq.{getD-append-seam}
 use Rattle.basics.specs.Base.{occurrences}
 use Rattle.basics.specs.Laws.{update-same, update-at, update-other}
 use Rattle.terms.specs.Terms.{settles, finished}
-use Rattle.rules_invariant.specs.Base.{hit, hit-same, hit-other}
-use Rattle.rules_invariant.specs.Base.{occurrences-take}
-use Rattle.rules_invariant.specs.Base.{occurrences-take-le, occurrences-drop-snoc, sum-at}
+use Rattle.basics.specs.Counting.{hit, hit-same, hit-other}
+use Rattle.basics.specs.Counting.{occurrences-take}
+use Rattle.basics.specs.Counting.{occurrences-take-le, occurrences-drop-snoc, sum-at}
 use Rattle.rules_invariant.specs.Own.{owns-frame, owns-drop}
 use Rattle.rules_invariant.specs.State.{apart, adding, finishing, tag, State, bit, linkFinished, linkDependent}
 use Rattle.rules_invariant.specs.State.{settle}

@@ -17,7 +17,7 @@ use Rattle.terms.specs.declared.Sizes.{Sizes}
 use Rattle.rules.specs.Rules.{Job, idle, marking, notifying, Graph, noJob, job, withLabel, marked, handedOut, nextOut}
 use Rattle.rules.specs.Rules.{order}
 use Rattle.linearization.specs.Calls.{Pending, Reading, becomes, finishEnded}
-use Rattle.rules_invariant.specs.Base.{hit, hit-same}
+use Rattle.basics.specs.Counting.{hit, hit-same}
 use Rattle.rules_invariant.specs.State.{apart, finishing, State, hand, mark, close}
 use Rattle.rules_invariant.specs.Invariant.{Invariant, finished-not-unexecuted, executing-not-finished}
 use Rattle.rules_invariant.specs.Invariant.{entered-there}

@@ -136,7 +136,16 @@ numbers-of g (x ∷ l) h =
       found = λ i. elim i [ zero ↦ λ r. first .found | suc k ↦ λ r. rest .found k (omega arith) ];
     }
 
--- number 5 is not due: the list is short
+-- number 5 is not due: the class is within its limit, and the list is short
+pub low : (a : Arguments) → argumentsWrong a ≡ false → a .class ≤ mostClass
+unfolding argumentsWrong
+low a e =
+    let named : Bool = contains (a .name) (listed a) || repeats (listed a) in
+    let wide : Bool = ltb mostClass (a .class) || ltb mostGrower (a .grower) in
+    ltb-false mostClass (a .class)
+    (or-left (ltb mostClass (a .class)) (ltb mostGrower (a .grower))
+    (or-left wide (ltb mostNames (a .count)) (or-left (wide || ltb mostNames (a .count)) named e)))
+
 pub few : (a : Arguments) → argumentsWrong a ≡ false → a .count ≤ mostNames
 unfolding argumentsWrong
 few a e =

@@ -16,7 +16,7 @@ use Rattle.terms.specs.Terms.{finished, finishOf}
 use Rattle.terms.specs.declared.Sizes.{Sizes}
 use Rattle.rules.specs.Rules.{Job, idle, notifying, Graph, noJob, job, withCount, notified, enqueue}
 use Rattle.linearization.specs.Calls.{Pending, Reading, becomes, finishEnded}
-use Rattle.rules_invariant.specs.Base.{hit-same, hit-other}
+use Rattle.basics.specs.Counting.{hit-same, hit-other}
 use Rattle.rules_invariant.specs.State.{apart, finishing, State, bit, hitIf, serve, close}
 use Rattle.rules_invariant.specs.Invariant.{Invariant, occurrences-enqueue, counted-there}
 use Rattle.rules_invariant.specs.Finishing.{served-counted, serve-keeps, close-keeps}

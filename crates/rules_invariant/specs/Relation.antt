@@ -10,7 +10,7 @@ use native.Mathlib.Omega.{arith}
 use native.Mathlib.Decide.{ℕ-discrete, decLt}
 use lib.ListN.{length, getD, length-append, List·getD-append, List·getD-eq-default}
 use lib.Seq.{getD-append-seam}
-use Rattle.basics.specs.Limits.{mostNames}
+use Rattle.basics.specs.Limits.{mostNames, mostClass}
 use Rattle.basics.specs.Base.{contains}
 use Rattle.terms.specs.Terms.{Label, finished, Arguments, listed, argumentsWrong}
 use Rattle.terms.specs.declared.Sizes.{Sizes}
@@ -24,19 +24,22 @@ use Rattle.rules_invariant.specs.Invariant.{Invariant}
 use Rattle.rules_invariant.specs.Names.{Extends, looking-keeps}
 
 -- ---- a job
--- its name is found at its number, and its listed names at the numbers of its prerequisites
-pub record Known (l : List Job) (n k : ℕ) (numbers : List ℕ) (name : ℕ) (names : List ℕ) : Type 0 where
+-- its name is found at its number, and its listed names at the numbers of its prerequisites; its list and its class are
+-- within their limits
+pub record Known (l : List Job) (n k : ℕ) (numbers : List ℕ) (name : ℕ) (names : List ℕ) (class : ℕ) : Type 0 where
   pub named : k < n → seek name l 0 ≡ at k
   pub same-length : length names ≡ length numbers
   pub short : length names ≤ mostNames
+  pub within : class ≤ mostClass
   pub found : (i : ℕ) → i < length names → seek (getD names i 0) l 0 ≡ at (getD numbers i 0)
 
-pub known-keeps : {l h : List Job} {n k : ℕ} {numbers : List ℕ} {name : ℕ} {names : List ℕ} → Extends l h
-    → Known l n k numbers name names → Known h n k numbers name names
+pub known-keeps : {l h : List Job} {n k : ℕ} {numbers : List ℕ} {name : ℕ} {names : List ℕ} {class : ℕ}
+    → Extends l h → Known l n k numbers name names class → Known h n k numbers name names class
 known-keeps x o = record {
   named = λ r. x .found _ _ (o .named r);
   same-length = o .same-length;
   short = o .short;
+  within = o .within;
   found = λ i r. x .found _ _ (o .found i r);
 }
 
@@ -44,7 +47,7 @@ pub record JobRel (l : List Job) (n k : ℕ) (now : Label) (left : ℕ) (arcs nu
   pub label : x .label ≡ now
   pub count : x .count ≡ left
   pub dependents : x .dependents ≡ arcs
-  pub known : Known l n k numbers (x .name) (x .list)
+  pub known : Known l n k numbers (x .name) (x .list) (x .class)
 
 abbrev pub jobRel : List Job → State → ℕ → Job → Type 0
 jobRel l s k x = JobRel l (s .size) k (s .label k) (s .count k) (s .dependents k) (s .prerequisites k) x

@@ -14,8 +14,8 @@ use Rattle.rules.specs.Sound as rules
 use Rattle.rules.specs.Sound.{startedBy, started, Finished, MayQueue, Linking, Notifying, CallSound}
 use Rattle.linearization.specs.Calls.{Reading}
 use Rattle.rules_history.specs.History.{History}
-use Rattle.rules_invariant.specs.Base.{sum, sum-same, sum-plus, sum-first, sum-ones, sum-gap, sum-zero}
-use Rattle.rules_invariant.specs.Base.{sum-occurrences}
+use Rattle.basics.specs.Counting.{sum, sum-same, sum-plus, sum-first, sum-ones, sum-gap, sum-zero}
+use Rattle.basics.specs.Counting.{sum-occurrences}
 use Rattle.rules_invariant.specs.State.{State, adding, finishing, bit}
 use Rattle.rules_invariant.specs.Invariant.{Invariant, startedBy-none, once, entered-there, held-there}
 use Rattle.rules_invariant.specs.Invariant.{all-finished}
@@ -139,6 +139,7 @@ module _ (s : Sizes) (g : Graph) (r : Reading) (x : State) (K : Kept s g r x) (I
       K .jobs j .known .same-length,
       K .jobs j .known .short,
     );
+    classes = λ j. K .jobs j .known .within;
     dependents = λ p i h.
         rw (K .jobs p .dependents) (omega
         (arith, K .size, I .places .dependents-there p .at i (omega (arith, ap length (K .jobs p .dependents)))));

@@ -12,7 +12,7 @@ use Rattle.terms.specs.declared.Sizes.{Sizes}
 use Rattle.rules.specs.Rules.{Graph, empty, at}
 use Rattle.linearization.specs.Calls.{Reading, unread}
 use Rattle.rules_history.specs.History.{History, start, then}
-use Rattle.rules_invariant.specs.Base.{occurrences-nil, sum}
+use Rattle.basics.specs.Counting.{occurrences-nil, sum}
 use Rattle.rules_invariant.specs.State.{State, apart, tag}
 use Rattle.rules_invariant.specs.Invariant.{Invariant}
 use Rattle.rules_invariant.specs.Relation.{Reached}
@@ -98,6 +98,7 @@ reached {s} start = record {
         named = λ h. absurd (omega arith);
         same-length = refl;
         short = omega arith;
+        within = omega arith;
         found = λ i h. absurd (omega arith);
       };
     };

@@ -9,7 +9,7 @@ use lib.ListN.{length}
 use Rattle.basics.specs.Base.{update}
 use Rattle.terms.specs.Terms.{Label, executing, finished}
 use Rattle.rules.specs.Rules.{enqueue}
-use Rattle.rules_invariant.specs.Base.{hit}
+use Rattle.basics.specs.Counting.{hit}
 
 -- whether a worker's call works on a job that is there: an add of an entered job, a finish of a marked one
 pub data Stage : Type 0 where
@@ -136,7 +136,7 @@ settle s w j b = record {
   holder = s .holder;
 }
 
--- a get hands the queue's first job j out, and leaves the queue q
+-- a get hands the job j out, and leaves the queue q
 abbrev pub hand : State → ℕ → ℕ → List ℕ → State
 hand s w j q = record {
   size = s .size;

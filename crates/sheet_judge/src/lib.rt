@@ -1,6 +1,6 @@
-// What turns a sheet of adds away, before any entry: it reads and judges, and stores nothing; and what is told of such a
-// sheet and of an entry. Follows docs/RULES.md, "Whole calls". Assumes nothing: the definitions hold of all tables and
-// arguments.
+// What turns a sheet of adds away, before any entry: it reads and judges, and stores nothing; and what is told of such
+// a sheet and of an entry. Follows docs/RULES.md, "Whole calls". Assumes nothing: the definitions hold of all tables
+// and arguments.
 ghost use mathlib.Core.Path.{_≡_};
 ghost use lib.Dec.{leb, eqb};
 ghost use Rattle.basics.specs.Base.{pick};

@@ -17,13 +17,18 @@ use Rattle.terms.specs.declared.Answer.{Answer}
 use Rattle.terms.specs.declared.Answer.the-variants.{Laid, Posted, Going, Ended, NoneReady, Handed, Refused}
 use Rattle.words.specs.Layout.{none, NAME, LABEL, PHASE, HELD, IDLE, LOOKING, LINKING, Tables, View, view}
 use Rattle.words.specs.Layout.{sizesFit}
-use Rattle.words.specs.Words.{isPlace, countersOk, ownOk, planLookUp, planEnter, planAppend, planLink, withCell}
+use Rattle.words.specs.Index.{seatFor, firstSeat}
+use Rattle.words.specs.Words.{isPlace, countersOk, ownOk, planLookUp, planEnter, planAppend, planLink, inSeat, withSeat}
 use Rattle.words.specs.Words.{planSettle, planMark, planNotify, planAdd, planLinks, planCall, planPhase, admitted}
-use Rattle.words.specs.Words.{goingUnless, answerOf, stepWords, planTake, planQueue, planGet, answerGet, getWords}
+use Rattle.words.specs.Words.{goingUnless, answerOf, stepWords, nextJob, takeFrom, planTake, planQueue}
+use Rattle.words.specs.Words.{planGet, answerGet, getWords}
 use Rattle.words.specs.Words.{posted, finishWords}
 use Rattle.words.specs.declared.Found.{Found}
 use Rattle.words.specs.declared.Found.the-variants.{At, Missing, Damaged}
 use Rattle.words.specs.declared.Plan.{Plan}
+use Rattle.words.specs.declared.Seat.{Seat}
+use Rattle.words.specs.declared.Seating.{Seating}
+use Rattle.words.specs.declared.Seating.the-variants.{Seated, Unseated}
 use Rattle.locality.specs.Parts.{test}
 use Rattle.representation_kept.specs.Stand.{both}
 use Rattle.worker_state.specs.Held.{callOf, holdingOf, counted, heldWords}
@@ -84,13 +89,17 @@ module _ (s : Sizes) (v : View) where
   link x j Missing = not-by refl
   link x j Damaged = not-by refl
 
-  cell : (plan : ℕ → Plan) → Not4 (plan (v .put)) → Not4 (withCell s v plan)
-  unfolding withCell
-  cell plan e = search (answers, e)
+  seats : (j : ℕ) (plan : Seat → Plan) → ((e : Seat) → Not4 (plan e)) → Not4 (withSeat s v j plan)
+  unfolding withSeat
+  seats j plan all = of (seatFor s v j)
+    where
+      of : (x : Seating) → Not4 (inSeat x plan)
+      of (Seated e) = all e
+      of Unseated = not-by refl
 
   settle : (j t d : ℕ) → Not4 (planSettle s v j t d)
   unfolding planSettle
-  settle j t d = search (answers, cell) depth 9
+  settle j t d = search (answers, seats) depth 9
 
   mark : (p : ℕ) → Not4 (planMark s v p)
   unfolding planMark
@@ -98,16 +107,24 @@ module _ (s : Sizes) (v : View) where
 
   notify : (x : ℕ) → Not4 (planNotify s v x)
   unfolding planNotify
-  notify x = search (answers, cell) depth 9
+  notify x = search (answers, seats) depth 9
 
   stepped : (w : ℕ) → Not4 (planCall s v w)
   unfolding planCall planAdd planLinks
   stepped w = search (answers, look-up, enter, link, settle, mark, notify) depth 9
 
   -- ---- and no get of an idle worker by 3
+  took : Not halfDone answerGet (planTake v)
+  unfolding planTake
+  took = of (firstSeat v)
+    where
+      of : (x : Seating) → Not halfDone answerGet (takeFrom v x)
+      of (Seated e) = search answers depth 9
+      of Unseated = not-by refl
+
   got : Not halfDone answerGet (planQueue s v)
-  unfolding planQueue planTake
-  got = search answers depth 9
+  unfolding planQueue
+  got = search (answers, took) depth 9
 
 -- ---- a worker that is told something
 module _ (s : Sizes) (t : Tables) (w : ℕ) where
@@ -267,10 +284,14 @@ module _ (s : Sizes) (t : Tables) (w : ℕ) where
     queue : countersOk s v && leb (v .taken) (v .put) && leb (v .put) (s .jobs) ≡ true
     empty : eqb (v .taken) (v .put) ≡ true
 
-  not-taken : {A : Type 0} (j : ℕ) → answerGet (planTake v j) ≡ NoneReady → A
+  not-taken : {A : Type 0} → answerGet (planTake v) ≡ NoneReady → A
   unfolding planTake
-  not-taken j e = test (ltb j (v .made) && eqb (v .job LABEL j) 0) (λ h. no-job _ (rw h at e))
-      (λ h. no-none damaged (rw h at e))
+  not-taken = of (firstSeat v)
+    where
+      of : {A : Type 0} (x : Seating) → answerGet (takeFrom v x) ≡ NoneReady → A
+      of (Seated e) z = test (eqb (v .job LABEL (nextJob v)) 0) (λ h. no-job _ (rw h at z))
+          (λ h. no-none damaged (rw h at z))
+      of Unseated z = no-none damaged z
 
   finds-none : getWords s t w .answer ≡ NoneReady → Bare
   unfolding getWords admitted planGet planQueue
@@ -282,7 +303,7 @@ module _ (s : Sizes) (t : Tables) (w : ℕ) where
       (λ p. test (countersOk s v && leb (v .taken) (v .put) && leb (v .put) (s .jobs))
       (λ q. test (eqb (v .taken) (v .put))
       (λ x. record { fits = a; known = b; own = c; rest = i; jobless = p; queue = q; empty = x })
-      (λ x. not-taken (v .cell 0 (v .taken)) (rw (a, b, c, i, p, q, x) at e)))
+      (λ x. not-taken (rw (a, b, c, i, p, q, x) at e)))
       (λ q. no-none damaged (rw (a, b, c, i, p, q) at e)))
       (λ p. no-none alreadyHolding (rw (a, b, c, i, p) at e)))
       (λ i. no-none halfDone (rw (a, b, c, i) at e)))

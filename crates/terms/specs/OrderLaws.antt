@@ -1,6 +1,5 @@
--- What holds of the first of a list and of the list without it, whatever the order; and of the order of a queue, in
--- which none goes before another. Assumes nothing.
-use mathlib.Core.Path.{_≡_, refl, sym, ap, _∙_}
+-- What holds of the first of a list and of the list without it, whatever the order. Assumes nothing.
+use mathlib.Core.Path.{_≡_, refl, sym, ap}
 use mathlib.Core.Bool.{Bool, true, false}
 use mathlib.Core.List.{List, [], _∷_}
 use mathlib.Core.Option.{none, some}
@@ -11,7 +10,7 @@ use lib.ListN.{length}
 use borrow.Author.Tests.{eq-eqb, ne-eqb, eqb-true, eqb-false}
 use Rattle.basics.specs.Base.{pick, occurrences}
 use Rattle.basics.specs.Laws.{never}
-use Rattle.terms.specs.Order.{Order, inQueue, earliest, firstBy, without}
+use Rattle.terms.specs.Order.{Order, earliest, firstBy, without}
 
 -- j was taken out of a list, and this is left
 pub record TakenOut (j : ℕ) (l rest : List ℕ) : Type 0 where
@@ -67,24 +66,3 @@ without-occurs j (k ∷ l) h = without-other j k l (eqb k j) refl h (without-occ
 
 pub first-out : (before : Order) (l : List ℕ) (j : ℕ) → firstBy before l ≡ some j → TakenOut j l (without j l)
 first-out before l j e = without-occurs j l (first-occurs before l j e)
-
--- ---- in a queue none goes before another: the head is first, and the rest is left
-inert : (j : ℕ) (l : List ℕ) → earliest inQueue j l ≡ j
-unfolding earliest
-inert j [] = refl
-inert j (k ∷ l) = inert j l
-
-pub head-first : (j : ℕ) (l : List ℕ) → firstBy inQueue (j ∷ l) ≡ some j
-unfolding firstBy
-head-first j l = ap some (inert j l)
-
-pub without-head : (j : ℕ) (l : List ℕ) → without j (j ∷ l) ≡ l
-unfolding without
-without-head j l = rw (eq-eqb j j refl) refl
-
-pub first-head : (l : List ℕ) (j : ℕ) → firstBy inQueue l ≡ some j → l ≡ j ∷ without j l
-unfolding firstBy
-first-head [] j e = never (cc)
-first-head (k ∷ l) j e =
-    let same : k ≡ j = sym (inert k l) ∙ (cc) in
-    rw (same, without-head j l) refl

@@ -20,12 +20,15 @@ use Rattle.words.specs.Layout.{Tables, View, view, none, IDLE, LOOKING, LINKING
 use Rattle.words.specs.Words.{countersOk, findOf, planLink, firstArc}
 use Rattle.words.specs.declared.Found.{Found}
 use Rattle.words.specs.declared.Found.the-variants.{At, Missing, Damaged}
+use Rattle.words.specs.Index.{seatFor}
+use Rattle.words.specs.declared.Seating.{Seating}
+use Rattle.words.specs.declared.Seating.the-variants.{Seated, Unseated}
 use Rattle.words.specs.declared.Plan.{Plan}
 use Rattle.words.specs.declared.Plan.the-variants.{Refuse, Quit, Pass, Enter, Tally, LinkFirst, LinkAfter, Settle}
 use Rattle.words.specs.declared.Plan.the-variants.{SettleQueue, Mark, Notify, NotifyQueue}
 use Rattle.whole_words.specs.Whole.{wholeAdd}
 use Rattle.fused_words.specs.FusedWorker.{Admitted, isIdle, holdOf, idledWith, addWorker, halted}
-use Rattle.fused_words.specs.FusedAdd.{orOn, lookUps, jobsFound, enteredTables, Links, linkBy, links, cellFree}
+use Rattle.fused_words.specs.FusedAdd.{orOn, lookUps, jobsFound, enteredTables, Links, linkBy, links, queueIn}
 use Rattle.fused_words.specs.FusedAdd.{settleIn, settledTables, queuedTables, enterIn, lookIn, addIn, addIfIdle}
 use Rattle.fused_words.specs.declared.LookUps.{LookUps}
 use Rattle.fused_words.specs.declared.LookUps.the-variants.{All, Unknown, Broken}
@@ -63,10 +66,10 @@ link-workers (Quit n q) t i k next h = refl
 link-workers Pass t i k next h = refl
 link-workers (Enter j b x y) t i k next h = refl
 link-workers (Settle j c) t i k next h = refl
-link-workers (SettleQueue j c q) t i k next h = refl
+link-workers (SettleQueue j c e) t i k next h = refl
 link-workers (Mark p x) t i k next h = refl
 link-workers (Notify j c x) t i k next h = refl
-link-workers (NotifyQueue j c x q) t i k next h = refl
+link-workers (NotifyQueue j c x e) t i k next h = refl
 
 links-workers : (s : Sizes) (j x : ℕ) (l : List ℕ) (i : ℕ) (t : Tables) (k : ℕ)
     → links s j x l i t k .state .workers ≡ t .workers
@@ -105,6 +108,11 @@ module _ (s : Sizes) (t : Tables) (w : ℕ) (a : Arguments) (A : Admitted s t w)
   stops-in ph k i j x u b e =
       half-done (busy s t w A u e (addWorker ph (holdOf t w) a k i j x) (add-whole ph (holdOf t w) a k i j x) b)
 
+  queued : (u : Tables) (j c : ℕ) → u .workers ≡ t .workers → (o : Outcome Tables) → Ends o → (r : Seating)
+      → Ends (queueIn r u w (holdOf t w) j c o)
+  queued u j c e o stops (Seated d) = ends-in (queuedTables u j c d) e
+  queued u j c e o stops Unseated = stops
+
   settled : (j x : ℕ) (r : Links) → r .state .workers ≡ t .workers → Ends (settleIn s w a (holdOf t w) j x r)
   unfolding settleIn
   settled j x r e =
@@ -113,7 +121,7 @@ module _ (s : Sizes) (t : Tables) (w : ℕ) (a : Arguments) (A : Admitted s t w)
       let stops = stops-in LINKING (r .tally) (r .place) j (firstArc (a .count) x) u refl e in
       pick-by Ends (r .sound)
       (λ _. pick-by Ends (settles c (r .tally) (a .count))
-      (λ _. pick-by Ends (cellFree s (view u)) (λ _. ends-in (queuedTables u j c (view u .put)) e) (λ _. stops))
+      (λ _. queued u j c e _ stops (seatFor s (view u) j))
       (λ _. ends-in (settledTables u j c) e))
       (λ _. stops)
 

@@ -52,7 +52,7 @@ module _ (s : Sizes) (t : Tables) (w : ℕ) (A : Admitted s t w) where
       → ((y : ℕ) (m : Tables) → m .workers ≡ t .workers → Ends (next y m))
       → Ends (notifyBy p x w u next)
   notified (Notify j c y) x u next e h = or-ends y (toldTables u j c) next e (h y (toldTables u j c) e)
-  notified (NotifyQueue j c y q) x u next e h = or-ends y (toldQueued u j c q) next e (h y (toldQueued u j c q) e)
+  notified (NotifyQueue j c y d) x u next e h = or-ends y (toldQueued u j c d) next e (h y (toldQueued u j c d) e)
   notified (Refuse n) x u next e h = stops x u e
   notified (Quit n q) x u next e h = stops x u e
   notified Pass x u next e h = stops x u e
@@ -61,7 +61,7 @@ module _ (s : Sizes) (t : Tables) (w : ℕ) (A : Admitted s t w) where
   notified (LinkFirst p y j) x u next e h = stops x u e
   notified (LinkAfter p l y j) x u next e h = stops x u e
   notified (Settle j c) x u next e h = stops x u e
-  notified (SettleQueue j c q) x u next e h = stops x u e
+  notified (SettleQueue j c d) x u next e h = stops x u e
   notified (Mark p y) x u next e h = stops x u e
 
   notices : (n x : ℕ) (u : Tables) → u .workers ≡ t .workers → Ends (notifyIn n s w x u)
@@ -84,9 +84,9 @@ module _ (s : Sizes) (t : Tables) (w : ℕ) (A : Admitted s t w) where
   marked (LinkFirst p x j) = stays
   marked (LinkAfter p l x j) = stays
   marked (Settle j c) = stays
-  marked (SettleQueue j c q) = stays
+  marked (SettleQueue j c d) = stays
   marked (Notify j c x) = stays
-  marked (NotifyQueue j c x q) = stays
+  marked (NotifyQueue j c x d) = stays
 
   if-idle : (name : ℕ) → Ends (finishIfIdle s t w name)
   unfolding finishIfIdle finishIn contains

@@ -16,7 +16,7 @@ use Rattle.rules.specs.Rules.{Job, noJob, Graph, job}
 use Rattle.sequential_model.specs.Book.{listedNames}
 use Rattle.linearization.specs.Calls.{Reading}
 use Rattle.rules_history.specs.History.{History, entriesOf}
-use Rattle.rules_invariant.specs.Base.{place-of, sum, sum-zero, sum-first, sum-occurrences}
+use Rattle.basics.specs.Counting.{place-of, sum, sum-zero, sum-first, sum-occurrences}
 use Rattle.rules_invariant.specs.Invariant.{executing-not-finished}
 use Rattle.rules_invariant.specs.Start.{reached}
 use Rattle.rules_invariant.specs.Sound.{sound}

@@ -77,15 +77,28 @@ AFTER = 1
 abbrev pub bucketShape : Shape
 bucketShape = record { head = 0; width = 1 }
 
--- ---- the queue: how many jobs were taken and how many were put; then a cell for each job
+-- ---- the queue, and the index beside it: how many jobs were taken and how many were put; then a record for each place
+-- of the queue
 abbrev pub queueShape : Shape
-queueShape = record { head = 2; width = 1 }
+queueShape = record { head = 2; width = 3 }
 
 abbrev pub TAKEN : ℕ
 TAKEN = 0
 
 abbrev pub PUT : ℕ
 PUT = 1
+
+-- a place's cell: the job that was put there, or none once it is taken
+abbrev pub CELL : ℕ
+CELL = 0
+
+-- a slot of the index, which shares the record with the place of its number: the place of a waiting job, or none
+abbrev pub SLOT : ℕ
+SLOT = 1
+
+-- the position of a place: the slot that holds it, or none
+abbrev pub POSITION : ℕ
+POSITION = 2
 
 -- ---- a worker: its phase, its held job, and the call half done with its list of names
 abbrev pub workerShape : Shape
@@ -232,6 +245,9 @@ freshJob = 0 ∷ 0 ∷ 0 ∷ 0 ∷ 0 ∷ none ∷ none ∷ none ∷ []
 abbrev pub freshArc : List ℕ
 freshArc = none ∷ none ∷ []
 
+abbrev pub freshPlace : List ℕ
+freshPlace = none ∷ none ∷ none ∷ []
+
 -- a worker's words with a call that has no arguments, in a phase, and a hold
 abbrev pub bareWorker : ℕ → ℕ → List ℕ
 bareWorker phase held =
@@ -247,7 +263,7 @@ abbrev pub freshBuckets : Sizes → List ℕ
 freshBuckets s = replicate (2 ^ s .bits) none
 
 abbrev pub freshQueue : Sizes → List ℕ
-freshQueue s = 0 ∷ 0 ∷ replicate (s .jobs) none
+freshQueue s = 0 ∷ 0 ∷ repeated (s .jobs) freshPlace
 
 abbrev pub freshWorkers : Sizes → List ℕ
 freshWorkers s = repeated (s .workers) (bareWorker IDLE none)

@@ -3,22 +3,36 @@
 use mathlib.Core.List.{List, [], _∷_}
 use mathlib.Core.Option.{Option, some}
 use mathlib.Core.Option as option
-use Prim.Native.Nat.{ℕ, zero, suc, _+_, _-_}
-use lib.Dec.{eqb}
+use Prim.Native.Nat.{ℕ, zero, suc, _+_}
+use lib.Dec.{ltb, eqb}
 use Rattle.basics.specs.Base.{pick}
 use Rattle.terms.specs.Seen.{Request, CallSeen, idle, looking, linking, marking, notifying, JobSeen, Seen}
 use Rattle.words.specs.Layout.{none, NAME, LABEL, COUNT, CLASS, GROWER, FIRST, NEXT, DEPENDENT, AFTER, PHASE}
 use Rattle.words.specs.Layout.{HELD, OWN-NAME, LIST-COUNT, OWN-CLASS, OWN-GROWER, TALLY, PLACE, OWN-JOB, OWN-ARC}
-use Rattle.words.specs.Layout.{NAMES, IDLE, LOOKING, LINKING, MARKING, Tables, View, view}
+use Rattle.words.specs.Layout.{NAMES, IDLE, LOOKING, LINKING, MARKING, CELL, SLOT, Tables, View, view}
+use Rattle.words.specs.Index.{filled}
 
 -- n cells from the i-th on
 unfoldable pub cells : (ℕ → ℕ) → ℕ → ℕ → List ℕ
 cells f i zero = []
 cells f i (suc n) = f i ∷ cells f (suc i) n
 
--- the jobs that wait: the cells from the next to be taken to the last put
+-- the jobs in n cells from the i-th on; a job that was taken is there no more
+unfoldable pub jobsIn : (ℕ → ℕ) → ℕ → ℕ → List ℕ
+jobsIn f i zero = []
+jobsIn f i (suc n) = pick (eqb (f i) none) (jobsIn f (suc i) n) (f i ∷ jobsIn f (suc i) n)
+
+-- the jobs that wait, in the order in which they entered the queue
 abbrev pub waiting : Tables → List ℕ
-waiting t = cells (view t .cell 0) (view t .taken) (view t .put - view t .taken)
+waiting t = jobsIn (view t .cell CELL) 0 (view t .put)
+
+-- the job at a place of the queue that was put, and none at any other number
+abbrev pub jobAt : View → ℕ → ℕ
+jobAt v p = pick (ltb p (v .put)) (v .cell CELL p) none
+
+-- the jobs in the index, slot by slot
+abbrev pub indexed : Tables → List ℕ
+indexed t = cells (λ k. jobAt (view t) (view t .cell SLOT k)) 0 (filled (view t))
 
 -- the dependents along a list of arcs from the arc x on, which are at most n
 unfoldable pub dependentsFrom : ℕ → View → ℕ → List ℕ

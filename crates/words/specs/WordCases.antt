@@ -6,6 +6,7 @@ use Prim.Native.Nat.{_^_}
 use lib.ListN.{replicate}
 use Rattle.basics.specs.Base.{contains, repeats, occurrences, prefix}
 use Rattle.bucket.specs.Bucket.{productOf, bucketOf}
+use Rattle.heap.specs.Sift.{siftUp, siftDown}
 use Rattle.terms.specs.Terms.{argumentsWrong, withinLimits}
 use Rattle.terms.specs.Runs.{after, events, entries}
 use Rattle.terms.specs.Starred.{Row, Told, telling, answersOf, steps, before, orders, rowsOf, starred, oneOfTwo}
@@ -13,11 +14,12 @@ use Rattle.terms.specs.declared.Sizes.{Sizes}
 use Rattle.words.specs.Columns.{columns, header, put, putHeader}
 use Rattle.words.specs.Layout.{Tables, tables, need, jobShape, arcShape, bucketShape, queueShape, workerShape}
 use Rattle.words.specs.Layout.{longEnough, sizesKept, repeated, freshTables}
-use Rattle.words.specs.Words.{perform, ownOk, walk, findOf, planLookUp, planEnter, planAppend, planLink, withCell}
+use Rattle.words.specs.Words.{perform, ownOk, walk, findOf, planLookUp, planEnter, planAppend, planLink, withSeat}
 use Rattle.words.specs.Words.{planSettle, planMark, planNotify, planAdd, planLinks, planCall, planPhase, admitted}
 use Rattle.words.specs.Words.{applied, stepWords, planTake, planQueue, planGet, appliedGet, getWords, posted}
 use Rattle.words.specs.Words.{addWords, finishWords, layOut}
-use Rattle.words.specs.Observed.{cells, waiting}
+use Rattle.words.specs.Index.{waits, seatFor, firstSeatBy, shiftedDown, shiftedUp, putSeat, takeSeat}
+use Rattle.words.specs.Observed.{jobsIn, waiting}
 
 -- a word that is left from before
 abbrev old : Sizes → Tables
@@ -33,15 +35,15 @@ tells r = telling perform waiting (layOut (r .sizes) (old (r .sizes)) .state) (r
 pub starred-rows : map tells starred ≡ map (λ r. r .tells) starred
 unfolding contains repeats occurrences prefix argumentsWrong withinLimits after events entries answersOf steps before
     orders rowsOf starred productOf bucketOf columns header put putHeader longEnough sizesKept repeated freshTables
-    perform ownOk walk findOf planLookUp planEnter planAppend planLink withCell planSettle planMark planNotify planAdd
+    perform ownOk walk findOf planLookUp planEnter planAppend planLink withSeat planSettle planMark planNotify planAdd
     planLinks planCall planPhase admitted applied stepWords planTake planQueue planGet appliedGet getWords posted
-    addWords finishWords layOut cells
+    addWords finishWords layOut jobsIn siftUp siftDown waits seatFor firstSeatBy shiftedDown shiftedUp putSeat takeSeat
 starred-rows = refl
 
 pub one-of-two-rows : map tells oneOfTwo ≡ map (λ r. r .tells) oneOfTwo
 unfolding contains repeats occurrences prefix argumentsWrong withinLimits after events entries answersOf steps oneOfTwo
     productOf bucketOf columns header put putHeader longEnough sizesKept repeated freshTables perform ownOk walk findOf
-    planLookUp planEnter planAppend planLink withCell planSettle planMark planNotify planAdd planLinks planCall
+    planLookUp planEnter planAppend planLink withSeat planSettle planMark planNotify planAdd planLinks planCall
     planPhase admitted applied stepWords planTake planQueue planGet appliedGet getWords posted addWords finishWords
-    layOut cells
+    layOut jobsIn siftUp siftDown waits seatFor firstSeatBy shiftedDown shiftedUp putSeat takeSeat
 one-of-two-rows = refl

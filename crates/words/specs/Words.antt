@@ -19,10 +19,14 @@ use Rattle.terms.specs.declared.Answer.{Answer}
 use Rattle.terms.specs.declared.Answer.the-variants.{Laid, Posted, Going, Ended, NoneReady, Handed, Refused}
 use Rattle.words.specs.Columns.{place, put, putHeader}
 use Rattle.words.specs.Layout.{none, jobShape, MADE, NAME, LABEL, COUNT, FIRST, LAST, NEXT, arcShape, RESERVED}
-use Rattle.words.specs.Layout.{DEPENDENT, AFTER, bucketShape, queueShape, TAKEN, PUT, workerShape, PHASE, HELD}
+use Rattle.words.specs.Layout.{DEPENDENT, AFTER, bucketShape, CELL, workerShape, PHASE, HELD}
 use Rattle.words.specs.Layout.{OWN-NAME, LIST-COUNT, OWN-CLASS, OWN-GROWER, TALLY, PLACE, OWN-JOB, OWN-ARC, NAMES}
 use Rattle.words.specs.Layout.{IDLE, LOOKING, LINKING, MARKING, NOTIFYING, tables, view, roomFor, sizesFit}
 use Rattle.words.specs.Layout.{bareWorker, freshTables, Tables, View}
+use Rattle.words.specs.Index.{seatFor, firstPlace, firstSeat, putSeat, takeSeat}
+use Rattle.words.specs.declared.Seat.{Seat}
+use Rattle.words.specs.declared.Seating.{Seating}
+use Rattle.words.specs.declared.Seating.the-variants.{Seated, Unseated}
 use Rattle.words.specs.declared.Found.{Found}
 use Rattle.words.specs.declared.Found.the-variants.{At, Missing, Damaged}
 use Rattle.words.specs.declared.Plan.{Plan}
@@ -98,15 +102,19 @@ planLink s v x j (At p) =
 planLink s v x j Missing = Refuse damaged
 planLink s v x j Damaged = Refuse damaged
 
--- the cell of the queue that the next job is put in: "the queue would pass its end" is 9
-unfoldable pub withCell : Sizes → View → (ℕ → Plan) → Plan
-withCell s v plan = pick (leb (v .taken) (v .put) && ltb (v .put) (s .jobs)) (plan (v .put)) (Refuse damaged)
+-- a job that is queued, with its seat: "the queue would pass its end" is 9
+abbrev pub inSeat : Seating → (Seat → Plan) → Plan
+inSeat (Seated e) plan = plan e
+inSeat Unseated plan = Refuse damaged
+
+unfoldable pub withSeat : Sizes → View → ℕ → (Seat → Plan) → Plan
+withSeat s v j plan = inSeat (seatFor s v j) plan
 
 unfoldable pub planSettle : Sizes → View → ℕ → ℕ → ℕ → Plan
 planSettle s v j t d =
     pick (isPlace j && leb (v .job COUNT j) mostNames && leb t (v .job COUNT j))
     (pick (settles (v .job COUNT j - t) t d)
-    (withCell s v (SettleQueue j (v .job COUNT j - t)))
+    (withSeat s v j (SettleQueue j (v .job COUNT j - t)))
     (Settle j (v .job COUNT j - t)))
     (Refuse damaged)
 
@@ -125,7 +133,8 @@ planNotify s v x =
     && leb 1 (v .job COUNT (v .arc DEPENDENT x))
     && leb (v .job COUNT (v .arc DEPENDENT x)) mostNames)
     (pick (eqb (v .job COUNT (v .arc DEPENDENT x)) 1)
-    (withCell s v (NotifyQueue (v .arc DEPENDENT x) (v .job COUNT (v .arc DEPENDENT x) - 1) (v .arc AFTER x)))
+    (withSeat s v (v .arc DEPENDENT x)
+    (NotifyQueue (v .arc DEPENDENT x) (v .job COUNT (v .arc DEPENDENT x) - 1) (v .arc AFTER x)))
     (Notify (v .arc DEPENDENT x) (v .job COUNT (v .arc DEPENDENT x) - 1) (v .arc AFTER x)))
     (Refuse damaged)
 
@@ -181,10 +190,10 @@ answerOf Tally = Going
 answerOf (LinkFirst p x j) = Going
 answerOf (LinkAfter p l x j) = Going
 answerOf (Settle j c) = Ended
-answerOf (SettleQueue j c q) = Ended
+answerOf (SettleQueue j c e) = Ended
 answerOf (Mark p x) = goingUnless (eqb x none)
 answerOf (Notify j c x) = goingUnless (eqb x none)
-answerOf (NotifyQueue j c x q) = goingUnless (eqb x none)
+answerOf (NotifyQueue j c x e) = goingUnless (eqb x none)
 
 -- ---- what a plan stores
 -- a whole record
@@ -215,9 +224,6 @@ enteredWorker v w j x l =
 
 abbrev pub nextPlace : View → ℕ → List ℕ → List ℕ
 nextPlace v w l = putField l w PLACE (v .worker PLACE w + 1)
-
-abbrev pub putCell : List ℕ → ℕ → ℕ → List ℕ
-putCell q i j = putHeader (put queueShape q i 0 j) PUT (i + 1)
 
 abbrev pub putCount : List ℕ → ℕ → ℕ → List ℕ
 putCount l j c = put jobShape l j COUNT c
@@ -255,14 +261,14 @@ applied (LinkAfter p l x j) t w =
     (nextPlace (view t) w (t .workers))
 applied (Settle j c) t w =
     tables (putCount (t .jobs) j c) (t .arcs) (t .buckets) (t .queue) (idleWorker (view t) w (t .workers))
-applied (SettleQueue j c q) t w =
-    tables (putCount (t .jobs) j c) (t .arcs) (t .buckets) (putCell (t .queue) q j) (idleWorker (view t) w (t .workers))
+applied (SettleQueue j c e) t w =
+    tables (putCount (t .jobs) j c) (t .arcs) (t .buckets) (putSeat (t .queue) e j) (idleWorker (view t) w (t .workers))
 applied (Mark p x) t w =
     tables (put jobShape (t .jobs) p LABEL 2) (t .arcs) (t .buckets) (t .queue) (markedWorker x w (t .workers))
 applied (Notify j c x) t w =
     tables (putCount (t .jobs) j c) (t .arcs) (t .buckets) (t .queue) (arcsFrom x (view t) w (t .workers))
-applied (NotifyQueue j c x q) t w =
-    tables (putCount (t .jobs) j c) (t .arcs) (t .buckets) (putCell (t .queue) q j) (arcsFrom x (view t) w (t .workers))
+applied (NotifyQueue j c x e) t w =
+    tables (putCount (t .jobs) j c) (t .arcs) (t .buckets) (putSeat (t .queue) e j) (arcsFrom x (view t) w (t .workers))
 
 unfoldable pub stepWords : Sizes → Tables → ℕ → Outcome Tables
 stepWords s t w = outcome (answerOf (planStep s t w)) (applied (planStep s t w) t w)
@@ -272,18 +278,21 @@ stepWords s t w = outcome (answerOf (planStep s t w)) (applied (planStep s t w) 
 abbrev pub handOut : View → ℕ → HandOut
 handOut v j = record { job = j; name = v .job NAME j }
 
--- the cell of the job that is next by the order of hand-outs: the one longest in the queue
-abbrev pub nextCell : View → ℕ
-nextCell v = v .taken
+-- the job that is next by the order of hand-outs: that of the index's first place
+abbrev pub nextJob : View → ℕ
+nextJob v = v .cell CELL (firstPlace v)
 
-unfoldable pub planTake : View → ℕ → GetPlan
-planTake v j =
-    pick (ltb j (v .made) && eqb (v .job LABEL j) 0) (Take (handOut v j) (nextCell v)) (RefuseGet damaged)
+abbrev pub takeFrom : View → Seating → GetPlan
+takeFrom v (Seated e) = pick (eqb (v .job LABEL (nextJob v)) 0) (Take (handOut v (nextJob v)) e) (RefuseGet damaged)
+takeFrom v Unseated = RefuseGet damaged
+
+unfoldable pub planTake : View → GetPlan
+planTake v = takeFrom v (firstSeat v)
 
 unfoldable pub planQueue : Sizes → View → GetPlan
 planQueue s v =
     pick (countersOk s v && leb (v .taken) (v .put) && leb (v .put) (s .jobs))
-    (pick (eqb (v .taken) (v .put)) Wait (planTake v (v .cell 0 (nextCell v))))
+    (pick (eqb (v .taken) (v .put)) Wait (planTake v))
     (RefuseGet damaged)
 
 unfoldable pub planGet : Sizes → View → ℕ → GetPlan
@@ -295,14 +304,13 @@ planGet s v w =
 abbrev pub answerGet : GetPlan → Answer
 answerGet (RefuseGet n) = Refused n 0
 answerGet Wait = NoneReady
-answerGet (Take h q) = Handed h
+answerGet (Take h e) = Handed h
 
 unfoldable pub appliedGet : GetPlan → Tables → ℕ → Tables
 appliedGet (RefuseGet n) t w = t
 appliedGet Wait t w = t
-appliedGet (Take h q) t w =
-    tables (put jobShape (t .jobs) (h .job) LABEL 1) (t .arcs) (t .buckets)
-    (putHeader (put queueShape (t .queue) q 0 none) TAKEN (q + 1))
+appliedGet (Take h e) t w =
+    tables (put jobShape (t .jobs) (h .job) LABEL 1) (t .arcs) (t .buckets) (takeSeat (t .queue) e)
     (putField (t .workers) w HELD (h .job))
 
 abbrev pub planGetOf : Sizes → Tables → ℕ → GetPlan

@@ -9,6 +9,20 @@ pub enum Found {
     Damaged,
 }
 
+// A place of the queue that is filled or emptied, and what moves in the index: the last filled slot, and the slot where
+// the place that moves comes to rest.
+pub struct Seat {
+    pub place: u32,
+    pub last: u32,
+    pub slot: u32,
+}
+
+// Where a job is put in the queue and the index, or that a word read there is damaged.
+pub enum Seating {
+    Seated { seat: Seat },
+    Unseated,
+}
+
 // What a step is to do.
 pub enum Plan {
     // A refusal that changes nothing.
@@ -43,7 +57,7 @@ pub enum Plan {
         arc: u32,
         job: u32,
     },
-    // The job's remaining count becomes `count`; where it is queued, in the cell.
+    // The job's remaining count becomes `count`; where it is queued, in the seat.
     Settle {
         job: u32,
         count: u32,
@@ -51,7 +65,7 @@ pub enum Plan {
     SettleQueue {
         job: u32,
         count: u32,
-        cell: u32,
+        seat: Seat,
     },
     // The held job is finished; `first` is its first arc or none.
     Mark {
@@ -68,7 +82,7 @@ pub enum Plan {
         job: u32,
         count: u32,
         next: u32,
-        cell: u32,
+        seat: Seat,
     },
 }
 
@@ -76,5 +90,5 @@ pub enum Plan {
 pub enum GetPlan {
     RefuseGet { number: u32 },
     Wait,
-    Take { out: HandOut, cell: u32 },
+    Take { out: HandOut, seat: Seat },
 }

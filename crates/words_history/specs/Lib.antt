@@ -1,4 +1,5 @@
 pub mod Holds
-pub mod InOrder
 pub mod Theorem
 pub mod Lifted
+pub mod Indexed
+pub mod IndexExact

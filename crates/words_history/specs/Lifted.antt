@@ -1,13 +1,13 @@
 -- What holds by the rules of every list of items, on the words: how calls end, what the auditor asked, and the words of
 -- workers. Assumes nothing.
-use mathlib.Core.Path.{_≡_, refl, sym, ap, _∙_}
+use mathlib.Core.Path.{_≡_, sym, ap, _∙_}
 use mathlib.Core.Logic.{_↔_, _≢_}
 use mathlib.Core.Bool.{true}
 use mathlib.Core.List.{List, [], _∷_}
 use mathlib.Core.Option.{none}
 use Prim.Native.Nat.{ℕ, _+_, _^_, _≤_, _<_}
 use native.Mathlib.Omega.{arith}
-use lib.ListN.{length, getD}
+use lib.ListN.{length, getD, length-append}
 use Rattle.basics.specs.Limits.{mostNames}
 use Rattle.basics.specs.Base.{contains, occurrences}
 use Rattle.bucket.specs.Bucket.{bucketOf}
@@ -15,7 +15,8 @@ use Rattle.terms.specs.Terms.{Arguments, sameSizes, labelNumber, unexecuted, fi
 use Rattle.terms.specs.Runs.{Item, step, get, after, events}
 use Rattle.terms.specs.Seen.{JobSeen, Same}
 use Rattle.terms.specs.Seen as seen-as
-use Rattle.terms.specs.OrderLaws.{head-occurs, head-first}
+use Rattle.terms.specs.Order.{First}
+use Rattle.terms.specs.AheadLaws.{is-first}
 use Rattle.terms.specs.declared.Sizes.{Sizes}
 use Rattle.terms.specs.declared.HandOut.{HandOut}
 use Rattle.terms.specs.declared.Answer.the-variants.{Laid, NoneReady, Handed}
@@ -23,7 +24,7 @@ use Rattle.words.specs.Layout.{Tables, view, workerShape, NAME, HELD, LIST-COUN
 use Rattle.words.specs.Layout as words
 use Rattle.words.specs.Words.{perform, layOut}
 use Rattle.words.specs.Observed.{bucketFrom, newestFirst, seen}
-use Rattle.rules.specs.Rules.{Call, idle, looking, linking, marking, notifying, Graph, empty, job}
+use Rattle.rules.specs.Rules.{Graph, empty, job}
 use Rattle.rules.specs.Rules as rules
 use Rattle.rules.specs.Observed as rules-seen
 use Rattle.rules.specs.Sound.{Sound, Finished}
@@ -34,13 +35,13 @@ use Rattle.rules_history.specs.History.{History, start, Paced, Booked}
 use Rattle.rules_history.specs.Onward.{entriesBy, onward}
 use Rattle.linearizability.specs.Demand.{addOf, HandedRightly, JobFinished, handedOut}
 use Rattle.linearizability.specs.Ends.{AddStep, FinishOf}
+use Rattle.linearizability.specs.LongFirst.{minutesSeen, longFirst, TakesLongest, ByCount}
 use Rattle.representation_kept.specs.Find.{found-there}
 use Rattle.representation_kept.specs.Arcs.{few-arcs}
 use Rattle.representation_kept.specs.Chains.{chains}
 use Rattle.words_refine_rules.specs.Items.{item}
 use Rattle.words_refine_rules.specs.Reset.{idle-fresh, past-count}
 use Rattle.rules_follow_model.specs.Entries.{listed-length}
-use Rattle.rules_follow_model.specs.Settled.{hands-next}
 use Rattle.rules_follow_model.specs.Paced.{paced, worker-idle, all-idle}
 use Rattle.rules_follow_model.specs.Steps.{add-step, finish-step, pending-there}
 use Rattle.rules_invariant.specs.Sound.{sound}
@@ -49,6 +50,8 @@ use Rattle.audit.specs.Gets as gets
 use Rattle.audit.specs.Handed.{handed-once}
 use Rattle.audit.specs.Finishes.{finishedBy, finishes, occurs-there, finished-once}
 use Rattle.audit.specs.Drained as audit
+use Rattle.audit.specs.LongFirst.{seen-idle}
+use Rattle.audit.specs.LongFirst as longest
 use Rattle.words_history.specs.Theorem.{Reached, after-items, marked-finished, same-events, demand}
 
 module _ (s : Sizes) (t : Tables) (laid : layOut s t .answer ≡ Laid) (items : List Item) where
@@ -162,25 +165,28 @@ module _ (s : Sizes) (t : Tables) (laid : layOut s t .answer ≡ Laid) (items : 
         finish = rw (K .added j there .name) (finishes-of j there done);
       })
 
-  -- a call that is seen as none is none
-  seen-idle : (c : Call) → rules-seen.callSeen g c ≡ seen-as.idle → c ≡ idle
-  seen-idle idle e = refl
-  seen-idle (looking a i) e = cc
-  seen-idle (linking a j i u) e = cc
-  seen-idle marking e = cc
-  seen-idle (notifying p k) e = cc
+  -- ---- long jobs first
+  pub takes-longest : TakesLongest perform seen s T
+  takes-longest = longest.takes-longest perform seen s (layOut s t .state) (λ is. demand s t laid is .answers)
+      (λ is. demand s t laid is .does) items
 
-  -- ---- a worker that is idle and jobless is handed the job longest in the queue
-  pub hands-out : (w j : ℕ) (rest : List ℕ) → w < s .workers → seen T .call w ≡ seen-as.idle → seen T .held w ≡ none
-      → seen T .waiting ≡ j ∷ rest → perform T (get s w) .answer ≡ Handed (seen-as.handOut (seen T) j)
-  hands-out w j rest h c f q =
-      let queue : g .queue ≡ j ∷ rest = sym (does .waiting) ∙ q in
-      let there : j < length (g .jobs) = R .sound .queue-there j (rw queue (head-occurs j rest)) in
-      let named : seen T .job j .name ≡ job g j .name = ap (λ (x : JobSeen). x .name) (does .jobs j there) in
-      next (get s w)
-      ∙ hands-next s g w h (seen-idle _ (sym (does .calls w h) ∙ c)) (sym (does .held w h) ∙ f) j
-      (rw queue (head-first j rest))
-      ∙ rw named
+  pub by-count : ByCount perform seen s T
+  by-count = longest.hands-out-by-count perform seen s (layOut s t .state) (λ is. demand s t laid is .answers)
+      (λ is. demand s t laid is .does) items
+
+  -- a worker that is idle and jobless is handed the waiting job with the most minutes, and of those with as many the
+  -- earliest in the queue
+  pub hands-out : (w j : ℕ) → w < s .workers → seen T .call w ≡ seen-as.idle → seen T .held w ≡ none
+      → First (longFirst (seen T)) (seen T .waiting) j
+      → perform T (get s w) .answer ≡ Handed (seen-as.handOut (seen T) j)
+  hands-out w j h c f q =
+      let some-wait : 0 < length (seen T .waiting) =
+      omega (arith, ap length (q .parts), length-append (q .front) (j ∷ q .back)) in
+      let o = takes-longest .takes w h c f some-wait in
+      let that = is-first (minutesSeen (seen T)) (seen T .waiting) (o .job) (o .first) in
+      let this = is-first (minutesSeen (seen T)) (seen T .waiting) j q in
+      let same : o .job ≡ j = cc in
+      o .handed ∙ ap (λ k. Handed (seen-as.handOut (seen T) k)) same
 
   -- ---- "With an empty queue it says none ready, and then only"
   pub none-ready : (q : Sizes) (w : ℕ) → (perform T (get q w) .answer ≡ NoneReady)
@@ -201,7 +207,7 @@ module _ (s : Sizes) (t : Tables) (laid : layOut s t .answer ≡ Laid) (items : 
         ∙ gets.none-ready s q g w .1 (
           f .0,
           f .1,
-          seen-idle (g .workers w .call) (sym (does .calls w (f .1)) ∙ f .2),
+          seen-idle g (g .workers w .call) (sym (does .calls w (f .1)) ∙ f .2),
           sym (does .held w (f .1)) ∙ f .3,
           sym (does .waiting) ∙ f .4,
         )),

@@ -3,9 +3,8 @@
 use mathlib.Core.Path.{_≡_, refl}
 use mathlib.Core.Bool.{Bool, true, false}
 use mathlib.Core.List.{List}
-use Prim.Native.Nat.{ℕ, _<_}
+use Prim.Native.Nat.{ℕ}
 use native.Mathlib.Omega.{arith}
-use lib.ListN.{length, getD}
 use Rattle.basics.specs.Base.{pick}
 use Rattle.terms.specs.Terms.{damaged, wrongSizes}
 use Rattle.terms.specs.Runs.{Item, Outcome, outcome, after, events}
@@ -13,16 +12,15 @@ use Rattle.terms.specs.declared.Sizes.{Sizes}
 use Rattle.terms.specs.declared.Answer.the-variants.{Laid, Refused}
 use Rattle.words.specs.Layout.{Tables, roomFor, freshTables}
 use Rattle.words.specs.Words.{perform, layOut}
-use Rattle.words.specs.Observed.{waiting, seen}
+use Rattle.words.specs.Observed.{seen}
 use Rattle.rules.specs.Rules.{Graph, empty}
 use Rattle.rules.specs.Rules as rules
 use Rattle.rules.specs.Sound.{Sound, Finished}
 use Rattle.linearization.specs.Calls.{Reading, unread, reading, Quiet, acceptedAdds}
 use Rattle.rules_history.specs.History.{History, start, Counted, Booked, Balanced, AllIdle}
-use Rattle.linearizability.specs.Demand.{MarkedFinished, Demand, gives, handedOut}
+use Rattle.linearizability.specs.Demand.{MarkedFinished, Demand, gives}
 use Rattle.representation.specs.Rep.{Ghost, Stands}
 use Rattle.representation_kept.specs.Fresh.{noGhost, fresh-stands}
-use Rattle.representation_kept.specs.Queue.{waiting-queue}
 use Rattle.words_refine_rules.specs.Runs.{runs}
 use Rattle.words_refine_rules.specs.Never.{words-never-damaged}
 use Rattle.rules_follow_model.specs.Paced.{paced, all-idle}
@@ -32,7 +30,6 @@ use Rattle.rules_invariant.specs.Counted.{counted}
 use Rattle.rules_invariant.specs.Balanced.{balanced}
 use Rattle.rules_history.specs.Onward.{onward}
 use Rattle.words_history.specs.Holds.{Along, along, marked, holds}
-use Rattle.words_history.specs.InOrder.{in-order, kth}
 
 laid-stands : (s : Sizes) (t : Tables) → roomFor s t ≡ true → Stands s (layOut s t .state) empty noGhost
 unfolding layOut
@@ -105,17 +102,3 @@ module _ (s : Sizes) where
       sound = reached items;
       booked = rw (same-events items) (bookedly _ _ _ (onward s start items));
     }
-
-    -- first in, first out
-    pub in-turn : (items later : List Item) (k : ℕ)
-        → k < length (handedOut (events perform (after perform T items) later))
-        → k < length (waiting (after perform T items))
-        → getD (handedOut (events perform (after perform T items) later)) k 0
-        ≡ getD (waiting (after perform T items)) k 0
-    in-turn items later k =
-        let a = walked items in
-        let history = onward s start items in
-        let b = along s soundly countedly bookedly quietly (after perform T items)
-        (after (rules.perform s) empty items) (a .ghost) _ _ (a .stands) history later in
-        rw (b .told, waiting-queue (a .stands))
-        (λ h l. kth _ _ _ (in-order s (after (rules.perform s) empty items) later) k h l)

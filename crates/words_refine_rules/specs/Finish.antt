@@ -4,7 +4,7 @@ use mathlib.Core.Path.{_≡_, refl, ap, _∙_}
 use mathlib.Core.Bool.{Bool, true, false, not}
 use mathlib.Core.List.{List, [], _∷_}
 use mathlib.Core.Option.{Option, none, some}
-use Prim.Native.Nat.{ℕ, suc, _+_, _-_, _<_}
+use Prim.Native.Nat.{ℕ, suc, _-_, _<_}
 use native.Mathlib.Omega.{arith}
 use lib.Dec.{ltb, eqb}
 use lib.ListN.{length, getD}
@@ -20,18 +20,18 @@ use Rattle.words.specs.Columns.{columns, columns-put, stores}
 use Rattle.words.specs.Layout.{LABEL, workerShape, PHASE, HELD, OWN-ARC, IDLE, MARKING, NOTIFYING, bareWorker, view}
 use Rattle.words.specs.Layout.{Tables}
 use Rattle.words.specs.Layout as layout
-use Rattle.words.specs.Words.{planPhase, planMark, planNotify, withCell, putField, arcsFrom, markedWorker, goingUnless}
+use Rattle.words.specs.Words.{planPhase, planMark, planNotify, withSeat, putField, arcsFrom, markedWorker, goingUnless}
 use Rattle.words.specs.Words.{answerOf, applied}
 use Rattle.words.specs.Words.{planCall}
 use Rattle.words.specs.declared.Plan.{Plan}
 use Rattle.words.specs.declared.Plan.the-variants.{Mark, Notify, NotifyQueue}
 use Rattle.rules.specs.Rules.{Call, idle, marking, notifying, Worker, Graph, job, mark, markDependents, marked, notify}
 use Rattle.rules.specs.Rules.{notified}
-use Rattle.rules.specs.Sound.{Sound, CallSound, Notifying, started}
+use Rattle.rules.specs.Sound.{Sound, CallSound, Notifying}
 use Rattle.representation.specs.Rep.{Ghost, TablesRep, BareWords, WorkerRep, Stands}
 use Rattle.representation_kept.specs.Arcs.{arc-dependent, arc-after, arc-some, arc-none, arc-ok}
 use Rattle.representation_kept.specs.Labels.{mark-stands}
-use Rattle.representation_kept.specs.Queue.{with-cell}
+use Rattle.representation_kept.specs.Queue.{seatOf, with-seat}
 use Rattle.representation_kept.specs.Count.{notify-stands, notify-queue-stands}
 use Rattle.representation_kept.specs.Stand.{TablesStand}
 use Rattle.words_refine_rules.specs.Workers.{Only, record-only, bare-fits, bare-held, bare-words, arc-words}
@@ -181,14 +181,14 @@ module _ (s : Sizes) (t : Tables) (g : Graph) (G : Ghost) (S : Stands s t g G) (
         (rw l (next-words b e))
 
     notified-agrees : (b : Bool) → eqb x layout.none ≡ b → (d : Bool) → eqb (job g j .count) 1 ≡ d
-        → Agrees s (done (pick d (withCell s (view t) (NotifyQueue j c x)) (Notify j c x)) t w)
+        → Agrees s (done (pick d (withSeat s (view t) j (NotifyQueue j c x)) (Notify j c x)) t w)
         (outcome (goingUnless b) (notified g w j (next b)))
     unfolding applied
     notified-agrees b e true y =
         let last = eqb-true (job g j .count) 1 y in
         let M = o .queues last in
-        rw (with-cell s t g G S O j M (NotifyQueue j c x))
-        (step-agrees (NotifyQueue j c x (started (g .jobs) + length (g .queue))) b e refl refl
+        rw (with-seat s t g G S O j j-there M (NotifyQueue j c x))
+        (step-agrees (NotifyQueue j c x (seatOf s t g G S O j j-there M)) b e refl refl
         (notify-queue-stands s t g G S O w j x (next b) j-there (eq-eqb c 0 (omega arith)) M))
     notified-agrees b e false y =
         let more = eqb-false (job g j .count) 1 y in
@@ -196,7 +196,7 @@ module _ (s : Sizes) (t : Tables) (g : Graph) (G : Ghost) (S : Stands s t g G) (
         (notify-stands s t g G S O w j x (next b) j-there (ne-eqb c 0 (omega (arith, o .counted))))
 
     plan-notify : planPhase s (view t) w
-        ≡ pick (eqb (job g j .count) 1) (withCell s (view t) (NotifyQueue j c x)) (Notify j c x)
+        ≡ pick (eqb (job g j .count) 1) (withSeat s (view t) j (NotifyQueue j c x)) (Notify j c x)
     unfolding planPhase planCall planNotify
     plan-notify =
         rw (
@@ -220,8 +220,8 @@ module _ (s : Sizes) (t : Tables) (g : Graph) (G : Ghost) (S : Stands s t g G) (
     notifying-agrees = rw plan-notify (go (ltb (suc k) (length (job g p .dependents))) refl)
       where
         go : (b : Bool) → ltb (suc k) (length (job g p .dependents)) ≡ b
-            → Agrees s (done (pick (eqb (job g j .count) 1) (withCell s (view t) (NotifyQueue j c x)) (Notify j c x)) t
-            w)
+            → Agrees s
+            (done (pick (eqb (job g j .count) 1) (withSeat s (view t) j (NotifyQueue j c x)) (Notify j c x)) t w)
             (pick b (outcome Going (notified g w j (notifying p (suc k)))) (outcome Ended (notified g w j idle)))
         go true e = notified-agrees false (ends true e) (eqb (job g j .count) 1) refl
         go false e = notified-agrees true (ends false e) (eqb (job g j .count) 1) refl

@@ -17,19 +17,19 @@ use Rattle.terms.specs.declared.Sizes.{Sizes}
 use Rattle.terms.specs.declared.Answer.the-variants.{Going, Ended}
 use Rattle.words.specs.Columns.{columns-put, stores}
 use Rattle.words.specs.Layout.{LABEL, workerShape, TALLY, PLACE, NAMES, LINKING, view, Tables}
-use Rattle.words.specs.Words.{findOf, planPhase, planLinks, planLink, planAppend, planSettle, withCell, firstArc}
+use Rattle.words.specs.Words.{findOf, planPhase, planLinks, planLink, planAppend, planSettle, withSeat, firstArc}
 use Rattle.words.specs.Words.{applied}
 use Rattle.words.specs.Words.{planCall}
 use Rattle.words.specs.declared.Plan.the-variants.{Tally, Settle, SettleQueue}
 use Rattle.words.specs.declared.Found.the-variants.{At}
 use Rattle.rules.specs.Rules.{Call, idle, linking, notifying, Graph, job, at, find, withCall, linked, linkTo, link}
 use Rattle.rules.specs.Rules.{settled, stepCall}
-use Rattle.rules.specs.Sound.{Sound, CallSound, Linking, started}
+use Rattle.rules.specs.Sound.{Sound, CallSound, Linking}
 use Rattle.representation.specs.Rep.{Ghost, tallyGhost, linkGhost, TablesRep, CallRep, Stands}
 use Rattle.representation_kept.specs.Find.{find-agrees, found-there}
 use Rattle.representation_kept.specs.Keep.{tally-stands}
 use Rattle.representation_kept.specs.Append.{append-stands, append-answer, append-workers}
-use Rattle.representation_kept.specs.Queue.{with-cell}
+use Rattle.representation_kept.specs.Queue.{seatOf, with-seat}
 use Rattle.representation_kept.specs.Count.{settle-stands, settle-queue-stands}
 use Rattle.words_refine_rules.specs.Workers.{next-words, tally-words}
 use Rattle.words_refine_rules.specs.Frames.{link-same, tally-same}
@@ -143,13 +143,13 @@ module _ (s : Sizes) (t : Tables) (g : Graph) (G : Ghost) (S : Stands s t g G) (
   c = job g j .count - u
 
   settle-agrees : i ≡ a .count → (b : Bool) → settles c u (a .count) ≡ b
-      → Agrees s (done (pick b (withCell s (view t) (SettleQueue j c)) (Settle j c)) t w)
+      → Agrees s (done (pick b (withSeat s (view t) j (SettleQueue j c)) (Settle j c)) t w)
       (outcome Ended (settled g w j u (a .count)))
   unfolding applied
   settle-agrees z true e =
       let M = o .queues z e in
-      rw (with-cell s t g G S O j M (SettleQueue j c))
-      (agrees s t g G S O w (done (SettleQueue j c (started (g .jobs) + length (g .queue))) t w)
+      rw (with-seat s t g G S O j (o .there) M (SettleQueue j c))
+      (agrees s t g G S O w (done (SettleQueue j c (seatOf s t g G S O j (o .there) M)) t w)
       (outcome Ended (settled g w j u (a .count))) G (turned g w idle) refl
       (settle-queue-stands s t g G S O w j u (a .count) (o .there) e M)
       refl
@@ -165,7 +165,7 @@ module _ (s : Sizes) (t : Tables) (g : Graph) (G : Ghost) (S : Stands s t g G) (
       (idle-words s t g G S O w hw G)
 
   plan-settle : planSettle s (view t) j u (a .count)
-      ≡ pick (settles c u (a .count)) (withCell s (view t) (SettleQueue j c)) (Settle j c)
+      ≡ pick (settles c u (a .count)) (withSeat s (view t) j (SettleQueue j c)) (Settle j c)
   unfolding planSettle
   plan-settle =
       rw (
@@ -192,7 +192,7 @@ module _ (s : Sizes) (t : Tables) (g : Graph) (G : Ghost) (S : Stands s t g G) (
           → Agrees s
           (done (pick b
           (planLink s (view t) (firstArc (a .count) (G .base j) + i) j (findOf s (view t) (f (NAMES + i) w)))
-          (pick (settles c u (a .count)) (withCell s (view t) (SettleQueue j c)) (Settle j c))) t w)
+          (pick (settles c u (a .count)) (withSeat s (view t) j (SettleQueue j c)) (Settle j c))) t w)
           (pick b (link g w a j i u (find g (getD (listed a) i 0))) (outcome Ended (settled g w j u (a .count))))
       go true e = link-agrees (ltb-true i (a .count) e)
       go false e = settle-agrees (omega (arith, ltb-false i (a .count) e, o .within)) (settles c u (a .count)) refl

@@ -5,21 +5,20 @@ use mathlib.Core.Path.{_≡_, refl, sym, ap, _∙_}
 use mathlib.Core.Bool.{Bool, true, false}
 use mathlib.Core.List.{List, [], _∷_}
 use mathlib.Core.Option.{Option, none, some}
-use Prim.Native.Nat.{ℕ, _+_, _≤_, _<_}
+use Prim.Native.Nat.{ℕ, suc, _+_, _≤_, _<_}
 use native.Mathlib.Omega.{arith}
 use lib.Dec.{eqb}
 use lib.ListN.{length}
-use borrow.Author.Tests.{eq-eqb, ne-eqb, lt-ltb, le-leb}
+use borrow.Author.Tests.{eq-eqb, ne-eqb, le-leb}
 use Rattle.basics.specs.Base.{pick}
 use Rattle.basics.specs.Laws.{update-same}
 use Rattle.terms.specs.Terms.{labelNumber, Arguments, argumentsWrong, wrongArguments, alreadyHolding, notHeld, Finish}
 use Rattle.terms.specs.Runs.{Outcome, outcome}
-use Rattle.terms.specs.Order.{without}
-use Rattle.terms.specs.OrderLaws.{none-first, first-head}
+use Rattle.terms.specs.Order.{without, firstBy}
 use Rattle.terms.specs.declared.Sizes.{Sizes}
 use Rattle.terms.specs.declared.Answer.the-variants.{Posted, NoneReady, Handed, Refused}
 use Rattle.words.specs.Columns.{columns, columns-put}
-use Rattle.words.specs.Layout.{LABEL, workerShape, HELD, IDLE, MARKING, bareWorker, tables, view, Tables}
+use Rattle.words.specs.Layout.{LABEL, CELL, SLOT, workerShape, HELD, IDLE, MARKING, bareWorker, tables, view, Tables}
 use Rattle.words.specs.Layout as layout
 use Rattle.words.specs.Words.{putWorker, planTake, planQueue, answerGet, appliedGet, holdsName, addingWorker, posted}
 use Rattle.words.specs.Words.{judgedCounters}
@@ -31,7 +30,8 @@ use Rattle.rules.specs.Sound.{Sound, started}
 use Rattle.representation.specs.Rep.{Ghost, TablesRep, holdWord, BareWords, WorkerRep, Stands}
 use Rattle.representation_kept.specs.Stand.{tables-part, frame}
 use Rattle.representation_kept.specs.Labels.{get-stands}
-use Rattle.representation_kept.specs.Queue.{put-there, queue-end, next-cell, next-job}
+use Rattle.representation_kept.specs.Queue.{put-there, queue-end, seatLeft, first-seat, next-there, next-waits}
+use Rattle.representation_kept.specs.Queue.{next-out}
 use Rattle.words_refine_rules.specs.Workers.{record-only, bare-fits, bare-held, bare-words, adding-fits}
 use Rattle.words_refine_rules.specs.Workers.{adding-held}
 use Rattle.words_refine_rules.specs.Workers.{adding-words, held-words}
@@ -124,47 +124,53 @@ module _ (s : Sizes) (t : Tables) (g : Graph) (G : Ghost) (S : Stands s t g G) (
   abbrev taken : ℕ
   taken = started (g .jobs)
 
-  take-agrees : (j : ℕ) (q : List ℕ) → g .queue ≡ j ∷ q
-      → Agrees s (doneGet (Take (handOut g j) taken) t w) (outcome (Handed (handOut g j)) (handedOut g w j q))
-  unfolding appliedGet
-  take-agrees j q e =
-      agrees s t g G S O w (doneGet (Take (handOut g j) taken) t w)
-      (outcome (Handed (handOut g j)) (handedOut g w j q)) G (record { held = some j; call = idle }) refl
-      (get-stands s t g G S O w (handOut g j) q e)
-      refl
-      (field s t g G S O w hw (t .workers) (here s t g G S O w hw) HELD j refl)
-      (unchanged g G w)
-      (rw (columns-put workerShape (s .workers) (t .workers) w HELD j refl (S .workers) hw)
-      (record { held = update-same (f HELD) w j; call = held-words f w IDLE layout.none B j }))
+  -- the next by the order, of n + 1 that wait
+  module _ (n : ℕ) (full : length (g .queue) ≡ suc n) where
+    abbrev j : ℕ
+    j = view t .cell CELL (view t .cell SLOT 0)
 
-  plan-next : (j : ℕ) (q : List ℕ) → g .queue ≡ j ∷ q → planQueue s (view t) ≡ Take (handOut g j) taken
-  unfolding planQueue planTake
-  plan-next j q e =
-      let n = next-job s t g G S O j q e in
-      let row = R .rows j (omega (arith, O .jobs, n .0)) in
-      let label : view t .job LABEL j ≡ 0 = row .label ∙ ap labelNumber (n .1) in
-      rw (
-        counters-ok s t g G S O,
-        put-there s t g G S O,
-        R .taken,
-        queue-end s t g G S O,
-        le-leb taken (taken + length (g .queue)) (omega arith),
-        ne-eqb taken (taken + length (g .queue)) (omega (arith, ap length e)),
-        next-cell s t g G S O j q e,
-        label,
-        row .name,
-        R .made,
-        lt-ltb j (length (g .jobs)) (n .0),
-      )
+    abbrev plan : GetPlan
+    plan = Take (handOut g j) (seatLeft s t g G S O n full)
+
+    take-agrees : Agrees s (doneGet plan t w) (outcome (Handed (handOut g j)) (handedOut g w j (without j (g .queue))))
+    unfolding appliedGet
+    take-agrees =
+        agrees s t g G S O w (doneGet plan t w)
+        (outcome (Handed (handOut g j)) (handedOut g w j (without j (g .queue)))) G
+        (record { held = some j; call = idle }) refl
+        (get-stands s t g G S O w n full)
+        refl
+        (field s t g G S O w hw (t .workers) (here s t g G S O w hw) HELD j refl)
+        (unchanged g G w)
+        (rw (columns-put workerShape (s .workers) (t .workers) w HELD j refl (S .workers) hw)
+        (record { held = update-same (f HELD) w j; call = held-words f w IDLE layout.none B j }))
+
+    plan-next : planQueue s (view t) ≡ plan
+    unfolding planQueue planTake
+    plan-next =
+        let there : j < length (g .jobs) = next-there s t g G S O n full in
+        let row = R .rows j (omega (arith, O .jobs)) in
+        let label : view t .job LABEL j ≡ 0 =
+        row .label ∙ ap labelNumber (O .queue-unexecuted j (next-waits s t g G S O n full)) in
+        rw (
+          first-seat s t g G S O n full,
+          counters-ok s t g G S O,
+          put-there s t g G S O,
+          R .taken,
+          queue-end s t g G S O,
+          le-leb taken (taken + length (g .queue)) (omega arith),
+          ne-eqb taken (taken + length (g .queue)) (omega arith),
+          label,
+          row .name,
+        )
 
   wait-agrees : Agrees s (doneGet Wait t w) (outcome NoneReady g)
   unfolding appliedGet
   wait-agrees = record { answer = refl; ghost = G; stands = S }
 
-  queue-agrees : (o : Option ℕ) → nextOut g ≡ o → Agrees s (doneGet (planQueue s (view t)) t w) (takeNext g w o)
-  unfolding planQueue takeNext
-  queue-agrees none z =
-      let e : g .queue ≡ [] = none-first (order g) (g .queue) z in
+  queue-agrees : (q : List ℕ) → g .queue ≡ q → Agrees s (doneGet (planQueue s (view t)) t w) (takeNext g w (nextOut g))
+  unfolding planQueue takeNext firstBy
+  queue-agrees [] e =
       rw (
         counters-ok s t g G S O,
         put-there s t g G S O,
@@ -172,12 +178,12 @@ module _ (s : Sizes) (t : Tables) (g : Graph) (G : Ghost) (S : Stands s t g G) (
         queue-end s t g G S O,
         le-leb taken (taken + length (g .queue)) (omega arith),
         eq-eqb taken (taken + length (g .queue)) (omega (arith, ap length e)),
+        ap (firstBy (order g)) e,
       )
       wait-agrees
-  queue-agrees (some j) z =
-      let q : List ℕ = without j (g .queue) in
-      let e : g .queue ≡ j ∷ q = first-head (g .queue) j z in
-      rw (plan-next j q e) (take-agrees j q e)
+  queue-agrees (x ∷ l) e =
+      let full : length (g .queue) ≡ suc (length l) = ap length e in
+      rw (plan-next (length l) full, next-out s t g G S O (length l) full) (take-agrees (length l) full)
 
   pub get-agrees : Agrees s (doneGet
       (pick (eqb (f HELD w) layout.none) (planQueue s (view t)) (RefuseGet alreadyHolding)) t w)
@@ -188,5 +194,5 @@ module _ (s : Sizes) (t : Tables) (g : Graph) (G : Ghost) (S : Stands s t g G) (
       go : (h : Option ℕ) → g .workers w .held ≡ h
           → Agrees s (doneGet (pick (eqb (holdWord h) layout.none) (planQueue s (view t)) (RefuseGet alreadyHolding)) t
           w) (getJob g w h)
-      go none e = queue-agrees (nextOut g) refl
+      go none e = queue-agrees (g .queue) refl
       go (some j) e = rw (job-place s t g G S O w hw j (O .held-there w j e)) (refused s t g G S O alreadyHolding)

@@ -17,69 +17,68 @@ pub trait Calls {
     fn add_sheet(sizes: Sizes, tables: &mut Tables, worker: u32, rows: &[u32]) -> SheetAdded;
 }
 
-/// A type whose calls are the functions of a module.
+/// A type whose calls are the functions of a module, of the unproved ones with or without the index.
 macro_rules! calls {
-    ($type:ident, $name:literal, $module:path) => {
+    ($type:ident, $name:literal, $($module:ident)::+ $(, $indexed:tt)?) => {
         pub struct $type;
 
         impl Calls for $type {
             const NAME: &'static str = $name;
 
             fn lay_out(sizes: Sizes, tables: &mut Tables) -> Answer {
-                use $module as module;
-                module::lay_out(sizes, tables)
+                $($module::)+lay_out$(::<$indexed>)?(sizes, tables)
             }
 
             fn post_add(sizes: Sizes, tables: &mut Tables, worker: u32, entry: Entry) -> Answer {
-                use $module as module;
-                module::post_add(sizes, tables, worker, entry)
+                $($module::)+post_add$(::<$indexed>)?(sizes, tables, worker, entry)
             }
 
             fn post_finish(sizes: Sizes, tables: &mut Tables, worker: u32, name: u32) -> Answer {
-                use $module as module;
-                module::post_finish(sizes, tables, worker, name)
+                $($module::)+post_finish$(::<$indexed>)?(sizes, tables, worker, name)
             }
 
             fn step(sizes: Sizes, tables: &mut Tables, worker: u32) -> Answer {
-                use $module as module;
-                module::step(sizes, tables, worker)
+                $($module::)+step$(::<$indexed>)?(sizes, tables, worker)
             }
 
             fn get(sizes: Sizes, tables: &mut Tables, worker: u32) -> Answer {
-                use $module as module;
-                module::get(sizes, tables, worker)
+                $($module::)+get$(::<$indexed>)?(sizes, tables, worker)
             }
 
             fn add(sizes: Sizes, tables: &mut Tables, worker: u32, entry: Entry) -> Answer {
-                use $module as module;
-                module::add(sizes, tables, worker, entry)
+                $($module::)+add$(::<$indexed>)?(sizes, tables, worker, entry)
             }
 
             fn finish(sizes: Sizes, tables: &mut Tables, worker: u32, name: u32) -> Answer {
-                use $module as module;
-                module::finish(sizes, tables, worker, name)
+                $($module::)+finish$(::<$indexed>)?(sizes, tables, worker, name)
             }
 
             fn add_sheet(sizes: Sizes, tables: &mut Tables, worker: u32, rows: &[u32]) -> SheetAdded {
-                use $module as module;
-                module::add_sheet(sizes, tables, worker, rows)
+                $($module::)+add_sheet$(::<$indexed>)?(sizes, tables, worker, rows)
             }
         }
     };
 }
 
 calls!(Proved, "library", taskgraph::raw);
-calls!(Unproved, "unproved Rust", unproved);
+calls!(Unproved, "unproved Rust", unproved, true);
+calls!(FirstIn, "first in", unproved, false);
 
 /// The words of five tables.
+#[derive(Clone)]
 pub struct Arena {
     words: [Vec<u32>; 5],
 }
 
 impl Arena {
     pub fn new(sizes: Sizes) -> Arena {
-        let need = unproved::words_needed(sizes).expect("the sizes are within their limits");
+        let need = unproved::words_needed::<true>(sizes).expect("the sizes are within their limits");
         Arena { words: need.map(|len| vec![0; len]) }
+    }
+
+    /// Takes the words of another of the same sizes.
+    pub fn restore(&mut self, from: &Arena) {
+        self.words.iter_mut().zip(&from.words).for_each(|(words, from)| words.copy_from_slice(from));
     }
 
     pub fn lent(&mut self) -> Tables<'_> {
@@ -130,7 +129,7 @@ pub fn build<C: Calls>(manner: Manner, sizes: Sizes, tables: &mut Tables, shape:
     1 + match manner {
         Manner::Single => add_by_steps::<C>(sizes, tables, shape),
         Manner::Whole => add_whole::<C>(sizes, tables, shape),
-        Manner::Sheets => add_by_sheets::<C>(sizes, tables, shape),
+        Manner::Sheets => add_rows::<C>(sizes, tables, &shape.rows),
     }
 }
 
@@ -150,8 +149,9 @@ fn add_whole<C: Calls>(sizes: Sizes, tables: &mut Tables, shape: &Shape) -> usiz
     shape.entries.len()
 }
 
-fn add_by_sheets<C: Calls>(sizes: Sizes, tables: &mut Tables, shape: &Shape) -> usize {
-    let sheets = shape.rows.chunks(MAX_ENTRIES * ENTRY_WORDS);
+/// Adds the jobs of all rows, as many in one call as it takes; the number of calls.
+pub fn add_rows<C: Calls>(sizes: Sizes, tables: &mut Tables, rows: &[u32]) -> usize {
+    let sheets = rows.chunks(MAX_ENTRIES * ENTRY_WORDS);
     let calls = sheets.len();
     for rows in sheets {
         let added = C::add_sheet(sizes, tables, 0, rows);

@@ -1,9 +1,10 @@
-//! How long a call holds the lock: a single call, an add run whole, a sheet and a finish run whole, each at its longest,
-//! over 4,096 jobs. Names are spread over the buckets, or all in one.
+//! How long a call holds the lock: a look-up, a get, an add run whole, a sheet and a finish run whole, each at its
+//! longest, over 4,096 jobs. Names are spread over the buckets, or all in one. Classes rise, so that a job that is queued
+//! goes far up in the index.
 
 use std::{process::ExitCode, time::Instant};
 
-use bench_graph::calls::Arena;
+use bench_graph::{calls::Arena, shapes::CLASSES};
 use taskgraph::raw::{self, kind, Entry, Sizes, Tables, ENTRY_WORDS, MAX_ENTRIES, MAX_NAMES};
 
 const SIZES: Sizes = Sizes { jobs: 4_096, arcs: 32_768, bits: 8, workers: 1 };
@@ -25,6 +26,7 @@ pub fn print() -> ExitCode {
     let one_bucket = measured(|job| (job as u32).wrapping_mul(one));
     let names = [
         "a look-up of one of the oldest names",
+        "a get where 4,096 jobs wait",
         "an add of 32 of the oldest names, run whole",
         "a sheet of 64 entries of 32 of the oldest names",
         "a finish of a job with 4,095 dependents, run whole",
@@ -40,10 +42,10 @@ fn inverse(odd: u32) -> u32 {
     (0..5).fold(odd, |guess, _| guess.wrapping_mul(2_u32.wrapping_sub(odd.wrapping_mul(guess))))
 }
 
-/// Microseconds of a look-up, an add, a sheet and a finish, with these names.
-fn measured(name: impl Fn(usize) -> u32) -> [f64; 4] {
+/// Microseconds of a look-up, a get, an add, a sheet and a finish, with these names.
+fn measured(name: impl Fn(usize) -> u32) -> [f64; 5] {
     let mut arena = Arena::new(SIZES);
-    let mut best = [f64::INFINITY; 4];
+    let mut best = [f64::INFINITY; 5];
     for _ in 0..ROUNDS {
         let taken = round(&mut arena.lent(), &name);
         best.iter_mut().zip(taken).for_each(|(best, taken)| *best = best.min(taken));
@@ -51,18 +53,21 @@ fn measured(name: impl Fn(usize) -> u32) -> [f64; 4] {
     best
 }
 
-fn round(tables: &mut Tables, name: &impl Fn(usize) -> u32) -> [f64; 4] {
+fn round(tables: &mut Tables, name: &impl Fn(usize) -> u32) -> [f64; 5] {
     let rows: Vec<u32> = (BEFORE..BEFORE + MAX_ENTRIES).flat_map(|job| entry(name, job, MAX_NAMES).to_row()).collect();
-    build(tables, name);
+    build(tables, name, BEFORE);
     let (sheet, added) = timed(|| raw::add_sheet(SIZES, tables, 0, &rows));
     assert_eq!((added.number, added.numbers), (0, [0; MAX_ENTRIES]));
-    build(tables, name);
+    build(tables, name, BEFORE);
     let (add, answer) = timed(|| raw::add(SIZES, tables, 0, entry(name, BEFORE, MAX_NAMES)));
     assert_eq!(answer.kind, kind::ENDED);
     assert_eq!(raw::post_add(SIZES, tables, 0, entry(name, BEFORE + 1, 1)).kind, kind::POSTED);
     let (look_up, answer) = timed(|| raw::step(SIZES, tables, 0));
     assert_eq!(answer.kind, kind::GOING_ON);
-    [look_up, add, sheet, finish(tables, name)]
+    build(tables, name, SIZES.jobs as usize);
+    let (get, answer) = timed(|| raw::get(SIZES, tables, 0));
+    assert_eq!(answer.kind, kind::HANDED_OUT);
+    [look_up, get, add, sheet, finish(tables, name)]
 }
 
 /// The finish of a job that all others need.
@@ -77,10 +82,10 @@ fn finish(tables: &mut Tables, name: &impl Fn(usize) -> u32) -> f64 {
     finish
 }
 
-/// Jobs without lists, but for those of the longest sheet.
-fn build(tables: &mut Tables, name: &impl Fn(usize) -> u32) {
+/// So many jobs without lists.
+fn build(tables: &mut Tables, name: &impl Fn(usize) -> u32, jobs: usize) {
     raw::lay_out(SIZES, tables);
-    let all: Vec<u32> = (0..BEFORE).flat_map(|job| entry(name, job, 0).to_row()).collect();
+    let all: Vec<u32> = (0..jobs).flat_map(|job| entry(name, job, 0).to_row()).collect();
     add_all(tables, &all);
 }
 
@@ -94,7 +99,8 @@ fn add_all(tables: &mut Tables, rows: &[u32]) {
 fn entry(name: &impl Fn(usize) -> u32, job: usize, count: usize) -> Entry {
     let mut names = [0; MAX_NAMES];
     names.iter_mut().take(count).enumerate().for_each(|(listed, to)| *to = name(listed));
-    Entry { name: name(job), count: count as u32, names, ..Entry::default() }
+    let class = (job * CLASSES / SIZES.jobs as usize) as u32;
+    Entry { name: name(job), count: count as u32, class, grower: 0, names }
 }
 
 fn timed<T>(call: impl FnOnce() -> T) -> (f64, T) {

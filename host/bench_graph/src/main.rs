@@ -3,21 +3,24 @@
 //! Without arguments: nanoseconds a job for building and draining graphs of several shapes, by single calls, by whole
 //! calls and by sheets, with the proved library through C and the same rules in unproved Rust, and with oneTBB's flow
 //! graph and Python's graphlib, all in this run and with one thread each. A peer that is not there is named and left
-//! out. Then the instructions of the first two, counted; it fails where the library takes more than it may.
+//! out. Then nanoseconds of a get, and of the steps that queue a job, by the number of jobs that wait. Then the
+//! instructions of the library and of unproved Rust, counted; it fails where the library takes more than it may. The
+//! same rules without the index, first in, first out, are counted beside them and not judged: what the index costs.
 //!
-//! With the arguments `count`, a side (`library` or `unproved`), a manner and a shape's name: builds and drains that
-//! graph once, for callgrind to count.
+//! With the arguments `count`, a side, a manner and a shape's name, or a side, a call and a number of jobs: builds and
+//! drains that graph once, or makes that call, for callgrind to count.
 //!
 //! With the argument `steps`: nanoseconds a step by the numbers of jobs and of bucket bits, as a table that
 //! scripts/plot-steps draws. With the argument `longest`: how long a call holds the lock at most.
 
 mod longest;
 mod peers;
+mod waiting;
 
 use std::{env, process::ExitCode, time::Instant};
 
 use bench_graph::{
-    calls::{build, drain, Arena, Calls, Manner, Proved, Unproved},
+    calls::{build, drain, Arena, Calls, FirstIn, Manner, Proved, Unproved},
     shapes::{self, Shape},
 };
 use counting::{Row, Table};
@@ -36,11 +39,17 @@ const MOST: f64 = 1.2;
 /// The same by whole calls and by sheets.
 const MOST_WHOLE: f64 = 1.25;
 
+/// The same of a get and of the steps that queue a job, each by itself.
+const MOST_STEP: f64 = 1.4;
+
 /// The most instructions by whole calls and by sheets, as a multiple of the library's own by single calls.
 const MOST_OF_SINGLE: f64 = 0.6;
 
-/// Whether the two limits above are judged; where it is `false`, what is over them is named and no failure.
-const WHOLE_IS_JUDGED: bool = true;
+/// Whose calls are counted and timed; the second is what the library is judged beside, the third is only shown.
+const SIDES: [&str; 3] = [Proved::NAME, Unproved::NAME, FirstIn::NAME];
+
+const UNPROVED: usize = 1;
+const FIRST_IN: usize = 2;
 
 const BITS: u32 = 8;
 
@@ -48,12 +57,13 @@ fn main() -> ExitCode {
     let arguments: Vec<String> = env::args().skip(1).collect();
     match arguments.iter().map(String::as_str).collect::<Vec<_>>()[..] {
         [] => beside_others(),
-        ["count", "library", manner, shape] => count::<Proved>(manner, shape),
-        ["count", "unproved", manner, shape] => count::<Unproved>(manner, shape),
+        ["count", Proved::NAME, what, name] => count::<Proved>(what, name),
+        ["count", Unproved::NAME, what, name] => count::<Unproved>(what, name),
+        ["count", FirstIn::NAME, what, name] => count::<FirstIn>(what, name),
         ["steps"] => steps(),
         ["longest"] => longest::print(),
         _ => {
-            eprintln!("usage: bench_graph [count library|unproved MANNER SHAPE | steps | longest]");
+            eprintln!("usage: bench_graph [count SIDE MANNER SHAPE | count SIDE CALL JOBS | steps | longest]");
             ExitCode::FAILURE
         }
     }
@@ -73,73 +83,126 @@ fn beside_others() -> ExitCode {
             println!("left out: {} ({why})", peer.name);
         }
     }
-    let measured: Vec<Measured> = all_shapes().into_iter().map(|shape| Measured::new(shape, &peers)).collect();
-    let beside_unproved = Manner::ALL.map(|manner| Table {
-        title: manner.name(),
-        library: Proved::NAME,
-        other: Unproved::NAME,
-        rows: measured.iter().map(|measured| measured.beside_unproved(manner)).collect(),
-    });
-    let beside_single = [Manner::Whole, Manner::Sheets].map(|manner| Table {
-        title: "beside single calls",
-        library: manner.name(),
-        other: Manner::Single.name(),
-        rows: measured.iter().map(|measured| measured.beside_single(manner)).collect(),
-    });
-    counting::judge(&beside_unproved.into_iter().chain(beside_single).collect::<Vec<_>>())
+    println!("Lists of the random shapes, and classes where many jobs wait, are by seed {}.", shapes::SEED);
+    let measured = Measured {
+        shapes: all_shapes().iter().map(|shape| taken_by_shape(shape, &peers)).collect(),
+        waiting: taken_waiting(),
+    };
+    let mut tables = measured.beside(UNPROVED, [Some(MOST), Some(MOST_WHOLE), Some(MOST_STEP)]);
+    tables.extend([Manner::Whole, Manner::Sheets].map(|manner| measured.beside_single(manner)));
+    tables.extend(measured.beside(FIRST_IN, [None; 3]));
+    counting::judge(&tables)
 }
 
-/// Of each manner, in the order of `Manner::ALL`, the library's nanoseconds a job and unproved Rust's.
-type Times = [[f64; 2]; 3];
-
-/// What one shape takes.
+/// What the shapes take, by each manner, and what single calls take where jobs wait.
 struct Measured {
-    shape: String,
-    times: Times,
-    /// The instructions, as the times.
-    counts: [[u64; 2]; 3],
+    shapes: Vec<[Taken; 3]>,
+    waiting: Vec<Taken>,
 }
 
 impl Measured {
-    fn new(shape: Shape, peers: &[Peer]) -> Measured {
-        let times = measure(&shape, peers);
-        let counts = Manner::ALL.map(|manner| {
-            ["library", "unproved"].map(|side| counting::instructions(&["count", side, manner.name(), &shape.name]))
-        });
-        Measured { shape: shape.name, times, counts }
+    fn by(&self, manner: Manner) -> impl Iterator<Item = &Taken> {
+        self.shapes.iter().map(move |taken| &taken[manner as usize])
     }
 
-    fn beside_unproved(&self, manner: Manner) -> Row {
-        let single = manner == Manner::Single;
-        let [library, other] = self.counts[manner as usize];
-        let [time, other_time] = self.times[manner as usize];
-        Row {
-            name: self.shape.clone(),
-            library,
-            other,
-            most: if single { MOST } else { MOST_WHOLE },
-            judged: single || WHOLE_IS_JUDGED,
-            time: time / other_time,
-        }
+    /// The library beside another side, with limits by single calls, by whole calls and sheets, and of single steps.
+    fn beside(&self, other: usize, [single, whole, step]: [Option<f64>; 3]) -> Vec<Table> {
+        let table = |title, rows| Table { title, library: Proved::NAME, other: SIDES[other], rows };
+        let of_manner = |manner: Manner| {
+            let most = if manner == Manner::Single { single } else { whole };
+            table(manner.name(), self.by(manner).map(|taken| taken.beside(other, most)).collect())
+        };
+        let waiting = table("get and settling", self.waiting.iter().map(|taken| taken.beside(other, step)).collect());
+        Manner::ALL.into_iter().map(of_manner).chain([waiting]).collect()
     }
 
     /// The library by whole calls or sheets beside itself by single calls.
-    fn beside_single(&self, manner: Manner) -> Row {
-        let single = Manner::Single as usize;
-        Row {
-            name: self.shape.clone(),
-            library: self.counts[manner as usize][0],
-            other: self.counts[single][0],
-            most: MOST_OF_SINGLE,
-            judged: WHOLE_IS_JUDGED,
-            time: self.times[manner as usize][0] / self.times[single][0],
+    fn beside_single(&self, manner: Manner) -> Table {
+        let pairs = self.by(manner).zip(self.by(Manner::Single));
+        Table {
+            title: "beside single calls",
+            library: manner.name(),
+            other: Manner::Single.name(),
+            rows: pairs.map(|(taken, single)| taken.beside_single(single)).collect(),
         }
     }
 }
 
-/// Builds and drains a graph once, for callgrind to count.
-fn count<C: Calls>(manner: &str, shape: &str) -> ExitCode {
-    let manner = Manner::ALL.into_iter().find(|known| known.name() == manner).expect("the name of a manner");
+/// What each of `SIDES` takes for the same: nanoseconds, and instructions.
+struct Taken {
+    name: String,
+    times: [f64; 3],
+    counts: [u64; 3],
+}
+
+impl Taken {
+    fn new(what: &str, argument: &str, name: String, times: [f64; 3]) -> Taken {
+        let counts = SIDES.map(|side| counting::instructions(&["count", side, what, argument]));
+        Taken { name, times, counts }
+    }
+
+    /// The library beside another side.
+    fn beside(&self, other: usize, most: Option<f64>) -> Row {
+        Row {
+            name: self.name.clone(),
+            library: self.counts[0],
+            other: self.counts[other],
+            most,
+            time: self.times[0] / self.times[other],
+        }
+    }
+
+    /// The library beside itself by single calls.
+    fn beside_single(&self, single: &Taken) -> Row {
+        Row {
+            name: self.name.clone(),
+            library: self.counts[0],
+            other: single.counts[0],
+            most: Some(MOST_OF_SINGLE),
+            time: self.times[0] / single.times[0],
+        }
+    }
+}
+
+/// What a shape takes by each manner.
+fn taken_by_shape(shape: &Shape, peers: &[Peer]) -> [Taken; 3] {
+    let times = measure(shape, peers);
+    Manner::ALL.map(|manner| Taken::new(manner.name(), &shape.name, shape.name.clone(), times[manner as usize]))
+}
+
+/// What a get and the steps that queue a job take.
+fn taken_waiting() -> Vec<Taken> {
+    println!(
+        "A get, an add's settling and an arc's step that queues, in ns a call; each over {} graphs.",
+        waiting::GRAPHS
+    );
+    println!("  {:<30} {:>14} {:>14} {:>14}", "", SIDES[0], SIDES[1], SIDES[2]);
+    let mut all = Vec::new();
+    for call in waiting::Call::ALL {
+        for jobs in waiting::JOBS {
+            let name = format!("{}, {jobs} jobs", call.name());
+            let times = waiting::measure(call, jobs);
+            println!("  {name:<30} {:14.0} {:14.0} {:14.0}", times[0], times[1], times[2]);
+            all.push(Taken::new(call.name(), &jobs.to_string(), name, times));
+        }
+    }
+    all
+}
+
+/// Builds and drains a graph once, or makes a call over each of the waiting graphs, for callgrind to count.
+fn count<C: Calls>(what: &str, name: &str) -> ExitCode {
+    if let Some(manner) = Manner::ALL.into_iter().find(|known| known.name() == what) {
+        count_shape::<C>(manner, name);
+    } else {
+        let call = waiting::Call::ALL.into_iter().find(|known| known.name() == what);
+        let jobs = name.parse().expect("a number of jobs");
+        let mut prepared = waiting::Prepared::new::<C>(call.expect("the name of a manner or a call"), jobs);
+        counting::counted(&mut || prepared.make::<C>());
+    }
+    ExitCode::SUCCESS
+}
+
+fn count_shape<C: Calls>(manner: Manner, shape: &str) {
     let shape = all_shapes().into_iter().find(|known| known.name == shape).expect("the name of a shape");
     let sizes = shape.sizes(BITS);
     let mut arena = Arena::new(sizes);
@@ -148,22 +211,26 @@ fn count<C: Calls>(manner: &str, shape: &str) -> ExitCode {
         build::<C>(manner, sizes, &mut tables, &shape);
         drain::<C>(manner, sizes, &mut tables);
     });
-    ExitCode::SUCCESS
 }
 
-/// Prints the times of a shape, and gives those of the library and of unproved Rust, in nanoseconds a job.
+/// Of each manner, in the order of `Manner::ALL`, nanoseconds a job of each of `SIDES`.
+type Times = [[f64; 3]; 3];
+
+/// Prints the times of a shape, and gives those of the library and of unproved Rust.
 fn measure(shape: &Shape, peers: &[Peer]) -> Times {
     println!("{}", shape.name);
     let sizes = shape.sizes(BITS);
     let mut arena = Arena::new(sizes);
-    let mut times = [[f64::INFINITY; 2]; 3];
+    let mut times = [[f64::INFINITY; 3]; 3];
     let mut theirs: Vec<Option<Result<f64, String>>> = vec![None; peers.len()];
     let jobs = shape.lists.len() as f64;
     for _ in 0..TURNS {
         for _ in 0..rounds(ROUNDS, shape) {
             for (manner, best) in Manner::ALL.into_iter().zip(&mut times) {
-                best[0] = best[0].min(round::<Proved>(manner, sizes, &mut arena, shape).total() / jobs);
-                best[1] = best[1].min(round::<Unproved>(manner, sizes, &mut arena, shape).total() / jobs);
+                let rounds = [round::<Proved>, round::<Unproved>, round::<FirstIn>];
+                for (best, round) in best.iter_mut().zip(rounds) {
+                    *best = best.min(round(manner, sizes, &mut arena, shape).total() / jobs);
+                }
             }
         }
         for (peer, best) in peers.iter().zip(&mut theirs) {
@@ -186,9 +253,9 @@ fn print_times(times: Times, peers: &[Peer], theirs: &[Option<Result<f64, String
         let [of_single, of_peer, of_unproved] = [Some(single), by_place, unproved].map(times_of);
         println!("  {name:<30} {time:8.0} {of_single:>14} {of_peer:>16} {of_unproved:>13}");
     };
-    for (manner, [library, unproved]) in Manner::ALL.into_iter().zip(times) {
-        line(&format!("{}, {}", Proved::NAME, manner.name()), library, Some(unproved));
-        line(&format!("{}, {}", Unproved::NAME, manner.name()), unproved, None);
+    for (manner, times) in Manner::ALL.into_iter().zip(times) {
+        line(&format!("{}, {}", Proved::NAME, manner.name()), times[0], Some(times[UNPROVED]));
+        line(&format!("{}, {}", Unproved::NAME, manner.name()), times[UNPROVED], None);
     }
     for (peer, best) in peers.iter().zip(theirs) {
         match best {

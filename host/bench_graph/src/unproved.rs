@@ -1,6 +1,10 @@
 //! The rules of docs/RULES.md over the same tables of words with the same tests, in plain unproved Rust:
 //! what the proved library is timed beside. The calls are never inlined, as those of the library cannot be.
+//!
+//! Where `INDEXED` is false, there is no index, the queue has a word for each place, and a get takes the job that
+//! entered it first: by this is seen what the index costs.
 
+mod index;
 mod inlined;
 mod whole;
 
@@ -37,7 +41,8 @@ fn answered(outcome: Outcome<Answer>) -> Answer {
 }
 
 /// The words that each table needs, or `None` where a size is off its limits.
-pub fn words_needed(sizes: Sizes) -> Option<[usize; 5]> {
+#[inline(always)]
+pub fn words_needed<const INDEXED: bool>(sizes: Sizes) -> Option<[usize; 5]> {
     let within = (1..=4_096).contains(&sizes.jobs)
         && sizes.arcs <= 32_768
         && (1..=8).contains(&sizes.bits)
@@ -47,14 +52,14 @@ pub fn words_needed(sizes: Sizes) -> Option<[usize; 5]> {
             JOBS_HEADER + JOB_WORDS * sizes.jobs as usize,
             ARCS_HEADER + ARC_WORDS * sizes.arcs as usize,
             1 << sizes.bits,
-            QUEUE_HEADER + sizes.jobs as usize,
+            QUEUE_HEADER + Graph::<INDEXED>::PLACE_WORDS * sizes.jobs as usize,
             WORKER_WORDS * sizes.workers as usize,
         ]
     })
 }
 
 /// The tables, each with at least the words it needs.
-struct Graph<'a> {
+struct Graph<'a, const INDEXED: bool> {
     sizes: Sizes,
     jobs: &'a mut [u32],
     arcs: &'a mut [u32],
@@ -63,11 +68,11 @@ struct Graph<'a> {
     workers: &'a mut [u32],
 }
 
-impl<'a> Graph<'a> {
+impl<'a, const INDEXED: bool> Graph<'a, INDEXED> {
     /// The tables cut to their need; 1 where one is too short or a size off its limits.
     #[inline(always)]
-    fn lent(sizes: Sizes, tables: &'a mut Tables) -> Outcome<Graph<'a>> {
-        let [jobs, arcs, buckets, queue, workers] = words_needed(sizes).ok_or((1, 0))?;
+    fn lent(sizes: Sizes, tables: &'a mut Tables) -> Outcome<Self> {
+        let [jobs, arcs, buckets, queue, workers] = words_needed::<INDEXED>(sizes).ok_or((1, 0))?;
         Ok(Graph {
             sizes,
             jobs: tables.jobs.get_mut(..jobs).ok_or((1, 0))?,
@@ -80,8 +85,8 @@ impl<'a> Graph<'a> {
 
     /// Numbers 1, 2 and 9 for the worker's own words: the graph, and where the worker's record starts.
     #[inline(always)]
-    fn admitted(sizes: Sizes, tables: &'a mut Tables, worker: u32) -> Outcome<(Graph<'a>, usize)> {
-        let graph = Graph::lent(sizes, tables)?;
+    fn admitted(sizes: Sizes, tables: &'a mut Tables, worker: u32) -> Outcome<(Self, usize)> {
+        let graph = Self::lent(sizes, tables)?;
         if graph.jobs[..4] != [sizes.jobs, sizes.arcs, sizes.bits, sizes.workers] {
             return Err((1, 0));
         }
@@ -174,31 +179,6 @@ impl<'a> Graph<'a> {
         } else {
             Err(DAMAGED)
         }
-    }
-
-    /// The queue's counters, taken and put.
-    fn queue_counters(&self) -> Outcome<(u32, u32)> {
-        let (taken, put) = (self.queue[0], self.queue[1]);
-        if taken <= put && put <= self.sizes.jobs {
-            Ok((taken, put))
-        } else {
-            Err(DAMAGED)
-        }
-    }
-
-    /// Damage where a job could not enter the queue.
-    fn judge_room(&self) -> Outcome<()> {
-        let (_, put) = self.queue_counters()?;
-        if put == self.sizes.jobs {
-            return Err(DAMAGED);
-        }
-        Ok(())
-    }
-
-    fn enqueue(&mut self, number: u32) {
-        let put = self.queue[1];
-        self.queue[QUEUE_HEADER + put as usize] = number;
-        self.queue[1] = put + 1;
     }
 
     /// The words of the worker's call, put back to those of an idle worker.
@@ -297,8 +277,8 @@ impl<'a> Graph<'a> {
         }
         let queues = count == tally && (tally > 0 || listed == 0);
         if queues {
-            self.judge_room()?;
-            self.enqueue(number);
+            let seat = self.seat_for(self.job_read(number)[job::CLASS])?;
+            self.enqueue(seat, number);
         }
         self.job(number)[job::COUNT] = count - tally;
         self.clear(at);
@@ -334,8 +314,8 @@ impl<'a> Graph<'a> {
             return Err(DAMAGED);
         }
         if count == 1 {
-            self.judge_room()?;
-            self.enqueue(dependent);
+            let seat = self.seat_for(self.job_read(dependent)[job::CLASS])?;
+            self.enqueue(seat, dependent);
         }
         self.job(dependent)[job::COUNT] = count - 1;
         Ok(self.go_on(at, next))
@@ -356,13 +336,11 @@ impl<'a> Graph<'a> {
         if taken == put {
             return Ok(answer(kind::NONE_READY));
         }
-        let cell = QUEUE_HEADER + taken as usize;
-        let number = self.queue[cell];
-        if number >= self.made() || self.job(number)[job::LABEL] != UNEXECUTED {
+        let (seat, number) = self.first_seat(taken, put)?;
+        if self.job(number)[job::LABEL] != UNEXECUTED {
             return Err(DAMAGED);
         }
-        self.queue[cell] = NONE;
-        self.queue[0] = taken + 1;
+        self.dequeue(seat, taken);
         self.job(number)[job::LABEL] = EXECUTING;
         self.workers[at + worker::HELD] = number;
         Ok(Answer { job: number, name: self.job(number)[job::NAME], ..answer(kind::HANDED_OUT) })
@@ -370,8 +348,8 @@ impl<'a> Graph<'a> {
 }
 
 #[inline(never)]
-pub fn lay_out(sizes: Sizes, tables: &mut Tables) -> Answer {
-    answered(Graph::lent(sizes, tables).map(|mut graph| {
+pub fn lay_out<const INDEXED: bool>(sizes: Sizes, tables: &mut Tables) -> Answer {
+    answered(Graph::<INDEXED>::lent(sizes, tables).map(|mut graph| {
         graph.jobs[..JOBS_HEADER].copy_from_slice(&[sizes.jobs, sizes.arcs, sizes.bits, sizes.workers, 0]);
         for job in graph.jobs[JOBS_HEADER..].chunks_exact_mut(JOB_WORDS) {
             job.copy_from_slice(&[0, 0, 0, 0, 0, NONE, NONE, NONE]);
@@ -398,8 +376,8 @@ fn arguments_fit(entry: &Entry) -> bool {
 }
 
 #[inline(never)]
-pub fn post_add(sizes: Sizes, tables: &mut Tables, worker: u32, entry: Entry) -> Answer {
-    answered(Graph::admitted(sizes, tables, worker).and_then(|(graph, at)| {
+pub fn post_add<const INDEXED: bool>(sizes: Sizes, tables: &mut Tables, worker: u32, entry: Entry) -> Answer {
+    answered(Graph::<INDEXED>::admitted(sizes, tables, worker).and_then(|(graph, at)| {
         if graph.workers[at + worker::PHASE] != phase::IDLE {
             return Err((3, 0));
         }
@@ -419,8 +397,8 @@ pub fn post_add(sizes: Sizes, tables: &mut Tables, worker: u32, entry: Entry) ->
 }
 
 #[inline(never)]
-pub fn post_finish(sizes: Sizes, tables: &mut Tables, worker: u32, name: u32) -> Answer {
-    answered(Graph::admitted(sizes, tables, worker).and_then(|(mut graph, at)| {
+pub fn post_finish<const INDEXED: bool>(sizes: Sizes, tables: &mut Tables, worker: u32, name: u32) -> Answer {
+    answered(Graph::<INDEXED>::admitted(sizes, tables, worker).and_then(|(mut graph, at)| {
         if graph.workers[at + worker::PHASE] != phase::IDLE {
             return Err((3, 0));
         }
@@ -436,8 +414,8 @@ pub fn post_finish(sizes: Sizes, tables: &mut Tables, worker: u32, name: u32) ->
 }
 
 #[inline(never)]
-pub fn step(sizes: Sizes, tables: &mut Tables, worker: u32) -> Answer {
-    answered(Graph::admitted(sizes, tables, worker).and_then(|(mut graph, at)| {
+pub fn step<const INDEXED: bool>(sizes: Sizes, tables: &mut Tables, worker: u32) -> Answer {
+    answered(Graph::<INDEXED>::admitted(sizes, tables, worker).and_then(|(mut graph, at)| {
         let own = &graph.workers[at..at + worker::NAMES];
         let more = own[worker::PLACE] < own[worker::COUNT];
         let phase = own[worker::PHASE];
@@ -457,8 +435,8 @@ pub fn step(sizes: Sizes, tables: &mut Tables, worker: u32) -> Answer {
 }
 
 #[inline(never)]
-pub fn get(sizes: Sizes, tables: &mut Tables, worker: u32) -> Answer {
-    answered(Graph::admitted(sizes, tables, worker).and_then(|(mut graph, at)| {
+pub fn get<const INDEXED: bool>(sizes: Sizes, tables: &mut Tables, worker: u32) -> Answer {
+    answered(Graph::<INDEXED>::admitted(sizes, tables, worker).and_then(|(mut graph, at)| {
         if graph.workers[at + worker::PHASE] != phase::IDLE {
             return Err((3, 0));
         }

@@ -1,7 +1,10 @@
 //! The unproved implementation that the library is timed beside gives the same answers and leaves the same
 //! words.
 
-use bench_graph::calls::{Calls, Proved, Unproved};
+use bench_graph::{
+    calls::{build, Arena, Calls, FirstIn, Manner, Proved, Unproved},
+    shapes::{self, Shape},
+};
 use compare_graph::{
     damaged,
     event::{rows_of, Event, History},
@@ -11,7 +14,7 @@ use compare_graph::{
 };
 use compare_sheets::random::{seed, Random};
 use second_implementation::history::Item;
-use taskgraph::raw::{self, Sizes};
+use taskgraph::raw::{self, kind, Sizes};
 
 fn call<C: Calls>(event: &Event, laid_out: &mut Sizes, tables: &mut Tables) -> Option<LibraryTold> {
     match event {
@@ -75,5 +78,33 @@ fn the_same_on_random_histories() {
 fn the_same_on_damaged_tables() {
     for number in 0..histories(5_000) {
         compare(&damaged::history(&mut Random::nth(seed(), "unproved, damaged", number)));
+    }
+}
+
+/// The names of a shape's jobs, in the order in which one worker is handed them.
+fn hand_outs<C: Calls>(shape: &Shape) -> Vec<u32> {
+    let sizes = shape.sizes(4);
+    let mut arena = Arena::new(sizes);
+    let mut tables = arena.lent();
+    build::<C>(Manner::Whole, sizes, &mut tables, shape);
+    let mut names = Vec::new();
+    loop {
+        let answer = C::get(sizes, &mut tables, 0);
+        if answer.kind != kind::HANDED_OUT {
+            return names;
+        }
+        names.push(answer.name);
+        assert_eq!(C::finish(sizes, &mut tables, 0, answer.name).kind, kind::ENDED);
+    }
+}
+
+/// Jobs of one class are handed out first in, first out, so the rules without the index do the same on them.
+#[test]
+fn the_same_order_without_the_index_on_one_class() {
+    for mut shape in [shapes::random(256, 4), shapes::fans(99), shapes::grid(8)] {
+        shape.entries.iter_mut().for_each(|entry| entry.class = 7);
+        let by_index = hand_outs::<Unproved>(&shape);
+        assert_eq!(by_index.len(), shape.lists.len());
+        assert_eq!(by_index, hand_outs::<FirstIn>(&shape), "{}", shape.name);
     }
 }

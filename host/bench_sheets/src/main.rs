@@ -59,7 +59,7 @@ fn beside_second() -> ExitCode {
 fn row(what: &str, name: &str, most: f64, time: f64) -> Row {
     let instructions = |side: &str| counting::instructions(&["count", side, what, name]);
     let (library, other) = (instructions("library"), instructions("second"));
-    Row { name: format!("{what} {name}"), library, other, most, judged: true, time }
+    Row { name: format!("{what} {name}"), library, other, most: Some(most), time }
 }
 
 /// Reads or writes sheets once, for callgrind to count.

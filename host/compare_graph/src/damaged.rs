@@ -1,10 +1,10 @@
 //! Histories over damaged tables: words altered at random, tables cut short, sizes swapped. Every answer is
 //! the one that the list of docs/NUMBERS.md and `docs/TABLES.md` settle, and the tables hold afterwards what the list
-//! says. A call run whole, and a sheet, answer and leave what single calls do, each of which is judged so.
+//! says, word for word. A call run whole, and a sheet, answer and leave what single calls do, each of which is judged so.
 
 mod answer;
-mod change;
 mod make;
+mod met;
 
 use compare_sheets::case::{differ, Case};
 use second_implementation::{
@@ -19,26 +19,28 @@ use taskgraph::raw::{self as proved, kind};
 use crate::{
     event::{is_whole, worker_of, Call, Event, History},
     expected_words,
-    layout::{self, job},
-    tables::{Tables, JOBS},
+    index::Index,
+    layout::{self, job, worker},
+    tables::{Tables, JOBS, WORKERS},
     whole::{told_by_single_calls, SingleCalls},
     world::{call_library, to_library, LibraryTold},
 };
 
-use answer::{expected_answer, expected_drained, expected_holding, of_kind, refused};
-use change::Change;
+use answer::{expected, expected_drained, expected_holding, of_kind, refused};
 
 pub use make::{history, numbered};
+pub use met::{Met, Use, Way};
 
-pub struct Damaged(pub History);
+/// A history, and where it is noted what its calls meet of the index.
+pub struct Damaged<'a>(pub History, pub &'a Met);
 
-impl Case for Damaged {
+impl Case for Damaged<'_> {
     fn difference(&self) -> Option<String> {
-        first_fault(&self.0).map(|(number, fault)| format!("event {number}: {fault}"))
+        first_fault(&self.0, self.1).map(|(number, fault)| format!("event {number}: {fault}"))
     }
 
     fn smaller(&self) -> Box<dyn Iterator<Item = Self> + '_> {
-        Box::new(self.0.smaller().map(Damaged))
+        Box::new(self.0.smaller().map(|history| Damaged(history, self.1)))
     }
 
     fn show(&self) -> String {
@@ -47,8 +49,8 @@ impl Case for Damaged {
 }
 
 /// The number of the first event at which the list is not kept, and how.
-pub fn first_fault(history: &History) -> Option<(usize, String)> {
-    let mut lent = Lent { tables: Tables::new(&history.setup), sizes: history.setup.sizes };
+pub fn first_fault(history: &History, met: &Met) -> Option<(usize, String)> {
+    let mut lent = Lent { tables: Tables::new(&history.setup), sizes: history.setup.sizes, met };
     let all = std::iter::once(Event::LayOut(history.setup.sizes)).chain(history.events.iter().cloned());
     let last = history.events.len() + 1;
     all.enumerate()
@@ -58,12 +60,13 @@ pub fn first_fault(history: &History) -> Option<(usize, String)> {
 
 /// The tables, and the sizes that calls bring.
 #[derive(Clone)]
-struct Lent {
+struct Lent<'a> {
     tables: Tables,
     sizes: Sizes,
+    met: &'a Met,
 }
 
-impl Lent {
+impl Lent<'_> {
     fn fault(&mut self, event: &Event) -> Option<String> {
         match event {
             Event::Set { table, place, value } => {
@@ -88,7 +91,8 @@ impl Lent {
             None => Tables::difference(&before, &self.tables),
             Some(graph) => {
                 self.sizes = sizes;
-                expected_words::difference(&graph, &self.tables).or_else(|| self.touched_past_the_need(&before))
+                let wrong = expected_words::difference(&graph, &Index::default(), &self.tables);
+                wrong.or_else(|| self.touched_past_the_need(&before))
             }
         }
     }
@@ -108,17 +112,31 @@ impl Lent {
     /// The answer of a single call, and its fault.
     fn single(&mut self, call: &Call) -> (proved::Answer, Option<String>) {
         let sizes = call.sizes.unwrap_or(self.sizes);
-        let expected = expected_answer(&self.tables, sizes, call);
+        let expected = expected(&self.tables, sizes, call);
+        self.met.note(&self.tables, matches!(call.item, Item::Get { .. }), &expected);
+        let answer = expected.answer;
         if let Some(fault) = self.wrong_state(sizes, call) {
-            return (expected, Some(fault));
+            return (answer, Some(fault));
         }
-        let before = self.tables.clone();
-        let answer = call_library(sizes, &mut self.tables.lent(call.short), &call.item);
-        if answer != LibraryTold::One(expected) {
-            return (expected, Some(format!("the answer is {answer:?}, not {expected:?}")));
+        let mut after = self.tables.clone();
+        let told = call_library(sizes, &mut self.tables.lent(call.short), &call.item);
+        if told != LibraryTold::One(answer) {
+            return (answer, Some(format!("the answer is {told:?}, not {answer:?}")));
         }
-        let after = Change { before: &before, after: &self.tables, item: &call.item };
-        (expected, after.fault(expected).or_else(|| self.touched_past_the_need(&before)))
+        expected.writes.into_iter().for_each(|(table, place, word)| after.set(table, place, word));
+        if let (kind::POSTED, Item::PostFinish { worker, .. }) = (answer.kind, &call.item) {
+            self.keep_own_affair(&mut after, *worker);
+        }
+        let fault = Tables::difference(&after, &self.tables);
+        (answer, fault.map(|fault| format!("beside what is expected, {fault}")))
+    }
+
+    /// The name, the job and the arc of a finish that is posted are the library's own affair.
+    fn keep_own_affair(&self, expected: &mut Tables, worker: u32) {
+        for field in [worker::NAME, worker::JOB, worker::ARC] {
+            let place = layout::worker_at(worker as usize) + field;
+            expected.set(WORKERS, place, self.tables.words(WORKERS)[place]);
+        }
     }
 
     /// What the worker of a call holds and whether the graph is drained, asked with the call's sizes and tables.
@@ -180,7 +198,7 @@ impl Lent {
 
 /// The single calls of a whole one, over tables of their own, and the first fault among them.
 struct Judged<'a> {
-    lent: Lent,
+    lent: Lent<'a>,
     call: &'a Call,
     fault: Option<String>,
 }

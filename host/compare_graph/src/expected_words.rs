@@ -1,4 +1,4 @@
-//! What a graph of the second implementation looks like in words.
+//! What a graph of the second implementation, with the index beside its queue, looks like in words.
 
 use second_implementation::{
     bucket::bucket,
@@ -6,9 +6,10 @@ use second_implementation::{
 };
 
 use crate::{
+    index::Index,
     layout::{
-        arc_at, idle_worker, job_at, phase, worker, worker_at, ARCS_HEADER, JOBS_HEADER, JOB_WORDS, NONE, QUEUE_HEADER,
-        WORKER_WORDS,
+        arc_at, cell_at, idle_worker, job_at, phase, position_at, slot_at, worker, worker_at, ARCS_HEADER, JOBS_HEADER,
+        JOB_WORDS, NONE, PUT, QUEUE_HEADER, TAKEN, WORKER_WORDS,
     },
     tables::{Tables, ARCS, BUCKETS, JOBS, QUEUE, WORKERS},
 };
@@ -17,12 +18,12 @@ fn place(number: Option<usize>) -> u32 {
     number.map_or(NONE, |number| number as u32)
 }
 
-/// The first way in which the words do not stand for the graph.
-pub fn difference(graph: &Graph, tables: &Tables) -> Option<String> {
+/// The first way in which the words do not stand for the graph and its index.
+pub fn difference(graph: &Graph, index: &Index, tables: &Tables) -> Option<String> {
     wrong_jobs(graph, tables.words(JOBS))
         .or_else(|| wrong_arcs(graph, tables.words(ARCS)))
         .or_else(|| wrong_buckets(graph, tables.words(BUCKETS)))
-        .or_else(|| wrong_queue(graph, tables.words(QUEUE)))
+        .or_else(|| wrong_queue(graph, index, tables.words(QUEUE)))
         .or_else(|| wrong_workers(graph, tables.words(WORKERS)))
 }
 
@@ -89,16 +90,21 @@ fn wrong_buckets(graph: &Graph, words: &[u32]) -> Option<String> {
     wrong("the heads of the buckets", &words[..heads.len()], &heads)
 }
 
-fn wrong_queue(graph: &Graph, words: &[u32]) -> Option<String> {
-    let (taken, jobs) = graph.queue();
-    let counters = [taken as u32, jobs.len() as u32];
-    let cells = &words[QUEUE_HEADER..QUEUE_HEADER + graph.sizes().jobs as usize];
-    let waiting = jobs[taken..].iter().map(|job| *job as u32);
-    let same = cells.len() >= jobs.len()
-        && cells[taken..jobs.len()].iter().copied().eq(waiting)
-        && cells[..taken].iter().chain(&cells[jobs.len()..]).all(|cell| *cell == NONE);
-    wrong("the counters of the queue", &words[..QUEUE_HEADER], &counters).or_else(|| {
-        (!same).then(|| format!("the queue afterwards\n  library  {cells:?}\n  expected {:?} and none", &jobs[taken..]))
+fn wrong_queue(graph: &Graph, index: &Index, words: &[u32]) -> Option<String> {
+    let mut expected = vec![NONE; cell_at(graph.sizes().jobs as usize)];
+    let (taken, put) = index.counters();
+    expected[TAKEN] = taken as u32;
+    expected[PUT] = put as u32;
+    for (place, job) in graph.queue().iter().enumerate().filter(|(_, job)| graph.waits(**job)) {
+        expected[cell_at(place)] = *job as u32;
+    }
+    for (slot, place) in index.slots().iter().enumerate() {
+        expected[slot_at(slot)] = *place;
+        expected[position_at(*place as usize)] = slot as u32;
+    }
+    wrong("the counters of the queue", &words[..QUEUE_HEADER], &expected[..QUEUE_HEADER]).or_else(|| {
+        let what = "the queue's cells, slots and positions in turn";
+        wrong(what, &words[QUEUE_HEADER..expected.len()], &expected[QUEUE_HEADER..])
     })
 }
 

@@ -19,6 +19,8 @@ use crate::{
 struct Manner {
     /// The names that jobs get.
     names: Vec<u32>,
+    /// The classes that jobs get: all, or a few, so that many are equal.
+    classes: Vec<u32>,
     /// The longest lists, for most adds.
     longest: usize,
     /// One event in so many is likely to be refused.
@@ -29,14 +31,17 @@ struct Manner {
     adding: usize,
     /// Of ten adds and finishes, how many are run whole.
     whole: usize,
+    /// Whether adds come first, and gets later, so that many jobs wait at once.
+    deep: bool,
 }
 
 /// A history over a graph of any size, mostly small.
 pub fn history(random: &mut Random) -> History {
-    let (jobs, workers) = match random.below(40) {
-        0 => (300, 16),
-        1..=8 => (40, 16),
-        9..=19 => (10, 4),
+    let (jobs, workers) = match random.below(80) {
+        0 => return deep_history(random),
+        1..=2 => (300, 16),
+        3..=17 => (40, 16),
+        18..=39 => (10, 4),
         _ => (5, 3),
     };
     let jobs = 1 + random.below(jobs) as u32;
@@ -46,24 +51,35 @@ pub fn history(random: &mut Random) -> History {
     let bits = 1 + random.below(most_bits) as u32;
     let sizes = Sizes { jobs, arcs: arcs.min(MAX_ARCS), bits, workers: 1 + random.below(workers) as u32 };
     let events = 5 + random.below(40 + 20 * jobs as usize);
-    of_sizes(random, sizes, events.min(2_500))
+    let manner = Manner::new(random, sizes);
+    of_manner(random, manner, sizes, events.min(2_500))
+}
+
+/// A history with hundreds of waiting jobs.
+fn deep_history(random: &mut Random) -> History {
+    let jobs = 200 + random.below(400) as u32;
+    let sizes = Sizes { jobs, arcs: jobs, bits: 1 + random.below(8) as u32, workers: 1 + random.below(4) as u32 };
+    let manner = Manner::deep(random, sizes);
+    of_manner(random, manner, sizes, 4 * jobs as usize)
 }
 
 /// A history over 4,096 jobs.
-pub fn large_history(random: &mut Random, events: usize) -> History {
+pub fn large_history(random: &mut Random, events: usize, deep: bool) -> History {
     let arcs = if random.once_in(2) { MAX_ARCS } else { random.below(MAX_ARCS as usize + 1) as u32 };
     let sizes = Sizes { jobs: MAX_JOBS, arcs, bits: 1 + random.below(8) as u32, workers: MAX_WORKERS };
-    of_sizes(random, sizes, events)
+    let manner = if deep { Manner::deep(random, sizes) } else { Manner::new(random, sizes) };
+    of_manner(random, manner, sizes, events)
 }
 
-fn of_sizes(random: &mut Random, sizes: Sizes, events: usize) -> History {
+fn of_manner(random: &mut Random, mut manner: Manner, sizes: Sizes, events: usize) -> History {
     let setup = setup(random, sizes);
     let mut graph = Graph::lay_out(sizes).expect("the sizes are within their limits");
-    let mut manner = Manner::new(random, sizes);
     let mut worker = 0;
     let mut list = Vec::with_capacity(events);
     while list.len() < events {
-        if random.once_in(60) {
+        if manner.deep {
+            manner.adding = if list.len() < events / 3 { 9 } else { 1 };
+        } else if random.once_in(60) {
             manner.adding = random.pick(&[1, 5, 9]);
         }
         if random.once_in(manner.switch) {
@@ -112,14 +128,25 @@ impl Manner {
             // Many of the first bucket.
             _ => (0..count as u32).map(|name| name.wrapping_mul(1 << random.pick(&[1, 29]))).collect(),
         };
+        let classes = match random.pick(&[1, 2, 4, 16, 16]) {
+            16 => (0..16).collect(),
+            few => (0..few).map(|_| random.below(16) as u32).collect(),
+        };
         Manner {
             names,
-            longest: random.pick(&[1, 2, 4, 8, 32]),
+            classes,
+            longest: random.pick(&[0, 1, 2, 4, 8, 32]),
             mischief: random.pick(&[4, 10, 20, 100]),
             switch: random.pick(&[1, 1, 2, 5, 20]),
             adding: random.pick(&[5, 9]),
             whole: random.pick(&[0, 2, 5, 9]),
+            deep: false,
         }
+    }
+
+    fn deep(random: &mut Random, sizes: Sizes) -> Manner {
+        let longest = random.pick(&[0, 0, 1]);
+        Manner { longest, mischief: 400, whole: 9, deep: true, ..Manner::new(random, sizes) }
     }
 
     fn event(&self, random: &mut Random, graph: &Graph, worker: u32) -> Event {
@@ -186,7 +213,7 @@ impl Manner {
         let list = if random.once_in(25) { longest_list(graph, name) } else { self.list(random, graph, name) };
         let mut names = [0; MAX_NAMES];
         names[..list.len()].copy_from_slice(&list);
-        let class = random.below(16) as u32;
+        let class = random.pick(&self.classes);
         let grower = if random.once_in(2) { 0 } else { random.below(65_536) as u32 };
         Entry { name, prerequisites: Names { count: list.len(), names }, class, grower }
     }

@@ -13,6 +13,7 @@ pub const QUEUE_HEADER: usize = 2;
 /// Words per record.
 pub const JOB_WORDS: usize = 8;
 pub const ARC_WORDS: usize = 2;
+pub const QUEUE_WORDS: usize = 3;
 pub const WORKER_WORDS: usize = 42;
 
 /// The counters: jobs made, arcs reserved, jobs taken from and put in the queue.
@@ -66,7 +67,7 @@ pub fn words_needed(sizes: Sizes) -> [usize; 5] {
         JOBS_HEADER + JOB_WORDS * sizes.jobs as usize,
         ARCS_HEADER + ARC_WORDS * sizes.arcs as usize,
         1 << sizes.bits,
-        QUEUE_HEADER + sizes.jobs as usize,
+        QUEUE_HEADER + QUEUE_WORDS * sizes.jobs as usize,
         WORKER_WORDS * sizes.workers as usize,
     ]
 }
@@ -84,6 +85,21 @@ pub fn job_at(number: usize) -> usize {
 /// Where an arc's record starts.
 pub fn arc_at(number: usize) -> usize {
     ARCS_HEADER + ARC_WORDS * number
+}
+
+/// Where the cell of a place of the queue stands.
+pub fn cell_at(place: usize) -> usize {
+    QUEUE_HEADER + QUEUE_WORDS * place
+}
+
+/// Where a slot of the index stands.
+pub fn slot_at(slot: usize) -> usize {
+    QUEUE_HEADER + QUEUE_WORDS * slot + 1
+}
+
+/// Where the position of a place of the queue stands: the slot that holds the place.
+pub fn position_at(place: usize) -> usize {
+    QUEUE_HEADER + QUEUE_WORDS * place + 2
 }
 
 /// Where a worker's record starts.

@@ -8,6 +8,8 @@ pub mod day;
 pub mod event;
 mod expected_words;
 pub mod generate;
+mod hand_outs;
+pub mod index;
 pub mod layout;
 pub mod random_history;
 pub mod sizes;

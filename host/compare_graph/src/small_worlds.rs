@@ -129,9 +129,14 @@ fn turn(world: &World, worker: u32, script: &mut &[Call]) -> Option<Item> {
     })
 }
 
-/// An entry of class 0 and grower 0.
+/// An entry of grower 0: job 4 is heavier than the others and job 3 lighter, which are equal.
 pub fn entry(name: u32, list: &[u32]) -> Entry {
     let mut names = [0; MAX_NAMES];
     names[..list.len()].copy_from_slice(list);
-    Entry { name, prerequisites: Names { count: list.len(), names }, class: 0, grower: 0 }
+    let class = match name {
+        3 => 0,
+        4 => 15,
+        _ => 7,
+    };
+    Entry { name, prerequisites: Names { count: list.len(), names }, class, grower: 0 }
 }

@@ -3,10 +3,11 @@
 use second_implementation::{
     book::{JobView, View},
     graph::Sizes,
+    minutes,
 };
 
 use crate::{
-    layout::{job, job_at, worker, worker_at, MADE, NONE, PUT, QUEUE_HEADER, TAKEN},
+    layout::{cell_at, job, job_at, slot_at, worker, worker_at, MADE, NONE, PUT, TAKEN},
     tables::{Tables, JOBS, QUEUE, WORKERS},
 };
 
@@ -20,13 +21,24 @@ pub fn label(tables: &Tables, number: usize) -> u32 {
     tables.words(JOBS)[job_at(number) + job::LABEL]
 }
 
-/// The jobs with a place in the queue, by the words.
+/// The minutes of a job, by the words.
+pub fn minutes(tables: &Tables, number: usize) -> u32 {
+    minutes::minutes(tables.words(JOBS)[job_at(number) + job::CLASS]).unwrap_or(0)
+}
+
+/// The jobs with a place in the queue, in the order of their entry, by the words.
 pub fn queue(tables: &Tables) -> impl Iterator<Item = usize> + '_ {
     let words = tables.words(QUEUE);
-    let cells = &words[QUEUE_HEADER..];
-    let put = (words[PUT] as usize).min(cells.len());
-    let taken = (words[TAKEN] as usize).min(put);
-    cells[taken..put].iter().map(|job| *job as usize)
+    let cells = (0..words[PUT] as usize).filter_map(|place| words.get(cell_at(place)));
+    cells.filter(|cell| **cell != NONE).map(|cell| *cell as usize)
+}
+
+/// The jobs in the index, by the words: in the cells of the places that the filled slots hold.
+pub fn indexed(tables: &Tables) -> impl Iterator<Item = usize> + '_ {
+    let words = tables.words(QUEUE);
+    let filled = (words[PUT] as usize).saturating_sub(words[TAKEN] as usize);
+    let places = (0..filled).filter_map(|slot| words.get(slot_at(slot)));
+    places.filter_map(|place| words.get(cell_at(*place as usize))).map(|cell| *cell as usize)
 }
 
 /// What the words have of that which the book keeps.

@@ -16,7 +16,10 @@ use taskgraph::raw as proved;
 
 use crate::{
     event::{is_whole, rows_of, worker_of, Call, Event},
-    expected_words, layout,
+    expected_words,
+    hand_outs::HandOuts,
+    index::Index,
+    layout,
     tables::{Setup, Tables, JOBS},
     view, whole,
 };
@@ -32,8 +35,10 @@ pub struct World {
     /// The words past each table's need, as they were when it was laid out.
     tails: [Vec<u32>; 5],
     graph: Graph,
+    index: Index,
     history: History,
     entries: Entries,
+    hand_outs: HandOuts,
     book: Book,
     /// How the calls that the book was fed ended in it.
     endings: Vec<Ending>,
@@ -206,8 +211,10 @@ impl World {
             tables: Tables::new(setup),
             tails: Default::default(),
             graph: Graph::lay_out(setup.sizes).map_err(|_| "the first sizes are off their limits")?,
+            index: Index::default(),
             history: History::default(),
             entries: Entries::default(),
+            hand_outs: HandOuts::default(),
             book: Book::new(setup.sizes),
             endings: Vec::new(),
             items: 0,
@@ -246,8 +253,10 @@ impl World {
                 let tail = |table: usize| before.words(table)[need[table]..].to_vec();
                 self.tails = [tail(0), tail(1), tail(2), tail(3), tail(4)];
                 self.graph = graph;
+                self.index = Index::default();
                 self.history = History::default();
                 self.entries = Entries::default();
+                self.hand_outs = HandOuts::default();
                 self.book = Book::new(sizes);
                 self.endings.clear();
                 self.check_tables()
@@ -262,6 +271,7 @@ impl World {
         let long_enough = layout::suffice(self.tables.cut_lens(call.short), self.graph.sizes());
         let expected =
             if long_enough { call_second(&mut self.graph, sizes, &call.item) } else { wrong_size(&call.item) };
+        self.index.follow(&self.graph);
         // The tables are large, and copied only where they are compared with what they were.
         let unchanged = leaves_all(&call.item, &expected);
         let before = (unchanged || is_whole(&call.item)).then(|| self.tables.clone());
@@ -274,6 +284,7 @@ impl World {
         }
         self.check_state(sizes, call)?;
         self.check_tables()?;
+        self.check_order(&expected)?;
         if let (true, Item::Get { .. }, Told::One(Ok(reply))) = (quiet, &call.item, &expected) {
             self.check_none_ready(*reply)?;
         }
@@ -310,11 +321,30 @@ impl World {
     }
 
     fn check_tables(&mut self) -> Result<(), String> {
-        none_or_err(expected_words::difference(&self.graph, &self.tables))?;
+        none_or_err(expected_words::difference(&self.graph, &self.index, &self.tables))?;
         let need = layout::words_needed(self.graph.sizes());
         let touched = (0..5).find(|table| self.tables.words(*table)[need[*table]..] != self.tails[*table][..]);
         none_or_err(touched.map(|table| format!("words past the need of table {table} were touched")))?;
         none_or_err(self.tables.broken_guard())
+    }
+
+    /// The jobs in the index are those that wait, and each job is handed out when it is due.
+    fn check_order(&mut self, told: &Told) -> Result<(), String> {
+        let mut balance = vec![0_i32; view::made(&self.tables, self.graph.sizes())];
+        let mut count = |job: usize, by: i32| balance.get_mut(job).map(|balance| *balance += by);
+        let known = view::queue(&self.tables).all(|job| count(job, 1).is_some())
+            && view::indexed(&self.tables).all(|job| count(job, -1).is_some());
+        if !known || balance.iter().any(|balance| *balance != 0) {
+            let (index, queue) = (view::indexed(&self.tables), view::queue(&self.tables));
+            let (index, queue): (Vec<usize>, Vec<usize>) = (index.collect(), queue.collect());
+            return Err(format!("the index has the jobs {index:?}, and {queue:?} wait"));
+        }
+        let handed_out = match told {
+            Told::One(Ok(Reply::HandedOut { job, .. })) => Some(*job),
+            _ => None,
+        };
+        let tables = &self.tables;
+        none_or_err(self.hand_outs.take(handed_out, view::queue(tables), |job| view::minutes(tables, job)))
     }
 
     /// With no call half done, "none ready" is given exactly if no job is ready in the book.

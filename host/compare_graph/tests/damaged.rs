@@ -3,9 +3,10 @@
 use std::collections::BTreeSet;
 
 use compare_graph::{
-    damaged::{self, Damaged},
+    damaged::{self, Damaged, Met, Use, Way},
     event::{Event, History},
     histories,
+    index::WrongSlot,
     tables::Tables,
     watchdog::Watchdog,
     whole::{self, HALF_LEFT},
@@ -19,11 +20,31 @@ fn damaged_tables() {
     let test = "graph, damaged tables";
     let (mut comparison, _) = Comparison::new(test);
     let watchdog = Watchdog::new(test, seed());
+    let met = Met::default();
     for number in 0..histories(20_000) {
         watchdog.begin(number);
-        comparison.check(Damaged(damaged::numbered(seed(), number)));
+        comparison.check(Damaged(damaged::numbered(seed(), number), &met));
     }
+    print!("\n{met}");
     comparison.finish();
+}
+
+/// What the comparison must meet of the index: each wrong slot, of gets and of entries, and an index that is wrong or
+/// no heap where no word that is read shows it.
+#[test]
+fn the_index_meets_damage() {
+    let refused = WrongSlot::ALL.map(Way::Refused).into_iter();
+    let ways: Vec<Way> = refused.chain([Way::OverWrong, Way::OverDisorder, Way::OverRight]).collect();
+    let mut due: Vec<(Use, Way)> =
+        [Use::Get, Use::Entry].into_iter().flat_map(|used| ways.iter().map(move |way| (used, *way))).collect();
+    let (mut number, met) = (0, Met::default());
+    while !due.is_empty() && number < 4_000 {
+        assert_eq!(damaged::first_fault(&damaged::numbered(1993, number), &met), None, "in history {number}");
+        due.retain(|way| !met.has(way));
+        number += 1;
+    }
+    assert!(due.is_empty(), "never met in {number} histories: {due:?}");
+    println!("\nall ways of the index met in {number} damaged histories");
 }
 
 /// How the library answers the whole calls of a history.

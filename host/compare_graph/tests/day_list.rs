@@ -14,9 +14,10 @@ fn sheet(random: &mut Random, count: usize) -> Vec<u8> {
     let mut names: Vec<u32> = Vec::new();
     let mut entries = Vec::new();
     let strange = random.pick(&[8, 30, 1_000]);
-    let longest = random.pick(&[2, 4, 12, MAX_NAMES]);
+    let longest = random.pick(&[0, 2, 4, 12, MAX_NAMES]);
+    let classes = random.pick(&[1, 3, 16]);
     for number in 0..count {
-        let mut entry = Entry { name: number as u32, class: random.below(16) as u32, ..Entry::default() };
+        let mut entry = Entry { name: number as u32, class: random.below(classes) as u32, ..Entry::default() };
         if random.once_in(strange) {
             entry.name = inputs::word(random);
         }

@@ -3,7 +3,7 @@
 use std::{collections::BTreeSet, fs};
 
 use compare_graph::{
-    damaged::Damaged,
+    damaged::{Damaged, Met},
     event::{Event, History},
     generate, histories,
     random_history::RandomHistory,
@@ -55,11 +55,39 @@ fn whole_calls_are_answered_in_every_way() {
     assert_eq!(met, expected);
 }
 
+/// Nor does it say anything of an order of hand-outs that is the order of entries, or of a shallow index.
+#[test]
+fn the_order_of_hand_outs_matters() {
+    let (mut all, mut overtaking, mut with_equals, mut deep) = (0, 0, 0, 0);
+    for number in 0..600 {
+        let history = generate::history(&mut Random::nth(1993, "the order of hand-outs", number));
+        let mut graph = Graph::lay_out(history.setup.sizes).expect("the sizes are within their limits");
+        for event in &history.events {
+            let waiting: Vec<usize> = graph.queue().iter().copied().filter(|job| graph.waits(*job)).collect();
+            generate::follow(&mut graph, &history.setup, event);
+            let jobs = graph.jobs();
+            let handed_out = waiting.iter().position(|job| *job < jobs.len() && !graph.waits(*job));
+            if let Some(place) = handed_out {
+                let class = jobs[waiting[place]].class;
+                all += 1;
+                overtaking += usize::from(place > 0);
+                with_equals += usize::from(waiting.iter().filter(|job| jobs[**job].class == class).count() > 1);
+                deep += usize::from(waiting.len() >= 200);
+            }
+        }
+    }
+    println!(
+        "\n{all} hand-outs: {overtaking} of jobs that others waited longer than, {with_equals} of jobs beside equals, \
+         {deep} with 200 and more waiting"
+    );
+    assert!(overtaking > 1_000 && with_equals > 1_000 && deep > 100);
+}
+
 #[test]
 fn histories_of_4096_jobs() {
     let (mut comparison, mut random) = Comparison::new("graph, histories over 4,096 jobs");
-    for events in [60_000, 20_000, 20_000] {
-        comparison.check(RandomHistory(generate::large_history(&mut random, events)));
+    for (events, deep) in [(60_000, false), (20_000, false), (20_000, true)] {
+        comparison.check(RandomHistory(generate::large_history(&mut random, events, deep)));
     }
     comparison.finish();
 }
@@ -76,7 +104,7 @@ fn kept_histories() {
         let history: History = text.parse().unwrap_or_else(|error| panic!("{}: {error}", path.display()));
         println!("{}", path.display());
         if history.is_damaged() {
-            comparison.check(Damaged(history));
+            comparison.check(Damaged(history, &Met::default()));
         } else {
             comparison.check(RandomHistory(history));
         }

@@ -60,6 +60,7 @@ fn starts() -> Vec<Start> {
         start(4, 4, 1, &[jobs_1_2(), get(0), get(1)]),
         start(4, 4, 2, &[jobs_1_2(), whole_add(3, &[1, 2]), get(0), get(1)]),
         start(4, 3, 2, &[jobs_1_2(), whole_add(3, &[2]), get(0)]),
+        start(5, 2, 1, &[whole_add(3, &[]), jobs_1_2()]),
     ]
 }
 

@@ -13,14 +13,13 @@ pub fn counted(call: &mut dyn FnMut()) {
     call();
 }
 
-/// What the library and another take for the same, and how many times the other's the library may take.
+/// What the library and another take for the same.
 pub struct Row {
     pub name: String,
     pub library: u64,
     pub other: u64,
-    pub most: f64,
-    /// Whether more than that is a failure; else it is only shown.
-    pub judged: bool,
+    /// How many times the other's the library may take; `None` where that is only shown.
+    pub most: Option<f64>,
     /// The library's time as a multiple of the other's, which is shown and not judged.
     pub time: f64,
 }
@@ -31,7 +30,7 @@ impl Row {
     }
 
     fn is_over(&self) -> bool {
-        self.ratio() > self.most
+        self.most.map_or(false, |most| self.ratio() > most)
     }
 }
 
@@ -66,19 +65,14 @@ pub struct Table {
 pub fn judge(tables: &[Table]) -> ExitCode {
     println!("Instructions, counted by callgrind; their ratio is judged, that of the times is not.");
     tables.iter().for_each(print);
-    let mut failed = false;
+    let mut status = ExitCode::SUCCESS;
     for table in tables {
         for row in table.rows.iter().filter(|row| row.is_over()) {
-            let said = if row.judged { "too many instructions" } else { "over its limit, which is not judged yet" };
-            println!("{said}: {}, {}", table.title, row.name);
-            failed |= row.judged;
+            println!("too many instructions: {}, {}", table.title, row.name);
+            status = ExitCode::FAILURE;
         }
     }
-    if failed {
-        ExitCode::FAILURE
-    } else {
-        ExitCode::SUCCESS
-    }
+    status
 }
 
 fn print(table: &Table) {
@@ -89,7 +83,9 @@ fn print(table: &Table) {
     line([table.title, table.library, table.other, "ratio", "at most", "times"]);
     for row in &table.rows {
         let [library, other] = [row.library, row.other].map(|count| count.to_string());
-        let [ratio, most, time] = [row.ratio(), row.most, row.time].map(|ratio| format!("{ratio:.2}"));
+        let shown = |ratio: f64| format!("{ratio:.2}");
+        let [ratio, time] = [row.ratio(), row.time].map(shown);
+        let most = row.most.map_or("-".into(), shown);
         line([&row.name, &library, &other, &ratio, &most, &time]);
     }
 }

@@ -1,6 +1,9 @@
 //! What the logs and the tables must say after a run.
 
+use std::{cmp::Reverse, collections::BTreeMap};
+
 use compare_graph::layout::{job, job_at, phase, worker, JOB_WORDS, MADE, PUT, RESERVED, TAKEN, WORKER_WORDS};
+use taskgraph::raw;
 
 use crate::{
     log::Line,
@@ -30,26 +33,43 @@ const FINISHED: u32 = 2;
 pub struct Check<'a> {
     plan: &'a Plan,
     records: Vec<Record>,
+    /// The job of each place of the queue.
+    queued: BTreeMap<usize, usize>,
+    /// The job of each hand-out, and how many had been put in the queue before it.
+    handed_out: BTreeMap<usize, (usize, usize)>,
 }
 
 impl<'a> Check<'a> {
     /// Reads the logs; a job started twice is a fault.
     pub fn new(plan: &'a Plan, logs: &[String]) -> Result<Check<'a>, String> {
-        let mut check = Check { plan, records: vec![Record::default(); JOBS] };
+        let records = vec![Record::default(); JOBS];
+        let mut check = Check { plan, records, queued: BTreeMap::new(), handed_out: BTreeMap::new() };
         for line in logs.iter().flat_map(|log| log.lines()) {
             check.take(line.parse()?)?;
         }
         Ok(check)
     }
 
+    fn job_of(&self, name: u32) -> Result<usize, String> {
+        self.plan.number(name).ok_or_else(|| format!("no job has the name {name}"))
+    }
+
     fn record(&mut self, name: u32) -> Result<&mut Record, String> {
-        let job = self.plan.number(name).ok_or_else(|| format!("no job has the name {name}"))?;
+        let job = self.job_of(name)?;
         Ok(&mut self.records[job])
     }
 
     fn take(&mut self, line: Line) -> Result<(), String> {
         match line {
             Line::Added { job } => self.records[job].added = true,
+            Line::Queued { name, place } => {
+                let job = self.job_of(name)?;
+                note(&mut self.queued, place, job)?;
+            }
+            Line::HandedOut { name, taken, put } => {
+                let job = self.job_of(name)?;
+                note(&mut self.handed_out, taken, (job, put))?;
+            }
             Line::Start { name, ticket } => {
                 if self.record(name)?.start.replace(ticket).is_some() {
                     return Err(format!("the job with the name {name} was handed out twice"));
@@ -75,6 +95,31 @@ impl<'a> Check<'a> {
             }
         }
         Ok(())
+    }
+
+    /// Each hand-out is of the heaviest job that waits then, of equal ones of that which entered the queue first. Answers
+    /// how many were of jobs that others had waited longer than.
+    pub fn hand_outs(&self) -> Result<usize, String> {
+        let complete = self.queued.keys().copied().eq(0..self.queued.len())
+            && self.handed_out.keys().copied().eq(0..self.handed_out.len());
+        if !complete {
+            return Err("the logs lack a place of the queue or a hand-out".into());
+        }
+        let mut waiting: BTreeMap<usize, usize> = BTreeMap::new();
+        let (mut seen, mut overtaking) = (0, 0);
+        for (job, put) in self.handed_out.values() {
+            waiting.extend((seen..*put).filter_map(|place| Some((place, *self.queued.get(&place)?))));
+            seen = *put;
+            // Of equal keys the first is taken.
+            let due = waiting.iter().min_by_key(|(_, job)| Reverse(raw::minutes(self.plan.class(**job))));
+            let place = match due {
+                Some((place, due)) if due == job => *place,
+                _ => return Err(format!("job {job} was handed out, and {due:?}, place and job, was due")),
+            };
+            overtaking += usize::from(waiting.keys().next() != Some(&place));
+            waiting.remove(&place);
+        }
+        Ok(overtaking)
     }
 
     /// Every job whose add ended, and whose prerequisites' finishes all ended, was finished, save the one
@@ -115,6 +160,9 @@ impl<'a> Check<'a> {
         if taken != put {
             return Err("jobs still wait in the queue".into());
         }
+        if (self.handed_out.len(), self.queued.len()) != (taken, put) {
+            return Err("the logs lack a place of the queue or a hand-out".into());
+        }
         Ok(())
     }
 
@@ -122,7 +170,7 @@ impl<'a> Check<'a> {
     fn job(&self, record: &[u32], killed: usize) -> Result<(), String> {
         let name = record[job::NAME];
         let number = self.plan.number(name).ok_or_else(|| format!("no job has the name {name}"))?;
-        let class = self.plan.job(number).class;
+        let class = self.plan.class(number);
         if record[job::CLASS] != class || self.records[number].finished && record[job::LABEL] != FINISHED {
             return Err(format!("the words of job {number} are {record:?}"));
         }
@@ -130,5 +178,13 @@ impl<'a> Check<'a> {
             return Err(format!("at the end the words of job {number} are {record:?}"));
         }
         Ok(())
+    }
+}
+
+/// Puts a value where none may be yet.
+fn note<T>(map: &mut BTreeMap<usize, T>, number: usize, value: T) -> Result<(), String> {
+    match map.insert(number, value) {
+        None => Ok(()),
+        Some(_) => Err(format!("place or hand-out {number} is logged twice")),
     }
 }

@@ -6,7 +6,11 @@ use std::{fmt, str::FromStr};
 pub enum Line {
     /// The add of a job of the plan ended.
     Added { job: usize },
-    /// A job was handed out; its work starts.
+    /// A job was found in a place of the queue, in which none had been found before.
+    Queued { name: u32, place: usize },
+    /// A job was handed out, with so many taken from the queue and put in it before.
+    HandedOut { name: u32, taken: usize, put: usize },
+    /// The work of a job starts.
     Start { name: u32, ticket: u32 },
     /// Its work is over, and its finish is about to be posted.
     End { name: u32, ticket: u32 },
@@ -18,6 +22,8 @@ impl fmt::Display for Line {
     fn fmt(&self, f: &mut fmt::Formatter<'_>) -> fmt::Result {
         match self {
             Line::Added { job } => write!(f, "added {job}"),
+            Line::Queued { name, place } => write!(f, "queued {name} {place}"),
+            Line::HandedOut { name, taken, put } => write!(f, "handed-out {name} {taken} {put}"),
             Line::Start { name, ticket } => write!(f, "start {name} {ticket}"),
             Line::End { name, ticket } => write!(f, "end {name} {ticket}"),
             Line::Finished { name } => write!(f, "finished {name}"),
@@ -33,6 +39,11 @@ impl FromStr for Line {
         let number = |word: &str| word.parse::<u32>().map_err(|_| format!("not a line of a log: {text}"));
         match words[..] {
             ["added", job] => Ok(Line::Added { job: number(job)? as usize }),
+            ["queued", name, place] => Ok(Line::Queued { name: number(name)?, place: number(place)? as usize }),
+            ["handed-out", name, taken, put] => {
+                let (taken, put) = (number(taken)? as usize, number(put)? as usize);
+                Ok(Line::HandedOut { name: number(name)?, taken, put })
+            }
             ["start", name, ticket] => Ok(Line::Start { name: number(name)?, ticket: number(ticket)? }),
             ["end", name, ticket] => Ok(Line::End { name: number(name)?, ticket: number(ticket)? }),
             ["finished", name] => Ok(Line::Finished { name: number(name)? }),

@@ -1,7 +1,7 @@
 //! Sixteen worker processes over one graph in shared memory, with the lock round each call and each step: 4,096 jobs
 //! with 32,768 arcs, jobs of random length. Some workers take single steps, some run their calls whole, and some add by
-//! sheets. Afterwards the workers' logs say whether a job was taken before its prerequisites or twice. Then the same with a worker killed between two calls at a random moment, after
-//! which the others go on.
+//! sheets. Afterwards the workers' logs say whether a job was taken before its prerequisites, twice, or before a heavier
+//! one. Then the same with a worker killed between two calls at a random moment, after which the others go on.
 //!
 //! usage: processes [RUNS]      RUNS with a killed worker, 8 if it is not said
 
@@ -123,13 +123,15 @@ impl Run {
         let logs: Result<Vec<String>, _> = (0..WORKERS).map(|worker| fs::read_to_string(self.log(worker))).collect();
         let check = Check::new(&plan, &logs?)?;
         check.order()?;
+        let overtaking = check.hand_outs()?;
         check.progress(killed)?;
         check.tables(&self.words()?, killed)?;
         if !kill && !self.shared.lock()?.graph.drained()? {
             return Err("the graph is not drained".into());
         }
         Ok(format!(
-            "{} of {JOBS} jobs finished by {WORKERS} processes in {:.1} s",
+            "{} of {JOBS} jobs finished by {WORKERS} processes, {overtaking} handed out before others that waited longer, \
+             in {:.1} s",
             check.finished(),
             took.as_secs_f64()
         ))

@@ -14,6 +14,7 @@ pub struct Plan {
     /// The prerequisites of each job, which have lower numbers.
     pub lists: Vec<Vec<usize>>,
     names: Vec<u32>,
+    classes: Vec<u32>,
     numbers: HashMap<u32, usize>,
 }
 
@@ -35,7 +36,8 @@ impl Plan {
         let start = random.word();
         let names: Vec<u32> = (0..JOBS as u32).map(|job| job.wrapping_mul(0x9e37_79b1).wrapping_add(start)).collect();
         let numbers = names.iter().copied().zip(0..).collect();
-        Plan { lists, names, numbers }
+        let classes = (0..JOBS).map(|_| random.below(16) as u32).collect();
+        Plan { lists, names, classes, numbers }
     }
 
     /// The number of the job of a name, if it is one of the plan's.
@@ -43,8 +45,12 @@ impl Plan {
         self.numbers.get(&name).copied()
     }
 
+    pub fn class(&self, number: usize) -> u32 {
+        self.classes[number]
+    }
+
     pub fn job(&self, number: usize) -> Job {
         let prerequisites = self.lists[number].iter().map(|listed| self.names[*listed]).collect();
-        Job { name: self.names[number], prerequisites, class: (number % 16) as u32, grower: number as u32 }
+        Job { name: self.names[number], prerequisites, class: self.classes[number], grower: number as u32 }
     }
 }

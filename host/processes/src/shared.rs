@@ -8,7 +8,8 @@ use std::{
     path::Path,
 };
 
-use taskgraph::{Locked, SharedGraph, Sizes};
+use compare_graph::layout::{cell_at, job, job_at, PUT, TAKEN};
+use taskgraph::{Locked, SharedGraph, Sizes, TaskGraph};
 
 pub const WORKERS: usize = 16;
 pub const JOBS: usize = 4_096;
@@ -16,12 +17,13 @@ pub const ARCS: usize = 32_768;
 
 const SIZES: Sizes = Sizes { jobs: JOBS as u32, arcs: ARCS as u32, bits: 8, workers: WORKERS as u32 };
 
-/// The words: the next ticket, the next job to add, a bit for each dead worker, a word for each worker that is busy,
-/// and a word for each job's add. A word not yet written is 0.
+/// The words: the next ticket, the next job to add, a bit for each dead worker, the next place of the queue to look at, a
+/// word for each worker that is busy, and a word for each job's add. A word not yet written is 0.
 const TICKET: usize = 0;
 const NEXT: usize = 1;
 const DEAD: usize = 2;
-const BUSY: usize = 3;
+const SEEN: usize = 3;
+const BUSY: usize = 4;
 const ADDS: usize = BUSY + WORKERS;
 const WORDS: usize = ADDS + JOBS;
 
@@ -83,6 +85,23 @@ impl Held<'_> {
     /// How many tickets were given out.
     pub fn tickets(&self) -> Fallible<u32> {
         self.word(TICKET)
+    }
+
+    /// How many jobs were taken from the queue, and how many put in it.
+    pub fn queue_counters(&self) -> (usize, usize) {
+        let [_, _, _, queue, _] = self.graph.words();
+        (queue[TAKEN] as usize, queue[PUT] as usize)
+    }
+
+    /// The places of the queue that were not looked at before, with the names of their jobs. Only a get takes a job from
+    /// its place, so that all are found if each get looks first.
+    pub fn look_at_queue(&self) -> Fallible<Vec<(usize, u32)>> {
+        let [jobs, _, _, queue, _] = self.graph.words();
+        let (_, put) = self.queue_counters();
+        let name = |place: usize| jobs[job_at(queue[cell_at(place)] as usize) + job::NAME];
+        let found = (self.word(SEEN)? as usize..put).map(|place| (place, name(place))).collect();
+        self.set(SEEN, put as u32)?;
+        Ok(found)
     }
 
     /// The next jobs that nobody adds yet, as many as are wanted and there.

@@ -61,8 +61,16 @@ impl Worker {
                 self.add()?;
             }
             let mut held = self.shared.lock()?;
+            // The queue is logged under the lock of its get, so that a kill comes before both or after both.
+            let (taken, put) = held.queue_counters();
+            if taken < put {
+                for (place, name) in held.look_at_queue()? {
+                    self.write(Line::Queued { name, place })?;
+                }
+            }
             match held.graph.get(self.number)? {
                 Some(job) => {
+                    self.write(Line::HandedOut { name: job.name, taken, put })?;
                     held.set_busy(self.number, true)?;
                     drop(held);
                     self.work(job.name)?;
@@ -76,9 +84,9 @@ impl Worker {
         }
     }
 
-    fn write(&mut self, line: Line) -> Fallible<()> {
+    fn write(&self, line: Line) -> Fallible<()> {
         // One write for each line, so that a killed worker leaves whole lines.
-        Ok(self.log.write_all(format!("{line}\n").as_bytes())?)
+        Ok((&self.log).write_all(format!("{line}\n").as_bytes())?)
     }
 
     fn claim(&mut self) -> Fallible<()> {

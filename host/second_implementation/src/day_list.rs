@@ -127,6 +127,20 @@ mod tests {
     }
 
     #[test]
+    fn heavier_jobs_first() {
+        let sheet = [
+            &[1, 1, 0, 0, 0][..],
+            &[5, 2, 0, 0, 0, 3], // class 3
+            &[5, 3, 0, 0, 0, 3],
+            &[5, 4, 0, 0, 0, 15],
+            &[7, 5, 0, 0, 0, 1, 4, 0, 0, 0, 15], // needs 4, class 15
+            &[1, 6, 0, 0, 0],
+        ];
+        let lines = "jobs 6 workers 2\n0 4 0\n1 2 1\n2 5 0\n3 3 1\n4 1 0\n5 6 1\nleft 0\n";
+        assert_eq!(day_list(&sheet.concat(), 2).unwrap(), lines);
+    }
+
+    #[test]
     fn case_9_the_empty_sheet() {
         assert_eq!(day_list(&[], 2).unwrap(), "jobs 0 workers 2\nleft 0\n");
     }

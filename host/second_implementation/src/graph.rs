@@ -6,8 +6,11 @@
 
 mod whole;
 
+use std::cmp::Reverse;
+
 use crate::{
     bucket::bucket,
+    minutes::minutes,
     refusal,
     sheet::{Entry, MAX_CLASS, MAX_GROWER},
     totals::Label,
@@ -142,9 +145,8 @@ pub struct Graph {
     arcs: Vec<Option<usize>>,
     /// The jobs of each bucket, the head last.
     buckets: Vec<Vec<usize>>,
-    /// All jobs ever put in the queue, in order; the first `taken` are gone.
+    /// All jobs ever put in the queue, in order; those that are not handed out yet wait.
     queue: Vec<usize>,
-    taken: usize,
     workers: Vec<Worker>,
 }
 
@@ -160,7 +162,6 @@ impl Graph {
             arcs: Vec::new(),
             buckets: vec![Vec::new(); 1 << sizes.bits],
             queue: Vec::new(),
-            taken: 0,
             workers: vec![Worker::default(); sizes.workers as usize],
         })
     }
@@ -183,9 +184,14 @@ impl Graph {
         self.buckets[number].iter().rev().copied()
     }
 
-    /// How many jobs ever left the queue, and all that ever entered it.
-    pub fn queue(&self) -> (usize, &[usize]) {
-        (self.taken, &self.queue)
+    /// All jobs that ever entered the queue, in order.
+    pub fn queue(&self) -> &[usize] {
+        &self.queue
+    }
+
+    /// Whether a job that entered the queue still waits there.
+    pub fn waits(&self, job: usize) -> bool {
+        self.jobs[job].label == Label::Unexecuted
     }
 
     pub fn workers(&self) -> &[Worker] {
@@ -235,15 +241,21 @@ impl Graph {
         if self.workers[worker].held.is_some() {
             return refused(refusal::HOLDING);
         }
-        match self.queue.get(self.taken) {
+        match self.heaviest() {
             None => Ok(Reply::NoneReady),
-            Some(&job) => {
-                self.taken += 1;
+            Some(job) => {
                 self.jobs[job].label = Label::Executing;
                 self.workers[worker].held = Some(job);
                 Ok(Reply::HandedOut { job, name: self.jobs[job].name })
             }
         }
+    }
+
+    /// The waiting job with the most minutes; of equal ones the first that entered the queue.
+    fn heaviest(&self) -> Option<usize> {
+        let waiting = self.queue.iter().copied().filter(|job| self.waits(*job));
+        // Of equal keys the first is taken.
+        waiting.min_by_key(|job| Reverse(minutes(self.jobs[*job].class)))
     }
 
     pub fn held(&self, sizes: Sizes, worker: u32) -> Result<Holding, Refusal> {
@@ -262,7 +274,7 @@ impl Graph {
             return refused(refusal::SIZE);
         }
         let at_rest = |worker: &Worker| worker.held.is_none() && worker.call.is_none();
-        Ok(self.taken == self.queue.len() && self.workers.iter().all(at_rest))
+        Ok(self.heaviest().is_none() && self.workers.iter().all(at_rest))
     }
 
     /// Numbers 1 and 2.

@@ -1,9 +1,9 @@
--- `fused_notices::tell` meets its contract: each plan's stores are the definition's, and a queued job's cell is below
+-- `fused_notices::tell` meets its contract: each plan's stores are the definition's, and a queued job's place is below
 -- the number of jobs, so that the counter is a word.
 -- Assumes nothing.
 use native.Mathlib.Omega.{arith}
 use borrow.Author.Needs.{needs}
-use Rattle.fused_notices.proofs.Laws.{cell-below, halts}
+use Rattle.fused_notices.proofs.Laws.{seat-below, halts}
 use Rattle.fused_notices.proofs.tell.Statement.{statement}
 use Rattle.fused_notices.proofs.tell.Tie as tie
 
@@ -22,8 +22,8 @@ enum-known-plan-2 c = search needs
 put-job-requires-2 : tie.Need-put-job-requires-2
 put-job-requires-2 c κs = search needs
 
-queue-job-requires : tie.Need-queue-job-requires
-queue-job-requires c κs = search needs
+put-seat-requires : tie.Need-put-seat-requires
+put-seat-requires c κs = search needs
 
 same-length : tie.Need-same-length
 same-length c = search needs
@@ -53,12 +53,12 @@ returns-2 c =
     let e = c8 .before .plan2 .given .1 in
     let st = c8 .before .before .before .before .before .before .before .before .before in
     let g = st .fits in
-    let h = cell-below _ _ _ _ (p .ensures buckets workers) e in
+    let h = seat-below _ _ _ _ (p .ensures buckets workers) e in
     rw (
       ← p .ensures,
       e,
       c4 .before .before .put-job2 .ensures,
-      c .before .before .queue-job .ensures (omega (arith, h, g)),
+      c .before .before .put-seat .ensures (omega (arith, h, g)),
     )
 
 same-length-5 : tie.Need-same-length-5
@@ -82,7 +82,7 @@ tell-spec =
     put-job-requires
     enum-known-plan-2
     put-job-requires-2
-    queue-job-requires
+    put-seat-requires
     same-length
     same-length-2
     returns

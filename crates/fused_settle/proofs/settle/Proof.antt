@@ -1,32 +1,32 @@
--- `fused_settle::settle` meets its contract: each way through the code is a case of the definition; a cell is below
+-- `fused_settle::settle` meets its contract: each way through the code is a case of the definition; a place is below
 -- the number of jobs, so that the counter is a word.
 -- Assumes nothing.
 use native.Mathlib.Omega.{arith}
-use lib.Dec.{ltb, leb}
+use Rattle.fitting.specs.Seats.{seated-below}
 use borrow.Author.Needs.{needs}
-use borrow.Author.Tests.{ltb-true}
-use Rattle.basics.specs.Laws.{and-right}
 use Rattle.fused_settle.proofs.settle.Statement.{statement}
 use Rattle.fused_settle.proofs.settle.Tie as tie
 
 returns : tie.Need-returns
-returns c =
-    λ arcs buckets workers w held stopped. rw (c .if1 .left)
+returns c = λ arcs buckets workers w held stopped. rw (c .if1 .left)
 
 less-requires : tie.Need-less-requires
 less-requires c κs = search needs
 
-header-requires : tie.Need-header-requires
-header-requires c κs = search needs
+seat-for-requires : tie.Need-seat-for-requires
+seat-for-requires c κs = search needs
 
-header-requires-2 : tie.Need-header-requires-2
-header-requires-2 c κs = search needs
+enum-known-seating : tie.Need-enum-known-seating
+enum-known-seating c = search needs
 
 put-job-requires : tie.Need-put-job-requires
 put-job-requires c κs = search needs
 
-queue-job-requires : tie.Need-queue-job-requires
-queue-job-requires c κs = search needs
+put-seat-requires : tie.Need-put-seat-requires
+put-seat-requires c κs = search needs
+
+enum-told : tie.Need-enum-told
+enum-told c = search needs
 
 put-job-requires-2 : tie.Need-put-job-requires-2
 put-job-requires-2 c κs = search needs
@@ -40,45 +40,46 @@ same-length-2 c = search needs
 returns-2 : tie.Need-returns-2
 returns-2 c =
     λ arcs buckets workers w held stopped.
-    let c4 = c .before .before .before .before in
-    let c8 = c4 .before .before .before .before in
-    let c12 = c8 .before .before .before .before in
-    let c16 = c12 .before .before .before .before in
-    let cell = c12 .header .result in
-    let s = c16 .before .before .before .args .sizes in
-    let k = c8 .before .struct-known .given in
-    let h = ltb-true cell (s .jobs)
-    (and-right (leb (c8 .before .before .header2 .result) cell) (ltb cell (s .jobs)) (c8 .if3 .taken)) in
+    let c2 = c .before .before in
+    let c6 = c2 .before .before .before .before in
+    let c11 = c6 .before .before .before .before .before in
+    let c15 = c11 .before .before .before .before in
+    let st = c15 .before .before .before .before in
+    let g = st .fits in
+    let e = c6 .before .before .before .seating .given .1 in
+    let r = c11 .seat-for .ensures arcs buckets workers in
+    let h = seated-below _ _ _ r e in
     rw (
-      c16 .if1 .taken,
-      ← c12 .before .before .before .less .ensures,
-      c12 .before .before .if2 .taken,
-      ← c12 .header .ensures,
-      ← c8 .before .before .header2 .ensures,
-      c8 .if3 .taken,
-      c .before .before .queue-job .ensures (omega arith),
-      c4 .before .before .put-job .ensures,
+      c15 .before .if1 .taken,
+      ← c15 .less .ensures,
+      c11 .before .before .before .if2 .taken,
+      ← r,
+      e,
+      c2 .put-seat .ensures (omega (arith, h, g)),
+      c6 .put-job .ensures,
     )
 
 same-length-3 : tie.Need-same-length-3
 same-length-3 c = search needs
 
+same-length-4 : tie.Need-same-length-4
+same-length-4 c = search needs
+
 returns-3 : tie.Need-returns-3
 returns-3 c =
     λ arcs buckets workers w held stopped.
-    let c4 = c .before .before .before .before in
-    let c8 = c4 .before .before .before .before in
+    let c2 = c .before .before in
+    let c6 = c2 .before .before .before .before in
     rw (
-      c8 .if1 .taken,
-      ← c4 .before .before .before .less .ensures,
-      c4 .before .before .if2 .taken,
-      ← c4 .header .ensures,
-      ← c .before .before .header2 .ensures,
-      c .if3 .left,
+      c6 .before .if1 .taken,
+      ← c6 .less .ensures,
+      c2 .before .before .before .if2 .taken,
+      ← c2 .seat-for .ensures,
+      c .enum-told .given .1,
     )
 
-same-length-4 : tie.Need-same-length-4
-same-length-4 c = search needs
+same-length-5 : tie.Need-same-length-5
+same-length-5 c = search needs
 
 returns-4 : tie.Need-returns-4
 returns-4 c =
@@ -92,15 +93,17 @@ settle-spec =
     (tie.spec
     returns
     less-requires
-    header-requires
-    header-requires-2
+    seat-for-requires
+    enum-known-seating
     put-job-requires
-    queue-job-requires
+    put-seat-requires
+    enum-told
     put-job-requires-2
     same-length
     same-length-2
     returns-2
     same-length-3
-    returns-3
     same-length-4
+    returns-3
+    same-length-5
     returns-4)

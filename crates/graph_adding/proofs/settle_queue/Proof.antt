@@ -8,8 +8,8 @@ use Rattle.graph_adding.proofs.settle_queue.Tie as tie
 put-job-requires : tie.Need-put-job-requires
 put-job-requires c κs = search needs
 
-queue-job-requires : tie.Need-queue-job-requires
-queue-job-requires c κs = search needs
+put-seat-requires : tie.Need-put-seat-requires
+put-seat-requires c κs = search needs
 
 idle-worker-requires : tie.Need-idle-worker-requires
 idle-worker-requires c κs = search needs
@@ -31,12 +31,12 @@ returns c =
     let c8 = c4 .before .before .before .before in
     rw (
       c .before .before .idle-worker .ensures,
-      c4 .before .before .queue-job .ensures h,
+      c4 .before .before .put-seat .ensures h,
       c8 .before .before .put-job .ensures,
     )
 
 pub settle-queue-spec : {M : Type 1} → statement M
 settle-queue-spec =
     tie.close
-    (tie.spec put-job-requires queue-job-requires idle-worker-requires same-length same-length-2 same-length-3
+    (tie.spec put-job-requires put-seat-requires idle-worker-requires same-length same-length-2 same-length-3
     returns)

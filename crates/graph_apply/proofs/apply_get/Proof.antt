@@ -20,11 +20,11 @@ take-requires c κs = search needs
 
 returns : tie.Need-returns
 unfolding appliedGet
-returns c = λ h arcs buckets. rw (c .enum-told .given .1)
+returns c = λ arcs buckets h. rw (c .enum-told .given .1)
 
 returns-2 : tie.Need-returns-2
 unfolding appliedGet
-returns-2 c = λ h arcs buckets. rw (c .enum-told2 .given .1)
+returns-2 c = λ arcs buckets h. rw (c .enum-told2 .given .1)
 
 same-length : tie.Need-same-length
 same-length c = search needs
@@ -38,7 +38,7 @@ same-length-3 c = search needs
 returns-3 : tie.Need-returns-3
 unfolding FittingGet
 returns-3 c =
-    λ h arcs buckets.
+    λ arcs buckets h.
     let c4 = c .before .before .before .before in
     let c8 = c4 .before .before .before .before in
     let e = c8 .before .before .before .plan .given .1 in

@@ -59,7 +59,7 @@ returns-3 c =
     let c12 = c8 .before .before .before .before in
     let a = c12 .before .before .before .args in
     rw (
-      c .notify-queue .ensures (now (a .jobs)) (now (a .arcs)) buckets workers,
+      c .notify-queue .ensures (now (a .arcs)) buckets workers,
       c8 .before .before .before .if1 .left,
       ← c8 .before .before .arc-word .ensures,
       ← c8 .before .arc-word2 .ensures,

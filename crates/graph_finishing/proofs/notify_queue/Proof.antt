@@ -8,8 +8,8 @@ use Rattle.graph_finishing.proofs.notify_queue.Tie as tie
 put-job-requires : tie.Need-put-job-requires
 put-job-requires c κs = search needs
 
-queue-job-requires : tie.Need-queue-job-requires
-queue-job-requires c κs = search needs
+put-seat-requires : tie.Need-put-seat-requires
+put-seat-requires c κs = search needs
 
 arcs-from-requires : tie.Need-arcs-from-requires
 arcs-from-requires c κs = search needs
@@ -31,11 +31,11 @@ returns c =
     let c8 = c4 .before .before .before .before in
     rw (
       c .before .before .arcs-from .ensures,
-      c4 .before .before .queue-job .ensures h,
+      c4 .before .before .put-seat .ensures h,
       c8 .before .before .put-job .ensures,
     )
 
 pub notify-queue-spec : {M : Type 1} → statement M
 notify-queue-spec =
     tie.close
-    (tie.spec put-job-requires queue-job-requires arcs-from-requires same-length same-length-2 same-length-3 returns)
+    (tie.spec put-job-requires put-seat-requires arcs-from-requires same-length same-length-2 same-length-3 returns)

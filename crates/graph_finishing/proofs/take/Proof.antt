@@ -8,8 +8,8 @@ use Rattle.graph_finishing.proofs.take.Tie as tie
 put-job-requires : tie.Need-put-job-requires
 put-job-requires c κs = search needs
 
-take-job-requires : tie.Need-take-job-requires
-take-job-requires c κs = search needs
+take-seat-requires : tie.Need-take-seat-requires
+take-seat-requires c κs = search needs
 
 put-worker-requires : tie.Need-put-worker-requires
 put-worker-requires c κs = search needs
@@ -31,11 +31,11 @@ returns c =
     let c8 = c4 .before .before .before .before in
     rw (
       c .before .before .put-worker .ensures,
-      c4 .before .before .take-job .ensures h,
+      c4 .before .before .take-seat .ensures h,
       c8 .before .before .put-job .ensures,
     )
 
 pub take-spec : {M : Type 1} → statement M
 take-spec =
     tie.close
-    (tie.spec put-job-requires take-job-requires put-worker-requires same-length same-length-2 same-length-3 returns)
+    (tie.spec put-job-requires take-seat-requires put-worker-requires same-length same-length-2 same-length-3 returns)

@@ -2,7 +2,7 @@
 -- Assumes nothing.
 use Rattle.words.specs.Columns.{putHeader}
 use Rattle.words.specs.Layout.{none}
-use Rattle.graph_fresh.proofs.Laws.{repeated-two}
+use Rattle.graph_fresh.proofs.Laws.{repeated-same}
 use borrow.Author.Needs.{needs}
 use Rattle.graph_fresh.proofs.fresh_arcs.Statement.{statement}
 use Rattle.graph_fresh.proofs.fresh_arcs.Tie as tie
@@ -36,8 +36,7 @@ returns c =
     rw (
       c .before .before .fill .ensures,
       c4 .before .before .before .put-header .ensures,
-      repeated-two
-          (c8 .before .before .args .sizes .arcs) none,
+      repeated-same 2 (c8 .before .before .args .sizes .arcs) none,
     )
 
 pub fresh-arcs-spec : {M : Type 1} → statement M

@@ -34,12 +34,14 @@ returns : tie.Need-returns
 unfolding getWords
 returns c =
     let c4 = c .before .before .before .before in
-    let c8 = c4 .before .before .before .before in
-    let p = c8 .before .before .before .plan-get in
+    let c7 = c4 .before .before .before in
+    let c11 = c7 .before .before .before .before in
+    let c15 = c11 .before .before .before .before in
+    let a = c15 .before .before .before .before .before .before .before .args in
+    let p = c11 .plan-get in
     rw (
       ← p .ensures,
-      ← c4 .before .before .before .apply-get .ensures
-          (rw (p .ensures) (planGet-fits _ _ _)),
+      ← c7 .apply-get .ensures (a .arcs .now) (a .buckets .now) (rw (p .ensures) (planGet-fits _ _ _)),
       ← c .answer-get .ensures,
     )
 

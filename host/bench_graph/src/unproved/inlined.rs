@@ -1,7 +1,7 @@
 //! The small parts of whole calls, always inlined, as they are in the proved library. Those of the single calls are left
 //! to the compiler.
 
-use compare_graph::layout::{job, ARCS_HEADER, ARC_WORDS, JOBS_HEADER, JOB_WORDS, NONE, QUEUE_HEADER};
+use compare_graph::layout::{job, ARCS_HEADER, ARC_WORDS, JOBS_HEADER, JOB_WORDS, NONE};
 use taskgraph::raw::Entry;
 
 use super::{Graph, Outcome, DAMAGED, MAX_CLASS, MAX_GROWER, MAX_NAMES};
@@ -20,7 +20,7 @@ pub fn judged_list(entry: &Entry) -> Outcome<&[u32]> {
     }
 }
 
-impl Graph<'_> {
+impl<const INDEXED: bool> Graph<'_, INDEXED> {
     #[inline(always)]
     pub fn job_words(&mut self, number: u32) -> &mut [u32] {
         let at = JOBS_HEADER + JOB_WORDS * number as usize;
@@ -68,24 +68,6 @@ impl Graph<'_> {
         } else {
             Err(DAMAGED)
         }
-    }
-
-    /// Damage where a job could not enter the queue.
-    #[inline(always)]
-    pub fn judge_queue(&self) -> Outcome<()> {
-        let (taken, put) = (self.queue[0], self.queue[1]);
-        if taken <= put && put < self.sizes.jobs {
-            Ok(())
-        } else {
-            Err(DAMAGED)
-        }
-    }
-
-    #[inline(always)]
-    pub fn put_in_queue(&mut self, number: u32) {
-        let put = self.queue[1];
-        self.queue[QUEUE_HEADER + put as usize] = number;
-        self.queue[1] = put + 1;
     }
 
     /// Appends an arc to the list of a prerequisite.

@@ -5,35 +5,37 @@ use compare_graph::layout::{job, phase, worker, NONE, WORKER_WORDS};
 use taskgraph::raw::{kind, Answer, Entry, SheetAdded, Sizes, Tables, ENTRY_WORDS, MAX_ENTRIES};
 
 use super::{
-    answer, answered, inlined::judged_list, post_add, step, Graph, Outcome, DAMAGED, EXECUTING, FINISHED, MAX_NAMES,
-    UNEXECUTED,
+    answer, answered, index::Seat, inlined::judged_list, post_add, step, Graph, Outcome, DAMAGED, EXECUTING, FINISHED,
+    MAX_NAMES, UNEXECUTED,
 };
 
 /// What an add found, if it met no damage.
 enum Found {
     /// It is refused by this number and place.
     Refused(u32, u32),
-    /// It enters: the jobs of its listed names, and how many of these are finished.
-    Enters { prerequisites: [u32; MAX_NAMES as usize], tally: u32 },
+    /// It enters: the jobs of its listed names, how many of these are finished, and its seat where all are.
+    Enters { prerequisites: [u32; MAX_NAMES as usize], tally: u32, seat: Option<Seat> },
 }
 
 #[inline(never)]
-pub fn add(sizes: Sizes, tables: &mut Tables, worker: u32, entry: Entry) -> Answer {
-    answered(Graph::admitted(sizes, tables, worker).and_then(|(mut graph, at)| graph.add(at, &entry, &mut false)))
+pub fn add<const INDEXED: bool>(sizes: Sizes, tables: &mut Tables, worker: u32, entry: Entry) -> Answer {
+    answered(
+        Graph::<INDEXED>::admitted(sizes, tables, worker).and_then(|(mut graph, at)| graph.add(at, &entry, &mut false)),
+    )
 }
 
 #[inline(never)]
-pub fn finish(sizes: Sizes, tables: &mut Tables, worker: u32, name: u32) -> Answer {
-    answered(Graph::admitted(sizes, tables, worker).and_then(|(mut graph, at)| {
+pub fn finish<const INDEXED: bool>(sizes: Sizes, tables: &mut Tables, worker: u32, name: u32) -> Answer {
+    answered(Graph::<INDEXED>::admitted(sizes, tables, worker).and_then(|(mut graph, at)| {
         graph.judge_idle(at)?;
         graph.finish(at, name)
     }))
 }
 
 #[inline(never)]
-pub fn add_sheet(sizes: Sizes, tables: &mut Tables, worker: u32, rows: &[u32]) -> SheetAdded {
+pub fn add_sheet<const INDEXED: bool>(sizes: Sizes, tables: &mut Tables, worker: u32, rows: &[u32]) -> SheetAdded {
     let mut added = SheetAdded::default();
-    added.number = match add_rows(sizes, tables, worker, rows, &mut added) {
+    added.number = match add_rows::<INDEXED>(sizes, tables, worker, rows, &mut added) {
         Ok(()) => 0,
         Err((number, _)) => number,
     };
@@ -41,12 +43,18 @@ pub fn add_sheet(sizes: Sizes, tables: &mut Tables, worker: u32, rows: &[u32]) -
 }
 
 #[inline(always)]
-fn add_rows(sizes: Sizes, tables: &mut Tables, worker: u32, rows: &[u32], added: &mut SheetAdded) -> Outcome<()> {
+fn add_rows<const INDEXED: bool>(
+    sizes: Sizes,
+    tables: &mut Tables,
+    worker: u32,
+    rows: &[u32],
+    added: &mut SheetAdded,
+) -> Outcome<()> {
     let rows = rows.chunks_exact(ENTRY_WORDS);
     if !rows.remainder().is_empty() {
         return Err((1, 0));
     }
-    let (mut graph, at) = Graph::admitted(sizes, tables, worker)?;
+    let (mut graph, at) = Graph::<INDEXED>::admitted(sizes, tables, worker)?;
     graph.judge_idle(at)?;
     if rows.len() > MAX_ENTRIES {
         return Err((16, 0));
@@ -68,7 +76,7 @@ fn entry_of(row: &[u32]) -> Entry {
     Entry { name: row[0], count: row[1], class: row[2], grower: row[3], names }
 }
 
-impl Graph<'_> {
+impl<const INDEXED: bool> Graph<'_, INDEXED> {
     #[inline(always)]
     fn judge_idle(&self, at: usize) -> Outcome<()> {
         if self.workers[at + worker::PHASE] == phase::IDLE {
@@ -95,14 +103,15 @@ impl Graph<'_> {
         }
         match found {
             Found::Refused(number, place) => Err((number, place)),
-            Found::Enters { prerequisites, tally } => {
-                self.store(entry, &prerequisites[..list.len()], tally);
+            Found::Enters { prerequisites, tally, seat } => {
+                self.store(entry, &prerequisites[..list.len()], tally, seat);
                 Ok(answer(kind::ENDED))
             }
         }
     }
 
-    /// All that the add reads. It looks up each name once: entering changes no walk that found its name.
+    /// All that the add reads. It looks up each name once: entering changes no walk that found its name. A cell with the
+    /// job that is to enter is left to the steps.
     #[inline(always)]
     fn look(&self, entry: &Entry, list: &[u32]) -> Outcome<Found> {
         let mut prerequisites = [0; MAX_NAMES as usize];
@@ -122,10 +131,8 @@ impl Graph<'_> {
         for prerequisite in &prerequisites[..list.len()] {
             tally += self.finished(*prerequisite)?;
         }
-        if tally == entry.count {
-            self.judge_queue()?;
-        }
-        Ok(Found::Enters { prerequisites, tally })
+        let seat = if tally == entry.count { Some(self.seat_for(entry.class)?) } else { None };
+        Ok(Found::Enters { prerequisites, tally, seat })
     }
 
     /// 1 for a finished prerequisite, else 0. An arc that was not in use before the add is left to the steps.
@@ -141,7 +148,7 @@ impl Graph<'_> {
 
     /// All that the add stores but the worker's words.
     #[inline(always)]
-    fn store(&mut self, entry: &Entry, prerequisites: &[u32], tally: u32) {
+    fn store(&mut self, entry: &Entry, prerequisites: &[u32], tally: u32, seat: Option<Seat>) {
         let (made, reserved, bucket) = (self.made(), self.reserved(), self.bucket(entry.name));
         let Entry { name, count, class, grower, .. } = *entry;
         let head = self.buckets[bucket];
@@ -156,8 +163,8 @@ impl Graph<'_> {
                 self.append_arc(*prerequisite, last, reserved + place as u32, made);
             }
         }
-        if tally == count {
-            self.put_in_queue(made);
+        if let Some(seat) = seat {
+            self.enqueue(seat, made);
         }
     }
 
@@ -166,9 +173,9 @@ impl Graph<'_> {
         let (sizes, worker) = (self.sizes, (at / WORKER_WORDS) as u32);
         let Graph { jobs, arcs, buckets, queue, workers, .. } = self;
         let mut tables = Tables { jobs, arcs, buckets, queue, workers };
-        let mut answer = post_add(sizes, &mut tables, worker, *entry);
+        let mut answer = post_add::<INDEXED>(sizes, &mut tables, worker, *entry);
         while answer.kind == kind::POSTED || answer.kind == kind::GOING_ON {
-            answer = step(sizes, &mut tables, worker);
+            answer = step::<INDEXED>(sizes, &mut tables, worker);
         }
         if answer.kind == kind::REFUSED {
             return Err((answer.number, answer.place));
@@ -230,8 +237,8 @@ impl Graph<'_> {
             return Err(DAMAGED);
         }
         if count == 1 {
-            self.judge_queue()?;
-            self.put_in_queue(dependent);
+            let seat = self.seat_for(self.job_read(dependent)[job::CLASS])?;
+            self.enqueue(seat, dependent);
         }
         self.job_words(dependent)[job::COUNT] = count - 1;
         Ok(next)

@@ -11,7 +11,7 @@ use std::{
 };
 
 use compare_graph::{
-    damaged,
+    damaged::{self, Met},
     event::{Event, History},
     random_history,
 };
@@ -43,8 +43,11 @@ fn replay() -> Result<(), String> {
     let mut text = String::new();
     io::stdin().read_to_string(&mut text).map_err(|error| error.to_string())?;
     let history: History = text.parse()?;
-    let fault =
-        if history.is_damaged() { damaged::first_fault(&history) } else { random_history::first_difference(&history) };
+    let fault = if history.is_damaged() {
+        damaged::first_fault(&history, &Met::default())
+    } else {
+        random_history::first_difference(&history)
+    };
     match fault {
         None => {
             println!("{} events: the library does as it should", history.events.len());

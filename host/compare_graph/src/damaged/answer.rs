@@ -1,18 +1,21 @@
-//! The answer that the list settles for each call, whatever the words; what a worker holds, and whether the graph is
-//! drained.
+//! What the list settles for each call, whatever the words: its answer and the words that it writes; what a worker
+//! holds, and whether the graph is drained.
+
+use std::ops;
 
 use second_implementation::{
     bucket::bucket,
     graph::{judged_list, Sizes},
     history::Item,
     refusal,
-    sheet::{MAX_CLASS, MAX_GROWER, MAX_NAMES},
+    sheet::{Entry, MAX_CLASS, MAX_GROWER, MAX_NAMES},
 };
 use taskgraph::raw::{kind, Answer, DrainedAnswer, Holding, CALL_ADD, CALL_FINISH, CALL_NONE};
 
 use crate::{
     event::{worker_of, Call},
-    layout::{self, job, phase, worker, NONE},
+    index::{self, Ranked, WrongSlot},
+    layout::{self, idle_worker, job, phase, worker, NONE},
     tables::{Tables, ARCS, BUCKETS, JOBS, QUEUE, WORKERS},
 };
 
@@ -22,6 +25,28 @@ pub fn of_kind(kind: u32) -> Answer {
 
 pub fn refused(number: u32) -> Answer {
     Answer { number, ..of_kind(kind::REFUSED) }
+}
+
+/// A table, a place in it, and the word that is written there.
+type Write = (usize, usize, u32);
+
+/// What the list settles for a call.
+pub struct Expected {
+    pub answer: Answer,
+    pub writes: Vec<Write>,
+    /// For number 9, what is wrong with the index, if that is why.
+    pub wrong_slot: Option<WrongSlot>,
+}
+
+impl Expected {
+    fn new(answer: Answer, writes: Vec<Write>) -> Expected {
+        Expected { answer, writes, wrong_slot: None }
+    }
+
+    /// Turned away with nothing changed.
+    fn refused(number: u32) -> Expected {
+        Expected::new(refused(number), Vec::new())
+    }
 }
 
 /// The words, unless number 1 comes first; one of the tables may be cut short.
@@ -38,7 +63,7 @@ fn sized(tables: &Tables, sizes: Sizes, short: Option<(usize, usize)>) -> Result
 }
 
 /// The words and the worker's own, unless 1, 2 or 9 for these comes first.
-fn admitted<'a>(tables: &'a Tables, sizes: Sizes, call: &Call) -> Result<(Words<'a>, &'a [u32]), u32> {
+fn admitted<'a>(tables: &'a Tables, sizes: Sizes, call: &Call) -> Result<(Words<'a>, Own<'a>), u32> {
     let words = sized(tables, sizes, call.short)?;
     if worker_of(&call.item) >= sizes.workers {
         return Err(refusal::WORKER);
@@ -54,7 +79,7 @@ fn admitted<'a>(tables: &'a Tables, sizes: Sizes, call: &Call) -> Result<(Words<
 /// What the worker of a call holds, whatever the words.
 pub fn expected_holding(tables: &Tables, sizes: Sizes, call: &Call) -> Holding {
     let found = admitted(tables, sizes, call)
-        .and_then(|found| found.0.judge_counters().map(|()| found).map_err(|Harm| refusal::DAMAGED));
+        .and_then(|found| found.0.judge_counters().map(|()| found).map_err(|_| refusal::DAMAGED));
     let (words, own) = match found {
         Ok(found) => found,
         Err(number) => return Holding { number, ..Holding::default() },
@@ -72,21 +97,21 @@ pub fn expected_holding(tables: &Tables, sizes: Sizes, call: &Call) -> Holding {
 
 /// Whether the graph is drained, whatever the words.
 pub fn expected_drained(tables: &Tables, sizes: Sizes, short: Option<(usize, usize)>) -> DrainedAnswer {
-    let at_rest = sized(tables, sizes, short).and_then(|words| words.at_rest().map_err(|Harm| refusal::DAMAGED));
+    let at_rest = sized(tables, sizes, short).and_then(|words| words.at_rest().map_err(|_| refusal::DAMAGED));
     match at_rest {
         Ok(at_rest) => DrainedAnswer { number: 0, drained: u32::from(at_rest) },
         Err(number) => DrainedAnswer { number, drained: 0 },
     }
 }
 
-/// The answer that the list settles for a single call, whatever the words.
+/// What the list settles for a single call, whatever the words.
 ///
 /// # Panics
 /// For a call run whole, which is made of single ones.
-pub fn expected_answer(tables: &Tables, sizes: Sizes, call: &Call) -> Answer {
+pub fn expected(tables: &Tables, sizes: Sizes, call: &Call) -> Expected {
     let (words, own) = match admitted(tables, sizes, call) {
         Ok(found) => found,
-        Err(number) => return refused(number),
+        Err(number) => return Expected::refused(number),
     };
     let idle = own[worker::PHASE] == phase::IDLE;
     let held = own[worker::HELD];
@@ -102,24 +127,86 @@ pub fn expected_answer(tables: &Tables, sizes: Sizes, call: &Call) -> Answer {
         Item::Add { .. } | Item::Finish { .. } | Item::AddSheet { .. } => panic!("{:?} is no single call", call.item),
     };
     if let Some(number) = before_the_words_read {
-        return refused(number);
+        return Expected::refused(number);
     }
-    let answer = words.judge_counters().and_then(|()| match &call.item {
+    let served = words.judge_counters().and_then(|()| match &call.item {
         Item::Step { .. } => words.step(own),
-        Item::Get { .. } => words.get(),
-        _ => Ok(of_kind(kind::POSTED)),
+        Item::Get { .. } => words.get(own),
+        Item::PostAdd { entry, .. } => Ok(Expected::new(of_kind(kind::POSTED), own.all(posted_add(held, entry)))),
+        _ => Ok(Expected::new(of_kind(kind::POSTED), own.all(posted_finish(held)))),
     });
-    answer.unwrap_or_else(|Harm| refused(refusal::DAMAGED))
+    served.unwrap_or_else(|Harm(wrong_slot)| Expected { wrong_slot, ..Expected::refused(refusal::DAMAGED) })
 }
 
-/// A word that a call reads lies off its range, or does not go with another.
-struct Harm;
+/// The words of a worker that has posted an add.
+fn posted_add(held: u32, entry: &Entry) -> [u32; layout::WORKER_WORDS] {
+    let mut own = idle_worker(held);
+    let count = entry.prerequisites.count;
+    own[worker::PHASE] = phase::LOOKING_UP;
+    own[worker::NAME] = entry.name;
+    own[worker::COUNT] = count as u32;
+    own[worker::CLASS] = entry.class;
+    own[worker::GROWER] = entry.grower;
+    own[worker::NAMES..worker::NAMES + count].copy_from_slice(&entry.prerequisites.names[..count]);
+    own
+}
+
+/// The words of a worker that has posted a finish.
+fn posted_finish(held: u32) -> [u32; layout::WORKER_WORDS] {
+    let mut own = idle_worker(held);
+    own[worker::PHASE] = phase::MARKING;
+    own
+}
+
+/// A word that a call reads lies off its range, or does not go with another; where it is one of the index, how.
+struct Harm(Option<WrongSlot>);
+
+impl From<WrongSlot> for Harm {
+    fn from(wrong: WrongSlot) -> Harm {
+        Harm(Some(wrong))
+    }
+}
 
 fn harm_unless(right: bool) -> Result<(), Harm> {
     if right {
         Ok(())
     } else {
-        Err(Harm)
+        Err(Harm(None))
+    }
+}
+
+/// The words of a worker, and where they start.
+#[derive(Clone, Copy)]
+struct Own<'a> {
+    at: usize,
+    words: &'a [u32],
+}
+
+impl ops::Index<usize> for Own<'_> {
+    type Output = u32;
+
+    fn index(&self, field: usize) -> &u32 {
+        &self.words[field]
+    }
+}
+
+impl Own<'_> {
+    fn write(&self, field: usize, word: u32) -> Write {
+        (WORKERS, self.at + field, word)
+    }
+
+    fn all(&self, words: [u32; layout::WORKER_WORDS]) -> Vec<Write> {
+        words.into_iter().enumerate().map(|(field, word)| self.write(field, word)).collect()
+    }
+
+    /// The words of the call are put back, and the worker holds this.
+    fn idle(&self, held: u32) -> Vec<Write> {
+        self.all(idle_worker(held))
+    }
+
+    /// The add is refused.
+    fn refused(&self, answer: Answer) -> Expected {
+        Expected::new(answer, self.idle(self[worker::HELD]))
     }
 }
 
@@ -130,9 +217,9 @@ struct Words<'a> {
 }
 
 impl<'a> Words<'a> {
-    fn worker(&self, number: u32) -> &'a [u32] {
+    fn worker(&self, number: u32) -> Own<'a> {
         let at = layout::worker_at(number as usize);
-        &self.tables.words(WORKERS)[at..at + layout::WORKER_WORDS]
+        Own { at, words: &self.tables.words(WORKERS)[at..at + layout::WORKER_WORDS] }
     }
 
     fn job(&self, number: u32) -> &'a [u32] {
@@ -154,7 +241,7 @@ impl<'a> Words<'a> {
     }
 
     /// A worker's own words: places are none or in use, the others in their ranges.
-    fn own_words_fit(&self, own: &[u32]) -> bool {
+    fn own_words_fit(&self, own: Own) -> bool {
         let count = own[worker::COUNT];
         own[worker::PHASE] <= phase::NOTIFYING
             && [own[worker::HELD], own[worker::JOB]].iter().all(|place| *place == NONE || self.job_in_use(*place))
@@ -199,10 +286,36 @@ impl<'a> Words<'a> {
         Ok(at_rest)
     }
 
+    /// The place in a slot of the index: below `put`, its position the slot, in its cell a job that was made, of a
+    /// class within its limit.
+    fn slot(&self, slot: usize, put: u32) -> Result<Ranked, WrongSlot> {
+        let queue = self.tables.words(QUEUE);
+        let place = queue[layout::slot_at(slot)];
+        if place >= put {
+            return Err(WrongSlot::NotPut);
+        }
+        if queue[layout::position_at(place as usize)] != slot as u32 {
+            return Err(WrongSlot::Elsewhere);
+        }
+        let number = queue[layout::cell_at(place as usize)];
+        if !self.job_in_use(number) {
+            return Err(WrongSlot::NoJobMade);
+        }
+        match self.job(number)[job::CLASS] {
+            class if class > MAX_CLASS => Err(WrongSlot::NoClass),
+            class => Ok(Ranked::new(place, class)),
+        }
+    }
+
     /// One more job is put in the queue, which must not pass its end.
-    fn judge_room(&self) -> Result<(), Harm> {
-        let (_, put) = self.queue_counters()?;
-        harm_unless(put < self.sizes.jobs)
+    fn queued(&self, number: u32) -> Result<Vec<Write>, Harm> {
+        let (taken, put) = self.queue_counters()?;
+        let class = self.job(number)[job::CLASS];
+        harm_unless(put < self.sizes.jobs && class <= MAX_CLASS)?;
+        let moves = index::enter((put - taken) as usize, Ranked::new(put, class), |slot| self.slot(slot, put))?;
+        let mut writes = moved(moves);
+        writes.extend([(QUEUE, layout::cell_at(put as usize), number), (QUEUE, layout::PUT, put + 1)]);
+        Ok(writes)
     }
 
     /// The job of a name, if there is one.
@@ -222,86 +335,150 @@ impl<'a> Words<'a> {
         Ok(None)
     }
 
-    /// What a get by an idle worker without a job answers.
-    fn get(&self) -> Result<Answer, Harm> {
+    /// What a get by an idle worker without a job does.
+    fn get(&self, own: Own) -> Result<Expected, Harm> {
         let (taken, put) = self.queue_counters()?;
         if taken == put {
-            return Ok(of_kind(kind::NONE_READY));
+            return Ok(Expected::new(of_kind(kind::NONE_READY), Vec::new()));
         }
-        let number = self.tables.words(QUEUE)[layout::QUEUE_HEADER + taken as usize];
-        harm_unless(self.job_in_use(number) && self.job(number)[job::LABEL] == 0)?;
-        Ok(Answer { job: number, name: self.job(number)[job::NAME], ..of_kind(kind::HANDED_OUT) })
+        let filled = (put - taken) as usize;
+        let moves = index::take(filled, |slot| self.slot(slot, put))?;
+        let first = self.tables.words(QUEUE)[layout::slot_at(0)] as usize;
+        let number = self.tables.words(QUEUE)[layout::cell_at(first)];
+        harm_unless(self.job(number)[job::LABEL] == 0)?;
+        let mut writes = moved(moves);
+        let emptied = [layout::slot_at(filled - 1), layout::cell_at(first), layout::position_at(first)];
+        writes.extend(emptied.map(|place| (QUEUE, place, NONE)));
+        writes.push((QUEUE, layout::TAKEN, taken + 1));
+        writes.extend([field_of(number, job::LABEL, 1), own.write(worker::HELD, number)]);
+        let name = self.job(number)[job::NAME];
+        Ok(Expected::new(Answer { job: number, name, ..of_kind(kind::HANDED_OUT) }, writes))
     }
 
-    /// What a step of a worker half done answers.
-    fn step(&self, own: &[u32]) -> Result<Answer, Harm> {
+    /// What a step of a worker half done does.
+    fn step(&self, own: Own) -> Result<Expected, Harm> {
         let place = own[worker::PLACE];
         let more = place < own[worker::COUNT];
         let listed = || self.find(own[worker::NAMES + place as usize]);
         match own[worker::PHASE] {
             phase::LOOKING_UP if more => Ok(match listed()? {
-                Some(_) => of_kind(kind::GOING_ON),
-                None => Answer { place, ..refused(refusal::UNKNOWN_NAME) },
+                Some(_) => Expected::new(of_kind(kind::GOING_ON), vec![own.write(worker::PLACE, place + 1)]),
+                None => own.refused(Answer { place, ..refused(refusal::UNKNOWN_NAME) }),
             }),
             phase::LOOKING_UP => self.enter(own),
-            phase::LINKING if more => self.link(own, listed()?.ok_or(Harm)?),
+            phase::LINKING if more => self.link(own, listed()?.ok_or(Harm(None))?),
             phase::LINKING => self.settle(own),
-            phase::MARKING => self.mark(own[worker::HELD]),
-            _ => self.notify(own[worker::ARC]),
+            phase::MARKING => self.mark(own),
+            _ => self.notify(own),
         }
     }
 
-    fn enter(&self, own: &[u32]) -> Result<Answer, Harm> {
-        if self.find(own[worker::NAME])?.is_some() {
-            return Ok(refused(refusal::NAME_PRESENT));
+    fn enter(&self, own: Own) -> Result<Expected, Harm> {
+        let (made, reserved) = (self.made(), self.reserved());
+        let (name, count) = (own[worker::NAME], own[worker::COUNT]);
+        if self.find(name)?.is_some() {
+            return Ok(own.refused(refused(refusal::NAME_PRESENT)));
         }
-        let full = self.made() == self.sizes.jobs || self.sizes.arcs - self.reserved() < own[worker::COUNT];
-        Ok(if full { refused(refusal::FULL) } else { of_kind(kind::GOING_ON) })
+        if made == self.sizes.jobs || self.sizes.arcs - reserved < count {
+            return Ok(own.refused(refused(refusal::FULL)));
+        }
+        let bucket = bucket(name, self.sizes.bits) as usize;
+        let head = self.tables.words(BUCKETS)[bucket];
+        let record = [name, 0, count, own[worker::CLASS], own[worker::GROWER], NONE, NONE, head];
+        let mut writes: Vec<Write> =
+            record.into_iter().enumerate().map(|(field, word)| field_of(made, field, word)).collect();
+        writes.extend([
+            (BUCKETS, bucket, made),
+            (JOBS, layout::MADE, made + 1),
+            (ARCS, layout::RESERVED, reserved + count),
+            own.write(worker::PHASE, phase::LINKING),
+            own.write(worker::PLACE, 0),
+            own.write(worker::JOB, made),
+            own.write(worker::ARC, if count == 0 { NONE } else { reserved }),
+        ]);
+        Ok(Expected::new(of_kind(kind::GOING_ON), writes))
     }
 
-    fn link(&self, own: &[u32], prerequisite: u32) -> Result<Answer, Harm> {
+    fn link(&self, own: Own, prerequisite: u32) -> Result<Expected, Harm> {
         let words = self.job(prerequisite);
         harm_unless(words[job::LABEL] <= 2)?;
-        if words[job::LABEL] < 2 {
+        let mut writes = vec![own.write(worker::PLACE, own[worker::PLACE] + 1)];
+        if words[job::LABEL] == 2 {
+            writes.push(own.write(worker::TALLY, own[worker::TALLY] + 1));
+        } else {
+            let dependent = own[worker::JOB];
             let arc = u64::from(own[worker::ARC]) + u64::from(own[worker::PLACE]);
-            harm_unless(own[worker::JOB] != NONE && arc < u64::from(self.reserved()))?;
-            harm_unless(self.arc_fits(words[job::LAST]))?;
+            harm_unless(dependent != NONE && arc < u64::from(self.reserved()))?;
+            let (arc, last) = (arc as u32, words[job::LAST]);
+            harm_unless(self.arc_fits(last))?;
+            let at = layout::arc_at(arc as usize);
+            writes.extend([(ARCS, at, dependent), (ARCS, at + layout::ARC_NEXT, NONE)]);
+            writes.push(match last {
+                NONE => field_of(prerequisite, job::FIRST, arc),
+                last => (ARCS, layout::arc_at(last as usize) + layout::ARC_NEXT, arc),
+            });
+            writes.push(field_of(prerequisite, job::LAST, arc));
         }
-        Ok(of_kind(kind::GOING_ON))
+        Ok(Expected::new(of_kind(kind::GOING_ON), writes))
     }
 
-    fn settle(&self, own: &[u32]) -> Result<Answer, Harm> {
+    fn settle(&self, own: Own) -> Result<Expected, Harm> {
         let (number, tally) = (own[worker::JOB], own[worker::TALLY]);
         harm_unless(number != NONE)?;
         let count = self.job(number)[job::COUNT];
         harm_unless(count as usize <= MAX_NAMES && tally <= count)?;
+        let mut writes = own.idle(own[worker::HELD]);
+        writes.push(field_of(number, job::COUNT, count - tally));
         if count == tally && (tally > 0 || own[worker::COUNT] == 0) {
-            self.judge_room()?;
+            writes.extend(self.queued(number)?);
         }
-        Ok(of_kind(kind::ENDED))
+        Ok(Expected::new(of_kind(kind::ENDED), writes))
     }
 
-    fn mark(&self, held: u32) -> Result<Answer, Harm> {
+    fn mark(&self, own: Own) -> Result<Expected, Harm> {
+        let held = own[worker::HELD];
         harm_unless(held != NONE && self.job(held)[job::LABEL] == 1)?;
-        self.goes_on(self.job(held)[job::FIRST])
+        let mut writes = vec![field_of(held, job::LABEL, 2), own.write(worker::HELD, NONE)];
+        writes.push(own.write(worker::PHASE, phase::NOTIFYING));
+        self.goes_on(own, NONE, self.job(held)[job::FIRST], writes)
     }
 
-    fn notify(&self, arc: u32) -> Result<Answer, Harm> {
+    fn notify(&self, own: Own) -> Result<Expected, Harm> {
+        let arc = own[worker::ARC];
         harm_unless(arc != NONE)?;
         let at = layout::arc_at(arc as usize);
         let (dependent, next) = (self.tables.words(ARCS)[at], self.tables.words(ARCS)[at + layout::ARC_NEXT]);
         harm_unless(self.job_in_use(dependent))?;
         let count = self.job(dependent)[job::COUNT];
         harm_unless(count > 0 && count as usize <= MAX_NAMES)?;
+        let mut writes = vec![field_of(dependent, job::COUNT, count - 1)];
         if count == 1 {
-            self.judge_room()?;
+            writes.extend(self.queued(dependent)?);
         }
-        self.goes_on(next)
+        self.goes_on(own, own[worker::HELD], next, writes)
     }
 
-    /// A finish goes on with an arc, or ends where there is none.
-    fn goes_on(&self, arc: u32) -> Result<Answer, Harm> {
+    /// A finish goes on with an arc, or ends where there is none and leaves the worker's hold so.
+    fn goes_on(&self, own: Own, held: u32, arc: u32, mut writes: Vec<Write>) -> Result<Expected, Harm> {
         harm_unless(self.arc_fits(arc))?;
-        Ok(of_kind(if arc == NONE { kind::ENDED } else { kind::GOING_ON }))
+        if arc == NONE {
+            writes.extend(own.idle(held));
+            return Ok(Expected::new(of_kind(kind::ENDED), writes));
+        }
+        writes.push(own.write(worker::ARC, arc));
+        Ok(Expected::new(of_kind(kind::GOING_ON), writes))
     }
+}
+
+/// A word of a job.
+fn field_of(number: u32, field: usize, word: u32) -> Write {
+    (JOBS, layout::job_at(number as usize) + field, word)
+}
+
+/// The words of moves in the index: the slots, and the positions of the places that come to them.
+fn moved(moves: index::Moves) -> Vec<Write> {
+    let words = moves.into_iter().map(|(slot, place)| {
+        [(QUEUE, layout::slot_at(slot), place), (QUEUE, layout::position_at(place as usize), slot as u32)]
+    });
+    words.flatten().collect()
 }

@@ -10,6 +10,7 @@ use second_implementation::{
 use crate::{
     event::{Call, Event, History},
     generate,
+    index::Index,
     layout::{self, job, worker, NONE},
     tables::{ARCS, BUCKETS, JOBS, QUEUE, WORKERS},
 };
@@ -27,6 +28,9 @@ pub fn history(random: &mut Random) -> History {
     }
     if random.once_in(4) {
         history = with_arcs_in_a_circle(random, history);
+    }
+    if random.once_in(2) {
+        history = with_index_altered(random, history);
     }
     let sizes = history.setup.sizes;
     for _ in 0..1 + random.below(6) {
@@ -53,12 +57,12 @@ fn with_counters_altered(random: &mut Random, history: History) -> History {
     let mut altered = Vec::with_capacity(2 * events.len());
     for event in events {
         if matches!(event, Event::Call(_)) && random.once_in(4) {
-            let (taken, put) = graph.queue();
+            let taken = graph.queue().iter().filter(|job| !graph.waits(**job)).count();
             let (table, place, right) = random.pick(&[
                 (JOBS, layout::MADE, graph.jobs().len()),
                 (ARCS, layout::RESERVED, graph.arcs().len()),
                 (QUEUE, layout::TAKEN, taken),
-                (QUEUE, layout::PUT, put.len()),
+                (QUEUE, layout::PUT, graph.queue().len()),
             ]);
             altered.push(Event::Set { table, place, value: damaged_counter(random, graph.sizes()) });
             altered.push(event.clone());
@@ -68,6 +72,155 @@ fn with_counters_altered(random: &mut Random, history: History) -> History {
         altered.push(event);
     }
     History { setup, events: altered }
+}
+
+/// Before some of the calls that use the index words that they may read are altered; then these are mostly put back,
+/// and the call comes again.
+fn with_index_altered(random: &mut Random, history: History) -> History {
+    let History { setup, events } = history;
+    let mut graph = Graph::lay_out(setup.sizes).expect("the sizes are within their limits");
+    let mut index = Index::default();
+    let mut altered = Vec::with_capacity(2 * events.len());
+    for event in events {
+        let before = index.clone();
+        generate::follow(&mut graph, &setup, &event);
+        index.follow(&graph);
+        if matches!(event, Event::Call(_)) && index.slots() != before.slots() && random.once_in(3) {
+            let slot = slot_on_the_way(random, before.slots(), index.slots());
+            let words = wrong_index(random, &Beside { graph: &graph, index: &before }, slot);
+            altered.extend(words.iter().map(|word| word.set(word.value)));
+            altered.push(event.clone());
+            if !random.once_in(6) {
+                altered.extend(words.iter().map(|word| word.set(word.right)));
+            }
+        }
+        altered.push(event);
+    }
+    History { setup, events: altered }
+}
+
+/// A slot that is written between two states of the index, or one beside, above or below it.
+fn slot_on_the_way(random: &mut Random, before: &[u32], after: &[u32]) -> usize {
+    let most = before.len().max(after.len());
+    let written: Vec<usize> = (0..most).filter(|slot| before.get(*slot) != after.get(*slot)).collect();
+    let slot = random.pick(&written);
+    match random.below(6) {
+        0 => slot.saturating_sub(1) / 2,
+        1 => 2 * slot + 1,
+        2 => slot + 1,
+        3 => 0,
+        _ => slot,
+    }
+}
+
+/// A word, what it is altered to, and what is right.
+struct Altered {
+    table: usize,
+    place: usize,
+    value: u32,
+    right: u32,
+}
+
+impl Altered {
+    fn set(&self, value: u32) -> Event {
+        Event::Set { table: self.table, place: self.place, value }
+    }
+}
+
+/// The index before a call, and the graph after it.
+struct Beside<'a> {
+    graph: &'a Graph,
+    index: &'a Index,
+}
+
+impl Beside<'_> {
+    fn slot(&self, slot: usize, value: u32) -> Altered {
+        Altered { table: QUEUE, place: layout::slot_at(slot), value, right: self.index.slots()[slot] }
+    }
+
+    fn position(&self, place: u32, value: u32) -> Altered {
+        let right = self.index.slots().iter().position(|held| *held == place);
+        let right = right.map_or(NONE, |slot| slot as u32);
+        Altered { table: QUEUE, place: layout::position_at(place as usize), value, right }
+    }
+
+    /// A slot that holds a place, which has the slot as its position.
+    fn moved(&self, slot: usize, place: u32) -> Vec<Altered> {
+        vec![self.slot(slot, place), self.position(place, slot as u32)]
+    }
+
+    fn cell(&self, place: u32, value: u32) -> Altered {
+        let right = self.graph.queue()[place as usize] as u32;
+        Altered { table: QUEUE, place: layout::cell_at(place as usize), value, right }
+    }
+
+    fn class(&self, job: usize, value: u32) -> Altered {
+        let right = self.graph.jobs()[job].class;
+        Altered { table: JOBS, place: layout::job_at(job) + job::CLASS, value, right }
+    }
+
+    /// The label of a job that waits.
+    fn label(&self, job: usize, value: u32) -> Altered {
+        Altered { table: JOBS, place: layout::job_at(job) + job::LABEL, value, right: 0 }
+    }
+
+    /// One of the queue's counters, more or less by 1.
+    fn counter(&self, random: &mut Random) -> Altered {
+        let (taken, put) = self.index.counters();
+        let (place, right) = random.pick(&[(layout::TAKEN, taken as u32), (layout::PUT, put as u32)]);
+        Altered { table: QUEUE, place, value: random.pick(&[right + 1, right.wrapping_sub(1)]), right }
+    }
+}
+
+/// Words that a call may read where it comes to a slot, altered.
+fn wrong_index(random: &mut Random, beside: &Beside, slot: usize) -> Vec<Altered> {
+    let (graph, slots) = (beside.graph, beside.index.slots());
+    let put = beside.index.counters().1;
+    let made = graph.jobs().len() as u32;
+    // The job that enters, if one does.
+    let last_put = graph.queue()[graph.queue().len().min(put + 1) - 1];
+    let classes = [16, 17, NONE, 0, 5, 10, 15];
+    let slot = slot.min(slots.len().saturating_sub(1));
+    let place = match slots.get(slot) {
+        Some(place) => *place,
+        None => return vec![beside.class(last_put, random.pick(&classes))],
+    };
+    let job = graph.queue()[place as usize];
+    let not_put = [NONE, NONE - 1, put as u32, put as u32 + 1, graph.sizes().jobs];
+    match random.below(20) {
+        0 | 1 => vec![beside.slot(slot, random.pick(&not_put))],
+        2..=5 => one_place_twice(random, beside, slot),
+        6 => vec![beside.slot(slot, random.below(put) as u32)],
+        7 => beside.moved(slot, random.below(put) as u32),
+        8 => {
+            let other = random.below(slots.len());
+            beside.moved(slot, slots[other]).into_iter().chain(beside.moved(other, place)).collect()
+        }
+        9..=11 => {
+            let other = random.pick(&[slot + 1, slot.wrapping_sub(1), slots.len(), 0, place as usize]) as u32;
+            vec![beside.position(place, random.pick(&[NONE, NONE - 1, put as u32, other, other]))]
+        }
+        12 | 13 => vec![beside.cell(place, random.pick(&[NONE, made, made + 1, 0, made / 2]))],
+        14 | 15 => vec![beside.class(job, random.pick(&classes))],
+        16 => vec![beside.class(last_put, random.pick(&classes))],
+        17 => vec![beside.label(job, random.pick(&[1, 2, 3]))],
+        _ => vec![beside.counter(random)],
+    }
+}
+
+/// A slot with the place of another, whatever their levels; the position of the place is the one or the other.
+fn one_place_twice(random: &mut Random, beside: &Beside, slot: usize) -> Vec<Altered> {
+    let slots = beside.index.slots();
+    let last = slots.len() - 1;
+    let next_to_it = if slot % 2 == 0 { slot.saturating_sub(1) } else { slot + 1 };
+    let any = random.below(slots.len());
+    let other = random.pick(&[0, last, next_to_it, slot.saturating_sub(1) / 2, 2 * slot + 1, 2 * slot + 2, any]);
+    let place = slots[other.min(last)];
+    if random.once_in(2) {
+        vec![beside.slot(slot, place)]
+    } else {
+        beside.moved(slot, place)
+    }
 }
 
 /// Before some finishes run whole the job's last arc is followed by its first, and its dependents' counts are the
@@ -127,7 +280,7 @@ fn damage(random: &mut Random, sizes: Sizes) -> Event {
         JOBS => layout::job_at(near(random, sizes.jobs)) + random.below(layout::JOB_WORDS),
         ARCS => layout::arc_at(near(random, sizes.arcs)) + random.below(layout::ARC_WORDS),
         BUCKETS => random.below(1 << sizes.bits),
-        QUEUE => layout::QUEUE_HEADER + near(random, sizes.jobs),
+        QUEUE => layout::cell_at(near(random, sizes.jobs)) + random.below(layout::QUEUE_WORDS),
         _ => {
             let fields = if random.once_in(8) { layout::WORKER_WORDS } else { worker::NAMES };
             layout::worker_at(random.below(sizes.workers as usize)) + random.below(fields)

@@ -49,7 +49,7 @@ impl Small {
     }
 
     fn queued(&self) -> &[usize] {
-        self.0.queue().1
+        self.0.queue()
     }
 }
 
@@ -271,7 +271,7 @@ fn sizes_off_their_limits() {
 }
 
 #[test]
-fn first_in_first_out_and_oldest_arc_first() {
+fn equal_minutes_by_entry_and_oldest_arc_first() {
     let mut graph = Small::new(4, 4);
     assert_eq!(graph.add(0, 10, &[]), ENDED);
     (11..=13).for_each(|name| assert_eq!(graph.add(1, name, &[10]), ENDED));
@@ -284,6 +284,42 @@ fn first_in_first_out_and_oldest_arc_first() {
         assert_eq!(graph.run(0), (1, ENDED));
     });
     assert_eq!(graph.get(0), NONE_READY);
+}
+
+/// Worker 0 gets and finishes the jobs of these names, in this order.
+fn handed_out_in_order(graph: &mut Small, names: &[u32]) {
+    for name in names {
+        let job = graph.0.find(*name).unwrap();
+        assert_eq!(graph.get(0), handed_out(job, *name));
+        assert_eq!(graph.0.finish(graph.0.sizes(), 0, *name), ENDED);
+    }
+}
+
+#[test]
+fn the_most_minutes_first() {
+    let mut graph = Small::new(8, 1);
+    let sizes = graph.0.sizes();
+    for (name, class) in [(1, 0), (2, 3), (3, 3), (4, 15), (5, 0)] {
+        assert_eq!(graph.0.add(sizes, 1, &Entry { class, ..entry(name, &[]) }), ENDED);
+    }
+    handed_out_in_order(&mut graph, &[4, 2]);
+    // A heavier job that enters comes before those that wait, an equal one after its equals.
+    assert_eq!(graph.0.add(sizes, 1, &Entry { class: 3, ..entry(6, &[]) }), ENDED);
+    assert_eq!(graph.0.add(sizes, 1, &Entry { class: 9, ..entry(7, &[]) }), ENDED);
+    handed_out_in_order(&mut graph, &[7, 3, 6, 1, 5]);
+    assert_eq!(graph.get(0), NONE_READY);
+}
+
+/// What counts is the entry into the queue, not that into the graph.
+#[test]
+fn equal_minutes_by_entry_into_the_queue() {
+    let mut graph = Small::new(4, 1);
+    assert_eq!(graph.add(0, 1, &[]), ENDED);
+    assert_eq!(graph.add(0, 2, &[1]), ENDED);
+    assert_eq!(graph.get(0), handed_out(0, 1));
+    assert_eq!(graph.add(1, 3, &[]), ENDED);
+    assert_eq!(graph.0.finish(graph.0.sizes(), 0, 1), ENDED);
+    handed_out_in_order(&mut graph, &[3, 2]);
 }
 
 #[test]

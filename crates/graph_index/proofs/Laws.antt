@@ -1,0 +1,87 @@
+-- A number that moves through a heap, one level at a time, for a number of levels that is known only to be above 0 or
+-- not. Assumes nothing.
+use mathlib.Core.Path.{_≡_, refl}
+use mathlib.Core.Bool.{Bool, true, false, _&&_, _||_}
+use Prim.Native.Nat.{ℕ, zero, suc, _≤_, _<_, _-_}
+use native.Mathlib.Omega.{arith}
+use lib.Dec.{ltb, leb, eqb}
+use borrow.Author.Tests.{lt-ltb, le-ltb, leb-true, leb-false}
+use Rattle.basics.specs.Base.{pick}
+use Rattle.heap.specs.Sift.{above, left, right, lesser, soundBelow, siftUp, siftDown}
+use Rattle.heap.specs.declared.Sifted.{Sifted}
+use Rattle.heap.specs.declared.Sifted.the-variants.{Rests, Astray}
+use Rattle.graph_index.specs.Met.{earlier, looked, met}
+use Rattle.graph_index.specs.declared.Looked.{Looked}
+use Rattle.graph_index.specs.declared.Looked.the-variants.{Ranked, Damaged}
+
+module _ (rank : ℕ → ℕ) (sound : ℕ → Bool) (slot : ℕ → ℕ) where
+  pub up-none : (n r i : ℕ) → n ≤ 0 → siftUp rank sound slot n r i ≡ Rests i
+  unfolding siftUp
+  up-none zero r i h = refl
+  up-none (suc n) r i h = absurd (omega arith)
+
+  -- the way on from a slot that is looked at, up
+  abbrev pub upward : ℕ → ℕ → ℕ → Looked → Sifted
+  upward n r i (Ranked k by) = pick (ltb r by) (siftUp rank sound slot n r k) (Rests i)
+  upward n r i Damaged = Astray
+
+  pub up-one : (n r i : ℕ) → 0 < n
+      → siftUp rank sound slot n r i
+      ≡ pick (eqb i 0) (Rests i) (upward (n - 1) r i (looked rank sound slot (above i)))
+  unfolding siftUp
+  up-one zero r i h = absurd (omega arith)
+  up-one (suc n) r i h = let z : suc n - 1 ≡ n = omega arith in rw z (go (sound (above i)))
+    where
+      go : (b : Bool)
+          → pick (eqb i 0) (Rests i)
+          (pick b
+          (pick (ltb r (rank (slot (above i)))) (siftUp rank sound slot n r (above i)) (Rests i)) Astray)
+          ≡ pick (eqb i 0) (Rests i) (upward n r i (pick b (Ranked (above i) (rank (slot (above i)))) Damaged))
+      go true = refl
+      go false = refl
+
+  pub down-none : (n m r i : ℕ) → n ≤ 0 → siftDown rank sound slot n m r i ≡ Rests i
+  unfolding siftDown
+  down-none zero m r i h = refl
+  down-none (suc n) m r i h = absurd (omega arith)
+
+  -- and down
+  abbrev pub downward : ℕ → ℕ → ℕ → ℕ → Looked → Sifted
+  downward n m r i (Ranked k by) = pick (ltb by r) (siftDown rank sound slot n m r k) (Rests i)
+  downward n m r i Damaged = Astray
+
+  -- the slots below, as one test and a choice
+  met-downward : (n m r i : ℕ)
+      → pick (soundBelow rank sound slot m i)
+      (downward n m r i (Ranked (lesser rank sound slot m i) (rank (slot (lesser rank sound slot m i)))))
+      Astray
+      ≡ downward n m r i (met rank sound slot m i)
+  met-downward n m r i = go (sound (left i)) (leb m (right i)) refl (sound (right i)) (ltb R L) refl
+    where
+      L : ℕ
+      L = rank (slot (left i))
+
+      R : ℕ
+      R = rank (slot (right i))
+
+      on : ℕ → Sifted
+      on k = downward n m r i (Ranked k (rank (slot k)))
+
+      go : (a b : Bool) → leb m (right i) ≡ b → (d e : Bool) → ltb R L ≡ e
+          → pick (a && (b || d)) (on (pick (ltb (right i) m && e) (right i) (left i))) Astray
+          ≡ downward n m r i
+          (pick b (pick a (Ranked (left i) L) Damaged)
+          (earlier (pick a (Ranked (left i) L) Damaged) (pick d (Ranked (right i) R) Damaged)))
+      go false true h d e t = refl
+      go false false h d e t = refl
+      go true true h d e t = rw (le-ltb (right i) m (leb-true m (right i) h))
+      go true false h false e t = refl
+      go true false h true true t = rw (lt-ltb (right i) m (omega (arith, leb-false m (right i) h)), t)
+      go true false h true false t = rw (lt-ltb (right i) m (omega (arith, leb-false m (right i) h)), t)
+
+  pub down-one : (n m r i : ℕ) → 0 < n
+      → siftDown rank sound slot n m r i
+      ≡ pick (ltb (left i) m) (downward (n - 1) m r i (met rank sound slot m i)) (Rests i)
+  unfolding siftDown
+  down-one zero m r i h = absurd (omega arith)
+  down-one (suc n) m r i h = let z : suc n - 1 ≡ n = omega arith in rw (z, ← met-downward n m r i)

@@ -1,0 +1,70 @@
+-- The seats of the definitions, by what the code reads and finds on the way. Assumes nothing.
+use mathlib.Core.Path.{_≡_, refl}
+use mathlib.Core.Bool.{Bool, true, false, _&&_}
+use Prim.Native.Nat.{ℕ, _-_}
+use lib.Dec.{ltb, leb}
+use Rattle.basics.specs.Limits.{mostClass}
+use Rattle.basics.specs.Base.{pick}
+use Rattle.heap.specs.Sift.{siftUp, siftDown}
+use Rattle.heap.specs.declared.Sifted.{Sifted}
+use Rattle.terms.specs.declared.Sizes.{Sizes}
+use Rattle.words.specs.Layout.{CLASS, View}
+use Rattle.words.specs.Index.{rank, rankOf, waits, placeIn, seated, seatFor, firstSeat, firstSeatBy, levels}
+use Rattle.words.specs.declared.Seating.the-variants.{Unseated}
+use Rattle.graph_index.specs.Met.{looked}
+use Rattle.graph_index.specs.declared.Looked.{Looked}
+use Rattle.graph_index.specs.declared.Looked.the-variants.{Ranked, Damaged}
+
+abbrev look : View → ℕ → Looked
+look v = looked (rankOf v) (waits v) (placeIn v)
+
+module _ (s : Sizes) (v : View) (j : ℕ) {taken put class : ℕ} (t : taken ≡ v .taken) (p : put ≡ v .put)
+    (c : class ≡ v .job CLASS j) where
+  pub seat-found : {by filled : ℕ} {k : Sifted} → filled ≡ put - taken → by ≡ rank class put
+      → k ≡ siftUp (rankOf v) (waits v) (placeIn v) levels by filled
+      → (leb taken put && ltb put (s .jobs) && leb class mostClass) ≡ true
+      → seated k put filled ≡ seatFor s v j
+  unfolding seatFor
+  seat-found f b k h = let g = rw (t, p, c) at h in rw (k, b, f, t, p, c, g)
+
+  pub seat-none : (leb taken put && ltb put (s .jobs) && leb class mostClass) ≡ false → Unseated ≡ seatFor s v j
+  unfolding seatFor
+  seat-none h = rw (← t, ← p, ← c, h)
+
+-- what a look tells of the slot
+module _ (v : View) (i : ℕ) where
+  sound-seen : {k by : ℕ} → Ranked k by ≡ look v i → waits v i ≡ true
+  sound-seen h = go (waits v i) h
+    where
+      go : (b : Bool) {k by : ℕ} → Ranked k by ≡ pick b (Ranked i (rankOf v (placeIn v i))) Damaged → b ≡ true
+      go true h = refl
+      go false h = cc
+
+  damage-seen : Damaged ≡ look v i → waits v i ≡ false
+  damage-seen h = go (waits v i) h
+    where
+      go : (b : Bool) → Damaged ≡ pick b (Ranked i (rankOf v (placeIn v i))) Damaged → b ≡ false
+      go true h = cc
+      go false h = refl
+
+  rank-seen : {k by : ℕ} → Ranked k by ≡ look v i → by ≡ rankOf v (placeIn v i)
+  rank-seen h = let e = rw (sound-seen h) at h in cc
+
+module _ (v : View) {put taken filled slot : ℕ} (p : put ≡ v .put) (t : taken ≡ v .taken) (f : filled ≡ put - taken)
+    (m : slot ≡ filled - 1) where
+  pub first-none : Damaged ≡ look v 0 → Unseated ≡ firstSeat v
+  unfolding firstSeatBy
+  first-none h = rw (damage-seen v 0 h)
+
+  pub last-none : {k by : ℕ} → Ranked k by ≡ look v 0 → Damaged ≡ look v slot → Unseated ≡ firstSeat v
+  unfolding firstSeatBy
+  last-none g h = let d = rw (m, f, t, p) at (damage-seen v slot h) in rw (sound-seen v 0 g, d)
+
+  pub first-found : {i j a by place : ℕ} {k : Sifted} → Ranked i a ≡ look v 0 → Ranked j by ≡ look v slot
+      → k ≡ siftDown (rankOf v) (waits v) (placeIn v) levels slot by 0
+      → place ≡ placeIn v 0
+      → seated k place slot ≡ firstSeat v
+  unfolding firstSeatBy
+  first-found g h k q =
+      let d = rw (m, f, t, p) at (sound-seen v slot h) in
+      rw (k, rank-seen v slot h, q, m, f, t, p, sound-seen v 0 g, d)

@@ -1,0 +1,184 @@
+-- "a get compares at most 64 pairs of jobs": which pairs a get compares, that they are few, and that what it answers
+-- and leaves is the same by any other ranks that order those pairs alike, so that it compares no more. For all tables,
+-- damaged ones too. Follows docs/RULES.md, "Steps". Assumes nothing.
+use mathlib.Core.Path.{_≡_, refl, ap, _∙_}
+use mathlib.Core.Bool.{Bool, true, false, _&&_}
+use mathlib.Core.List.{List, [], map}
+use Prim.Native.Nat.{ℕ, _≤_}
+use native.Mathlib.Omega.{arith}
+use lib.Dec.{ltb, leb, eqb}
+use lib.ListN.{length, length-map}
+use Rattle.basics.specs.Base.{pick}
+use Rattle.basics.specs.Laws.{pick-by}
+use Rattle.heap.specs.Sift.{siftDown}
+use Rattle.heap.specs.declared.Sifted.{Sifted}
+use Rattle.heap.specs.Compared.{pairsDown, few-down, Alike, same-down}
+use Rattle.terms.specs.Terms.{wrongSizes, noSuchWorker, halfDone, damaged, alreadyHolding}
+use Rattle.terms.specs.Runs.{Outcome, outcome}
+use Rattle.terms.specs.declared.Sizes.{Sizes}
+use Rattle.words.specs.Layout.{none, CELL, PHASE, HELD, IDLE, Tables, View, view, sizesFit}
+use Rattle.words.specs.Index.{levels, rankOf, placeIn, waits, seated, firstPlace, lastSlot, lastPlace, firstSeatBy}
+use Rattle.words.specs.Index.{firstSeat}
+use Rattle.words.specs.Words.{countersOk, ownOk, admitted, takeFrom, planTake, planQueue, planGet, planGetOf, answerGet}
+use Rattle.words.specs.Words.{appliedGet, getWords}
+use Rattle.words.specs.declared.Seating.{Seating}
+use Rattle.words.specs.declared.Seating.the-variants.{Unseated}
+use Rattle.words.specs.declared.GetPlan.{GetPlan}
+use Rattle.words.specs.declared.GetPlan.the-variants.{RefuseGet, Wait}
+
+-- ---- how far a get comes: it is refused before it looks at the queue, finds the queue empty, or comes to the index
+pub data Reach : Type 0 where
+  early : ℕ → Reach
+  empty : Reach
+  index : Reach
+
+unfoldable pub reach : Sizes → Tables → ℕ → Reach
+reach s t w =
+    let v = view t in
+    admitted s t w early
+    (pick (eqb (v .worker PHASE w) IDLE)
+    (pick (eqb (v .worker HELD w) none)
+    (pick (countersOk s v && leb (v .taken) (v .put) && leb (v .put) (s .jobs))
+    (pick (eqb (v .taken) (v .put)) empty index)
+    (early damaged))
+    (early alreadyHolding))
+    (early halfDone))
+
+abbrev pub planAt : Reach → GetPlan → GetPlan
+planAt (early n) p = RefuseGet n
+planAt empty p = Wait
+planAt index p = p
+
+-- a get by other ranks of places
+abbrev pub planBy : (ℕ → ℕ) → Sizes → Tables → ℕ → GetPlan
+planBy by s t w = planAt (reach s t w) (takeFrom (view t) (firstSeatBy by (view t)))
+
+abbrev pub getBy : (ℕ → ℕ) → Sizes → Tables → ℕ → Outcome Tables
+getBy by s t w = outcome (answerGet (planBy by s t w)) (appliedGet (planBy by s t w) t w)
+
+-- by THE ORDER of hand-outs it is the get
+pub plan-by-rank : (s : Sizes) (t : Tables) (w : ℕ) → planBy (rankOf (view t)) s t w ≡ planGetOf s t w
+unfolding reach admitted planGet planQueue planTake
+plan-by-rank s t w =
+    go (sizesFit s t) (ltb w (s .workers)) (ownOk s v w) (eqb (v .worker PHASE w) IDLE) (eqb (v .worker HELD w) none)
+    (countersOk s v && leb (v .taken) (v .put) && leb (v .put) (s .jobs))
+    (eqb (v .taken) (v .put))
+  where
+    v : View
+    v = view t
+
+    p : GetPlan
+    p = takeFrom (view t) (firstSeat (view t))
+
+    go : (fit known own idle free counted none-waits : Bool)
+        → planAt
+        (pick fit
+        (pick known
+        (pick own
+        (pick idle
+        (pick free (pick counted (pick none-waits empty index) (early damaged)) (early alreadyHolding))
+        (early halfDone))
+        (early damaged))
+        (early noSuchWorker))
+        (early wrongSizes)) p
+        ≡ pick fit
+        (pick known
+        (pick own
+        (pick idle
+        (pick free (pick counted (pick none-waits Wait p) (RefuseGet damaged)) (RefuseGet alreadyHolding))
+        (RefuseGet halfDone))
+        (RefuseGet damaged))
+        (RefuseGet noSuchWorker))
+        (RefuseGet wrongSizes)
+    go false b c d e f g = refl
+    go true false c d e f g = refl
+    go true true false d e f g = refl
+    go true true true false e f g = refl
+    go true true true true false f g = refl
+    go true true true true true false g = refl
+    go true true true true true true false = refl
+    go true true true true true true true = refl
+
+pub get-by-rank : (s : Sizes) (t : Tables) (w : ℕ) → getBy (rankOf (view t)) s t w ≡ getWords s t w
+unfolding getWords
+get-by-rank s t w = ap (λ p. outcome (answerGet p) (appliedGet p t w)) (plan-by-rank s t w)
+
+-- ---- the pairs that are compared
+-- of places, once the get comes to the index: the place in the last slot moves down from the first
+abbrev pub comparedPlaces : View → List (ℕ × ℕ)
+comparedPlaces v =
+    pick (waits v 0 && waits v (lastSlot v))
+    (pairsDown (rankOf v) (waits v) (placeIn v) levels (lastSlot v) (lastPlace v) 0)
+    []
+
+abbrev pub atIndex : Reach → List (ℕ × ℕ) → List (ℕ × ℕ)
+atIndex (early n) l = []
+atIndex empty l = []
+atIndex index l = l
+
+unfoldable pub placesByGet : Sizes → Tables → ℕ → List (ℕ × ℕ)
+placesByGet s t w = atIndex (reach s t w) (comparedPlaces (view t))
+
+-- the jobs in their cells
+abbrev pub jobsAt : View → ℕ × ℕ → ℕ × ℕ
+jobsAt v p = (v .cell CELL (p .0), v .cell CELL (p .1))
+
+abbrev pub comparedByGet : Sizes → Tables → ℕ → List (ℕ × ℕ)
+comparedByGet s t w = map (jobsAt (view t)) (placesByGet s t w)
+
+-- ---- the theorems
+few-places : (v : View) → length (comparedPlaces v) ≤ 24
+few-places v =
+    pick-by {A = List (ℕ × ℕ)} (λ l. length l ≤ 24) (waits v 0 && waits v (lastSlot v))
+    (λ _. omega (arith, few-down (rankOf v) (waits v) (placeIn v) levels (lastSlot v) (lastPlace v) 0))
+    (λ _. omega arith)
+
+at-index : (r : Reach) (l : List (ℕ × ℕ)) (n : ℕ) → length l ≤ n → length (atIndex r l) ≤ n
+at-index (early k) l n h = omega arith
+at-index empty l n h = omega arith
+at-index index l n h = h
+
+-- two a level
+pub few-compared : (s : Sizes) (t : Tables) (w : ℕ) → length (comparedByGet s t w) ≤ 24
+unfolding placesByGet
+few-compared s t w =
+    omega (
+      arith,
+      length-map (placesByGet s t w) (jobsAt (view t)),
+      at-index (reach s t w) (comparedPlaces (view t)) 24 (few-places (view t)),
+    )
+
+-- no others tell the seat of the job that is taken
+pub first-same : (v : View) (by : ℕ → ℕ) → Alike (rankOf v) by (comparedPlaces v) → firstSeatBy by v ≡ firstSeat v
+unfolding firstSeatBy
+first-same v by = go (waits v 0 && waits v (lastSlot v))
+  where
+    down : (ℕ → ℕ) → Sifted
+    down rank = siftDown rank (waits v) (placeIn v) levels (lastSlot v) (rank (lastPlace v)) 0
+
+    moved : (ℕ → ℕ) → Seating
+    moved rank = seated (down rank) (firstPlace v) (lastSlot v)
+
+    pairs : List (ℕ × ℕ)
+    pairs = pairsDown (rankOf v) (waits v) (placeIn v) levels (lastSlot v) (lastPlace v) 0
+
+    go : (b : Bool) → Alike (rankOf v) by (pick b pairs [])
+        → pick b (moved by) Unseated ≡ pick b (moved (rankOf v)) Unseated
+    go true A = ap (λ r. seated r (firstPlace v) (lastSlot v)) (same-down (rankOf v) by _ _ levels _ _ 0 A)
+    go false A = refl
+
+-- no others tell what the get answers, nor what it leaves
+pub get-same : (s : Sizes) (t : Tables) (w : ℕ) (by : ℕ → ℕ) → Alike (rankOf (view t)) by (placesByGet s t w)
+    → getBy by s t w ≡ getWords s t w
+unfolding placesByGet
+get-same s t w by A =
+    ap (λ p. outcome (answerGet p) (appliedGet p t w)) (go (reach s t w) A) ∙ get-by-rank s t w
+  where
+    v : View
+    v = view t
+
+    go : (r : Reach) → Alike (rankOf v) by (atIndex r (comparedPlaces v))
+        → planAt r (takeFrom v (firstSeatBy by v)) ≡ planAt r (takeFrom v (firstSeat v))
+    go (early n) A = refl
+    go empty A = refl
+    go index A = ap (takeFrom v) (first-same v by A)

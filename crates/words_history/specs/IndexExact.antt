@@ -1,0 +1,149 @@
+-- "From a fresh graph the index holds exactly the waiting jobs after every step", of any machine over the tables. The
+-- words' own keeps it so; four that do not, one in its step and three in its get, are refuted. Assumes nothing.
+use mathlib.Core.Path.{_≡_, refl}
+use mathlib.Core.List.{List, [], _∷_, _++_}
+use Prim.Native.Nat.{ℕ, _+_, _^_}
+use lib.ListN.{length, replicate}
+use Rattle.basics.specs.Base.{contains, repeats, occurrences, prefix}
+use Rattle.basics.specs.Laws.{never}
+use Rattle.bucket.specs.Bucket.{productOf, bucketOf}
+use Rattle.heap.specs.Sift.{siftUp, siftDown}
+use Rattle.terms.specs.Terms.{argumentsWrong, withinLimits}
+use Rattle.terms.specs.Runs.{Item, postAdd, postFinish, step, get, Outcome, outcome, after}
+use Rattle.terms.specs.Starred.{S, add, steps}
+use Rattle.terms.specs.declared.Sizes.{Sizes}
+use Rattle.terms.specs.declared.Answer.the-variants.{Laid}
+use Rattle.words.specs.Columns.{columns, header, put, putHeader}
+use Rattle.words.specs.Layout.{none, queueShape, TAKEN, PUT, CELL, SLOT, POSITION, jobShape, Tables, tables, need}
+use Rattle.words.specs.Layout.{arcShape, bucketShape, workerShape, longEnough, sizesKept, repeated, freshTables}
+use Rattle.words.specs.Index.{levels, waits, seatFor, firstSeatBy, slotIn, shiftedDown, shiftedUp, putSeat, takeSeat}
+use Rattle.words.specs.Index.{emptied}
+use Rattle.words.specs.Words.{perform, ownOk, walk, findOf, planLookUp, planEnter, planSettle, planAdd, planLinks}
+use Rattle.words.specs.Words.{planCall, planPhase, planStep, admitted, applied, stepWords, planTake, planQueue, planGet}
+use Rattle.words.specs.Words.{planGetOf, answerGet, appliedGet, getWords, posted, addWords, layOut, withSeat, answerOf}
+use Rattle.words.specs.Observed.{jobsIn, waiting, cells, indexed}
+use Rattle.words.specs.declared.Seat.{Seat}
+use Rattle.words.specs.declared.Plan.{Plan}
+use Rattle.words.specs.declared.Plan.the-variants.{Refuse, Quit, Pass, Enter, Tally, LinkFirst, LinkAfter, Settle}
+use Rattle.words.specs.declared.Plan.the-variants.{SettleQueue, Mark, Notify, NotifyQueue}
+use Rattle.words.specs.declared.GetPlan.{GetPlan}
+use Rattle.words.specs.declared.GetPlan.the-variants.{RefuseGet, Wait, Take}
+use Rattle.words_history.specs.Indexed.{same-jobs, same-length}
+
+abbrev pub Machine : Type 0
+Machine = Tables → Item → Outcome Tables
+
+-- as many filled slots as jobs that wait, and each job in as many slots as it waits
+pub record IndexExact (m : Machine) (t : Tables) (items : List Item) : Type 0 where
+  pub size : length (indexed (after m t items)) ≡ length (waiting (after m t items))
+  pub jobs : (j : ℕ) → occurrences j (indexed (after m t items)) ≡ occurrences j (waiting (after m t items))
+
+pub index-exact : (s : Sizes) (t : Tables) → layOut s t .answer ≡ Laid → (items : List Item)
+    → IndexExact perform (layOut s t .state) items
+index-exact s t laid items =
+    record { size = same-length s t laid items; jobs = same-jobs s t laid items }
+
+-- ---- the machine that stores otherwise in the queue's table, when a job enters or is taken
+abbrev withQueue : Outcome Tables → List ℕ → Outcome Tables
+withQueue o q =
+    outcome (o .answer) (tables (o .state .jobs) (o .state .arcs) (o .state .buckets) q (o .state .workers))
+
+module _ (entering : List ℕ → Seat → ℕ → List ℕ) (taking : List ℕ → Seat → List ℕ) where
+  abbrev queueEntered : Plan → List ℕ → List ℕ
+  queueEntered (Refuse n) q = q
+  queueEntered (Quit n i) q = q
+  queueEntered Pass q = q
+  queueEntered (Enter j k h x) q = q
+  queueEntered Tally q = q
+  queueEntered (LinkFirst p x j) q = q
+  queueEntered (LinkAfter p l x j) q = q
+  queueEntered (Settle j c) q = q
+  queueEntered (SettleQueue j c e) q = entering q e j
+  queueEntered (Mark p x) q = q
+  queueEntered (Notify j c x) q = q
+  queueEntered (NotifyQueue j c x e) q = entering q e j
+
+  abbrev queueTaken : GetPlan → List ℕ → List ℕ
+  queueTaken (RefuseGet n) q = q
+  queueTaken Wait q = q
+  queueTaken (Take h e) q = taking q e
+
+  abbrev pub machine : Machine
+  machine t (postAdd s w a) = perform t (postAdd s w a)
+  machine t (postFinish s w f) = perform t (postFinish s w f)
+  machine t (step s w) = withQueue (perform t (step s w)) (queueEntered (planStep s t w) (t .queue))
+  machine t (get s w) = withQueue (perform t (get s w)) (queueTaken (planGetOf s t w) (t .queue))
+
+-- with the right stores it is the words' own machine
+pub own-stores : (t : Tables) (i : Item) → machine putSeat takeSeat t i ≡ perform t i
+unfolding perform stepWords applied getWords appliedGet
+own-stores t (postAdd s w a) = refl
+own-stores t (postFinish s w f) = refl
+own-stores t (step s w) = go (planStep s t w)
+  where
+    go : (p : Plan) → withQueue (outcome (answerOf p) (applied p t w)) (queueEntered putSeat takeSeat p (t .queue))
+        ≡ outcome (answerOf p) (applied p t w)
+    go (Refuse n) = refl
+    go (Quit n i) = refl
+    go Pass = refl
+    go (Enter j k h x) = refl
+    go Tally = refl
+    go (LinkFirst p x j) = refl
+    go (LinkAfter p l x j) = refl
+    go (Settle j c) = refl
+    go (SettleQueue j c e) = refl
+    go (Mark p x) = refl
+    go (Notify j c x) = refl
+    go (NotifyQueue j c x e) = refl
+own-stores t (get s w) = go (planGetOf s t w)
+  where
+    go : (p : GetPlan) → withQueue (outcome (answerGet p) (appliedGet p t w)) (queueTaken putSeat takeSeat p (t .queue))
+        ≡ outcome (answerGet p) (appliedGet p t w)
+    go (RefuseGet n) = refl
+    go Wait = refl
+    go (Take h e) = refl
+
+-- its step puts the place of a job that enters in no slot
+abbrev skipping : List ℕ → Seat → ℕ → List ℕ
+skipping q e j = putHeader (put queueShape q (e .place) CELL j) PUT (e .place + 1)
+
+-- its get drops a job from the index: the place that moves is lost
+abbrev dropping : List ℕ → Seat → List ℕ
+dropping q e =
+    putHeader (emptied (shiftedUp levels q none (e .slot)) (e .place) (e .last)) TAKEN (header q TAKEN + 1)
+
+-- its get leaves the place that it takes in the index: no place moves
+abbrev leaving : List ℕ → Seat → List ℕ
+leaving q e = putHeader (emptied q (e .place) (e .last)) TAKEN (header q TAKEN + 1)
+
+-- its get leaves the job in the queue's cell, as if it waited on
+abbrev keeping : List ℕ → Seat → List ℕ
+keeping q e =
+    putHeader
+    (put queueShape (put queueShape (shiftedUp levels q (slotIn q (e .last)) (e .slot)) (e .last) SLOT none) (e .place)
+    POSITION none)
+    TAKEN
+    (header q TAKEN + 1)
+
+-- three jobs wait, and worker 0 gets
+abbrev items : List Item
+items = add S 0 1 [] 2 ++ (add S 0 2 [] 2 ++ (add S 0 3 [] 2 ++ (get S 0 ∷ [])))
+
+abbrev fresh : Tables
+fresh =
+    layOut S (tables (replicate (need jobShape (S .jobs)) 7) (replicate (need arcShape (S .arcs)) 7)
+    (replicate (need bucketShape (2 ^ S .bits)) 7) (replicate (need queueShape (S .jobs)) 7)
+    (replicate (need workerShape (S .workers)) 7)) .state
+
+abbrev Wrong : Machine → Type 0
+Wrong m = IndexExact m fresh items → ⊥
+
+pub each-is-refuted : Wrong (machine skipping takeSeat) × Wrong (machine putSeat dropping)
+    × Wrong (machine putSeat leaving) × Wrong (machine putSeat keeping)
+unfolding contains repeats occurrences prefix argumentsWrong withinLimits after steps productOf bucketOf columns header
+    put putHeader longEnough sizesKept repeated freshTables perform ownOk walk findOf planLookUp planEnter withSeat
+    planSettle planAdd planLinks planCall planPhase admitted applied stepWords planTake planQueue planGet posted
+    addWords layOut jobsIn cells siftUp siftDown waits seatFor firstSeatBy shiftedDown shiftedUp putSeat takeSeat
+    appliedGet getWords
+each-is-refuted =
+    ((λ e. never (e .jobs 0)), (λ e. never (e .jobs 2)), (λ e. never (e .jobs 2)), (λ e. never (e .jobs 0)))

@@ -1,0 +1,139 @@
+-- The index beside the queue holds each waiting job once and nothing else: after any items from tables that were laid
+-- out, the jobs in the index are the jobs that wait. Assumes nothing.
+use mathlib.Core.Path.{_≡_, refl, sym, ap, _∙_}
+use mathlib.Core.Logic.{_≢_}
+use mathlib.Core.List.{List}
+use Prim.Native.Nat.{ℕ, zero, suc, _+_, _*_, _<_}
+use native.Mathlib.Omega.{arith}
+use native.Mathlib.Decide.{ℕ-discrete}
+use lib.ListN.{length}
+use borrow.Author.Tests.{lt-ltb}
+use Rattle.basics.specs.Base.{occurrences}
+use Rattle.basics.specs.Counting.{hit, hit-same, hit-other, sum, sum-same, sum-zero, sum-plus, sum-at, sum-first}
+use Rattle.basics.specs.Counting.{occurrences-nil, occurrences-cons}
+use Rattle.heap.specs.Heap.{count}
+use Rattle.terms.specs.Runs.{Item, after}
+use Rattle.terms.specs.declared.Sizes.{Sizes}
+use Rattle.terms.specs.declared.Answer.the-variants.{Laid}
+use Rattle.words.specs.Layout.{none, CELL, SLOT, Tables, View, view}
+use Rattle.words.specs.Index.{filled}
+use Rattle.words.specs.Words.{perform, layOut}
+use Rattle.words.specs.Observed.{cells, jobsIn, jobAt, waiting, indexed}
+use Rattle.rules.specs.Rules.{Graph, empty}
+use Rattle.rules.specs.Rules as rules
+use Rattle.representation.specs.Rep.{Index}
+use Rattle.representation_kept.specs.Places.{is-place, slot-below, slot-has}
+use Rattle.representation_kept.specs.Cells.{jobs-occur, none-occurs}
+use Rattle.representation_kept.specs.Queue.{waiting-queue, fill}
+use Rattle.words_history.specs.Theorem.{Reached, after-items}
+
+-- ---- cells, as a list
+cells-length : (f : ℕ → ℕ) (i n : ℕ) → length (cells f i n) ≡ n
+unfolding cells
+cells-length f i zero = refl
+cells-length f i (suc n) = ap suc (cells-length f (suc i) n)
+
+cells-occur : (f : ℕ → ℕ) (j i n : ℕ) → occurrences j (cells f i n) ≡ sum n (λ k. hit j (f (i + k)))
+unfolding cells sum
+cells-occur f j i zero = occurrences-nil j
+cells-occur f j i (suc n) =
+    omega (
+      arith,
+      occurrences-cons j (f i) (cells f (suc i) n),
+      cells-occur f j (suc i) n,
+      sum-first n (λ k. hit j (f (i + k))),
+      ap (λ k. hit j (f k)) {x = i + 0} {y = i} (omega arith),
+      sum-same n (λ k. hit j (f (suc i + k))) (λ k. hit j (f (i + suc k)))
+          (λ k h. ap (λ x. hit j (f x)) {x = i + suc k} {y = suc i + k} (omega arith)),
+    )
+
+-- ---- a sum over the slots, by the numbers in them
+sum-one : (n x : ℕ) (w : ℕ → ℕ) → x < n → sum n (λ p. hit p x * w p) ≡ w x
+sum-one n x w h =
+    omega (
+      arith,
+      sum-at n (λ p. 0) (λ p. hit p x * w p) x h (λ p e. rw (hit-other p x e) (omega arith)),
+      sum-zero n (λ p. 0) (λ p. refl),
+      ap (λ y. y * w x) (hit-same x),
+    )
+
+sum-slots : (m n : ℕ) (slot w : ℕ → ℕ) → ((k : ℕ) → k < m → slot k < n)
+    → sum m (λ k. w (slot k)) ≡ sum n (λ p. count m slot p * w p)
+unfolding sum
+sum-slots zero n slot w h = omega (arith, sum-zero n (λ p. 0 * w p) (λ p. omega arith))
+sum-slots (suc m) n slot w h =
+    omega (
+      arith,
+      sum-one n (slot m) w (h m (omega arith)),
+      sum-slots m n slot w (λ k l. h k (omega arith)),
+      sum-plus n (λ p. hit p (slot m) * w p) (λ p. count m slot p * w p),
+      sum-same n (λ p. hit p (slot m) * w p + count m slot p * w p) (λ p. (hit p (slot m) + count m slot p) * w p)
+          (λ p l. omega arith),
+    )
+
+module _ (v : View) (m : ℕ) (I : Index v m) (j : ℕ) where
+  abbrev cell : ℕ → ℕ
+  cell = v .cell CELL
+
+  abbrev slot : ℕ → ℕ
+  slot = v .cell SLOT
+
+  -- a place counts as often as its cell has the job
+  by-place : (p : ℕ) → p < v .put → j ≢ none → count m slot p * hit j (cell p) ≡ hit j (cell p)
+  by-place p h e = elim (ℕ-discrete j (cell p)) [
+    | yes z ↦
+        rw (I .places p, lt-ltb p (v .put) h, is-place (cell p) (λ y. e (z ∙ y))) (omega arith)
+    | no z ↦ rw (hit-other j (cell p) z) (omega arith)
+  ]
+
+  in-slots : j ≢ none → sum m (λ k. hit j (cell (slot k))) ≡ sum (v .put) (λ p. hit j (cell p))
+  in-slots e =
+      sum-slots m (v .put) slot (λ p. hit j (cell p)) (slot-below v m I)
+      ∙ sum-same (v .put) (λ p. hit j (cell p)) (λ p. count m slot p * hit j (cell p)) (λ p h. by-place p h e)
+
+  no-none : j ≡ none → sum m (λ k. hit j (cell (slot k))) ≡ 0
+  no-none e =
+      sum-same m (λ k. 0) (λ k. hit j (cell (slot k)))
+      (λ k h. hit-other j (cell (slot k)) (λ z. slot-has v m I k h (sym z ∙ e)))
+      ∙ sum-zero m (λ k. 0) (λ k. refl)
+
+  zero-on : (f : ℕ → ℕ) (n : ℕ) → sum n (λ k. f (0 + k)) ≡ sum n f
+  zero-on f n = sum-same n f (λ k. f (0 + k)) (λ k h. ap f {x = 0 + k} {y = k} (omega arith))
+
+  -- a filled slot holds a place that was put
+  by-slot : sum m (λ k. hit j (jobAt v (slot (0 + k)))) ≡ sum m (λ k. hit j (cell (slot k)))
+  by-slot =
+      zero-on (λ k. hit j (jobAt v (slot k))) m
+      ∙ sum-same m (λ k. hit j (cell (slot k))) (λ k. hit j (jobAt v (slot k)))
+      (λ k h. rw (lt-ltb (slot k) (v .put) (slot-below v m I k h)))
+
+  index-occurs : occurrences j (cells (λ k. jobAt v (slot k)) 0 m) ≡ occurrences j (jobsIn cell 0 (v .put))
+  index-occurs = cells-occur (λ k. jobAt v (slot k)) j 0 m ∙ by-slot ∙ elim (ℕ-discrete j none) [
+    | yes e ↦ no-none e ∙ rw e (sym (none-occurs cell 0 (v .put)))
+    | no e ↦
+        in-slots e ∙ sym (zero-on (λ p. hit j (cell p)) (v .put)) ∙ sym (jobs-occur cell j 0 (v .put) e)
+  ]
+
+-- ---- after any items
+module _ (s : Sizes) (t : Tables) (laid : layOut s t .answer ≡ Laid) (items : List Item) where
+  abbrev T : Tables
+  T = after perform (layOut s t .state) items
+
+  abbrev g : Graph
+  g = after (rules.perform s) empty items
+
+  R : Reached s t laid items
+  R = after-items s t laid items
+
+  filling : filled (view T) ≡ length (g .queue)
+  filling = fill s T g (R .ghost) (R .stands) (R .sound)
+
+  pub same-jobs : (j : ℕ) → occurrences j (indexed T) ≡ occurrences j (waiting T)
+  same-jobs j =
+      ap (λ n. occurrences j (cells (λ k. jobAt (view T) (view T .cell SLOT k)) 0 n)) filling
+      ∙ index-occurs (view T) (length (g .queue)) (R .stands .rep .index) j
+
+  pub same-length : length (indexed T) ≡ length (waiting T)
+  same-length =
+      cells-length (λ k. jobAt (view T) (view T .cell SLOT k)) 0 (filled (view T)) ∙ filling
+      ∙ sym (ap length (waiting-queue (R .stands)))

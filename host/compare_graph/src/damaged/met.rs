@@ -1,0 +1,95 @@
+//! What the calls over damaged tables meet of the index beside the queue.
+
+use std::{cell::RefCell, cmp::Reverse, collections::BTreeMap, fmt};
+
+use second_implementation::sheet::MAX_CLASS;
+
+use super::answer::Expected;
+use crate::{
+    index::WrongSlot,
+    layout::{self, cell_at, job, job_at, position_at, slot_at, NONE},
+    tables::{Tables, JOBS, QUEUE},
+};
+
+/// What uses the index.
+#[derive(Clone, Copy, Debug, PartialEq, Eq, PartialOrd, Ord)]
+pub enum Use {
+    Get,
+    /// A step that puts a job in the queue.
+    Entry,
+}
+
+/// What becomes of a call that uses the index.
+#[derive(Clone, Copy, Debug, PartialEq, Eq, PartialOrd, Ord)]
+pub enum Way {
+    /// Number 9 for a slot that is read.
+    Refused(WrongSlot),
+    /// Served, though the index does not hold exactly the places of the waiting jobs.
+    OverWrong,
+    /// Served, though the index, which holds exactly these, is no heap.
+    OverDisorder,
+    OverRight,
+}
+
+/// How many calls met each way.
+#[derive(Debug, Default)]
+pub struct Met(RefCell<BTreeMap<(Use, Way), u64>>);
+
+impl Met {
+    /// Notes what a call over these tables meets, by what is expected of it.
+    pub(super) fn note(&self, tables: &Tables, is_get: bool, expected: &Expected) {
+        let way = match expected.wrong_slot {
+            Some(wrong) => Way::Refused(wrong),
+            None if expected.writes.iter().all(|(table, ..)| *table != QUEUE) => return,
+            None => over(tables),
+        };
+        let key = (if is_get { Use::Get } else { Use::Entry }, way);
+        *self.0.borrow_mut().entry(key).or_insert(0) += 1;
+    }
+
+    pub fn has(&self, way: &(Use, Way)) -> bool {
+        self.0.borrow().contains_key(way)
+    }
+}
+
+impl fmt::Display for Met {
+    fn fmt(&self, f: &mut fmt::Formatter<'_>) -> fmt::Result {
+        let met = self.0.borrow();
+        for (used, name) in [(Use::Get, "gets"), (Use::Entry, "entries")] {
+            let count = |way| met.get(&(used, way)).copied().unwrap_or(0);
+            let refused: Vec<(WrongSlot, u64)> = WrongSlot::ALL.map(|wrong| (wrong, count(Way::Refused(wrong)))).into();
+            let all: u64 = refused.iter().map(|(_, count)| count).sum();
+            writeln!(
+                f,
+                "{name}: {all} got 9 from the index, {refused:?}; {} were served over one that does not hold exactly the \
+                 waiting jobs, {} over one that is no heap, {} over a right one",
+                count(Way::OverWrong),
+                count(Way::OverDisorder),
+                count(Way::OverRight),
+            )?;
+        }
+        Ok(())
+    }
+}
+
+/// What the index of a call that is served is like.
+fn over(tables: &Tables) -> Way {
+    let queue = tables.words(QUEUE);
+    let (taken, put) = (queue[layout::TAKEN] as usize, queue[layout::PUT] as usize);
+    let slots: Vec<u32> = (0..put - taken).map(|slot| queue[slot_at(slot)]).collect();
+    let waiting = (0..put as u32).filter(|place| queue[cell_at(*place as usize)] != NONE);
+    let mut places = slots.clone();
+    places.sort_unstable();
+    let held = |(slot, place): (usize, &u32)| queue[position_at(*place as usize)] == slot as u32;
+    if !waiting.eq(places) || !slots.iter().enumerate().all(held) {
+        return Way::OverWrong;
+    }
+    // A class that is off its range is after all others.
+    let class = |place: u32| tables.words(JOBS).get(job_at(queue[cell_at(place as usize)] as usize) + job::CLASS);
+    let key = |slot: usize| (Reverse(class(slots[slot]).filter(|class| **class <= MAX_CLASS)), slots[slot]);
+    if (1..slots.len()).all(|slot| key((slot - 1) / 2) < key(slot)) {
+        Way::OverRight
+    } else {
+        Way::OverDisorder
+    }
+}
