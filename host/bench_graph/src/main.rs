@@ -17,7 +17,7 @@ mod longest;
 mod peers;
 mod waiting;
 
-use std::{env, process::ExitCode, time::Instant};
+use std::{env, process::ExitCode, thread, time::Instant};
 
 use bench_graph::{
     calls::{build, drain, Arena, Calls, FirstIn, Manner, Proved, Unproved},
@@ -137,7 +137,12 @@ struct Taken {
 
 impl Taken {
     fn new(what: &str, argument: &str, name: String, times: [f64; 3]) -> Taken {
-        let counts = SIDES.map(|side| counting::instructions(&["count", side, what, argument]));
+        // Side by side: what else runs does not change a count.
+        let counts = thread::scope(|scope| {
+            SIDES
+                .map(|side| scope.spawn(move || counting::instructions(&["count", side, what, argument])))
+                .map(|counting| counting.join().expect("a side is counted"))
+        });
         Taken { name, times, counts }
     }
 
