@@ -1,5 +1,6 @@
--- For ALL tables: a job whose count settles, or falls to 0, is queued in its seat, and without a seat its step is refused
--- by 9; so none is left out of the queue. Follows docs/RULES.md, "Steps" and "The index". Assumes nothing.
+-- For ALL tables: a job whose count settles, or falls to 0, is queued in its seat, and without a seat its step is
+-- refused by 9; so none is left out of the queue, and with a seat none is refused. Follows docs/RULES.md, "Steps" and
+-- "The index". Assumes nothing.
 use mathlib.Core.Path.{_≡_, refl}
 use mathlib.Core.Logic.{_≢_}
 use mathlib.Core.Bool.{Bool, true, false, _&&_}
@@ -15,6 +16,7 @@ use Rattle.terms.specs.declared.Sizes.{Sizes}
 use Rattle.words.specs.Layout.{COUNT, DEPENDENT, AFTER, View}
 use Rattle.words.specs.Index.{seatFor}
 use Rattle.words.specs.Words.{placeOk, isPlace, inSeat, withSeat, planSettle, planNotify}
+use Rattle.words.specs.declared.Seat.{Seat}
 use Rattle.words.specs.declared.Seating.{Seating}
 use Rattle.words.specs.declared.Seating.the-variants.{Seated, Unseated}
 use Rattle.words.specs.declared.Plan.{Plan}
@@ -53,6 +55,14 @@ settles-rightly s v j t d =
     by : (r : Seating) → seatFor s v j ≡ r → settles c t d ≡ true → Q (inSeat r (SettleQueue j c))
     by (Seated x) z e = (e, z)
     by Unseated z e = refl
+
+-- where its words are sound and it has a seat it is queued
+pub settles-seated : (s : Sizes) (v : View) (j t d : ℕ) (e : Seat)
+    → (isPlace j && leb (v .job COUNT j) mostNames && leb t (v .job COUNT j)) ≡ true
+    → settles (v .job COUNT j - t) t d ≡ true → seatFor s v j ≡ Seated e
+    → planSettle s v j t d ≡ SettleQueue j (v .job COUNT j - t) e
+unfolding planSettle withSeat
+settles-seated s v j t d e sound queues there = rw (sound, queues, there)
 
 -- what an arc's step plans: the dependent's count does not fall to 0, or it does and the dependent is queued in its
 -- seat, or the step is refused by 9
@@ -96,3 +106,11 @@ notifies-rightly s v x =
     by : (r : Seating) → seatFor s v j ≡ r → n - 1 ≡ 0 → Q (inSeat r (NotifyQueue j (n - 1) (v .arc AFTER x)))
     by (Seated y) z e = (e, z)
     by Unseated z e = refl
+
+-- where its words are sound and the dependent has a seat it is queued
+pub notifies-seated : (s : Sizes) (v : View) (x : ℕ) (e : Seat)
+    → (isPlace x && ltb (v .arc DEPENDENT x) (v .made) && placeOk (v .arc AFTER x) (v .reserved) (s .arcs)) ≡ true
+    → v .job COUNT (v .arc DEPENDENT x) ≡ 1 → seatFor s v (v .arc DEPENDENT x) ≡ Seated e
+    → planNotify s v x ≡ NotifyQueue (v .arc DEPENDENT x) 0 (v .arc AFTER x) e
+unfolding planNotify withSeat
+notifies-seated s v x e sound one there = rw (sound, one, there)

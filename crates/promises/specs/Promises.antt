@@ -24,15 +24,16 @@ use mathlib.Core.Logic.{_↔_, _≢_}
 use mathlib.Core.Bool.{true, false, _&&_}
 use mathlib.Core.List.{List, [], _∷_, _++_}
 use mathlib.Core.Option.{none}
-use Prim.Native.Nat.{ℕ, suc, _+_, _*_, _^_, _≤_, _<_}
+use Prim.Native.Nat.{ℕ, suc, _+_, _-_, _*_, _^_, _≤_, _<_}
 use native.Mathlib.Omega.{arith}
+use lib.Dec.{ltb, leb}
 use lib.ListN.{length, getD}
 use lib.Seq.{sets}
 use Rattle.basics.specs.Limits.{mostNames}
 use Rattle.basics.specs.Base.{pick, contains, occurrences}
 use Rattle.bucket.specs.Bucket.{bucketOf}
 use Rattle.terms.specs.Terms.{Arguments, withinLimits, sameSizes, wrongSizes, noSuchWorker, damaged}
-use Rattle.terms.specs.Terms.{halfDone, nothingToStep, mostJobs, mostWorkers, Finish}
+use Rattle.terms.specs.Terms.{settles, halfDone, nothingToStep, mostJobs, mostWorkers, Finish}
 use Rattle.terms.specs.Order.{First}
 use Rattle.terms.specs.Runs.{Item, step, get, sizesOf, workerOf, outcome, after, events}
 use Rattle.terms.specs.Seen.{Same, idle, handOut}
@@ -40,8 +41,8 @@ use Rattle.terms.specs.declared.Sizes.{Sizes}
 use Rattle.terms.specs.declared.HandOut.{HandOut}
 use Rattle.terms.specs.declared.Answer.the-variants.{Laid, Posted, Ended, NoneReady, Handed, Refused}
 use Rattle.heap.specs.Compared.{Alike}
-use Rattle.words.specs.Layout.{Tables, View, view, workerShape, NAME, LABEL, HELD, LIST-COUNT, NAMES, IDLE, bareWorker}
-use Rattle.words.specs.Layout.{roomFor}
+use Rattle.words.specs.Layout.{Tables, View, view, workerShape, NAME, LABEL, COUNT, DEPENDENT, AFTER, HELD}
+use Rattle.words.specs.Layout.{LIST-COUNT, NAMES, IDLE, bareWorker, roomFor}
 use Rattle.words.specs.Layout as words
 use Rattle.words.specs.Index.{levels, rankOf, waits, filled, firstPlace, firstSeat, seatFor}
 use Rattle.words.specs.Words as by-words
@@ -71,6 +72,10 @@ use Rattle.locality.specs.IndexFirst.{FirstTaken, planned, first-taken, none-re
 use Rattle.locality.specs.Looked.{eachWaits, isSeated, lookedByGet, takesFirst, lookedByEntry, mayEnter}
 use Rattle.locality.specs.Looked as looked
 use Rattle.locality.specs.Queued.{SettlesRightly, NotifiesRightly, settles-rightly, notifies-rightly}
+use Rattle.locality.specs.Queued.{settles-seated, notifies-seated}
+use Rattle.words.specs.declared.Seat.{Seat}
+use Rattle.words.specs.declared.Seating.the-variants.{Seated}
+use Rattle.words.specs.declared.Plan.the-variants.{SettleQueue, NotifyQueue}
 use Rattle.locality.specs.Laying.{fresh}
 use Rattle.locality.specs.Laying as laying
 use Rattle.sheet_format.specs.Job.{Job}
@@ -371,6 +376,24 @@ module _ (v : View) where
 
   pub a-notified-job-is-queued : (s : Sizes) (x : ℕ) → NotifiesRightly s v (by-words.planNotify s v x)
   a-notified-job-is-queued s = notifies-rightly s v
+
+  -- And none is refused that has a seat: not in an index whose filled slots all wait, whatever their order.
+  pub a-settling-job-with-a-seat-is-queued : (s : Sizes) (j t d : ℕ) (e : Seat)
+      → (by-words.isPlace j && leb (v .job COUNT j) mostNames && leb t (v .job COUNT j)) ≡ true
+      → settles (v .job COUNT j - t) t d ≡ true → seatFor s v j ≡ Seated e
+      → by-words.planSettle s v j t d ≡ SettleQueue j (v .job COUNT j - t) e
+  a-settling-job-with-a-seat-is-queued s = settles-seated s v
+
+  pub a-notified-job-with-a-seat-is-queued : (s : Sizes) (x : ℕ) (e : Seat)
+      → (by-words.isPlace x && ltb (v .arc DEPENDENT x) (v .made)
+      && by-words.placeOk (v .arc AFTER x) (v .reserved) (s .arcs)) ≡ true
+      → v .job COUNT (v .arc DEPENDENT x) ≡ 1 → seatFor s v (v .arc DEPENDENT x) ≡ Seated e
+      → by-words.planNotify s v x ≡ NotifyQueue (v .arc DEPENDENT x) 0 (v .arc AFTER x) e
+  a-notified-job-with-a-seat-is-queued s = notifies-seated s v
+
+  pub slots-that-wait-are-trusted-by-entries : (s : Sizes) (j : ℕ) → mayEnter s v j ≡ true
+      → ((k : ℕ) → k < filled v → waits v k ≡ true) → isSeated (seatFor s v j) ≡ true
+  slots-that-wait-are-trusted-by-entries s = looked.trusted-entry s v
 
   -- The slots looked at, so the cost, grow with the logarithm of the waiting jobs, of an entry and of a get.
   pub an-entry-looks-at-few-slots : (j k : ℕ) → filled v + 1 < 2 ^ suc k → length (lookedByEntry v j) ≤ k
