@@ -9,7 +9,7 @@ use native.Mathlib.Omega.{arith}
 use lib.ListN.{length, getD, set, length-set, length-append, List·getD-append, List·getD-eq-default}
 use lib.Seq.{getD-set-same, getD-set-other, getD-append-seam}
 use Rattle.basics.specs.Base.{occurrences}
-use Rattle.basics.specs.Laws.{update-same, update-other}
+use Rattle.basics.specs.Laws.{update-same, update-other, snoc-all}
 use Rattle.terms.specs.Terms.{Label, executing, finished, Arguments, listed, finishOf}
 use Rattle.terms.specs.Order.{without}
 use Rattle.terms.specs.OrderLaws.{first-occurs}
@@ -29,7 +29,6 @@ use Rattle.linearization.specs.Calls.{Reading, decided, note, acceptedFinishes}
 use Rattle.rules_history.specs.History.{History, entryOf}
 use Rattle.rules_history.specs.Noted.{reads}
 use Rattle.linearizability.specs.Demand.{orHanded}
-use Rattle.rules_invariant.specs.Relation.{snoc-all}
 use Rattle.rules_invariant.specs.Sound.{sound}
 use Rattle.rules_cases.specs.Base.{kept-field}
 use Rattle.rules_follow_model.specs.Paced.{paced, read}

@@ -1,4 +1,5 @@
 pub mod Base
 pub mod Laws
+pub mod Stores
 pub mod Limits
 pub mod Counting

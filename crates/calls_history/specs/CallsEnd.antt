@@ -13,15 +13,14 @@ use Rattle.words.specs.Layout.{Tables}
 use Rattle.words.specs.Words.{perform, layOut}
 use Rattle.rules.specs.Rules.{Graph, empty}
 use Rattle.rules.specs.Rules as rules
-use Rattle.rules.specs.Sound.{Sound}
 use Rattle.rules_cases.specs.Deed as by
 use Rattle.rules_cases.specs.Deed.{Made}
 use Rattle.rules_cases.specs.Own.{own-sizes, own-made}
 use Rattle.linearization.specs.Calls.{idle, Reading, reading}
-use Rattle.rules_history.specs.History.{History, start}
+use Rattle.rules_history.specs.History.{start}
 use Rattle.rules_history.specs.Onward.{onward}
 use Rattle.rules_follow_model.specs.Paced.{paced, worker-idle}
-use Rattle.rules_invariant.specs.Sound.{sound}
+use Rattle.rules_invariant.specs.Sound.{sound, soundly}
 use Rattle.words_refine_rules.specs.Items.{item}
 use Rattle.words_history.specs.Theorem.{after-items, same-events}
 use Rattle.host_calls.specs.HostCalls.{lastAnswer, callMade, addMade, finishMade, lastOf, addsAnswer}
@@ -50,9 +49,6 @@ made-finish (by.finishWrong e) = not-held
 made-finish (by.finishPosted p e n) = taken
 
 module _ (s : Sizes) (t : Tables) (laid : layOut s t .answer ≡ Laid) where
-  soundly : (g : Graph) (r : Reading) (e : ℕ → ℕ) → History s g r e → Sound s g
-  soundly g r e history = sound history
-
   module _ {x : Tables} {r : Reading} (N : Now s t laid x r) where
     -- the words answer as the rules do, whose worker is idle where the reading's is
     abbrev g : Graph

@@ -20,11 +20,11 @@ use Rattle.rules.specs.Rules.{Call, idle, looking, linking, marking, notifying,
 use Rattle.rules.specs.Rules as rules
 use Rattle.rules.specs.Sound.{Sound}
 use Rattle.linearization.specs.Calls.{Pending, Reading, reading}
-use Rattle.rules_history.specs.History.{History, start, PacedCall, Paced}
+use Rattle.rules_history.specs.History.{start, PacedCall, Paced}
 use Rattle.rules_history.specs.Onward.{onward}
 use Rattle.linearizability.specs.Demand.{isIdle}
 use Rattle.rules_follow_model.specs.Paced.{paced}
-use Rattle.rules_invariant.specs.Sound.{sound}
+use Rattle.rules_invariant.specs.Sound.{sound, soundly}
 use Rattle.representation.specs.Rep.{Ghost, CallRep, Stands}
 use Rattle.words_refine_rules.specs.Own.{same-sizes, sizes-decide, own-ok}
 use Rattle.words_history.specs.Theorem.{after-items, same-events}
@@ -74,9 +74,6 @@ module _ (s : Sizes) (x : Tables) (g : Graph) (G : Ghost) (S : Stands s x g G) (
       sizes false e = refl
 
 module _ (s : Sizes) (t : Tables) (laid : layOut s t .answer ≡ Laid) where
-  soundly : (g : Graph) (r : Reading) (e : ℕ → ℕ) → History s g r e → Sound s g
-  soundly g r e history = sound history
-
   pub sheet-turned : {x : Tables} {r : Reading} → Now s t laid x r → (q : Sizes) (w : ℕ) (l : List Arguments)
       → turnedWords x q w l ≡ turningSheet s r q w l
   sheet-turned N q w l =

@@ -16,10 +16,11 @@ use Rattle.sheet_format.specs.Decode.{Decoded, job, end, refused, decode, entry
 use Rattle.sheet_format.specs.CodeLaws.{entry-bounds}
 use Rattle.sheet_format.specs.declared.Reading.{Reading}
 use Rattle.whole_words.specs.Whole.{wholeAdd}
+use Rattle.sheet_rows.specs.Arguments as row
 use Rattle.day_rounds.specs.Rounds.{Refusal, refusal, argumentsOf, addAll}
 use Rattle.day_format.specs.Day.{refusalLines}
 use Rattle.day_text.specs.Page.{Page, no-lines, lines-append}
-use Rattle.day_entry.specs.Entered.{argumentsIn, entered, Printout, printout, wrote}
+use Rattle.day_entry.specs.Entered.{entered, Printout, printout, wrote}
 use Rattle.day_adds.specs.Adding.{following, entriesAt, entries-on, onwardOf}
 use Rattle.day_adds.specs.declared.Onward.{Onward}
 
@@ -38,7 +39,7 @@ prefix-padded (suc n) k (x ∷ l) = ap (λ (m : List ℕ). x ∷ m) (prefix-padd
 
 -- an entry as it was read stands for its job
 entry-added : (s : Sizes) (i : ℕ) (t : Tables) (j : Job)
-    → entered s i t (argumentsIn (entryOf j)) ≡ entered s i t (argumentsOf j)
+    → entered s i t (row.argumentsOf (entryOf j)) ≡ entered s i t (argumentsOf j)
 unfolding entered wholeAdd addWords argumentsWrong
 entry-added s i t j = rw (prefix-padded (length (j .list)) _ (j .list))
 
@@ -96,12 +97,12 @@ module _ (sheet : List ℕ) (at : ℕ) (r : Reading) (o : Onward) (e : r ≡ rea
 -- it is added, and then those after it
 module _ (limit : ℕ) (s : Sizes) (sheet : List ℕ) (at i : ℕ) (t : Tables) (p : Page) (r : Reading) (o : Onward)
     (e : r ≡ readingOf (decode sheet at)) (k : o ≡ onwardOf (r .answer)) where
-  pub next-entry : (x : Printout) → o .more ≡ true → x ≡ wrote limit p (entered s i t (argumentsIn (r .entry)))
+  pub next-entry : (x : Printout) → o .more ≡ true → x ≡ wrote limit p (entered s i t (row.argumentsOf (r .entry)))
       → wrote limit (x .paper) (addAll s (suc i) (entriesAt sheet (o .next)) (x .state))
       ≡ wrote limit p (addAll s i (entriesAt sheet at) t)
   next-entry x h f =
       read-more r o k (decode sheet at) e h λ j d same.
-      let f′ = f ∙ ap (λ y. wrote limit p (entered s i t (argumentsIn y))) same
+      let f′ = f ∙ ap (λ y. wrote limit p (entered s i t (row.argumentsOf y))) same
       ∙ ap (wrote limit p) (entry-added s i t j) in
       rw (entries-on sheet at (job j (o .next)) d) (add-first limit s i j (entriesAt sheet (o .next)) t p x f′)
 

@@ -3,14 +3,10 @@ use Prim.Native.Nat.{ℕ}
 use Rattle.terms.specs.Terms.{Arguments}
 use Rattle.terms.specs.declared.Sizes.{Sizes}
 use Rattle.words.specs.Layout.{Tables}
-use Rattle.sheet_format.specs.declared.Entry.{Entry}
 use Rattle.whole_words.specs.Whole.{wholeAdd}
 use Rattle.day_rounds.specs.Rounds.{Added, added, refusal}
 use Rattle.day_format.specs.Day.{refusalLines}
 use Rattle.day_text.specs.Page.{Page, printLines}
-
-abbrev pub argumentsIn : Entry → Arguments
-argumentsIn e = record { name = e .name; count = e .count; names = e .names; class = e .class; grower = e .grower }
 
 -- added whole, as entry i
 unfoldable pub entered : Sizes → ℕ → Tables → Arguments → Added

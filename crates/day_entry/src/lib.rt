@@ -2,10 +2,11 @@
 // and the day list". Assumes nothing. No line is printed from a place past day_text's bound on.
 ghost use mathlib.Core.Path.{_≡_};
 ghost use Rattle.words.specs.Layout.{atEntry, atExit};
+ghost use Rattle.sheet_rows.specs.Arguments.{argumentsOf};
 ghost use Rattle.day_rounds.specs.Rounds.{refusal};
 ghost use Rattle.day_format.specs.Day.{refusalLines};
 ghost use Rattle.day_text.specs.Page.{page, printLines};
-ghost use Rattle.day_entry.specs.Entered.{argumentsIn, entered, printout, wrote};
+ghost use Rattle.day_entry.specs.Entered.{entered, printout, wrote};
 use day_text::refused_line;
 use day_told::tell;
 use sheet_format::Entry;
@@ -42,7 +43,7 @@ pub fn add_entry(
 ) -> usize
     ensures { λ r. ⌜ printout (atExit jobs arcs buckets queue workers) (page r (now (out .exit)))
         ≡ wrote limit (page at (now (out .entry)))
-        (entered sizes number (atEntry jobs arcs buckets queue workers) (argumentsIn entry)) ⌝ }
+        (entered sizes number (atEntry jobs arcs buckets queue workers) (argumentsOf entry)) ⌝ }
 {
     let answer = add_whole(sizes, jobs, arcs, buckets, queue, workers, 0, entry);
     print_refusal(out, limit, at, number, answer)

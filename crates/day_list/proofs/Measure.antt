@@ -1,6 +1,6 @@
 -- A text that is measured with the limit 0, and stored where it fits. Assumes nothing.
-use mathlib.Core.Path.{_≡_, refl, ap, _∙_}
-use mathlib.Core.Bool.{Bool, true, false, _&&_}
+use mathlib.Core.Path.{_≡_, ap, _∙_}
+use mathlib.Core.Bool.{true, false, _&&_}
 use mathlib.Core.List.{List}
 use Prim.Native.Nat.{ℕ, _≤_, _<_}
 use native.Mathlib.Omega.{arith}
@@ -8,6 +8,7 @@ use lib.Dec.{leb}
 use lib.ListN.{length}
 use lib.Seq.{sets}
 use borrow.Author.Tests.{leb-true, le-leb, lt-leb}
+use Rattle.basics.specs.Laws.{and-left, and-right}
 use Rattle.terms.specs.Terms.{mostWorkers}
 use Rattle.sheet_format.specs.Decode.{noRoom}
 use Rattle.day_format.specs.Day.{dayText, printing, dayList}
@@ -15,14 +16,11 @@ use Rattle.day_format.specs.declared.DayAnswer.{DayAnswer}
 use Rattle.day_text.specs.Page.{Page, page, print, emitted-none, emitted-whole}
 
 -- the test of the workers
-both : (a b : Bool) → (a && b) ≡ true → (a ≡ true) × (b ≡ true)
-both true b e = (refl, e)
-both false b e = absurd (let z : _≡_ {A = ℕ} 0 1 = cc in omega arith)
-
 pub few-workers : (w : ℕ) → (leb 1 w && leb w mostWorkers) ≡ true → (1 ≤ w) × (w ≤ mostWorkers)
-few-workers w e =
-    let h = both (leb 1 w) (leb w mostWorkers) e in
-    (leb-true 1 w (h .0), leb-true w mostWorkers (h .1))
+few-workers w e = (
+  leb-true 1 w (and-left (leb 1 w) (leb w mostWorkers) e),
+  leb-true w mostWorkers (and-right (leb 1 w) (leb w mostWorkers) e),
+)
 
 -- measuring answers the length, and leaves the output
 measured : (n : ℕ) (left out text : List ℕ) → page n left ≡ print 0 (page 0 out) text → (n ≡ length text) × (left ≡ out)

@@ -6,7 +6,7 @@ use mathlib.Core.List.{List, [], _∷_, _++_}
 use Prim.Native.Nat.{ℕ, zero, suc, _+_, _*_, _≤_, _/_, _%_}
 use native.Mathlib.Omega.{arith}
 use lib.Dec.{ltb, leb}
-use lib.ListN.{length, set, length-set, length-append}
+use lib.ListN.{length, set, length-append}
 use lib.Seq.{sets}
 use borrow.Author.Tests.{lt-ltb, le-ltb, le-leb}
 use Rattle.basics.specs.Base.{pick}
@@ -91,17 +91,6 @@ unfolding emitted
 emitted-whole limit [] out at h = refl
 emitted-whole limit (b ∷ bs) out at h =
     rw (lt-ltb at limit (omega arith)) (emitted-whole limit bs (set out at b) (suc at) (omega arith))
-
--- the output keeps its length
-pub length-emitted : (limit : ℕ) (text out : List ℕ) (at : ℕ) → length (emitted limit out at text) ≡ length out
-unfolding emitted
-length-emitted limit [] out at = refl
-length-emitted limit (b ∷ bs) out at =
-    length-emitted limit bs (pick (ltb at limit) (set out at b) out) (suc at) ∙ kept (ltb at limit)
-  where
-    kept : (t : Bool) → length (pick t (set out at b) out) ≡ length out
-    kept true = length-set out at b
-    kept false = refl
 
 -- a number has at most 20 digits
 digits-length : (k n : ℕ) (rest : List ℕ) → length (digits k n rest) ≤ k + length rest

@@ -1,6 +1,6 @@
 -- Laws of a whole entry: where an entry that was read ends and where its names stand, and what a scan says of the entry
 -- (docs/SHEETS.md). Assumes nothing.
-use Prim.Native.Nat.{ℕ, zero, suc, _+_, _*_, _-_, _/_, _%_, _≤_, _<_}
+use Prim.Native.Nat.{ℕ, _+_, _*_, _-_, _/_, _%_, _≤_, _<_}
 use mathlib.Core.Path.{_≡_, refl, sym, ap, _∙_}
 use mathlib.Core.Bool.{Bool, true, false}
 use mathlib.Core.List.{List}
@@ -13,17 +13,13 @@ use Rattle.basics.specs.Base.{pick}
 use Rattle.basics.specs.Laws.{never}
 use Rattle.sheet_format.specs.Job.{Job, nameBytes, countBytes, classBytes}
 use Rattle.sheet_format.specs.Job.{growerBytes}
+use Rattle.sheet_format.specs.NumberLaws.{length-namesAt}
 use Rattle.sheet_format.specs.Decode.{mapAt, nameAt, limitedAt, listAt, ifBit, namesAt, Decoded, job, end}
 use Rattle.sheet_format.specs.Decode.{refused, thenDecoded, decode, scanOf}
 use Rattle.sheet_format.specs.declared.Field.{Field}
 use Rattle.sheet_format.specs.declared.Field.the-variants.{Got, Refused}
 use Rattle.sheet_format.specs.declared.Scan.{Scan}
 use Rattle.entry_scan.proofs.Fields.{map-next, number-passed, limited-got, number-behind, listed}
-
-pub names-length : (w : ℕ) (s : List ℕ) (at n : ℕ) → length (namesAt w s at n) ≡ n
-unfolding namesAt
-names-length w s at zero = refl
-names-length w s at (suc n) = ap suc (names-length w s (at + w) n)
 
 -- how far an entry and its names reach: the names start six bytes in
 pub record Stands (s : List ℕ) (at count n : ℕ) : Type 0 where
@@ -62,7 +58,7 @@ stands s at j n h =
     let e : n₄ ≡ n = cc in
     let q : n₁ + countBytes ≡ at + 6 = omega arith in
     let x : namesAt nameBytes s (n₁ + countBytes) count ≡ j .list = cc in
-    let y : length (j .list) ≡ count = sym (ap length x) ∙ names-length nameBytes s (n₁ + countBytes) count in
+    let y : length (j .list) ≡ count = sym (ap length x) ∙ length-namesAt nameBytes s (n₁ + countBytes) count in
     (rw (y, ← q) (sym x), record { most = omega arith; names = omega arith; from = omega arith; within = omega arith })
 
 -- WHAT A SCAN SAYS OF THE ENTRY
@@ -94,7 +90,7 @@ pub scan-job : {s : List ℕ} {at : ℕ} {r : Scan} {name count class grower n :
     → r ≡ Scan.Fields name count class grower n → Scanned s at name count class grower n
 scan-job {s} {at} {r} {name} {count} {class} {grower} {n} e h =
     let j = scanned-job s at name count class grower n (decode s at) refl (sym e ∙ h) in
-    record { entry = j; reach = rw names-length at (stands s at _ n j .1) }
+    record { entry = j; reach = rw length-namesAt at (stands s at _ n j .1) }
 
 pub scan-end : (s : List ℕ) (at : ℕ) {r : Scan} → r ≡ scanOf (decode s at) → r ≡ Scan.End → decode s at ≡ end
 scan-end s at e h = go (decode s at) (sym e ∙ h)

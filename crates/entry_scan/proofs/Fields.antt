@@ -10,7 +10,7 @@ use lib.Dec.{ltb, leb, eqb, eqb·suc-zero}
 use borrow.Author.Tests.{leb-true}
 use Rattle.basics.specs.Limits.{mostNames, mostClass, mostGrower}
 use Rattle.basics.specs.Base.{pick}
-use Rattle.basics.specs.Laws.{never}
+use Rattle.basics.specs.Laws.{never, and-right}
 use Rattle.sheet_format.specs.Number.{numberAt}
 use Rattle.sheet_format.specs.Job.{countBytes, classBytes, growerBytes}
 use Rattle.sheet_format.specs.Decode.{cut, offLimits, mapAt, nameAt, limitedAt, listAt, then, ifBit, Decoded, job}
@@ -43,10 +43,6 @@ pub got : (b : Bool) (x : Field) (c a v n : ℕ) → pick b x (Refused c a) ≡ 
 got true x c a v n h = (refl, h)
 got false x c a v n h = never (cc)
 
-second : (a b : Bool) → (a && b) ≡ true → b ≡ true
-second true b h = h
-second false b h = never (cc)
-
 -- the offset past a map byte
 pub map-next : (s : List ℕ) (at v n : ℕ) → mapAt s at ≡ Got v n → n ≡ at + 1
 unfolding mapAt
@@ -76,7 +72,7 @@ limited-got w most s at v n h =
     let l = got (leb 1 x && leb x most) _ _ _ _ _ (g .1) in
     let y = l .1 in
     let e : x ≡ v = cc in
-    let b = leb-true x most (second (leb 1 x) _ (l .0)) in
+    let b = leb-true x most (and-right (leb 1 x) _ (l .0)) in
     (rw (g .0) y, omega arith)
 
 -- by its bit a field was left out or read

@@ -1,26 +1,23 @@
--- An add in one go is its post and its steps, for ALL tables; it leaves an admitted worker admitted, and it never
--- answers that it goes on. Follows docs/RULES.md, "Whole calls". Assumes nothing.
+-- An add in one go is its post and its steps, for ALL tables; it leaves an admitted worker admitted. Follows
+-- docs/RULES.md, "Whole calls". Assumes nothing.
 use mathlib.Core.Path.{_≡_, refl, sym, ap, _∙_}
 use mathlib.Core.Bool.{Bool, true, false}
 use Prim.Native.Nat.{ℕ, _+_, _*_}
 use native.Mathlib.Omega.{arith}
-use lib.Dec.{ltb}
-use borrow.Author.Tests.{ltb-true}
 use Rattle.basics.specs.Base.{pick}
-use Rattle.basics.specs.Laws.{pick-by}
-use Rattle.terms.specs.Terms.{Arguments, listed, argumentsWrong, wrongSizes, noSuchWorker, halfDone, wrongArguments}
+use Rattle.terms.specs.Terms.{Arguments, listed, argumentsWrong, halfDone, wrongArguments}
 use Rattle.terms.specs.Terms.{damaged}
 use Rattle.terms.specs.Runs.{Outcome, outcome}
 use Rattle.terms.specs.declared.Sizes.{Sizes}
 use Rattle.terms.specs.declared.Answer.the-variants.{Posted, Refused}
-use Rattle.words.specs.Layout.{Tables, view, none, HELD, LOOKING, sizesFit}
-use Rattle.words.specs.Words.{countersOk, ownOk, admitted, refusal, judgedAdd, addingWorker, posted, addWords}
+use Rattle.words.specs.Layout.{Tables, view, none, HELD, LOOKING}
+use Rattle.words.specs.Words.{countersOk, admitted, refusal, judgedAdd, addingWorker, posted, addWords}
 use Rattle.whole_words.specs.Whole.{andThen, stepsOf, wholeAdd}
 use Rattle.fused_words.specs.FusedWorker.{Admitted, isIdle, holdOf, withWorker, addWorker}
 use Rattle.fused_words.specs.FusedAdd.{lookUps, lookIn, addIn, addIfIdle}
 use Rattle.fused_laws.specs.Posts.{admitted-as, admitted-each, admitted-map, add-posted}
 use Rattle.fused_add_laws.specs.Listed.{right}
-use Rattle.fused_add_laws.specs.Halfway.{Told, refused, Run, run-on, run-ends}
+use Rattle.fused_add_laws.specs.Halfway.{Run, run-on, run-ends}
 use Rattle.fused_add_laws.specs.Looks.{looked-run}
 
 -- ---- the add of an admitted worker
@@ -30,7 +27,7 @@ module _ (s : Sizes) (t : Tables) (w : ℕ) (a : Arguments) (A : Admitted s t w)
   then o = andThen (o .answer) (o .state) (stepsOf (2 * a .count + 2) s w)
 
   turned-away : (n : ℕ) → Run s w (outcome (Refused n 0) t) (outcome (Refused n 0) t)
-  turned-away n = run-ends (Refused n 0) t refl A (refused n 0)
+  turned-away n = run-ends (Refused n 0) t refl A
 
   after-post : (idle wrong sound : Bool) → argumentsWrong a ≡ wrong → countersOk s (view t) ≡ sound
       → Run s w
@@ -78,19 +75,3 @@ whole-add s t w a =
     H n =
         let o = posted n t w (addingWorker (view t .worker HELD w) a) in
         andThen (o .answer) (o .state) (stepsOf (2 * a .count + 2) s w)
-
--- ---- what it answers: that it ended, or a refusal
-pub add-answers : (s : Sizes) (t : Tables) (w : ℕ) (a : Arguments) → Told (wholeAdd s t w a .answer)
-unfolding admitted
-add-answers s t w a =
-    rw (whole-add s t w a)
-    (pick-by Q (sizesFit s t)
-    (λ e. pick-by Q (ltb w (s .workers))
-    (λ f. pick-by Q (ownOk s (view t) w)
-    (λ g. add-run s t w a (record { sizes = e; worker = ltb-true w (s .workers) f; own = g }) .told)
-    (λ _. refused damaged 0))
-    (λ _. refused noSuchWorker 0))
-    (λ _. refused wrongSizes 0))
-  where
-    Q : Outcome Tables → Type 0
-    Q o = Told (o .answer)

@@ -9,7 +9,6 @@ use Rattle.terms.specs.Terms.{Arguments}
 use Rattle.terms.specs.Runs.{Outcome, outcome}
 use Rattle.terms.specs.declared.Sizes.{Sizes}
 use Rattle.terms.specs.declared.Answer.{Answer}
-use Rattle.terms.specs.declared.Answer.the-variants.{Ended, Refused}
 use Rattle.words.specs.Layout.{Tables, view, IDLE, NOTIFYING, bareWorker, sizesFit}
 use Rattle.words.specs.Words.{placeOk, countersOk, answerOf}
 use Rattle.words.specs.declared.Plan.{Plan}
@@ -22,24 +21,17 @@ use Rattle.fused_laws.specs.Steps.{worker-ok, step-by-record}
 use Rattle.fused_laws.specs.Calls.{bare-ok, add-whole, add-ok}
 use Rattle.fused_add_laws.specs.Listed.{Right}
 
--- ---- how a call run whole ends: never on the way
-pub data Told : Answer → Type 0 where
-  ended : Told Ended
-  refused : (n i : ℕ) → Told (Refused n i)
-
--- a run o of worker w is r, which leaves the worker's own words sound
+-- ---- how a call run whole ends: a run o of worker w is r, which leaves the worker's own words sound
 pub record Run (s : Sizes) (w : ℕ) (o r : Outcome Tables) : Type 0 where
   pub same : o ≡ r
   pub admitted : Admitted s (r .state) w
-  pub told : Told (r .answer)
 
 pub run-on : {s : Sizes} {w : ℕ} {o q r : Outcome Tables} → o ≡ q → Run s w q r → Run s w o r
-run-on e R = record { same = e ∙ R .same; admitted = R .admitted; told = R .told }
+run-on e R = record { same = e ∙ R .same; admitted = R .admitted }
 
 pub run-ends : {s : Sizes} {w : ℕ} {o : Outcome Tables} (x : Answer) (t : Tables) → o ≡ outcome x t → Admitted s t w
-    → Told x
     → Run s w o (outcome x t)
-run-ends x t e A T = record { same = e; admitted = A; told = T }
+run-ends x t e A = record { same = e; admitted = A }
 
 -- ---- tables over which a worker that holds `held` may be half way through an add
 pub record Open (s : Sizes) (held : ℕ) (t : Tables) : Type 0 where

@@ -27,7 +27,7 @@ use Rattle.fused_laws.specs.Calls.{link-plan}
 use Rattle.fused_add_laws.specs.FindStable.{find-below}
 use Rattle.fused_add_laws.specs.Listed.{Right, Rest, rest-more, rest-first, rest-next, first-found}
 use Rattle.fused_add_laws.specs.Stage.{Stage, stage-same, first-same, after-same}
-use Rattle.fused_add_laws.specs.Halfway.{refused, Run, run-on, run-ends}
+use Rattle.fused_add_laws.specs.Halfway.{Run, run-on, run-ends}
 use Rattle.fused_add_laws.specs.LinkPlans.{LinkPlan, tallied, first, after, stopped, link-plans}
 use Rattle.fused_add_laws.specs.Linking.{linkWords, linking-stays, linking-steps}
 use Rattle.fused_add_laws.specs.Settling.{settle-run}
@@ -81,7 +81,6 @@ module _ (s : Sizes) (v : View) (w : ℕ) (known : w < s .workers) (a : Argument
       after-plan x (Refuse d) stopped =
           run-ends (Refused damaged 0) _ refl
           (linking-stays s v w known a fine held hold more arcs u S k i (omega arith) (omega arith))
-          (refused damaged 0)
 
       link-run : Ends (suc n) u k i (linkBy plan u i k next)
       link-run =

@@ -32,7 +32,7 @@ use Rattle.fused_laws.specs.Posts.{hold-ok}
 use Rattle.fused_laws.specs.Calls.{look-plan, enter-plan}
 use Rattle.fused_add_laws.specs.Listed.{Right, Rest, rest-all, rest-more, rest-first, rest-next}
 use Rattle.fused_add_laws.specs.Entered.{entered-stage}
-use Rattle.fused_add_laws.specs.Halfway.{refused, Run, run-on, run-ends, Open, idle-admitted, add-admitted}
+use Rattle.fused_add_laws.specs.Halfway.{Run, run-on, run-ends, Open, idle-admitted, add-admitted}
 use Rattle.fused_add_laws.specs.Halfway.{add-step}
 use Rattle.fused_add_laws.specs.Links.{links-run}
 
@@ -83,7 +83,7 @@ module _ (s : Sizes) (t : Tables) (w : ℕ) (A : Admitted s t w) (a : Arguments)
         (settleIn s w a (holdOf t w) (v .made) (v .reserved)
         (links s (v .made) (v .reserved) (jobsFound s v (listed a)) 0 (enteredTables s t a) 0)))
     unfolding storedBy
-    room true e = run-ends (Refused tablesFull 0) _ refl idle (refused tablesFull 0)
+    room true e = run-ends (Refused tablesFull 0) _ refl idle
     room false e =
         let few = leb-false (s .jobs) (v .made)
         (or-left (leb (s .jobs) (v .made)) (ltb (s .arcs) (v .reserved + a .count)) e) in
@@ -100,9 +100,9 @@ module _ (s : Sizes) (t : Tables) (w : ℕ) (A : Admitted s t w) (a : Arguments)
         (recordBy (planEnter s (view t) (a .name) (a .count) f) (words (a .count)))) (stepsOf n s w))
         (enterIn s t w a f)
     unfolding planEnter enterIn storedBy
-    after-plan (At j) = run-ends (Refused namePresent 0) _ refl idle (refused namePresent 0)
+    after-plan (At j) = run-ends (Refused namePresent 0) _ refl idle
     after-plan Missing = room full refl
-    after-plan Damaged = run-ends (Refused damaged 0) _ refl (stays (a .count) (omega arith)) (refused damaged 0)
+    after-plan Damaged = run-ends (Refused damaged 0) _ refl (stays (a .count) (omega arith))
 
     enter-run : Run s w (stepsOf (suc n) s w (withWorker t w (words (a .count))))
         (enterIn s t w a (findOf s (view t) (a .name)))
@@ -143,9 +143,9 @@ module _ (s : Sizes) (t : Tables) (w : ℕ) (A : Admitted s t w) (a : Arguments)
       go (At j) z rest =
           run-on (ap (λ m. stepsOf n s w (withWorker t w (words m))) (add-one i))
           (rest (ap (λ f. orOn f i (lookUps s (view t) l (suc i))) z))
-      go Missing z rest = run-ends (Refused unknownName i) _ refl idle (refused unknownName i)
+      go Missing z rest = run-ends (Refused unknownName i) _ refl idle
       go Damaged z rest =
-          run-ends (Refused damaged 0) _ refl (stays i (omega (arith, rest-more R))) (refused damaged 0)
+          run-ends (Refused damaged 0) _ refl (stays i (omega (arith, rest-more R)))
 
   pub looked-run : (n : ℕ) → a .count + (a .count + 2) ≤ n
       → Run s w (stepsOf n s w (withWorker t w (addWorker LOOKING (holdOf t w) a 0 0 none none)))

@@ -28,7 +28,7 @@ use Rattle.fused_laws.specs.Kept.{entersNone, stored-fits, stored-made, stored-
 use Rattle.fused_laws.specs.Calls.{settle-plan}
 use Rattle.fused_add_laws.specs.Listed.{Right}
 use Rattle.fused_add_laws.specs.Stage.{Stage}
-use Rattle.fused_add_laws.specs.Halfway.{ended, refused, Run, run-on, run-ends, Open, idle-admitted}
+use Rattle.fused_add_laws.specs.Halfway.{Run, run-on, run-ends, Open, idle-admitted}
 use Rattle.fused_add_laws.specs.Linking.{linkWords, linking-open, linking-stays, linking-steps, own-place}
 
 -- a plan that enters nothing keeps the tables open to the add
@@ -79,15 +79,12 @@ module _ (s : Sizes) (v : View) (w : ℕ) (known : w < s .workers) (a : Argument
       run-ends Ended _ refl
       (idle-admitted s w known held (queuedTables u (v .made) c e)
       (open-stored s held u (SettleQueue (v .made) c e) r refl O))
-      ended
   after-plan n true Unseated =
       run-ends (Refused damaged 0) _ refl
       (linking-stays s v w known a fine held hold more arcs u S k (a .count) hk (omega arith))
-      (refused damaged 0)
   after-plan n false seating =
       run-ends Ended _ refl
       (idle-admitted s w known held (settledTables u (v .made) c) (open-stored s held u (Settle (v .made) c) r refl O))
-      ended
 
   pub settle-run : (n : ℕ)
       → Run s w (stepsOf (suc n) s w (withWorker u w (linkWords v a held k (a .count))))

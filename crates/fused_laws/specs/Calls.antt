@@ -1,15 +1,14 @@
 -- The records that an add and a finish in one go would have between their steps: they are sound, and the plan of each.
 -- Follows docs/RULES.md, "Steps". Assumes nothing.
-use mathlib.Core.Path.{_≡_, refl, ap, _∙_}
+use mathlib.Core.Path.{_≡_, refl, _∙_}
 use mathlib.Core.Bool.{true}
-use mathlib.Core.List.{List, [], _∷_, _++_}
-use Prim.Native.Nat.{ℕ, zero, suc, _+_, _≤_, _<_}
+use Prim.Native.Nat.{ℕ, _+_, _≤_, _<_}
 use native.Mathlib.Omega.{arith}
 use lib.ListN.{length, getD, take}
 use borrow.Author.Tests.{lt-ltb, le-ltb, le-leb}
 use Rattle.basics.specs.Limits.{mostNames, mostClass, mostGrower}
 use Rattle.basics.specs.Base.{prefix}
-use Rattle.basics.specs.Laws.{length-prefix}
+use Rattle.basics.specs.Laws.{length-prefix, getD-prefix, getD-past}
 use Rattle.terms.specs.Terms.{Arguments, listed}
 use Rattle.terms.specs.declared.Sizes.{Sizes}
 use Rattle.words.specs.Layout.{View, workerShape, NAMES, LOOKING, LINKING, MARKING, NOTIFYING, bareWorker}
@@ -23,9 +22,6 @@ module _ (s : Sizes) (v : View) where
       → recordOk s v (bareWorker phase held) ≡ true
   bare-ok phase held h e = rw (le-leb phase NOTIFYING h, e)
 
-  pub notify-ok : (x : ℕ) → recordOk s v (notifyWorker x) ≡ placeOk x (v .reserved) (s .arcs)
-  notify-ok x = refl
-
   pub mark-plan : (held : ℕ) → recordPlan s v (bareWorker MARKING held) ≡ planMark s v held
   unfolding recordPlan
   mark-plan held = refl
@@ -38,19 +34,6 @@ module _ (s : Sizes) (v : View) where
 pub add-whole : (phase held : ℕ) (a : Arguments) (k i j x : ℕ)
     → length (addWorker phase held a k i j x) ≡ workerShape .width
 add-whole phase held a k i j x = omega (arith, length-prefix mostNames (listed a))
-
-getD-past : (l k : List ℕ) (m : ℕ) → getD (l ++ k) (length l + m) 0 ≡ getD k m 0
-getD-past [] k m = ap (λ z. getD k z 0) {x = 0 + m} {y = m} (omega arith)
-getD-past (x ∷ l) k m =
-    ap (λ z. getD (x ∷ (l ++ k)) z 0) {x = suc (length l) + m} {y = suc (length l + m)} (omega arith) ∙ getD-past l k m
-
-getD-prefix : (n : ℕ) (r : List ℕ) (q : ℕ) → q < n → getD (prefix n r) q 0 ≡ getD r q 0
-unfolding prefix
-getD-prefix zero r q h = absurd (omega arith)
-getD-prefix (suc n) [] zero h = refl
-getD-prefix (suc n) [] (suc q) h = getD-prefix n [] q (omega arith)
-getD-prefix (suc n) (x ∷ r) zero h = refl
-getD-prefix (suc n) (x ∷ r) (suc q) h = getD-prefix n r q (omega arith)
 
 module _ (s : Sizes) (v : View) (held : ℕ) (a : Arguments) (k i j x : ℕ) where
   -- the name at the place

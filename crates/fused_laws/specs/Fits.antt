@@ -6,12 +6,12 @@ use Prim.Native.Nat.{ℕ, _<_}
 use native.Mathlib.Omega.{arith}
 use lib.ListN.{length, length-set}
 use lib.Seq.{sets, length-sets}
+use Rattle.basics.specs.Stores.{sets-off}
 use Rattle.terms.specs.declared.Sizes.{Sizes}
 use Rattle.words.specs.Columns.{Shape, place, header, put, putHeader}
 use Rattle.words.specs.Layout.{Tables, workerShape}
 use Rattle.words.specs.Layout.{JOBS, ARCS, BITS, WORKERS, MADE, longEnough, sizesKept, sizesFit}
 use Rattle.fused_words.specs.FusedWorker.{withWorker}
-use Rattle.fused_laws.specs.Records.{sets-off}
 
 -- ---- tables of the same lengths that keep the same sizes
 pub record Alike (t u : Tables) : Type 0 where

@@ -1,23 +1,15 @@
 -- The first names of a list, one at a time: whether a name is among them, and whether one comes again. Assumes nothing.
-use mathlib.Core.Path.{_≡_, refl, ap, sym, _∙_}
+use mathlib.Core.Path.{_≡_, ap, sym, _∙_}
 use mathlib.Core.Bool.{true, false}
 use mathlib.Core.List.{List, [], _∷_}
-use Prim.Native.Nat.{ℕ, zero, suc, _+_, _≤_, _<_}
+use Prim.Native.Nat.{ℕ, _+_, _≤_, _<_}
 use native.Mathlib.Omega.{arith}
 use native.Mathlib.Numerals.{add-one}
 use lib.ListN.{length, getD, drop}
 use lib.Seq.{drop-cons, drop-length}
 use borrow.Author.Tests.{eq-eqb, ne-eqb}
 use Rattle.basics.specs.Base.{contains, repeats, prefix}
-use Rattle.basics.specs.Laws.{length-prefix}
-
-pub getD-prefix : (n : ℕ) (l : List ℕ) (i : ℕ) → i < n → getD (prefix n l) i 0 ≡ getD l i 0
-unfolding prefix
-getD-prefix zero l i h = absurd (omega arith)
-getD-prefix (suc n) [] zero h = refl
-getD-prefix (suc n) [] (suc i) h = getD-prefix n [] i (omega arith)
-getD-prefix (suc n) (x ∷ l) zero h = refl
-getD-prefix (suc n) (x ∷ l) (suc i) h = getD-prefix n l i (omega arith)
+use Rattle.basics.specs.Laws.{length-prefix, getD-prefix}
 
 module _ (count : ℕ) (names : List ℕ) (i : ℕ) where
   pub next : i < count → drop i (prefix count names) ≡ getD names i 0 ∷ drop (i + 1) (prefix count names)

@@ -9,6 +9,7 @@ use native.Mathlib.Omega.{arith}
 use lib.Dec.{eqb, leb, ltb}
 use lib.ListN.{length}
 use Rattle.basics.specs.Base.{pick}
+use Rattle.basics.specs.Laws.{never}
 use Rattle.minutes.specs.Minutes.{minutesIn}
 use Rattle.terms.specs.Terms.{damaged, wrongSizes, Label, unexecuted, executing, finished, labelNumber, Arguments}
 use Rattle.terms.specs.declared.Sizes.{Sizes}
@@ -87,9 +88,6 @@ graph-counts table s words =
     given fit made many formed =
         let row = pick many (refused wrongSizes) (pick formed (counted table rows) (refused damaged)) in
         pick fit (pick made row (refused damaged)) (refused wrongSizes)
-
-    never : {A : Type 0} → _≡_ {A = ℕ} 0 1 → A
-    never e = absurd (omega arith)
 
     by : (fit made many formed : Bool) → given fit made many formed .number ≡ served
         → UnderLabels table words (given fit made many formed)

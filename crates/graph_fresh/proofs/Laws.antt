@@ -1,5 +1,5 @@
 -- Runs of equal records: one record of what is left to store, and records of equal words. Assumes nothing.
-use mathlib.Core.Path.{_≡_, refl}
+use mathlib.Core.Path.{_≡_}
 use mathlib.Core.List.{List}
 use Prim.Native.Nat.{ℕ, zero, suc, _+_, _*_, _-_, _≤_, _<_}
 use native.Mathlib.Omega.{arith}
@@ -7,9 +7,9 @@ use native.Mathlib.Nat.{add-comm, mul-suc}
 use native.Mathlib.Numerals.{add-one}
 use lib.ListN.{length, replicate, replicate-append-replicate}
 use lib.Seq.{sets}
+use Rattle.basics.specs.Stores.{sets-append}
 use Rattle.words.specs.Columns.{Shape, place}
 use Rattle.words.specs.Layout.{repeated}
-use Rattle.graph_records.proofs.Laws.{sets-append}
 
 module _ (s : Shape) (r : List ℕ) (whole : length r ≡ s .width) where
   pub record-one : (l : List ℕ) (i n : ℕ) → i < n

@@ -7,24 +7,16 @@ use native.Mathlib.Numerals.{add-one}
 use lib.ListN.{length, getD, set, drop, replicate}
 use lib.Seq.{sets, drop-cons}
 use Rattle.basics.specs.Base.{prefix}
-use Rattle.basics.specs.Laws.{length-prefix}
+use Rattle.basics.specs.Laws.{length-prefix, getD-prefix}
+use Rattle.basics.specs.Stores.{sets-append}
 use Rattle.words.specs.Columns.{place}
 use Rattle.words.specs.Layout.{workerShape, PHASE, TALLY, NAMES}
-use Rattle.graph_records.proofs.Laws.{sets-append}
 
 -- ---- the names of a list, and 0 past them
 prefix-none : (n : ℕ) → prefix n [] ≡ replicate n 0
 unfolding prefix
 prefix-none zero = refl
 prefix-none (suc n) = ap (λ (l : List ℕ). 0 ∷ l) (prefix-none n)
-
-prefix-at : (n : ℕ) (l : List ℕ) (i : ℕ) → i < n → getD (prefix n l) i 0 ≡ getD l i 0
-unfolding prefix
-prefix-at zero l i h = absurd (omega arith)
-prefix-at (suc n) [] zero h = refl
-prefix-at (suc n) [] (suc i) h = prefix-at n [] i (omega arith)
-prefix-at (suc n) (x ∷ l) zero h = refl
-prefix-at (suc n) (x ∷ l) (suc i) h = prefix-at n l i (omega arith)
 
 pub names-one : (n d : ℕ) (names l : List ℕ) (at i : ℕ) → i < n → i < d
     → sets (set l (at + i) (getD names i 0)) (at + (i + 1)) (drop (i + 1) (prefix n (prefix d names)))
@@ -34,8 +26,8 @@ names-one n d names l at i a b =
     let q : i < length (prefix n (prefix d names)) = rw (length-prefix n (prefix d names)) a in
     rw (
       drop-cons (prefix n (prefix d names)) i 0 q,
-      prefix-at n (prefix d names) i a,
-      prefix-at d names i b,
+      getD-prefix n (prefix d names) i a,
+      getD-prefix d names i b,
       z,
       add-one i,
     )

@@ -1,21 +1,17 @@
--- Runs of stores: one after another, past the table's end, and into a record. Assumes nothing.
-use mathlib.Core.Path.{_≡_, refl, sym, ap, _∙_}
-use mathlib.Core.List.{List, [], _∷_, _++_}
+-- Runs of stores: fields one after another, past the table's end, and into a record. Assumes nothing.
+use mathlib.Core.Path.{_≡_, refl, sym, _∙_}
+use mathlib.Core.List.{List, [], _∷_}
 use Prim.Native.Nat.{ℕ, zero, suc, _+_, _-_, _≤_, _<_}
 use native.Mathlib.Omega.{arith}
 use native.Mathlib.Numerals.{add-one}
 use lib.Dec.{lit<}
 use lib.ListN.{length, set, replicate, length-set}
-use lib.Seq.{sets, set-out, set-set, set-comm}
+use lib.Seq.{sets, set-out}
+use Rattle.basics.specs.Stores.{set-in}
 use Rattle.words.specs.Columns.{Shape, place, put}
 use Rattle.words.specs.Layout.{none, workerShape, PHASE, HELD, OWN-JOB, OWN-ARC, bareWorker}
 
--- ---- one run after another
-pub sets-append : (l vs ws : List ℕ) (i k : ℕ) → k ≡ i + length vs → sets (sets l i vs) k ws ≡ sets l i (vs ++ ws)
-sets-append l [] ws i k e = let z : k ≡ i = omega arith in rw z
-sets-append l (v ∷ vs) ws i k e = sets-append (set l i v) vs ws (suc i) k (omega arith)
-
--- a store before a run
+-- ---- a store before a run
 pub put-sets : (s : Shape) (l : List ℕ) (i k v : ℕ) (vs : List ℕ)
     → sets (put s l i k v) (place s i (k + 1)) vs ≡ sets l (place s i k) (v ∷ vs)
 unfolding put
@@ -51,20 +47,6 @@ pub fill-none : (l : List ℕ) (i e v : ℕ) → e ≤ i → l ≡ sets l i (rep
 fill-none l i e v h = let z : e - i ≡ 0 = omega arith in rw z
 
 -- ---- a store into a run
-set-before : (l vs : List ℕ) (i k v : ℕ) → i < k → set (sets l k vs) i v ≡ sets (set l i v) k vs
-set-before l [] i k v h = refl
-set-before l (w ∷ vs) i k v h =
-    set-before (set l k w) vs i (suc k) v (omega arith)
-    ∙ ap (λ (m : List ℕ). sets m (suc k) vs) (set-comm l k i w v λ e. omega arith)
-
-set-in : (l vs : List ℕ) (i k v : ℕ) → k < length vs → set (sets l i vs) (i + k) v ≡ sets l i (set vs k v)
-set-in l [] i k v h = absurd (omega arith)
-set-in l (x ∷ vs) i zero v h =
-    let z : i + 0 ≡ i = omega arith in
-    rw (z, set-before (set l i x) vs i (suc i) v (omega arith), set-set l i x v)
-set-in l (x ∷ vs) i (suc k) v h = let z : i + suc k ≡ suc i + k = omega arith in
-    rw z (set-in (set l i x) vs (suc i) k v (omega arith))
-
 put-in : (l vs : List ℕ) (w k v : ℕ) → k < length vs
     → put workerShape (sets l (place workerShape w 0) vs) w k v ≡ sets l (place workerShape w 0) (set vs k v)
 unfolding put

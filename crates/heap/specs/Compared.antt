@@ -11,7 +11,7 @@ use Rattle.basics.specs.Base.{pick}
 use Rattle.heap.specs.declared.Sifted.{Sifted}
 use Rattle.heap.specs.declared.Sifted.the-variants.{Rests, Astray}
 use Rattle.heap.specs.Sift.{above, left, right, siftUp, lesser, soundBelow, siftDown}
-use Rattle.heap.specs.Looked.{slotsUp, slotsDown, few-slots-up, few-slots-down}
+use Rattle.heap.specs.Looked.{slotsUp, slotsDown, few-slots-down}
 
 -- ---- the pairs that are compared while x moves from slot i
 module _ (rank : ℕ → ℕ) (sound : ℕ → Bool) (slot : ℕ → ℕ) where
@@ -40,8 +40,7 @@ module _ (rank : ℕ → ℕ) (sound : ℕ → Bool) (slot : ℕ → ℕ) where
       [])
       []
 
-  -- ---- they are no more than the slots that are looked at, so they are few: one a level on the way up, two on the
-  -- way down
+  -- ---- they are no more than the slots that are looked at: one a level on the way up, two on the way down
   pub fewer-up : (n x i : ℕ) → length (pairsUp n x i) ≤ length (slotsUp rank sound slot n (rank x) i)
   unfolding pairsUp slotsUp
   fewer-up zero x i = omega arith
@@ -81,9 +80,6 @@ module _ (rank : ℕ → ℕ) (sound : ℕ → Bool) (slot : ℕ → ℕ) where
       go true true true false h = omega arith
       go true true false true h = omega arith
       go true true false false h = omega arith
-
-  pub few-up : (n x i : ℕ) → length (pairsUp n x i) ≤ n
-  few-up n x i = omega (arith, fewer-up n x i, few-slots-up rank sound slot n (rank x) i)
 
   pub few-down : (n m x i : ℕ) → length (pairsDown n m x i) ≤ 2 * n
   few-down n m x i = omega (arith, fewer-down n m x i, few-slots-down rank sound slot n m (rank x) i)

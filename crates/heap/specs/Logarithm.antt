@@ -1,6 +1,6 @@
--- The slots that are looked at, and with them the pairs that are compared, grow with the logarithm of the filled slots,
--- for ALL slots: with below 2 to the power k + 1 slots filled there are at most k on the way up from the last, and 2 k
--- on the way down from the first. Assumes nothing.
+-- The slots that are looked at grow with the logarithm of the filled slots, for ALL slots: with below 2 to the power
+-- k + 1 slots filled there are at most k on the way up from the last, and 2 k on the way down from the first. Assumes
+-- nothing.
 use mathlib.Core.Bool.{Bool}
 use Prim.Native.Nat.{ℕ, zero, suc, _+_, _*_, _^_, _≤_, _<_}
 use native.Mathlib.Omega.{arith}
@@ -9,7 +9,6 @@ use borrow.Author.Tests.{eq-eqb, le-ltb}
 use Rattle.heap.specs.Sift.{above, left, lesser}
 use Rattle.heap.specs.Heap.{below-lesser, deeper}
 use Rattle.heap.specs.Looked.{slotsUp, slotsDown, level-up, level-down}
-use Rattle.heap.specs.Compared.{pairsUp, pairsDown, fewer-up, fewer-down}
 
 module _ (rank : ℕ → ℕ) (sound : ℕ → Bool) (slot : ℕ → ℕ) where
   pub log-slots-up : (n k r i : ℕ) → i + 1 < 2 ^ suc k → length (slotsUp rank sound slot n r i) ≤ k
@@ -27,9 +26,3 @@ module _ (rank : ℕ → ℕ) (sound : ℕ → Bool) (slot : ℕ → ℕ) where
       level-down rank sound slot n m r i k
       (log-slots-down n k m r (lesser rank sound slot m i)
       (deeper i (lesser rank sound slot m i) (suc k) m (below-lesser rank sound slot m i) h))
-
-  pub log-up : (n k x i : ℕ) → i + 1 < 2 ^ suc k → length (pairsUp rank sound slot n x i) ≤ k
-  log-up n k x i h = omega (arith, fewer-up rank sound slot n x i, log-slots-up n k (rank x) i h)
-
-  pub log-down : (n k m x i : ℕ) → m < (i + 1) * 2 ^ suc k → length (pairsDown rank sound slot n m x i) ≤ 2 * k
-  log-down n k m x i h = omega (arith, fewer-down rank sound slot n m x i, log-slots-down n k m (rank x) i h)

@@ -10,7 +10,7 @@ use lib.Dec.{ltb, leb, eqb}
 use lib.ListN.{length, length-append}
 use borrow.Author.Tests.{eqb-false, ltb-true, ltb-false, lt-leb, le-leb, leb-false}
 use Rattle.basics.specs.Base.{pick}
-use Rattle.basics.specs.Laws.{never, pick-by}
+use Rattle.basics.specs.Laws.{pick-by}
 use Rattle.heap.specs.declared.Sifted.{Sifted}
 use Rattle.heap.specs.declared.Sifted.the-variants.{Rests, Astray}
 use Rattle.heap.specs.Sift.{above, left, right, siftUp, lesser, soundBelow, siftDown}
@@ -19,14 +19,6 @@ use Rattle.heap.specs.Sift.{above, left, right, siftUp, lesser, soundBel
 abbrev pub rests : Sifted → Bool
 rests (Rests k) = true
 rests Astray = false
-
-pub at-rest : (s : Sifted) → rests s ≡ true → (k : ℕ) × (s ≡ Rests k)
-at-rest (Rests k) e = (k, refl)
-at-rest Astray e = never cc
-
-pub astray : (s : Sifted) → rests s ≡ false → s ≡ Astray
-astray (Rests k) e = cc
-astray Astray e = refl
 
 module _ (sound : ℕ → Bool) where
   unfoldable pub eachSound : List ℕ → Bool

@@ -2,7 +2,7 @@
 -- ALL slots. Assumes nothing.
 use mathlib.Core.Path.{_≡_, refl}
 use mathlib.Core.Bool.{Bool, true, false}
-use Prim.Native.Nat.{ℕ, zero, suc, _^_, _<_}
+use Prim.Native.Nat.{ℕ, zero, suc}
 use native.Mathlib.Omega.{arith}
 use lib.Dec.{ltb, eqb}
 use borrow.Author.Tests.{eq-eqb, eqb-false, ltb-true}
@@ -104,7 +104,3 @@ module _ (rank : ℕ → ℕ) (sound : ℕ → Bool) (slot : ℕ → ℕ) where
 pub way-up : (rank : ℕ → ℕ) (sound : ℕ → Bool) (slot : ℕ → ℕ) (n r i k : ℕ) → siftUp rank sound slot n r i ≡ Rests k
     → WayUp (λ j. sound j ≡ true) n i k
 way-up rank sound slot n r i k e = leads-up (λ j. sound j ≡ true) n (up-leads rank sound slot n r i k e)
-
-pub way-down : (rank : ℕ → ℕ) (sound : ℕ → Bool) (slot : ℕ → ℕ) (n r m k : ℕ) → m < 2 ^ n
-    → siftDown rank sound slot n m r 0 ≡ Rests k → WayFirst (λ j. sound j ≡ true) n k
-way-down rank sound slot n r m k h e = leads-first (λ j. sound j ≡ true) n (down-leads rank sound slot n m r 0 k e)

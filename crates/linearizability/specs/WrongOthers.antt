@@ -6,15 +6,16 @@ use mathlib.Core.Option.{Option, none, some}
 use Prim.Native.Nat.{ℕ, zero, suc, _-_, _<_}
 use native.Mathlib.Omega.{arith}
 use lib.Dec.{ltb, eqb, eqb·suc-zero}
-use lib.ListN.{length, getD, set, take}
+use lib.ListN.{length, getD, set}
 use Rattle.basics.specs.Base.{pick, update, contains}
 use Rattle.terms.specs.Terms.{labelNumber, Arguments, listed, unknownName, tablesFull, finishOf}
 use Rattle.terms.specs.Runs.{Item, postAdd, postFinish, step, get, Outcome, outcome, events}
+use Rattle.terms.specs.Order.{firstBy, without}
 use Rattle.terms.specs.Starred.{S, sizes, job, steps, add, added, answersOf, hands}
 use Rattle.terms.specs.declared.Answer.{Answer}
-use Rattle.terms.specs.declared.Answer.the-variants.{Posted, Going, Ended, NoneReady, Handed, Refused}
+use Rattle.terms.specs.declared.Answer.the-variants.{Posted, Going, Ended, Refused}
 use Rattle.rules.specs.Rules.{Graph, Job, empty, Call, idle, looking, linking, marking, notifying, Found, at, missing}
-use Rattle.rules.specs.Rules.{find, withCall, handedOut, perform, handOut, withWorkers, withJobs}
+use Rattle.rules.specs.Rules.{find, withCall, perform, withWorkers, withJobs}
 use Rattle.rules.specs.Rules as rules
 use Rattle.rules.specs.Observed.{seen}
 use Rattle.sequential_model.specs.Book.{entry}
@@ -24,20 +25,15 @@ use Rattle.linearizability.specs.Wrong.{System, posts, looks, links, mar
 use Rattle.linearizability.specs.Wrong.{answers, does}
 use Rattle.linearizability.specs.Wrong.{when-ended, follows, shows, turns-away, running, booking}
 use Rattle.linearizability.specs.Wrong.{apart, answerAt, endCode, fed, ends-at, handed-right, by-fed}
+use Rattle.linearizability.specs.WrongOrders.{taking, leavesTaken}
 
 -- job 1, and 4 needing it; worker 0 holds job 1, has posted its finish and marks it
 abbrev pub finishing : List Item
 finishing = add S 0 1 [] 2 ++ (add S 0 4 (1 ∷ []) 4 ++ (get S 0 ∷ postFinish S 0 (finishOf 1) ∷ step S 0 ∷ []))
 
 -- ---- a get that takes the newest job
-abbrev pub newest : Graph → ℕ → List ℕ → Outcome Graph
-newest g w [] = outcome NoneReady g
-newest g w (x ∷ q) =
-    let j = getD (x ∷ q) (length q) 0 in
-    outcome (Handed (handOut g j)) (handedOut g w j (take (length q) (x ∷ q)))
-
 abbrev pub takesNewest : System
-takesNewest = system posts looks links marks notifies (λ g w. newest g w (g .queue))
+takesNewest = taking S (λ g. firstBy (λ j k. true) (g .queue)) without
 
 -- `answers`: of jobs 1 and 2 the get hands out 2; the book would take either
 pub takes-newest : Lacks takesNewest (add S 0 1 [] 2 ++ (add S 0 2 [] 2 ++ (get S 0 ∷ []))) answers
@@ -45,15 +41,8 @@ unfolding running
 takes-newest = apart (answerAt 6) refl
 
 -- ---- a get that leaves the job in the queue
-abbrev pub handedTwice : Graph → ℕ → List ℕ → Outcome Graph
-handedTwice g w [] = outcome NoneReady g
-handedTwice g w (j ∷ q) = outcome (Handed (handOut g j)) (handedOut g w j (j ∷ q))
-
-abbrev pub leavesQueued : System
-leavesQueued = system posts looks links marks notifies (λ g w. handedTwice g w (g .queue))
-
 -- `follows`: worker 1 is handed the job that worker 0 executes
-pub leaves-queued : Lacks leavesQueued (add S 0 1 [] 2 ++ (get S 0 ∷ get S 1 ∷ [])) follows
+pub leaves-queued : Lacks leavesTaken (add S 0 1 [] 2 ++ (get S 0 ∷ get S 1 ∷ [])) follows
 unfolding booking fed
 leaves-queued b f = apart labelNumber refl (handed-right (ends-at 2 (omega arith) f) .0 .unexecuted)
 

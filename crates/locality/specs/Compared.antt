@@ -1,7 +1,7 @@
--- "a get compares at most 64 pairs of jobs": which pairs a get compares, that they are few, and that what it answers
--- and leaves is the same by any other ranks that order those pairs alike, so that it compares no more. For all tables,
--- damaged ones too. Follows docs/RULES.md, "Steps". Assumes nothing.
-use mathlib.Core.Path.{_≡_, refl, ap, _∙_}
+-- "a get compares at most 64 pairs of jobs": which pairs a get compares, that they are few, and that the seat of
+-- the job that it takes is the same by any other ranks that order those pairs alike, so that it compares no more. For
+-- all tables, damaged ones too. Follows docs/RULES.md, "Steps". Assumes nothing.
+use mathlib.Core.Path.{_≡_, refl, ap}
 use mathlib.Core.Bool.{Bool, true, false, _&&_}
 use mathlib.Core.List.{List, [], map}
 use Prim.Native.Nat.{ℕ, _≤_}
@@ -14,13 +14,11 @@ use Rattle.heap.specs.Sift.{siftDown}
 use Rattle.heap.specs.declared.Sifted.{Sifted}
 use Rattle.heap.specs.Compared.{pairsDown, few-down, Alike, same-down}
 use Rattle.terms.specs.Terms.{wrongSizes, noSuchWorker, halfDone, damaged, alreadyHolding}
-use Rattle.terms.specs.Runs.{Outcome, outcome}
 use Rattle.terms.specs.declared.Sizes.{Sizes}
 use Rattle.words.specs.Layout.{none, CELL, PHASE, HELD, IDLE, Tables, View, view, sizesFit}
 use Rattle.words.specs.Index.{levels, rankOf, placeIn, waits, seated, firstPlace, lastSlot, lastPlace, firstSeatBy}
 use Rattle.words.specs.Index.{firstSeat}
-use Rattle.words.specs.Words.{countersOk, ownOk, admitted, takeFrom, planTake, planQueue, planGet, planGetOf, answerGet}
-use Rattle.words.specs.Words.{appliedGet, getWords}
+use Rattle.words.specs.Words.{countersOk, ownOk, admitted, takeFrom, planTake, planQueue, planGet, planGetOf}
 use Rattle.words.specs.declared.Seating.{Seating}
 use Rattle.words.specs.declared.Seating.the-variants.{Unseated}
 use Rattle.words.specs.declared.GetPlan.{GetPlan}
@@ -52,9 +50,6 @@ planAt index p = p
 -- a get by other ranks of places
 abbrev pub planBy : (ℕ → ℕ) → Sizes → Tables → ℕ → GetPlan
 planBy by s t w = planAt (reach s t w) (takeFrom (view t) (firstSeatBy by (view t)))
-
-abbrev pub getBy : (ℕ → ℕ) → Sizes → Tables → ℕ → Outcome Tables
-getBy by s t w = outcome (answerGet (planBy by s t w)) (appliedGet (planBy by s t w) t w)
 
 -- by THE ORDER of hand-outs it is the get
 pub plan-by-rank : (s : Sizes) (t : Tables) (w : ℕ) → planBy (rankOf (view t)) s t w ≡ planGetOf s t w
@@ -98,10 +93,6 @@ plan-by-rank s t w =
     go true true true true true false g = refl
     go true true true true true true false = refl
     go true true true true true true true = refl
-
-pub get-by-rank : (s : Sizes) (t : Tables) (w : ℕ) → getBy (rankOf (view t)) s t w ≡ getWords s t w
-unfolding getWords
-get-by-rank s t w = ap (λ p. outcome (answerGet p) (appliedGet p t w)) (plan-by-rank s t w)
 
 -- ---- the pairs that are compared
 -- of places, once the get comes to the index: the place in the last slot moves down from the first
@@ -166,19 +157,3 @@ first-same v by = go (waits v 0 && waits v (lastSlot v))
         → pick b (moved by) Unseated ≡ pick b (moved (rankOf v)) Unseated
     go true A = ap (λ r. seated r (firstPlace v) (lastSlot v)) (same-down (rankOf v) by _ _ levels _ _ 0 A)
     go false A = refl
-
--- no others tell what the get answers, nor what it leaves
-pub get-same : (s : Sizes) (t : Tables) (w : ℕ) (by : ℕ → ℕ) → Alike (rankOf (view t)) by (placesByGet s t w)
-    → getBy by s t w ≡ getWords s t w
-unfolding placesByGet
-get-same s t w by A =
-    ap (λ p. outcome (answerGet p) (appliedGet p t w)) (go (reach s t w) A) ∙ get-by-rank s t w
-  where
-    v : View
-    v = view t
-
-    go : (r : Reach) → Alike (rankOf v) by (atIndex r (comparedPlaces v))
-        → planAt r (takeFrom v (firstSeatBy by v)) ≡ planAt r (takeFrom v (firstSeat v))
-    go (early n) A = refl
-    go empty A = refl
-    go index A = ap (takeFrom v) (first-same v by A)

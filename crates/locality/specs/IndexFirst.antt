@@ -11,7 +11,7 @@ use Rattle.basics.specs.Laws.{never, pick-by}
 use Rattle.heap.specs.Sift.{siftDown}
 use Rattle.heap.specs.declared.Sifted.{Sifted}
 use Rattle.heap.specs.declared.Sifted.the-variants.{Rests, Astray}
-use Rattle.terms.specs.Terms.{withinLimits, damaged}
+use Rattle.terms.specs.Terms.{damaged}
 use Rattle.terms.specs.declared.Sizes.{Sizes}
 use Rattle.terms.specs.declared.HandOut.{HandOut}
 use Rattle.terms.specs.declared.Answer.the-variants.{NoneReady, Handed}
@@ -27,26 +27,28 @@ use Rattle.locality.specs.Parts.{parts}
 use Rattle.locality.specs.Compared.{Reach, early, empty, index, reach, planAt, plan-by-rank}
 
 -- ---- what a get knows where it has come to: the queue empty, or a job in it
-pub record Filled (s : Sizes) (v : View) : Type 0 where
-  pub limits : withinLimits s ≡ true
-  pub some : v .taken < v .put
-  pub fits : v .put ≤ s .jobs
+pub record Filled (s : Sizes) (t : Tables) (w : ℕ) : Type 0 where
+  pub sizes : sizesFit s t ≡ true
+  pub known : ltb w (s .workers) ≡ true
+  pub counters : countersOk s (view t) ≡ true
+  pub some : view t .taken < view t .put
+  pub fits : view t .put ≤ s .jobs
 
-abbrev pub Reached : Sizes → View → Reach → Type 0
-Reached s v (early n) = Unit {0}
-Reached s v empty = v .taken ≡ v .put
-Reached s v index = Filled s v
+abbrev pub Reached : Sizes → Tables → ℕ → Reach → Type 0
+Reached s t w (early n) = Unit {0}
+Reached s t w empty = view t .taken ≡ view t .put
+Reached s t w index = Filled s t w
 
-pub reached : (s : Sizes) (t : Tables) (w : ℕ) → Reached s (view t) (reach s t w)
+pub reached : (s : Sizes) (t : Tables) (w : ℕ) → Reached s t w (reach s t w)
 unfolding reach admitted
 reached s t w =
     pick-by R (sizesFit s t)
     (λ a. pick-by R (ltb w (s .workers))
-    (λ _. pick-by R (ownOk s v w)
+    (λ k. pick-by R (ownOk s v w)
     (λ _. pick-by R (eqb (v .worker PHASE w) IDLE)
     (λ _. pick-by R (eqb (v .worker HELD w) none)
     (λ _. pick-by R (countersOk s v && leb (v .taken) (v .put) && leb (v .put) (s .jobs))
-    (λ b. pick-by R (eqb (v .taken) (v .put)) (eqb-true (v .taken) (v .put)) (filled a b))
+    (λ b. pick-by R (eqb (v .taken) (v .put)) (eqb-true (v .taken) (v .put)) (filled a k b))
     (λ _. tt))
     (λ _. tt))
     (λ _. tt))
@@ -58,14 +60,17 @@ reached s t w =
     v = view t
 
     R : Reach → Type 0
-    R = Reached s v
+    R = Reached s t w
 
-    filled : sizesFit s t ≡ true → (countersOk s v && leb (v .taken) (v .put) && leb (v .put) (s .jobs)) ≡ true
-        → eqb (v .taken) (v .put) ≡ false → Filled s v
-    filled a b c =
+    filled : sizesFit s t ≡ true → ltb w (s .workers) ≡ true
+        → (countersOk s v && leb (v .taken) (v .put) && leb (v .put) (s .jobs)) ≡ true
+        → eqb (v .taken) (v .put) ≡ false → Filled s t w
+    filled a k b c =
         let d = leb-true (v .taken) (v .put) (search parts) in
         record {
-          limits = search parts;
+          sizes = a;
+          known = k;
+          counters = search parts;
           some = omega (arith, eqb-false (v .taken) (v .put) c);
           fits = leb-true (v .put) (s .jobs) (search parts);
         }
@@ -137,7 +142,7 @@ none-ready-empty s t w e = go (reach s t w) (reached s t w) (ap answerGet (sym (
     no (Seated x) = pick-by N (eqb (view t .job LABEL (nextJob (view t))) 0) (λ _ f. never (cc)) (λ _ f. never (cc))
     no Unseated = λ f. never (cc)
 
-    go : (r : Reach) → Reached s (view t) r → N (planAt r (takeFrom (view t) (firstSeat (view t))))
+    go : (r : Reach) → Reached s t w r → N (planAt r (takeFrom (view t) (firstSeat (view t))))
     go (early n) x = λ f. never (cc)
     go empty x = λ f. x
     go index x = no (firstSeat (view t))

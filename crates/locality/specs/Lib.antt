@@ -10,4 +10,9 @@ pub mod Compared
 pub mod Classes
 pub mod IndexFirst
 pub mod Looked
+pub mod Waits
+pub mod EntryReads
+pub mod Moved
+pub mod Taken
 pub mod Queued
+pub mod Notified

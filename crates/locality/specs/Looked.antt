@@ -1,8 +1,8 @@
 -- For ALL tables: which slots of the index a get and an entry look at, and that they are few. A get that comes to the
--- index hands out its first where each of them waits and that job is unexecuted; otherwise it is refused by 9, with
--- nothing changed. A job that enters is seated exactly where each of them waits. So an index that is empty over a
--- filled queue is seen, and where all slots wait no order of them stops a get. Follows docs/RULES.md, "The index",
--- "Steps" and "Turned-away calls". Assumes nothing.
+-- index is refused by 9, with nothing changed, where one of them does not wait or the first job is not unexecuted (what
+-- it does otherwise: Taken). A job that enters is seated exactly where each of them waits. So an index that is empty
+-- over a filled queue is seen, and where all slots wait no order of them stops a get. Follows docs/RULES.md, "The
+-- index", "Steps" and "Turned-away calls". Assumes nothing.
 use mathlib.Core.Path.{_≡_, refl, ap, subst, _∙_}
 use mathlib.Core.Bool.{Bool, true, false, _&&_}
 use mathlib.Core.List.{List, _∷_}
@@ -14,7 +14,6 @@ use lib.Pow.{pow-pos}
 use borrow.Author.Tests.{leb-true, le-ltb}
 use Rattle.basics.specs.Base.{pick}
 use Rattle.basics.specs.Limits.{mostClass}
-use Rattle.basics.specs.Laws.{never}
 use Rattle.heap.specs.Sift.{siftUp, siftDown}
 use Rattle.heap.specs.Looked.{rests, eachSound, slotsUp, slotsDown, exact-up, exact-down, trusted-up, trusted-down}
 use Rattle.heap.specs.Looked.{few-slots-up, few-slots-down}
@@ -24,11 +23,11 @@ use Rattle.heap.specs.declared.Sifted.the-variants.{Rests, Astray}
 use Rattle.terms.specs.Terms.{mostJobs, withinLimits, damaged}
 use Rattle.terms.specs.Runs.{outcome}
 use Rattle.terms.specs.declared.Sizes.{Sizes}
-use Rattle.terms.specs.declared.Answer.the-variants.{Handed, Refused}
+use Rattle.terms.specs.declared.Answer.the-variants.{Refused}
 use Rattle.words.specs.Layout.{none, LABEL, CLASS, Tables, View, view}
 use Rattle.words.specs.Index.{levels, rankIn, rankOf, placeIn, waits, filled, seated, seatFor, firstPlace, lastSlot}
 use Rattle.words.specs.Index.{lastPlace, firstSeatBy, firstSeat}
-use Rattle.words.specs.Words.{handOut, nextJob, takeFrom, answerGet, appliedGet, getWords, planGetOf}
+use Rattle.words.specs.Words.{nextJob, takeFrom, appliedGet, getWords, planGetOf}
 use Rattle.words.specs.declared.Seating.{Seating}
 use Rattle.words.specs.declared.Seating.the-variants.{Seated, Unseated}
 use Rattle.words.specs.declared.GetPlan.{GetPlan}
@@ -90,71 +89,63 @@ first-exact v =
     go true false e = refl
     go false b e = refl
 
--- ---- what a get that comes to the index does: it hands out the first, or is refused by 9
--- the tests that decide
+-- ---- a get that comes to the index: the tests that decide whether it takes the first or is refused by 9
 abbrev pub takesFirst : View → Bool
 takesFirst v = eachWaits v (lookedByGet v) && eqb (v .job LABEL (nextJob v)) 0
 
-take-exact : (v : View) (r : Seating) (b : Bool) → (isSeated r && eqb (v .job LABEL (nextJob v)) 0) ≡ b
-    → pick b (answerGet (takeFrom v r) ≡ Handed (handOut v (nextJob v))) (takeFrom v r ≡ RefuseGet damaged)
-take-exact v (Seated e) true c = rw c refl
-take-exact v (Seated e) false c = rw c refl
-take-exact v Unseated true c = never cc
-take-exact v Unseated false c = refl
+take-refused : (v : View) (r : Seating) → (isSeated r && eqb (v .job LABEL (nextJob v)) 0) ≡ false
+    → takeFrom v r ≡ RefuseGet damaged
+take-refused v (Seated e) c = rw c
+take-refused v Unseated c = refl
 
 module _ (s : Sizes) (t : Tables) (w : ℕ) (here : reach s t w ≡ index) where
-  abbrev v : View
+  abbrev pub v : View
   v = view t
 
-  abbrev first : GetPlan
+  abbrev pub first : GetPlan
   first = takeFrom v (firstSeat v)
 
-  plan-here : planGetOf s t w ≡ first
+  pub plan-here : planGetOf s t w ≡ first
   plan-here = planned s t w ∙ ap (λ r. planAt r first) here
 
-  takes-exact : (isSeated (firstSeat v) && eqb (v .job LABEL (nextJob v)) 0) ≡ takesFirst v
+  pub takes-exact : (isSeated (firstSeat v) && eqb (v .job LABEL (nextJob v)) 0) ≡ takesFirst v
   takes-exact = ap (λ b. b && eqb (v .job LABEL (nextJob v)) 0) (first-exact v)
 
   pub refused-at-index : takesFirst v ≡ false → getWords s t w ≡ outcome (Refused damaged 0) t
   unfolding getWords appliedGet
-  refused-at-index e = rw (plan-here, take-exact v (firstSeat v) false (takes-exact ∙ e))
-
-  pub handed-at-index : takesFirst v ≡ true → getWords s t w .answer ≡ Handed (handOut v (nextJob v))
-  unfolding getWords
-  handed-at-index e = ap answerGet plan-here ∙ take-exact v (firstSeat v) true (takes-exact ∙ e)
+  refused-at-index e = rw (plan-here, take-refused v (firstSeat v) (takes-exact ∙ e))
 
   -- an index whose first slot holds no place that was put is seen, so one that is empty over a filled queue
   pub unput-at-index : ltb (firstPlace v) (v .put) ≡ false → getWords s t w ≡ outcome (Refused damaged 0) t
   unfolding lookedByGet eachSound waits
   unput-at-index e = refused-at-index (rw e)
 
-  abbrev some : Filled s v
-  some = subst (Reached s v) here (reached s t w)
+  abbrev pub some : Filled s t w
+  some = subst (Reached s t w) here (reached s t w)
 
   pub empty-at-index : firstPlace v ≡ none → getWords s t w ≡ outcome (Refused damaged 0) t
   unfolding withinLimits
   empty-at-index e =
-      let limits = some .limits in
+      let sizes = some .sizes in
       let fits = some .fits in
       let most = leb-true (s .jobs) mostJobs (search parts) in
       unput-at-index (rw e (le-ltb none (v .put) (omega arith)))
 
-  -- where every filled slot waits the first is handed out, whatever the order of the heap
+  -- where every filled slot waits it passes these tests, whatever the order of the heap
   pub trusted-at-index : ((k : ℕ) → k < filled v → waits v k ≡ true) → v .job LABEL (nextJob v) ≡ 0
-      → getWords s t w .answer ≡ Handed (handOut v (nextJob v))
+      → takesFirst v ≡ true
   unfolding lookedByGet eachSound
   trusted-at-index h e =
       let more = some .some in
       let rank = rankOf v (lastPlace v) in
       let rest = trusted-down (rankOf v) (waits v) (placeIn v) (lastSlot v) (λ k l. h k (omega arith)) levels rank 0 in
-      handed-at-index
-      (rw (
+      rw (
         h 0 (omega arith),
         h (lastSlot v) (omega arith),
         ← (exact-down (rankOf v) (waits v) (placeIn v) levels (lastSlot v) rank 0),
         rest,
         e,
-      ))
+      )
 
 -- ---- the slots that a job looks at that enters: those on the way up
 unfoldable pub lookedByEntry : View → ℕ → List ℕ

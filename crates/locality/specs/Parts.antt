@@ -1,7 +1,7 @@
 -- Tables cut in two: the words that given sizes need, and the words past them; and what is read of tables so joined.
 -- Follows docs/RULES.md, "Tables and their measures": "words past a table's need are never touched". Assumes nothing.
 use mathlib.Core.Path.{_≡_, refl, ap, _∙_, fun-ext}
-use mathlib.Core.Bool.{Bool, true, false, _&&_}
+use mathlib.Core.Bool.{Bool, true, false}
 use mathlib.Core.List.{List, [], _∷_, _++_, append-nil}
 use Prim.Native.Nat.{ℕ, _+_, _*_, _^_, _≤_, _<_}
 use native.Mathlib.Omega.{arith}
@@ -12,6 +12,7 @@ use lib.ListN.{length, getD, take, drop, take-append-drop, drop-of-length-le, le
 use lib.Seq.{getD-take, length-take-le, take-all, take-at, drop-at}
 use borrow.Author.Tests.{ltb-true, leb-true, lt-ltb, le-leb}
 use Rattle.basics.specs.Base.{pick}
+use Rattle.basics.specs.Laws.{and-left, and-right}
 use Rattle.terms.specs.declared.Sizes.{Sizes}
 use Rattle.words.specs.Columns.{Shape, place, Rows, rows, columns, header, put, inside}
 use Rattle.words.specs.Layout.{jobShape, JOBS, ARCS, BITS, WORKERS, MADE, arcShape, RESERVED, bucketShape, queueShape}
@@ -55,16 +56,8 @@ pub test : {A : Type 0} (b : Bool) → (b ≡ true → A) → (b ≡ false → A
 test true f g = f refl
 test false f g = g refl
 
-pub left : (a b : Bool) → (a && b) ≡ true → a ≡ true
-left true b e = refl
-left false b e = e
-
-pub right : (a b : Bool) → (a && b) ≡ true → b ≡ true
-right true b e = e
-right false b e = cc
-
 -- for `search`
-pub ruleset parts = (left, right)
+pub ruleset parts = (and-left, and-right)
 
 -- each table has the words that the sizes need
 pub record Long (s : Sizes) (t : Tables) : Type 0 where

@@ -8,6 +8,7 @@ use lib.Dec.{ltb, leb, eqb}
 use borrow.Author.Tests.{leb-true, leb-false, eqb-true, eqb-false, lt-ltb}
 use Rattle.basics.specs.Limits.{mostNames}
 use Rattle.basics.specs.Base.{pick}
+use Rattle.basics.specs.Laws.{and-right, or-left}
 use Rattle.bucket.specs.Bucket.{bucketOf}
 use Rattle.bucket.specs.Laws.{below}
 use Rattle.terms.specs.Terms.{settles, wrongSizes, noSuchWorker, unknownName, namePresent, tablesFull, damaged}
@@ -32,7 +33,7 @@ use Rattle.words.specs.declared.Plan.the-variants.{Refuse, Quit, Pass, Enter, T
 use Rattle.words.specs.declared.Plan.the-variants.{SettleQueue, Mark, Notify, NotifyQueue}
 use Rattle.words.specs.declared.GetPlan.{GetPlan}
 use Rattle.words.specs.declared.GetPlan.the-variants.{RefuseGet, Wait, Take}
-use Rattle.locality.specs.Parts.{test, right, parts, clip, Alike, Reads, choose, within}
+use Rattle.locality.specs.Parts.{test, parts, clip, Alike, Reads, choose, within}
 use Rattle.locality.specs.Seats.{Entering, Leaving, InSeating, seat-alike, InFirst, first-alike}
 
 -- ---- what every plan keeps to
@@ -62,14 +63,10 @@ InsideGet s v Wait = Unit {0}
 InsideGet s v (Take h e) = (ltb (h .job) (s .jobs) ≡ true) × Leaving s v e
 
 -- ---- places
-neither : (a b : Bool) → (a || b) ≡ false → a ≡ false
-neither true b e = e
-neither false b e = refl
-
 -- a place that is none or in use is none, or lies within its size
 pub place-cases : {A : Type 0} (j c n : ℕ) → placeOk j c n ≡ true
     → (eqb j none ≡ true → A) → (eqb j none ≡ false → ltb j n ≡ true → A) → A
-place-cases j c n e f g = test (eqb j none) f (λ h. g h (right (ltb j c) (ltb j n) (rw h at e)))
+place-cases j c n e f g = test (eqb j none) f (λ h. g h (and-right (ltb j c) (ltb j n) (rw h at e)))
 
 -- ---- the plans of a step, with counters in their range
 module _ (s : Sizes) (v : View) (made : leb (v .made) (s .jobs) ≡ true)
@@ -116,7 +113,7 @@ module _ (s : Sizes) (v : View) (made : leb (v .made) (s .jobs) ≡ true)
         let h = lt-ltb (bucketOf name (s .bits)) (2 ^ s .bits) (below name (s .bits)) in
         rw h (choose (Inside s v m) (leb (s .jobs) (v .made) || ltb (s .arcs) (v .reserved + d))
         (λ _. (refl, (refl, z)))
-        (λ e. let o = leb-false (s .jobs) (v .made) (neither _ (ltb (s .arcs) (v .reserved + d)) e) in
+        (λ e. let o = leb-false (s .jobs) (v .made) (or-left _ (ltb (s .arcs) (v .reserved + d)) e) in
         (refl, (lt-ltb (v .made) (s .jobs) o, h))))
     enter z name d Damaged = damage
 

@@ -1,116 +1,180 @@
--- For ALL tables: a job whose count settles, or falls to 0, is queued in its seat, and without a seat its step is
--- refused by 9; so none is left out of the queue, and with a seat none is refused. Follows docs/RULES.md, "Steps" and
--- "The index". Assumes nothing.
-use mathlib.Core.Path.{_≡_, refl}
+-- For ALL tables: what a settling step and an arc's step do, and exactly when. A job whose count settles, or falls to
+-- 0, is queued in its seat; a word off its range, a count that would fall below 0 or a job without a seat is 9, and
+-- nothing else is. Follows docs/RULES.md, "Steps", "The index" and "Turned-away calls". Assumes nothing.
+use mathlib.Core.Path.{_≡_, refl, _∙_}
 use mathlib.Core.Logic.{_≢_}
-use mathlib.Core.Bool.{Bool, true, false, _&&_}
-use Prim.Native.Nat.{ℕ, _-_}
+use mathlib.Core.Bool.{true, false, _&&_}
+use mathlib.Core.List.{List}
+use Prim.Native.Nat.{ℕ, _+_, _-_, _≤_, _<_}
 use native.Mathlib.Omega.{arith}
-use lib.Dec.{ltb, leb, eqb}
-use borrow.Author.Tests.{eqb-true, eqb-false, leb-true}
-use Rattle.basics.specs.Base.{pick}
+use lib.Dec.{leb, eqb}
+use borrow.Author.Tests.{eqb-true, leb-true, leb-false, lt-ltb, le-ltb, le-leb, ne-eqb}
 use Rattle.basics.specs.Limits.{mostNames}
-use Rattle.basics.specs.Laws.{and-left, and-right, pick-by}
+use Rattle.basics.specs.Laws.{never, pick-by}
 use Rattle.terms.specs.Terms.{settles, damaged}
+use Rattle.terms.specs.Runs.{Outcome, outcome}
 use Rattle.terms.specs.declared.Sizes.{Sizes}
-use Rattle.words.specs.Layout.{COUNT, DEPENDENT, AFTER, View}
-use Rattle.words.specs.Index.{seatFor}
-use Rattle.words.specs.Words.{placeOk, isPlace, inSeat, withSeat, planSettle, planNotify}
+use Rattle.terms.specs.declared.Answer.the-variants.{Ended, Refused}
+use Rattle.words.specs.Columns.{Rows, put}
+use Rattle.words.specs.Layout.{none, jobShape, queueShape, COUNT, PHASE, PLACE, LIST-COUNT, TALLY, OWN-JOB, LINKING}
+use Rattle.words.specs.Layout.{Tables, tables, View, view, longEnough, sizesFit}
+use Rattle.words.specs.Index.{seatFor, putSeat}
+use Rattle.words.specs.Words.{isPlace, countersOk, ownOk, inSeat, withSeat, planSettle, planLinks, planCall, planPhase}
+use Rattle.words.specs.Words.{admitted, answerOf, idleWorker, applied, stepWords}
 use Rattle.words.specs.declared.Seat.{Seat}
 use Rattle.words.specs.declared.Seating.{Seating}
 use Rattle.words.specs.declared.Seating.the-variants.{Seated, Unseated}
 use Rattle.words.specs.declared.Plan.{Plan}
-use Rattle.words.specs.declared.Plan.the-variants.{Refuse, Quit, Pass, Enter, Tally, LinkFirst, LinkAfter, Settle}
-use Rattle.words.specs.declared.Plan.the-variants.{SettleQueue, Mark, Notify, NotifyQueue}
+use Rattle.words.specs.declared.Plan.the-variants.{Refuse, SettleQueue}
+use Rattle.locality.specs.Parts.{test, parts, long}
+use Rattle.locality.specs.Moved.{Entered, entered}
 
--- what a settling step plans, with the tally t and d listed names: it ends with the job not settled, queues it in its
--- seat, or is refused by 9
-abbrev pub SettlesRightly : Sizes → View → ℕ → ℕ → Plan → Type 0
-SettlesRightly s v t d (Settle j c) = settles c t d ≡ false
-SettlesRightly s v t d (SettleQueue j c e) = (settles c t d ≡ true) × (seatFor s v j ≡ Seated e)
-SettlesRightly s v t d (Refuse n) = n ≡ damaged
-SettlesRightly s v t d (Quit n i) = ⊥
-SettlesRightly s v t d Pass = ⊥
-SettlesRightly s v t d (Enter j k h x) = ⊥
-SettlesRightly s v t d Tally = ⊥
-SettlesRightly s v t d (LinkFirst p x j) = ⊥
-SettlesRightly s v t d (LinkAfter p l x j) = ⊥
-SettlesRightly s v t d (Mark p x) = ⊥
-SettlesRightly s v t d (Notify j c x) = ⊥
-SettlesRightly s v t d (NotifyQueue j c x e) = ⊥
+-- ---- where a step comes to
+-- its worker is in a phase, and nothing before the words of that phase turns the step away
+pub record Comes (s : Sizes) (t : Tables) (w phase : ℕ) : Type 0 where
+  pub fits : sizesFit s t ≡ true
+  pub known : w < s .workers
+  pub own : ownOk s (view t) w ≡ true
+  pub counters : countersOk s (view t) ≡ true
+  pub here : view t .worker PHASE w ≡ phase
 
-pub settles-rightly : (s : Sizes) (v : View) (j t d : ℕ) → SettlesRightly s v t d (planSettle s v j t d)
-unfolding planSettle withSeat
-settles-rightly s v j t d =
-    pick-by Q (isPlace j && leb (v .job COUNT j) mostNames && leb t (v .job COUNT j))
-    (λ _. pick-by Q (settles c t d) (λ e. by (seatFor s v j) refl e) (λ e. e))
-    (λ _. refl)
-  where
-    c : ℕ
-    c = v .job COUNT j - t
+-- "settles once place = count"
+abbrev pub ComesToSettle : Sizes → Tables → ℕ → Type 0
+ComesToSettle s t w = Comes s t w LINKING × (view t .worker PLACE w ≡ view t .worker LIST-COUNT w)
 
-    Q : Plan → Type 0
-    Q = SettlesRightly s v t d
+-- the tables are then long enough
+pub queue-rows : (s : Sizes) (t : Tables) → sizesFit s t ≡ true → Rows queueShape (s .jobs) (t .queue)
+queue-rows s t e = let h : longEnough s t ≡ true = search parts in long h .queue
 
-    by : (r : Seating) → seatFor s v j ≡ r → settles c t d ≡ true → Q (inSeat r (SettleQueue j c))
-    by (Seated x) z e = (e, z)
-    by Unseated z e = refl
+-- what is carried out of a plan
+abbrev pub did : Plan → Tables → ℕ → Outcome Tables
+did p t w = outcome (answerOf p) (applied p t w)
 
--- where its words are sound and it has a seat it is queued
-pub settles-seated : (s : Sizes) (v : View) (j t d : ℕ) (e : Seat)
-    → (isPlace j && leb (v .job COUNT j) mostNames && leb t (v .job COUNT j)) ≡ true
-    → settles (v .job COUNT j - t) t d ≡ true → seatFor s v j ≡ Seated e
-    → planSettle s v j t d ≡ SettleQueue j (v .job COUNT j - t) e
-unfolding planSettle withSeat
-settles-seated s v j t d e sound queues there = rw (sound, queues, there)
+settle-here : (s : Sizes) (t : Tables) (w : ℕ) → ComesToSettle s t w
+    → stepWords s t w
+    ≡ did (planSettle s (view t) (view t .worker OWN-JOB w) (view t .worker TALLY w) (view t .worker LIST-COUNT w)) t w
+unfolding stepWords applied admitted planPhase planCall planLinks
+settle-here s t w (c, e) =
+    let n = view t .worker LIST-COUNT w in
+    rw (c .fits, lt-ltb w (s .workers) (c .known), c .own, c .here, c .counters, e, le-ltb n n (omega arith))
 
--- what an arc's step plans: the dependent's count does not fall to 0, or it does and the dependent is queued in its
--- seat, or the step is refused by 9
-abbrev pub NotifiesRightly : Sizes → View → Plan → Type 0
-NotifiesRightly s v (Notify j c x) = c ≢ 0
-NotifiesRightly s v (NotifyQueue j c x e) = (c ≡ 0) × (seatFor s v j ≡ Seated e)
-NotifiesRightly s v (Refuse n) = n ≡ damaged
-NotifiesRightly s v (Quit n i) = ⊥
-NotifiesRightly s v Pass = ⊥
-NotifiesRightly s v (Enter j k h x) = ⊥
-NotifiesRightly s v Tally = ⊥
-NotifiesRightly s v (LinkFirst p x j) = ⊥
-NotifiesRightly s v (LinkAfter p l x j) = ⊥
-NotifiesRightly s v (Mark p x) = ⊥
-NotifiesRightly s v (Settle j c) = ⊥
-NotifiesRightly s v (SettleQueue j c e) = ⊥
+-- ---- the tables after a count: that of the job j is c, the queue's words are q and the workers' r
+abbrev pub counted : Tables → ℕ → ℕ → List ℕ → List ℕ → Tables
+counted t j c q r = tables (put jobShape (t .jobs) j COUNT c) (t .arcs) (t .buckets) q r
 
-pub notifies-rightly : (s : Sizes) (v : View) (x : ℕ) → NotifiesRightly s v (planNotify s v x)
-unfolding planNotify withSeat
-notifies-rightly s v x =
-    pick-by Q (a && leb 1 n && leb n mostNames)
-    (λ e. let some = leb-true 1 n (and-right a (leb 1 n) (and-left (a && leb 1 n) (leb n mostNames) e)) in
-    pick-by Q (eqb n 1)
-    (λ o. by (seatFor s v j) refl (let one = eqb-true n 1 o in omega arith))
-    (λ o. let other = eqb-false n 1 o in λ z. other (omega arith)))
-    (λ _. refl)
-  where
-    j : ℕ
-    j = v .arc DEPENDENT x
+-- a place that is one
+pub place-some : (p : ℕ) → isPlace p ≡ true → p ≢ none
+place-some p e z = let i = rw z at e in never cc
 
-    n : ℕ
-    n = v .job COUNT j
+-- ---- settling: the job j, with a tally, of an add with d listed names
+-- "The remaining count falls by the tally" to c
+pub record Settles (v : View) (j tally c : ℕ) : Type 0 where
+  pub job : j ≢ none
+  pub limit : v .job COUNT j ≤ mostNames
+  pub falls : c + tally ≡ v .job COUNT j
 
-    -- the tests before that of the count
-    a : Bool
-    a = isPlace x && ltb j (v .made) && placeOk (v .arc AFTER x) (v .reserved) (s .arcs)
+-- where number 9 is met
+pub data Unsettled (s : Sizes) (v : View) (j tally d : ℕ) : Type 0 where
+  no-job : j ≡ none → Unsettled s v j tally d
+  off-limit : mostNames < v .job COUNT j → Unsettled s v j tally d
+  below-0 : v .job COUNT j < tally → Unsettled s v j tally d
+  no-seat : (c : ℕ) → c + tally ≡ v .job COUNT j → settles c tally d ≡ true → seatFor s v j ≡ Unseated
+      → Unsettled s v j tally d
 
-    Q : Plan → Type 0
-    Q = NotifiesRightly s v
+-- what the step answers and leaves: 9; the job's count, and the call put back; or that and the job in the queue
+pub data SettlesRightly (s : Sizes) (t : Tables) (w j tally d : ℕ) (o : Outcome Tables) : Type 0 where
+  refused : Unsettled s (view t) j tally d → o ≡ outcome (Refused damaged 0) t → SettlesRightly s t w j tally d o
+  waits-on : (c : ℕ) → Settles (view t) j tally c → settles c tally d ≡ false
+      → o ≡ outcome Ended (counted t j c (t .queue) (idleWorker (view t) w (t .workers)))
+      → SettlesRightly s t w j tally d o
+  queued : (c : ℕ) → Settles (view t) j tally c → settles c tally d ≡ true
+      → (q : List ℕ) → Entered s t j q
+      → o ≡ outcome Ended (counted t j c q (idleWorker (view t) w (t .workers)))
+      → SettlesRightly s t w j tally d o
 
-    by : (r : Seating) → seatFor s v j ≡ r → n - 1 ≡ 0 → Q (inSeat r (NotifyQueue j (n - 1) (v .arc AFTER x)))
-    by (Seated y) z e = (e, z)
-    by Unseated z e = refl
+module _ (s : Sizes) (t : Tables) (w j tally d : ℕ) where
+  abbrev v : View
+  v = view t
 
--- where its words are sound and the dependent has a seat it is queued
-pub notifies-seated : (s : Sizes) (v : View) (x : ℕ) (e : Seat)
-    → (isPlace x && ltb (v .arc DEPENDENT x) (v .made) && placeOk (v .arc AFTER x) (v .reserved) (s .arcs)) ≡ true
-    → v .job COUNT (v .arc DEPENDENT x) ≡ 1 → seatFor s v (v .arc DEPENDENT x) ≡ Seated e
-    → planNotify s v x ≡ NotifyQueue (v .arc DEPENDENT x) 0 (v .arc AFTER x) e
-unfolding planNotify withSeat
-notifies-seated s v x e sound one there = rw (sound, one, there)
+  abbrev n : ℕ
+  n = v .job COUNT j
+
+  unsettled : (isPlace j && leb n mostNames && leb tally n) ≡ false → Unsettled s v j tally d
+  unsettled e = test (eqb j none) (λ a. no-job (eqb-true j none a))
+      (λ a. test (leb n mostNames) (λ b. below-0 (leb-false tally n (rw (a, b) at e)))
+      (λ b. off-limit (leb-false n mostNames b)))
+
+  abbrev Q : Plan → Type 0
+  Q p = SettlesRightly s t w j tally d (did p t w)
+
+  settle-exact : Rows queueShape (s .jobs) (t .queue) → Q (planSettle s v j tally d)
+  unfolding planSettle withSeat applied
+  settle-exact r =
+      pick-by Q (isPlace j && leb n mostNames && leb tally n)
+      (λ e. pick-by Q (settles (n - tally) tally d) (λ f. by (falls e) (seatFor s v j) refl f)
+      (λ f. waits-on (n - tally) (falls e) f refl))
+      (λ e. refused (unsettled e) refl)
+    where
+      falls : (isPlace j && leb n mostNames && leb tally n) ≡ true → Settles v j tally (n - tally)
+      falls e = record {
+        job = place-some j (search parts);
+        limit = leb-true n mostNames (search parts);
+        falls = omega (arith, leb-true tally n (search parts));
+      }
+
+      by : Settles v j tally (n - tally) → (x : Seating) → seatFor s v j ≡ x → settles (n - tally) tally d ≡ true
+          → Q (inSeat x (SettleQueue j (n - tally)))
+      by g (Seated e) z f = queued (n - tally) g f _ (entered s t j e r z) refl
+      by g Unseated z f = refused (no-seat (n - tally) (g .falls) f z) refl
+
+  -- each of these is 9
+  unsound : ((isPlace j && leb n mostNames && leb tally n) ≡ true → ⊥) → planSettle s v j tally d ≡ Refuse damaged
+  unfolding planSettle
+  unsound h = test (isPlace j && leb n mostNames && leb tally n) (λ e. absurd (h e)) (λ e. rw e)
+
+  settle-refused : Unsettled s v j tally d → planSettle s v j tally d ≡ Refuse damaged
+  unfolding planSettle withSeat
+  settle-refused (no-job e) = unsound (λ a. place-some j (search parts) e)
+  settle-refused (off-limit h) = unsound (λ a. omega (arith, leb-true n mostNames (search parts)))
+  settle-refused (below-0 h) = unsound (λ a. omega (arith, leb-true tally n (search parts)))
+  settle-refused (no-seat c e f z) =
+      let k : n - tally ≡ c = omega arith in
+      test (isPlace j && leb n mostNames && leb tally n) (λ a. rw (a, k, f, z)) (λ a. rw a)
+
+-- ---- the theorems
+module _ (s : Sizes) (t : Tables) (w : ℕ) (comes : ComesToSettle s t w) where
+  abbrev job : ℕ
+  job = view t .worker OWN-JOB w
+
+  abbrev tallied : ℕ
+  tallied = view t .worker TALLY w
+
+  abbrev listed : ℕ
+  listed = view t .worker LIST-COUNT w
+
+  pub settles-rightly : SettlesRightly s t w job tallied listed (stepWords s t w)
+  settles-rightly =
+      rw (settle-here s t w comes) (settle-exact s t w job tallied listed (queue-rows s t (comes .0 .fits)))
+
+  pub settling-is-9 : Unsettled s (view t) job tallied listed → stepWords s t w ≡ outcome (Refused damaged 0) t
+  unfolding applied
+  settling-is-9 u = settle-here s t w comes ∙ rw (settle-refused s t w job tallied listed u)
+
+  -- and with a seat it is queued there
+  pub settles-seated : (c : ℕ) (e : Seat) → Settles (view t) job tallied c → settles c tallied listed ≡ true
+      → seatFor s (view t) job ≡ Seated e
+      → stepWords s t w
+      ≡ outcome Ended (counted t job c (putSeat (t .queue) e job) (idleWorker (view t) w (t .workers)))
+  unfolding planSettle withSeat applied
+  settles-seated c e g f z =
+      let n = view t .job COUNT job in
+      let k : n - tallied ≡ c = omega (arith, g .falls) in
+      settle-here s t w comes
+      ∙ rw (
+        ne-eqb job none (g .job),
+        le-leb n mostNames (g .limit),
+        le-leb tallied n (omega (arith, g .falls)),
+        k,
+        f,
+        z,
+      )

@@ -14,7 +14,8 @@
 --   held and drained          worker_state: specs/Held.antt, specs/Drained.antt; state_history: specs/Told.antt
 --   words needed, and rest    locality: specs/Parts.antt, specs/Refusals.antt, specs/Numbers.antt
 --   what a get compares       locality: specs/Compared.antt, specs/Classes.antt
---   what it looks at, takes   locality: specs/Looked.antt, specs/IndexFirst.antt
+--   what it looks at, takes   locality: specs/Waits.antt, specs/Looked.antt, specs/IndexFirst.antt, specs/Taken.antt
+--   how a job enters          locality: specs/EntryReads.antt, specs/Moved.antt, specs/Queued.antt, specs/Notified.antt
 --   the index is exact        words_history: specs/IndexExact.antt
 -- An item is a post, a step or a get, by any worker, with any sizes and arguments, right or wrong; `events` are the
 -- items with their answers, and `after` is the state that they leave. "Laid out" means: `layOut s t` answered so,
@@ -24,9 +25,9 @@ use mathlib.Core.Logic.{_↔_, _≢_}
 use mathlib.Core.Bool.{true, false, _&&_}
 use mathlib.Core.List.{List, [], _∷_, _++_}
 use mathlib.Core.Option.{none}
-use Prim.Native.Nat.{ℕ, suc, _+_, _-_, _*_, _^_, _≤_, _<_}
+use Prim.Native.Nat.{ℕ, suc, _+_, _*_, _^_, _≤_, _<_}
 use native.Mathlib.Omega.{arith}
-use lib.Dec.{ltb, leb}
+use lib.Dec.{eqb}
 use lib.ListN.{length, getD}
 use lib.Seq.{sets}
 use Rattle.basics.specs.Limits.{mostNames}
@@ -41,10 +42,10 @@ use Rattle.terms.specs.declared.Sizes.{Sizes}
 use Rattle.terms.specs.declared.HandOut.{HandOut}
 use Rattle.terms.specs.declared.Answer.the-variants.{Laid, Posted, Ended, NoneReady, Handed, Refused}
 use Rattle.heap.specs.Compared.{Alike}
-use Rattle.words.specs.Layout.{Tables, View, view, workerShape, NAME, LABEL, COUNT, DEPENDENT, AFTER, HELD}
-use Rattle.words.specs.Layout.{LIST-COUNT, NAMES, IDLE, bareWorker, roomFor}
+use Rattle.words.specs.Layout.{Tables, View, view, workerShape, NAME, LABEL, CLASS, DEPENDENT, AFTER, HELD, LIST-COUNT}
+use Rattle.words.specs.Layout.{TALLY, OWN-JOB, OWN-ARC, NAMES, IDLE, NOTIFYING, bareWorker, roomFor}
 use Rattle.words.specs.Layout as words
-use Rattle.words.specs.Index.{levels, rankOf, waits, filled, firstPlace, firstSeat, seatFor}
+use Rattle.words.specs.Index.{levels, rankOf, placeIn, waits, filled, firstPlace, seatFor, putSeat}
 use Rattle.words.specs.Words as by-words
 use Rattle.words.specs.Words.{nextJob, putWorker, finishWords, stepWords, getWords, perform, layOut}
 use Rattle.words.specs.Observed.{waiting, bucketFrom, newestFirst, seen}
@@ -66,16 +67,22 @@ use Rattle.locality.specs.Numbers as list
 use Rattle.locality.specs.Refusals.{idled, ends, wordsOf, holdAfter}
 use Rattle.locality.specs.Refusals as refusals
 use Rattle.locality.specs.Within as within
-use Rattle.locality.specs.Compared.{index, reach, planAt, placesByGet, comparedByGet, few-compared}
+use Rattle.locality.specs.Compared.{early, index, reach, placesByGet, comparedByGet, few-compared}
+use Rattle.locality.specs.Compared as compared
 use Rattle.locality.specs.Classes.{ButClasses, Classed, withJobs, SameGet, get-by-classes}
-use Rattle.locality.specs.IndexFirst.{FirstTaken, planned, first-taken, none-ready-empty}
+use Rattle.locality.specs.IndexFirst.{FirstTaken, first-taken, none-ready-empty}
 use Rattle.locality.specs.Looked.{eachWaits, isSeated, lookedByGet, takesFirst, lookedByEntry, mayEnter}
 use Rattle.locality.specs.Looked as looked
-use Rattle.locality.specs.Queued.{SettlesRightly, NotifiesRightly, settles-rightly, notifies-rightly}
-use Rattle.locality.specs.Queued.{settles-seated, notifies-seated}
+use Rattle.locality.specs.Waits.{Waits, waits-means, one-slot}
+use Rattle.locality.specs.EntryReads.{SameCounters, SameSlots, seat-same}
+use Rattle.locality.specs.Moved.{Next, seat-next}
+use Rattle.locality.specs.Taken.{GetsFirst, early-refuses, empty-none-ready, first-got}
+use Rattle.locality.specs.Queued.{Comes, ComesToSettle, counted, Settles, Unsettled, SettlesRightly, settles-rightly}
+use Rattle.locality.specs.Queued.{settling-is-9, settles-seated}
+use Rattle.locality.specs.Notified.{Lowers, Unlowered, NotifiesRightly, notifies-rightly, notifying-is-9}
+use Rattle.locality.specs.Notified.{notifies-seated}
 use Rattle.words.specs.declared.Seat.{Seat}
 use Rattle.words.specs.declared.Seating.the-variants.{Seated}
-use Rattle.words.specs.declared.Plan.the-variants.{SettleQueue, NotifyQueue}
 use Rattle.locality.specs.Laying.{fresh}
 use Rattle.locality.specs.Laying as laying
 use Rattle.sheet_format.specs.Job.{Job}
@@ -203,8 +210,9 @@ module _ (s : Sizes) (t : Tables) (laid : layOut s t .answer ≡ Laid) (items : 
   pub a-job-is-handed-out-in-its-turn : ByCount perform seen s at-end
   a-job-is-handed-out-in-its-turn = lifted.by-count s t laid items
 
-  -- "From a fresh graph the index holds exactly the waiting jobs after every step."
-  pub the-index-holds-the-waiting-jobs : IndexExact perform (layOut s t .state) items
+  -- "From a fresh graph the index holds exactly the waiting jobs after every step", each filled slot waits, "the filled
+  -- slots are a binary heap", and what is not in use is none: the other slots, cells and positions.
+  pub the-index-holds-the-waiting-jobs : IndexExact perform s (layOut s t .state) items
   the-index-holds-the-waiting-jobs = index-exact s t laid items
 
   -- ---- the words of workers. "A call that ends puts the words of its call back": of a worker in no call all words but
@@ -330,11 +338,11 @@ module _ (s : Sizes) (t : Tables) (w : ℕ) where
       → SameGet s t m w
   no-other-pair-decides m = get-by-classes s t m w
 
-  -- How far a get comes decides what it plans: a refusal before it looks at the queue, "none ready" over an empty
-  -- queue, or what the index gives.
-  pub a-get-plans-by-how-far-it-comes : by-words.planGetOf s t w
-      ≡ planAt (reach s t w) (by-words.takeFrom (view t) (firstSeat (view t)))
-  a-get-plans-by-how-far-it-comes = planned s t w
+  -- How far a get comes decides what it does. "Order: 1, 2, 9 for the worker's own words", 3, 10, and 9 for the
+  -- counters: the first of them that is met refuses it; over an empty queue it says "none ready"; nothing is changed.
+  pub a-get-plans-by-how-far-it-comes : ((n : ℕ) → reach s t w ≡ early n → getWords s t w ≡ outcome (Refused n 0) t)
+      × (reach s t w ≡ compared.empty → getWords s t w ≡ outcome NoneReady t)
+  a-get-plans-by-how-far-it-comes = (early-refuses s t w, empty-none-ready s t w)
 
   -- Of a get that comes to the index: "where a call finds that" it does not hold exactly the waiting jobs, "that is
   -- number 9": one of the slots that it looks at does not wait, or the first job is not unexecuted;
@@ -345,15 +353,16 @@ module _ (s : Sizes) (t : Tables) (w : ℕ) where
     pub an-empty-index-is-seen : firstPlace (view t) ≡ words.none → getWords s t w ≡ outcome (Refused damaged 0) t
     an-empty-index-is-seen = looked.empty-at-index s t w comes
 
-    -- "and where no word read shows it, get takes the index's first", whatever the order of its slots.
-    pub a-get-takes-the-indexs-first : takesFirst (view t) ≡ true
-        → getWords s t w .answer ≡ Handed (by-words.handOut (view t) (nextJob (view t)))
-    a-get-takes-the-indexs-first = looked.handed-at-index s t w comes
+    -- "and where no word read shows it, get takes the index's first", whatever the order of its slots: it "labels it
+    -- executing and records it as held", sets its cell and its position to none, and one more was taken; every other
+    -- cell is as before.
+    pub a-get-takes-the-indexs-first : takesFirst (view t) ≡ true → GetsFirst t w (getWords s t w)
+    a-get-takes-the-indexs-first = first-got s t w comes
 
     pub slots-that-wait-are-trusted : ((k : ℕ) → k < filled (view t) → waits (view t) k ≡ true)
         → view t .job LABEL (nextJob (view t)) ≡ 0
-        → getWords s t w .answer ≡ Handed (by-words.handOut (view t) (nextJob (view t)))
-    slots-that-wait-are-trusted = looked.trusted-at-index s t w comes
+        → GetsFirst t w (getWords s t w)
+    slots-that-wait-are-trusted h e = first-got s t w comes (looked.trusted-at-index s t w comes h e)
 
   -- No get hands out another job, and none says "none ready" over a filled queue.
   pub only-the-indexs-first-is-handed-out : (h : HandOut) → getWords s t w .answer ≡ Handed h → FirstTaken (view t) h
@@ -362,35 +371,86 @@ module _ (s : Sizes) (t : Tables) (w : ℕ) where
   pub none-ready-is-an-empty-queue : getWords s t w .answer ≡ NoneReady → view t .taken ≡ view t .put
   none-ready-is-an-empty-queue = none-ready-empty s t w
 
+  -- No step leaves a job out of the queue. A settling step that nothing turns away before its own words: "the remaining
+  -- count falls by the tally, and the job enters the queue if the count is then 0 and either the tally is above 0 or d
+  -- is 0". It enters in the next place, whose cell it gets, and that place is in the slot of its seat, which is its
+  -- position; one more was put, and every other cell is as before.
+  abbrev pub job : ℕ
+  job = view t .worker OWN-JOB w
+
+  abbrev pub tally : ℕ
+  tally = view t .worker TALLY w
+
+  abbrev pub d : ℕ
+  d = view t .worker LIST-COUNT w
+
+  pub a-settled-job-is-queued : ComesToSettle s t w → SettlesRightly s t w job tally d (stepWords s t w)
+  a-settled-job-is-queued = settles-rightly s t w
+
+  -- "Number 9 is met if" there is no job, its count is off its range or would fall below 0, or a job that is to be
+  -- queued has no seat;
+  pub a-settling-step-that-meets-damage-is-9 : ComesToSettle s t w → Unsettled s (view t) job tally d
+      → stepWords s t w ≡ outcome (Refused damaged 0) t
+  a-settling-step-that-meets-damage-is-9 = settling-is-9 s t w
+
+  -- and none is refused that has a seat.
+  pub a-settling-job-with-a-seat-is-queued : ComesToSettle s t w → (c : ℕ) (e : Seat) → Settles (view t) job tally c
+      → settles c tally d ≡ true → seatFor s (view t) job ≡ Seated e
+      → stepWords s t w
+      ≡ outcome Ended (counted t job c (putSeat (t .queue) e job) (by-words.idleWorker (view t) w (t .workers)))
+  a-settling-job-with-a-seat-is-queued = settles-seated s t w
+
+  -- The same of an arc's step: it "lowers that dependent's count by 1; a count that reaches 0 puts that job in the
+  -- queue".
+  abbrev pub arc : ℕ
+  arc = view t .worker OWN-ARC w
+
+  abbrev pub dependent : ℕ
+  dependent = view t .arc DEPENDENT arc
+
+  pub a-notified-job-is-queued : Comes s t w NOTIFYING → NotifiesRightly s t w arc (stepWords s t w)
+  a-notified-job-is-queued = notifies-rightly s t w
+
+  pub an-arcs-step-that-meets-damage-is-9 : Comes s t w NOTIFYING → Unlowered s (view t) arc
+      → stepWords s t w ≡ outcome (Refused damaged 0) t
+  an-arcs-step-that-meets-damage-is-9 = notifying-is-9 s t w
+
+  pub a-notified-job-with-a-seat-is-queued : Comes s t w NOTIFYING → (e : Seat) → Lowers s (view t) arc 0
+      → seatFor s (view t) dependent ≡ Seated e
+      → stepWords s t w
+      ≡ outcome (by-words.goingUnless (eqb (view t .arc AFTER arc) words.none))
+      (counted t dependent 0 (putSeat (t .queue) e dependent)
+      (by-words.arcsFrom (view t .arc AFTER arc) (view t) w (t .workers)))
+  a-notified-job-with-a-seat-is-queued = notifies-seated s t w
+
 module _ (v : View) where
+  -- "A slot waits if its place was put, that place's position is the slot, and its cell has a job that was made, of a
+  -- class within its limit. So no place is in two slots that wait."
+  pub a-slot-waits-exactly : (i : ℕ) → (waits v i ≡ true) ↔ Waits v i
+  a-slot-waits-exactly = waits-means v
+
+  pub no-place-is-in-two-slots-that-wait : (i k : ℕ) → waits v i ≡ true → waits v k ≡ true → placeIn v i ≡ placeIn v k
+      → i ≡ k
+  no-place-is-in-two-slots-that-wait = one-slot v
+
   -- A job that enters has a seat exactly if there is room, its class is within the limit, and each slot that it looks
   -- at waits;
   pub a-job-is-seated-exactly : (s : Sizes) (j : ℕ)
       → isSeated (seatFor s v j) ≡ (mayEnter s v j && eachWaits v (lookedByEntry v j))
   a-job-is-seated-exactly s = looked.entry-exact s v
 
-  -- and no step leaves a job out of the queue: one whose count settles, or falls to 0, is queued in its seat, and
-  -- without a seat the step is refused by 9.
-  pub a-settled-job-is-queued : (s : Sizes) (j t d : ℕ) → SettlesRightly s v t d (by-words.planSettle s v j t d)
-  a-settled-job-is-queued s = settles-rightly s v
+  -- then its seat is the next place of the queue, and the slot past the filled ones is where it starts.
+  pub a-seat-is-the-next-place : (s : Sizes) (j : ℕ) (e : Seat) → seatFor s v j ≡ Seated e → Next s v e
+  a-seat-is-the-next-place s = seat-next s v
 
-  pub a-notified-job-is-queued : (s : Sizes) (x : ℕ) → NotifiesRightly s v (by-words.planNotify s v x)
-  a-notified-job-is-queued s = notifies-rightly s v
+  -- No other word tells the seat than `made`, `taken`, `put`, the job's class, and the four words by which "a slot" is
+  -- judged, of each slot that it looks at.
+  pub no-other-word-tells-the-seat : (u : View) → SameCounters u v → (s : Sizes) (j : ℕ)
+      → u .job CLASS j ≡ v .job CLASS j → SameSlots u v (lookedByEntry v j)
+      → seatFor s u j ≡ seatFor s v j
+  no-other-word-tells-the-seat u = seat-same u v
 
-  -- And none is refused that has a seat: not in an index whose filled slots all wait, whatever their order.
-  pub a-settling-job-with-a-seat-is-queued : (s : Sizes) (j t d : ℕ) (e : Seat)
-      → (by-words.isPlace j && leb (v .job COUNT j) mostNames && leb t (v .job COUNT j)) ≡ true
-      → settles (v .job COUNT j - t) t d ≡ true → seatFor s v j ≡ Seated e
-      → by-words.planSettle s v j t d ≡ SettleQueue j (v .job COUNT j - t) e
-  a-settling-job-with-a-seat-is-queued s = settles-seated s v
-
-  pub a-notified-job-with-a-seat-is-queued : (s : Sizes) (x : ℕ) (e : Seat)
-      → (by-words.isPlace x && ltb (v .arc DEPENDENT x) (v .made)
-      && by-words.placeOk (v .arc AFTER x) (v .reserved) (s .arcs)) ≡ true
-      → v .job COUNT (v .arc DEPENDENT x) ≡ 1 → seatFor s v (v .arc DEPENDENT x) ≡ Seated e
-      → by-words.planNotify s v x ≡ NotifyQueue (v .arc DEPENDENT x) 0 (v .arc AFTER x) e
-  a-notified-job-with-a-seat-is-queued s = notifies-seated s v
-
+  -- None is without a seat in an index whose filled slots all wait, whatever their order.
   pub slots-that-wait-are-trusted-by-entries : (s : Sizes) (j : ℕ) → mayEnter s v j ≡ true
       → ((k : ℕ) → k < filled v → waits v k ≡ true) → isSeated (seatFor s v j) ≡ true
   slots-that-wait-are-trusted-by-entries s = looked.trusted-entry s v

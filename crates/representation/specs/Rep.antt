@@ -3,7 +3,7 @@ use mathlib.Core.Path.{_≡_}
 use mathlib.Core.Bool.{true, _&&_}
 use mathlib.Core.List.{List, [], _∷_, _++_}
 use mathlib.Core.Option.{Option, none, some}
-use Prim.Native.Nat.{ℕ, zero, suc, _+_, _-_, _^_, _<_}
+use Prim.Native.Nat.{ℕ, zero, suc, _+_, _-_, _^_, _≤_, _<_}
 use lib.Dec.{ltb, eqb}
 use lib.ListN.{length, getD}
 use Rattle.basics.specs.Limits.{mostNames}
@@ -97,6 +97,13 @@ pub record Index (v : View) (n : ℕ) : Type 0 where
   pub positions : (k : ℕ) → k < n → v .cell POSITION (v .cell SLOT k) ≡ k
   pub heap : Heap (rankOf v) n (v .cell SLOT)
 
+-- ---- the queue's words that are not in use, in R records: slots past the n filled ones, cells past those that were
+-- put, and positions of places with no job
+pub record Unused (R put n : ℕ) (cell : ℕ → ℕ → ℕ) : Type 0 where
+  pub slots : (k : ℕ) → n ≤ k → k < R → cell SLOT k ≡ words.none
+  pub cells : (p : ℕ) → put ≤ p → p < R → cell CELL p ≡ words.none
+  pub positions : (p : ℕ) → p < R → cell CELL p ≡ words.none → cell POSITION p ≡ words.none
+
 -- ---- jobs, arcs, buckets and queue
 pub record TablesRep (s : Sizes) (v : View) (g : Graph) (G : Ghost) : Type 0 where
   pub made : v .made ≡ length (g .jobs)
@@ -105,6 +112,7 @@ pub record TablesRep (s : Sizes) (v : View) (g : Graph) (G : Ghost) : Type 0 whe
   pub put : v .put ≡ v .taken + length (g .queue)
   pub queue : jobsIn (v .cell CELL) 0 (v .put) ≡ g .queue
   pub index : Index v (length (g .queue))
+  pub unused : Unused (s .jobs) (v .put) (length (g .queue)) (v .cell)
   pub rows : (j : ℕ) → j < s .jobs → Row (v .job) j (G .via j) (job g j)
   pub buckets : (k : ℕ) → k < 2 ^ s .bits
       → Bucket (v .job NEXT) (λ j. bucketOf (v .job NAME j) (s .bits)) k (v .bucket 0 k) (length (g .jobs))

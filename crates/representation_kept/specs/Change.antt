@@ -17,7 +17,7 @@ use Rattle.words.specs.Layout.{sizesKept, Tables, tables, view, View}
 use Rattle.words.specs.Observed.{jobsIn}
 use Rattle.rules.specs.Rules.{Job, Worker, Graph, noJob, job, withJobs, withQueue, withWorkers}
 use Rattle.rules.specs.Sound.{started, startedBy}
-use Rattle.representation.specs.Rep.{Ghost, Row, Index, TablesRep, Stands}
+use Rattle.representation.specs.Rep.{Ghost, Row, Index, Unused, TablesRep, Stands}
 use Rattle.representation_kept.specs.Stand.{TablesStand, viewOf}
 
 pub kept-put : (s : Sizes) (l : List ℕ) (i k x : ℕ) → sizesKept s (put jobShape l i k x) ≡ sizesKept s l
@@ -97,17 +97,19 @@ module _ (s : Sizes) (v : View) (g : Graph) (G : Ghost) (R : TablesRep s v g G) 
       → taken ≡ started (set (g .jobs) j y) → put ≡ taken + length q
       → jobsIn (c CELL) 0 put ≡ q
       → Index (viewOf (v .made) (v .reserved) taken put f (v .arc) (v .bucket) c r) (length q)
+      → Unused (s .jobs) put (length q) c
       → TablesRep s
       (viewOf (v .made) (v .reserved) taken put f (v .arc) (v .bucket) c r)
       (withJobs (withQueue (withWorkers g h) q) (set (g .jobs) j y))
       G
-  change-rep here there a b d I = record {
+  change-rep here there a b d I U = record {
     made = R .made ∙ sym count;
     reserved = R .reserved;
     taken = a;
     put = b;
     queue = d;
     index = I;
+    unused = U;
     rows = all (λ k z. k < s .jobs → Row f k (G .via k) z) here there;
     buckets = λ k o. rw (count, names, nexts) (R .buckets k o);
     lengths = λ p. R .lengths p ∙ sym (ap length (dependents-then p));

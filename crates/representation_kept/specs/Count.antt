@@ -13,17 +13,18 @@ use Rattle.basics.specs.Laws.{update-same}
 use Rattle.terms.specs.declared.Sizes.{Sizes}
 use Rattle.words.specs.Columns.{columns, columns-put, put, store, stores}
 use Rattle.words.specs.Layout.{jobShape, COUNT, CELL, workerShape, tables, view, Tables, View}
-use Rattle.words.specs.Index.{putSeat}
+use Rattle.words.specs.Index.{levels, putSeat}
 use Rattle.words.specs.Words.{applied, putCount}
 use Rattle.words.specs.Observed.{jobsIn}
 use Rattle.words.specs.declared.Plan.the-variants.{Settle, SettleQueue, Notify, NotifyQueue}
 use Rattle.rules.specs.Rules.{Call, Worker, Graph, job, withCount, settled, notified, withJobs, withQueue}
 use Rattle.rules.specs.Rules.{withWorkers}
 use Rattle.rules.specs.Sound.{Sound, MayQueue, started}
-use Rattle.representation.specs.Rep.{Ghost, Row, Index, TablesRep, Stands}
-use Rattle.representation_kept.specs.Stand.{TablesStand, viewOf}
+use Rattle.representation.specs.Rep.{Ghost, Row, Index, Unused, TablesRep, Stands}
+use Rattle.representation_kept.specs.Stand.{TablesStand, viewOf, limits-of}
 use Rattle.representation_kept.specs.Change.{started-set, change-rep, row-other, job-stands}
-use Rattle.representation_kept.specs.Places.{index-kept}
+use Rattle.representation_kept.specs.Places.{slot-has, index-kept}
+use Rattle.representation_kept.specs.Unused.{unused-put}
 use Rattle.representation_kept.specs.Slots.{seat-put}
 use Rattle.representation_kept.specs.Queue.{seatOf, entering, put-fits, queue-put, index-put, slots-within}
 
@@ -65,15 +66,17 @@ module _ (s : Sizes) (v : View) (g : Graph) (G : Ghost) (R : TablesRep s v g G) 
       (R .put)
       (R .queue)
       (index-kept v (length (g .queue)) (R .index) _ _ _ f _ _ r (λ p b e. refl))
+      (R .unused)
 
   -- the job is put in the queue
   queue-rep : (taken puts : ℕ) (k : ℕ → ℕ → ℕ) → taken ≡ v .taken → puts ≡ v .put + 1
       → jobsIn (k CELL) 0 puts ≡ g .queue ++ (j ∷ [])
       → Index (viewOf (v .made) (v .reserved) taken puts f (v .arc) (v .bucket) k r) (suc (length (g .queue)))
+      → Unused (s .jobs) (v .put + 1) (suc (length (g .queue))) k
       → TablesRep s (viewOf (v .made) (v .reserved) taken puts f (v .arc) (v .bucket) k r)
       (counted g j c (g .queue ++ (j ∷ [])) h)
       G
-  queue-rep taken puts k a b q I =
+  queue-rep taken puts k a b q I U =
       let longer : length (g .queue ++ (j ∷ [])) ≡ suc (length (g .queue)) =
       omega (arith, length-append (g .queue) (j ∷ [])) in
       change-rep s v g G R j hj (withCount (job g j) c) refl refl f k refl refl taken puts (g .queue ++ (j ∷ [])) r h
@@ -83,6 +86,7 @@ module _ (s : Sizes) (v : View) (g : Graph) (G : Ghost) (R : TablesRep s v g G) 
       (omega (arith, R .put))
       q
       (rw longer I)
+      (rw (longer, b) U)
 
 -- ---- over the words
 module _ (s : Sizes) (t : Tables) (g : Graph) (G : Ghost) (S : Stands s t g G) (O : Sound s g) where
@@ -113,7 +117,11 @@ module _ (s : Sizes) (t : Tables) (g : Graph) (G : Ghost) (S : Stands s t g G) (
       (simp (stores, columns-put jobShape (s .jobs), S .jobs)
       (queue-rep s (view t) g G R j hj c (columns workerShape l) h _ _ _ (q .taken) (q .puts)
       (rw (q .puts, q .cells) (queue-put s t g G S O j hj M))
-      (index-put s t g G S O j hj M _ (q .puts) refl (q .cells) (q .slots) (q .positions))))
+      (index-put s t g G S O j hj M _ (q .puts) refl (q .cells) (q .slots) (q .positions))
+      (unused-put (s .jobs) (view t .put) (omega (arith, limits-of s (S .limits) .jobs)) (view t .cell) _
+      (length (g .queue)) (entering s t g G S O j hj M .at) levels j (R .unused) (omega (arith, R .put))
+      (omega (arith, limits-of s (S .limits) .jobs)) (slot-has (view t) (length (g .queue)) (R .index)) (q .cells)
+      (q .slots) (q .positions))))
 
   pub settle-stands : (w j u d : ℕ) → j < length (g .jobs) → settles (job g j .count - u) u d ≡ false
       → TablesStand s (applied (Settle j (job g j .count - u)) t w) (settled g w j u d) G

@@ -13,7 +13,7 @@ use lib.ListN.{length, getD, length-append, List·getD-eq-default}
 use lib.Seq.{sets}
 use borrow.Author.Tests.{lt-ltb, le-ltb, eqb-true, eqb-false}
 use Rattle.basics.specs.Base.{pick, occurrences}
-use Rattle.basics.specs.Laws.{update-same, update-at, update-other, length-prefix}
+use Rattle.basics.specs.Laws.{update-same, update-at, update-other, length-prefix, snoc-all}
 use Rattle.bucket.specs.Bucket.{bucketOf}
 use Rattle.bucket.specs.Laws.{below}
 use Rattle.terms.specs.Terms.{Arguments}
@@ -28,7 +28,6 @@ use Rattle.words.specs.declared.Plan.the-variants.{Enter}
 use Rattle.rules.specs.Rules.{Job, Graph, noJob, job, newJob, entered}
 use Rattle.rules.specs.Sound.{Sound}
 use Rattle.representation.specs.Rep.{Bucket, Ghost, enterGhost, Row, Linked, TablesRep, AddWords, Stands}
-use Rattle.representation_kept.specs.Lists.{append-all}
 use Rattle.representation_kept.specs.Records.{rows-sets, record-at, record-off, header-record}
 use Rattle.representation_kept.specs.Stand.{TablesStand, viewOf}
 use Rattle.representation_kept.specs.Places.{index-kept}
@@ -94,7 +93,7 @@ module _ (s : Sizes) (v : View) (g : Graph) (G : Ghost) (R : TablesRep s v g G) 
 
   -- a fact of the jobs after: of the new one, and of each that was there
   all : (P : ℕ → Job → Type 0) → P n x → ((k : ℕ) → k ≢ n → P k (job g k)) → (k : ℕ) → P k (job (entered g w a) k)
-  all P = append-all P (g .jobs) x noJob
+  all P = snoc-all P (g .jobs) x noJob
 
   rows : (j : ℕ) → j < s .jobs → Row f j (G .via j) (job (entered g w a) j)
   rows = all (λ k y. k < s .jobs → Row f k (G .via k) y)
@@ -188,6 +187,7 @@ module _ (s : Sizes) (v : View) (g : Graph) (G : Ghost) (R : TablesRep s v g G) 
     index = index-kept v (length (g .queue)) (R .index) _ _ _ f _ _ r
         (λ p b e. old CLASS (v .cell CELL p)
         (omega (arith, queued (v .cell CELL p) (rw (R .queue) at (cell-occurs (v .cell CELL) (v .put) p b e)))));
+    unused = R .unused;
     rows = rows;
     buckets = λ k b. rw (more, new .name) (chains k b (eqb (bucket (a .name)) k) refl);
     lengths = all (λ k y. length (G .via k) ≡ length (y .dependents)) bare (λ k e. R .lengths k);

@@ -20,7 +20,7 @@ use Rattle.words.specs.Layout.{LAST, arcShape, RESERVED, bucketShape, queueShap
 use Rattle.words.specs.Layout.{OWN-NAME, LIST-COUNT, OWN-CLASS, OWN-GROWER, TALLY, PLACE, OWN-JOB, OWN-ARC, IDLE, need}
 use Rattle.words.specs.Layout.{longEnough, sizesKept, roomFor, freshJob, freshArc, freshPlace, bareWorker, freshJobs}
 use Rattle.words.specs.Layout.{freshArcs, freshBuckets, freshQueue, freshWorkers, freshTables, tables, view, Tables}
-use Rattle.words.specs.Layout.{NAMES}
+use Rattle.words.specs.Layout.{NAMES, CELL, SLOT, POSITION}
 use Rattle.words.specs.Observed.{jobsIn}
 use Rattle.rules.specs.Rules.{idle, noJob, empty}
 use Rattle.rules.specs.Sound.{started}
@@ -109,6 +109,9 @@ module _ (s : Sizes) (t : Tables) (L : Long s t) where
   counter : (q : ℕ) → q < 2 → header Q q ≡ getD (0 ∷ 0 ∷ []) q 0
   counter q h = laid-header queueShape (s .jobs) (t .queue) (0 ∷ 0 ∷ []) freshPlace refl refl (L .queue) q h
 
+  place-word : (p q : ℕ) → p < s .jobs → q < queueShape .width → columns queueShape Q q p ≡ getD freshPlace q 0
+  place-word p q = laid-at queueShape (s .jobs) (t .queue) (0 ∷ 0 ∷ []) freshPlace refl refl (L .queue) p q
+
   worker-word : (w q : ℕ) → w < s .workers → q < workerShape .width
       → columns workerShape W q w ≡ getD (bareWorker IDLE words.none) q 0
   worker-word w q = laid-at workerShape (s .workers) (t .workers) [] (bareWorker IDLE words.none) refl refl
@@ -170,6 +173,11 @@ module _ (s : Sizes) (t : Tables) (L : Long s t) where
       places = λ p. rw (counter PUT (omega arith), le-ltb p 0 (omega arith)) refl;
       positions = λ k h. absurd (omega arith);
       heap = record { ordered = λ a b h. absurd (omega arith) };
+    };
+    unused = record {
+      slots = λ k h b. place-word k SLOT b (omega arith);
+      cells = λ p h b. place-word p CELL b (omega arith);
+      positions = λ p b e. place-word p POSITION b (omega arith);
     };
     rows = fresh-row;
     buckets = bucket-word;

@@ -12,6 +12,7 @@ use Rattle.terms.specs.Order.{without}
 use Rattle.terms.specs.declared.Sizes.{Sizes}
 use Rattle.words.specs.Columns.{columns-put, put, store, stores}
 use Rattle.words.specs.Layout.{jobShape, LABEL, CELL, SLOT, view, Tables, View}
+use Rattle.words.specs.Index.{levels}
 use Rattle.words.specs.Observed.{jobsIn}
 use Rattle.words.specs.Words.{applied, appliedGet}
 use Rattle.words.specs.declared.Plan.the-variants.{Mark}
@@ -19,10 +20,11 @@ use Rattle.words.specs.declared.GetPlan.the-variants.{Take}
 use Rattle.rules.specs.Rules.{Call, Worker, Graph, job, withLabel, marked, handOut, handedOut, withJobs, withQueue}
 use Rattle.rules.specs.Rules.{withWorkers}
 use Rattle.rules.specs.Sound.{Sound, startedBy}
-use Rattle.representation.specs.Rep.{Ghost, Row, Index, TablesRep, Stands}
-use Rattle.representation_kept.specs.Stand.{TablesStand, viewOf}
+use Rattle.representation.specs.Rep.{Ghost, Row, Index, Unused, TablesRep, Stands}
+use Rattle.representation_kept.specs.Stand.{TablesStand, viewOf, limits-of}
 use Rattle.representation_kept.specs.Change.{started-set, change-rep, row-other, job-stands}
-use Rattle.representation_kept.specs.Places.{index-kept}
+use Rattle.representation_kept.specs.Places.{slot-has, index-kept}
+use Rattle.representation_kept.specs.Unused.{unused-take}
 use Rattle.representation_kept.specs.Slots.{seat-take}
 use Rattle.representation_kept.specs.Queue.{seatLeft, leaving, next-there, next-waits, slots-fit, queue-take}
 use Rattle.representation_kept.specs.Queue.{length-take, index-take, slots-within}
@@ -65,19 +67,22 @@ module _ (s : Sizes) (v : View) (g : Graph) (G : Ghost) (R : TablesRep s v g G) 
       (R .put)
       (R .queue)
       (index-kept v (length (g .queue)) (R .index) _ _ _ f _ _ r (λ p b e. refl))
+      (R .unused)
 
   -- a job that is started, and no more in the queue, which then is q
   take-rep : (taken puts : ℕ) (k : ℕ → ℕ → ℕ) (q : List ℕ) → taken ≡ v .taken + 1 → puts ≡ v .put
       → length (g .queue) ≡ suc (length q) → startedBy (job g j .label) ≡ 0 → startedBy l ≡ 1
       → jobsIn (k CELL) 0 puts ≡ q
       → Index (viewOf (v .made) (v .reserved) taken puts f (v .arc) (v .bucket) k r) (length q)
+      → Unused (s .jobs) (v .put) (length q) k
       → TablesRep s (viewOf (v .made) (v .reserved) taken puts f (v .arc) (v .bucket) k r) (labelled g j l q h) G
-  take-rep taken puts k q a b c x y d I =
+  take-rep taken puts k q a b c x y d I U =
       change-rep s v g G R j hj (withLabel (job g j) l) refl refl f k refl refl taken puts q r h here there
       (omega (arith, R .taken, started-set (g .jobs) j (withLabel (job g j) l) hj))
       (omega (arith, R .put))
       d
       I
+      (rw b U)
 
 -- ---- over the words
 module _ (s : Sizes) (t : Tables) (g : Graph) (G : Ghost) (S : Stands s t g G) (O : Sound s g) where
@@ -115,4 +120,8 @@ module _ (s : Sizes) (t : Tables) (g : Graph) (G : Ghost) (S : Stands s t g G) (
       (ap startedBy (O .queue-unexecuted j (next-waits s t g G S O n full)))
       refl
       (rw (q .puts, q .cells) (queue-take s t g G S O n full))
-      (rw left (index-take s t g G S O n full _ (q .puts) refl (q .cells) (q .slots) (q .positions)))))
+      (rw left (index-take s t g G S O n full _ (q .puts) refl (q .cells) (q .slots) (q .positions)))
+      (rw left (unused-take (s .jobs) (view t .put) (omega (arith, limits-of s (S .limits) .jobs)) (view t .cell) _ n
+      (leaving s t g G S O n full .at) levels (view t .cell SLOT 0) (rw full at (R .unused))
+      (leaving s t g G S O n full .within) (rw full at (slot-has (view t) (length (g .queue)) (R .index)))
+      (q .cells) (q .slots) (q .positions)))))

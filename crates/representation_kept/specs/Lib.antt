@@ -6,6 +6,7 @@ pub mod Find
 pub mod Fresh
 pub mod Cells
 pub mod Slots
+pub mod Unused
 pub mod Change
 pub mod Queue
 pub mod Arcs

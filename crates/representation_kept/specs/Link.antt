@@ -174,6 +174,7 @@ module _ (s : Sizes) (v : View) (g : Graph) (G : Ghost) (R : TablesRep s v g G) 
         put = R .put;
         queue = R .queue;
         index = index-kept v _ (R .index) _ _ _ f a _ r (λ q b e. ap (λ c. c (v .cell CELL q)) classes);
+        unused = R .unused;
         rows = rows;
         buckets = λ k b. rw (count, names, nexts) (R .buckets k b);
         lengths = all (λ k z. length (H .via k) ≡ length (z .dependents))

@@ -1,51 +1,16 @@
--- Lists changed at one place, at their end, or by a run of stores: what stands at each place after. Follows
--- docs/RULES.md, "Tables and their measures", for tables as lists of words. Assumes nothing.
+-- The cells of a queue, and lists repeated: what stands at each place. Follows docs/RULES.md, "Tables and their
+-- measures", for tables as lists of words. Assumes nothing.
 use mathlib.Core.Path.{_≡_, refl, sym, ap, _∙_}
-use mathlib.Core.Logic.{_≢_}
 use mathlib.Core.List.{List, [], _∷_, _++_}
-use Prim.Native.Nat.{ℕ, zero, suc, _+_, _*_, _≤_, _<_}
+use Prim.Native.Nat.{ℕ, zero, suc, _+_, _*_, _<_}
 use native.Mathlib.Omega.{arith}
-use native.Mathlib.Decide.{ℕ-discrete, decLt}
 use native.Mathlib.Nat.{add-zero, mul-suc}
-use lib.ListN.{length, getD, set, replicate, length-set, length-append, List·getD-append, List·getD-eq-default}
+use lib.ListN.{length, getD, replicate, length-append, List·getD-append}
 use lib.ListN.{getD-replicate, take}
-use lib.Seq.{getD-set-same, getD-set-other, getD-append-seam, sets}
 use Rattle.basics.specs.Limits.{mostNames}
+use Rattle.basics.specs.Laws.{getD-past}
 use Rattle.words.specs.Layout.{NAMES, bareWorker, repeated}
 use Rattle.words.specs.Observed.{cells}
-
-pub append-all : {A : Type 0} (P : ℕ → A → Type 0) (l : List A) (x d : A) → P (length l) x
-    → ((k : ℕ) → k ≢ length l → P k (getD l k d))
-    → (k : ℕ) → P k (getD (l ++ (x ∷ [])) k d)
-append-all P l x d a b k = elim (ℕ-discrete k (length l)) [
-  | yes e ↦ rw (e, getD-append-seam l x [] d) a
-  | no e ↦ elim (decLt k (length l)) [
-    | yes z ↦ rw (List·getD-append l (x ∷ []) d k z) (b k e)
-    | no z ↦
-        rw (
-          List·getD-eq-default (l ++ (x ∷ [])) d {n = k} (omega (arith, length-append l (x ∷ []))),
-          ← (List·getD-eq-default l d {n = k} (omega arith)),
-        )
-        (b k e)
-  ]
-]
-
--- ---- a run of stores
-pub sets-off : (r l : List ℕ) (i k : ℕ) → (i ≤ k → i + length r ≤ k) → getD (sets l i r) k 0 ≡ getD l k 0
-sets-off [] l i k h = refl
-sets-off (x ∷ r) l i k h =
-    sets-off r (set l i x) (suc i) k (λ e. omega (arith, h (omega arith)))
-    ∙ getD-set-other l i k x 0 (λ e. omega (arith, h (omega arith)))
-
-pub sets-at : (r l : List ℕ) (i q : ℕ) → q < length r → i + q < length l → getD (sets l i r) (i + q) 0 ≡ getD r q 0
-sets-at [] l i q h b = absurd (omega arith)
-sets-at (x ∷ r) l i zero h b =
-    ap (λ k. getD (sets (set l i x) (suc i) r) k 0) {x = i + 0} {y = i} (omega arith)
-    ∙ sets-off r (set l i x) (suc i) i (λ e. absurd (omega arith))
-    ∙ getD-set-same l i x 0 (omega arith)
-sets-at (x ∷ r) l i (suc q) h b =
-    ap (λ k. getD (sets (set l i x) (suc i) r) k 0) {x = i + suc q} {y = suc i + q} (omega arith)
-    ∙ sets-at r (set l i x) (suc i) q (omega arith) (omega (arith, length-set l i x))
 
 -- ---- the cells are the list that they hold
 pub cells-list : (f : ℕ → ℕ) (i : ℕ) (q : List ℕ) → ((k : ℕ) → k < length q → f (i + k) ≡ getD q k 0)
@@ -59,11 +24,6 @@ cells-list f i (x ∷ q) h =
     rw (here, rest)
 
 -- ---- a list repeated
-pub getD-past : (l k : List ℕ) (m : ℕ) → getD (l ++ k) (length l + m) 0 ≡ getD k m 0
-getD-past [] k m = ap (λ z. getD k z 0) {x = 0 + m} {y = m} (omega arith)
-getD-past (x ∷ l) k m =
-    ap (λ z. getD (x ∷ (l ++ k)) z 0) {x = suc (length l) + m} {y = suc (length l + m)} (omega arith) ∙ getD-past l k m
-
 pub length-repeated : (n : ℕ) (r : List ℕ) → length (repeated n r) ≡ length r * n
 unfolding repeated
 length-repeated zero r = omega arith

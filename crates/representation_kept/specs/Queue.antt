@@ -100,7 +100,7 @@ module _ (s : Sizes) (t : Tables) (g : Graph) (G : Ghost) (S : Stands s t g G) (
   pub fill : filled v ≡ m
   fill = omega (arith, R .put)
 
-  room : v .put ≤ mostJobs
+  pub room : v .put ≤ mostJobs
   room = omega (arith, put-ends, limits-of s (S .limits) .jobs)
 
   -- ---- a place whose cell has a job
@@ -125,7 +125,7 @@ module _ (s : Sizes) (t : Tables) (g : Graph) (G : Ghost) (S : Stands s t g G) (
     has : cells (slot k) ≢ words.none
     has = slot-has v m (R .index) k h
 
-    slot-waits : waits v k ≡ true
+    pub slot-waits : waits v k ≡ true
     unfolding waits
     slot-waits =
         let p : ℕ = slot k in

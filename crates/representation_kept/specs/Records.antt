@@ -7,23 +7,20 @@ use mathlib.Core.List.{List, _++_}
 use Prim.Native.Nat.{ℕ, _+_, _*_, _≤_, _<_}
 use native.Mathlib.Omega.{arith}
 use native.Mathlib.Decide.{decLt}
-use native.Mathlib.Nat.{mul-suc, mul-le-mul-left}
 use lib.Dec.{ltb}
 use lib.ListN.{length, getD, length-append, List·getD-append}
 use lib.Seq.{sets, length-sets}
 use borrow.Author.Tests.{lt-ltb, ltb-true, leb-true}
 use Rattle.basics.specs.Base.{pick}
-use Rattle.words.specs.Columns.{Shape, place, rows, Rows, columns, header, inside}
+use Rattle.basics.specs.Laws.{getD-past}
+use Rattle.basics.specs.Stores.{sets-off, sets-at}
+use Rattle.words.specs.Columns.{Shape, place, rows, Rows, columns, header, before, inside}
 use Rattle.words.specs.Layout.{repeated}
-use Rattle.representation_kept.specs.Lists.{sets-off, sets-at, getD-past, length-repeated, getD-repeated}
+use Rattle.representation_kept.specs.Lists.{length-repeated, getD-repeated}
 
 pub rows-sets : (s : Shape) (R : ℕ) (l : List ℕ) (i : ℕ) (r : List ℕ) → rows s R (sets l i r) ≡ rows s R l
 unfolding rows
 rows-sets s R l i r = rw (length-sets l i r)
-
--- a record ends before the next begins
-before : (s : Shape) (i j : ℕ) → i < j → s .width * i + s .width ≤ s .width * j
-before s i j h = rw (← (mul-suc (s .width) i)) (mul-le-mul-left (s .width) h)
 
 module _ (s : Shape) (R : ℕ) (l : List ℕ) (i : ℕ) (r : List ℕ) (fits : length r ≤ s .width) where
   pub record-at : Rows s R l → i < R → (q : ℕ) → q < length r → columns s (sets l (place s i 0) r) q i ≡ getD r q 0

@@ -77,6 +77,7 @@ rep-with s v g G R f h linked spent =
         positions = R .index .positions;
         heap = R .index .heap;
       };
+      unused = R .unused;
       rows = R .rows;
       buckets = R .buckets;
       lengths = R .lengths;

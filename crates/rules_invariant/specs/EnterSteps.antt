@@ -8,7 +8,7 @@ use Prim.Native.Nat.{ℕ, suc, _+_, _≤_, _<_}
 use native.Mathlib.Omega.{arith}
 use lib.ListN.{length, getD, length-append}
 use lib.Seq.{getD-append-seam}
-use Rattle.basics.specs.Laws.{update-same, update-other, length-prefix}
+use Rattle.basics.specs.Laws.{update-same, update-other, length-prefix, snoc-all}
 use Rattle.terms.specs.Terms.{unexecuted, finished, Arguments, listed}
 use Rattle.terms.specs.declared.Sizes.{Sizes}
 use Rattle.rules.specs.Rules.{Job, looking, linking, Graph, noJob, job, find, at, missing, newJob, entered, linked}
@@ -19,7 +19,7 @@ use Rattle.rules_invariant.specs.Invariant.{Invariant, Below, startedBy-
 use Rattle.rules_invariant.specs.Entering.{enter-keeps}
 use Rattle.rules_invariant.specs.Names.{Extends, extends-append, Numbers, sought-there, seek-new}
 use Rattle.rules_invariant.specs.Names.{few, low}
-use Rattle.rules_invariant.specs.Relation.{Kept, Known, jobRel, WorkerRel, snoc-all, finished-keeps}
+use Rattle.rules_invariant.specs.Relation.{Kept, Known, jobRel, WorkerRel, finished-keeps}
 use Rattle.rules_invariant.specs.Turns.{Next, own-stage, own-call, workers-after}
 
 module _ (s : Sizes) (g : Graph) (r : Reading) (x : State) (K : Kept s g r x) (I : Invariant x) (w : ℕ) where

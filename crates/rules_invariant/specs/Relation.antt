@@ -1,15 +1,12 @@
 -- How the graph and its reading stand to the maps: what each job and each worker is there, and what follows when one of
 -- them changes. Assumes nothing.
 use mathlib.Core.Path.{_≡_, refl, sym, _∙_}
-use mathlib.Core.Logic.{_≢_}
 use mathlib.Core.Bool.{true, false}
 use mathlib.Core.Option.{Option, none, some}
-use mathlib.Core.List.{List, [], _∷_, _++_}
-use Prim.Native.Nat.{ℕ, _+_, _-_, _≤_, _<_}
+use mathlib.Core.List.{List}
+use Prim.Native.Nat.{ℕ, _≤_, _<_}
 use native.Mathlib.Omega.{arith}
-use native.Mathlib.Decide.{ℕ-discrete, decLt}
-use lib.ListN.{length, getD, length-append, List·getD-append, List·getD-eq-default}
-use lib.Seq.{getD-append-seam}
+use lib.ListN.{length, getD}
 use Rattle.basics.specs.Limits.{mostNames, mostClass}
 use Rattle.basics.specs.Base.{contains}
 use Rattle.terms.specs.Terms.{Label, finished, Arguments, listed, argumentsWrong}
@@ -170,17 +167,3 @@ pub record Reached (s : Sizes) (g : Graph) (r : Reading) (e : ℕ → ℕ) : Typ
   pub invariant : Invariant state
   pub kept : Kept s g r state
   pub entries : (k : ℕ) → e k ≡ state .entries k
-
-pub snoc-all : {A : Type 0} (P : ℕ → A → Type 0) (l : List A) (x d : A) → P (length l) x
-    → ((k : ℕ) → k ≢ length l → P k (getD l k d))
-    → (k : ℕ) → P k (getD (l ++ (x ∷ [])) k d)
-snoc-all P l x d a b k = elim (ℕ-discrete k (length l)) [
-  | yes e ↦ rw (e, getD-append-seam l x [] d) a
-  | no e ↦ elim (decLt k (length l)) [
-    | yes z ↦ rw (List·getD-append l (x ∷ []) d k z) (b k e)
-    | no z ↦ rw (
-      List·getD-eq-default (l ++ (x ∷ [])) d {n = k} (omega (arith, length-append l (x ∷ []))),
-      ← (List·getD-eq-default l d {n = k} (omega arith)),
-    ) (b k e)
-  ]
-]

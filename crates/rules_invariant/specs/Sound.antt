@@ -160,3 +160,6 @@ module _ (s : Sizes) (g : Graph) (r : Reading) (x : State) (K : Kept s g r x) (I
 
 pub sound : {s : Sizes} {g : Graph} {r : Reading} {e : ℕ → ℕ} → History s g r e → rules.Sound s g
 sound {s} {g} {r} history = let o = reached history in is-sound s g r (o .state) (o .kept) (o .invariant)
+
+pub soundly : {s : Sizes} (g : Graph) (r : Reading) (e : ℕ → ℕ) → History s g r e → rules.Sound s g
+soundly g r e history = sound history

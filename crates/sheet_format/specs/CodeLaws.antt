@@ -1,18 +1,17 @@
--- Laws that proofs about code cite (docs/SHEETS.md): the bounds of what was read from any input, a sheet from an offset
--- on, names one after the other, and stores one after the other. Assumes nothing.
-use Prim.Native.Nat.{ℕ, zero, suc, _+_, _*_, _-_, _≤_, _<_}
-use mathlib.Core.Path.{_≡_, refl, sym, ap}
-use mathlib.Core.List.{List, [], _∷_, _++_, append-assoc}
+-- Laws that proofs about code cite (docs/SHEETS.md): the bounds of what was read from any input, names one after the
+-- other, and how many entries rows have. Assumes nothing.
+use Prim.Native.Nat.{ℕ, zero, suc, _+_, _*_, _≤_}
+use mathlib.Core.Path.{_≡_, refl, ap}
+use mathlib.Core.List.{List, [], _∷_, _++_}
 use native.Mathlib.Omega.{arith}
-use lib.ListN.{length, getD, set}
-use lib.Seq.{sets}
+use lib.ListN.{length}
 use Rattle.basics.specs.Laws.{never}
-use Rattle.sheet_format.specs.Number.{numberAt, spelt}
-use Rattle.sheet_format.specs.Job.{Job, Below, none, more, bitOf, speltNames, nameBytes, countBytes}
+use Rattle.sheet_format.specs.Number.{numberAt}
+use Rattle.sheet_format.specs.Job.{Job, bitOf, nameBytes, countBytes}
 use Rattle.sheet_format.specs.Job.{classBytes, growerBytes}
 use Rattle.sheet_format.specs.Decode.{namesAt, Decoded, job, end, refused, decode, jobs, onward, decodeFrom}
 use Rattle.sheet_format.specs.Write.{listBytes, listPlace, entriesFrom}
-use Rattle.sheet_format.specs.EntryTrip.{length-encode, entry-stands, end-there}
+use Rattle.sheet_format.specs.EntryTrip.{length-encode, entry-stands}
 use Rattle.sheet_format.specs.SheetTrip.{Each, after-entry}
 use Rattle.sheet_format.specs.RewriteTrip.{Short}
 
@@ -42,24 +41,6 @@ entry-bounds s at j n h =
       count = d .count;
       list = d .list;
     }
-
--- two bounds on the entries that leave none out read the same
-pub any-bound : (k l : ℕ) (s : List ℕ) (at : ℕ) → length s ≤ at + k → length s ≤ at + l
-    → decodeFrom k s at ≡ decodeFrom l s at
-unfolding decodeFrom
-any-bound zero zero s at enough-k enough-l = refl
-any-bound zero (suc l) s at enough-k enough-l = rw (end-there s at (omega arith))
-any-bound (suc k) zero s at enough-k enough-l = rw (end-there s at (omega arith))
-any-bound (suc k) (suc l) s at enough-k enough-l = by-entry (decode s at) refl (any-bound k l s)
-  where
-    by-entry : (d : Decoded) → decode s at ≡ d
-        → ((n : ℕ) → length s ≤ n + k → length s ≤ n + l → decodeFrom k s n ≡ decodeFrom l s n)
-        → onward d (decodeFrom k s) ≡ onward d (decodeFrom l s)
-    by-entry (job j n) e ih =
-        let b = entry-bounds s at j n e in
-        rw (ih n (omega arith) (omega arith))
-    by-entry end e ih = refl
-    by-entry (refused c a) e ih = refl
 
 -- the bounds of a sheet that was read
 pub sheet-bounds : (k : ℕ) (s : List ℕ) (at : ℕ) (js : List Job) → at ≤ length s → decodeFrom k s at ≡ jobs js
@@ -99,19 +80,3 @@ pub length-entriesFrom : (rows : List ℕ) (i n : ℕ) → length (entriesFrom r
 unfolding entriesFrom
 length-entriesFrom rows i zero = refl
 length-entriesFrom rows i (suc n) = ap suc (length-entriesFrom rows (i + 1) n)
-
--- a list whose every element is below a bound
-pub below-of : (bound : ℕ) (xs : List ℕ) → ((i : ℕ) → getD xs i 0 < bound) → Below bound xs
-below-of bound [] each = none
-below-of bound (x ∷ xs) each = more (each 0) (below-of bound xs (λ i. each (suc i)))
-
--- stores one after the other are one run of stores
-pub sets-append : (l xs ys : List ℕ) (i k : ℕ) → k ≡ i + length xs → sets (sets l i xs) k ys ≡ sets l i (xs ++ ys)
-sets-append l [] ys i k q = let e : k ≡ i = omega arith in rw e
-sets-append l (x ∷ xs) ys i k q = sets-append (set l i x) xs ys (suc i) k (omega arith)
-
-speltNames-append : (w : ℕ) (xs ys : List ℕ) → speltNames w (xs ++ ys) ≡ speltNames w xs ++ speltNames w ys
-unfolding speltNames
-speltNames-append w [] ys = refl
-speltNames-append w (x ∷ xs) ys =
-    rw (speltNames-append w xs ys) (sym (append-assoc (spelt w x) (speltNames w xs) (speltNames w ys)))

@@ -63,11 +63,11 @@ byte-of-bits j m small odd list class grower =
 
 -- THE LENGTH
 
-length-optional : (w v : ℕ) → length (speltUnlessZero w v) ≡ w * bitOf v
+pub length-optional : (w v : ℕ) → length (speltUnlessZero w v) ≡ w * bitOf v
 length-optional w zero = omega arith
 length-optional w (suc v) = length-spelt w (suc v) ∙ omega arith
 
-length-list : (xs : List ℕ) → length (speltList nameBytes xs) ≡ listBytes (length xs)
+pub length-list : (xs : List ℕ) → length (speltList nameBytes xs) ≡ listBytes (length xs)
 length-list [] = refl
 length-list (x ∷ xs) =
     let k = length-speltNames nameBytes (x ∷ xs) in

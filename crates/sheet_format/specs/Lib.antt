@@ -10,6 +10,10 @@ pub mod EntryTrip
 pub mod SheetTrip
 pub mod WriteTrip
 pub mod RewriteTrip
+pub mod Place
+pub mod PlaceLaws
+pub mod SheetPlace
+pub mod WrongPlaces
 pub mod Refusals
 pub mod CodeLaws
 pub mod SheetPromises

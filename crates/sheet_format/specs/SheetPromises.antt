@@ -1,11 +1,9 @@
 -- What is promised of job sheets: "A job sheet written and read back gives the same jobs, and one accepted sheet has
--- one
--- spelling" (demand 2; docs/SHEETS.md), and docs/RULES.md's cases of sheets. Each proof names where it was
--- shown.
--- `Bytes s` says that s is a list of bytes; `Words e` and `Below (2 ^ 32) rows` say that the numbers are 32-bit words,
--- as those
--- of every value of the declared types are. Nothing else is assumed.
-use Prim.Native.Nat.{ℕ, _+_, _*_, _-_, _≤_, _<_, _^_}
+-- one spelling" (demand 2; docs/SHEETS.md), the running place of writing, and docs/RULES.md's cases of sheets. Each
+-- proof names where it was shown. `Bytes s` says that s is a list of bytes; `Words e` and `Below (2 ^ 32) rows` say
+-- that the numbers are 32-bit words, and that an entry has 32 names, as every value of the declared types has. Nothing
+-- else is assumed.
+use Prim.Native.Nat.{ℕ, _+_, _*_, _-_, _/_, _%_, _≤_, _<_, _^_}
 use mathlib.Core.Path.{_≡_}
 use mathlib.Core.List.{List, _++_, map}
 use lib.ListN.{length, take, drop}
@@ -13,14 +11,20 @@ use lib.Seq.{sets}
 use Rattle.sheet_format.specs.Number.{spelt}
 use Rattle.sheet_format.specs.Job.{Job, Below, Valid, encode, encodeSheet}
 use Rattle.sheet_format.specs.Decode.{job, decode, Sheet, jobs, decodeSheet, entryOf, readingOf, readSheet}
-use Rattle.sheet_format.specs.Decode.{rowWords}
-use Rattle.sheet_format.specs.Write.{jobOf, entriesOf, written, writeEntry, sheetWritten, writeSheet}
+use Rattle.sheet_format.specs.Decode.{rowWords, offLimits, noRoom}
+use Rattle.sheet_format.specs.Write.{jobOf, entryAt, entriesOf, written, writeEntry, sheetWritten, writeSheet}
 use Rattle.sheet_format.specs.SheetCases.{Hold, FaultsHold, case-8, whole-sheets, rules, faults, cases-hold}
 use Rattle.sheet_format.specs.NumberLaws.{Bytes, NumberRead, NumberSpelt, number-there, number-back}
 use Rattle.sheet_format.specs.EntryTrip.{entry-there, entry-back}
 use Rattle.sheet_format.specs.SheetTrip.{Each, sheet-there, sheet-back, one-spelling}
-use Rattle.sheet_format.specs.WriteTrip.{Words, cleared, entry-written, entry-reading, sheet-written}
+use Rattle.sheet_format.specs.WriteTrip.{Words, Limits, cleared, entry-written, entry-reading, sheet-written}
 use Rattle.sheet_format.specs.RewriteTrip.{entry-rewritten, sheet-rewritten, sheet-rewritten-exactly}
+use Rattle.sheet_format.specs.Place.{Part, bytesOf, soFar, behind, placeOf, Places, running, put, upTo}
+use Rattle.sheet_format.specs.Place.{KeepsPlace, FirstOff}
+use Rattle.sheet_format.specs.PlaceLaws.{keeps-place, places, parts-put, entry-parts, part-there, refused-place}
+use Rattle.sheet_format.specs.PlaceLaws.{place-refused, within-written, within-no-room}
+use Rattle.sheet_format.specs.SheetPlace.{sheetSoFar, sheetBytes, FirstWrong, entry-stands-there, refused-first}
+use Rattle.sheet_format.specs.SheetPlace.{first-refused, sheet-fits, sheet-no-room}
 use Rattle.sheet_format.specs.Refusals.{entry-refused, sheet-refused, rows-refused}
 use Rattle.sheet_format.specs.declared.Entry.{Entry}
 use Rattle.sheet_format.specs.declared.Read.{Read}
@@ -72,6 +76,55 @@ pub a-read-entry-is-written-the-same : (s : List ℕ) (at : ℕ) (j : Job) (n : 
     ≡ written (Wrote.Done (start + (n - at))) (sets out start (take (n - at) (drop at s)))
 a-read-entry-is-written-the-same = entry-rewritten
 
+-- THE RUNNING PLACE of writing an entry, part after part: the map byte and the fields, those left out too
+
+-- Before each part, and at the end, the running place is past the bytes of the entry so far, and these were stored and
+-- nothing else.
+pub writing-keeps-its-place : KeepsPlace put
+writing-keeps-its-place = keeps-place
+
+-- The bytes so far are those of the entry's one spelling: they, the part, and what follows it.
+pub an-entry-is-its-parts : (part : Part) (j : Job) → encode j ≡ soFar part j ++ (bytesOf part j ++ behind part j)
+an-entry-is-its-parts = entry-parts
+
+-- The places in numbers.
+pub the-places-are : (j : Job) (start : ℕ) → Places j start
+the-places-are = places
+
+-- What was written, and the place that is answered, are what `put` leaves, part after part.
+pub a-written-entry-is-its-parts-put : (e : Entry) (out : List ℕ) (start n : ℕ)
+    → writeEntry e out start .answer ≡ Wrote.Done n
+    → running (writeEntry e out start .out) n ≡ upTo put Part.end (jobOf e) (running out start)
+a-written-entry-is-its-parts-put = parts-put
+
+-- Each part of a written entry that has bytes has them in the output at its place.
+pub each-part-stands-at-its-place : (e : Entry) (out : List ℕ) (start n : ℕ) (part : Part)
+    → writeEntry e out start .answer ≡ Wrote.Done n
+    → take (length (bytesOf part (jobOf e))) (drop (placeOf part (jobOf e) start) (writeEntry e out start .out))
+    ≡ bytesOf part (jobOf e)
+each-part-stands-at-its-place = part-there
+
+-- An entry is refused by 14 exactly if a field is off its limits, at the place of the first such field.
+pub a-refusal-is-at-the-first-fields-place : (e : Entry) (out : List ℕ) (start place : ℕ) → Words e
+    → writeEntry e out start .answer ≡ Wrote.Refused offLimits place → FirstOff e place
+a-refusal-is-at-the-first-fields-place = refused-place
+
+pub the-first-field-off-its-limits-refuses : (e : Entry) (out : List ℕ) (start place : ℕ) → Words e → FirstOff e place
+    → writeEntry e out start ≡ written (Wrote.Refused offLimits place) out
+the-first-field-off-its-limits-refuses = place-refused
+
+-- Within its limits it is written where there is room, and else refused by 15.
+pub an-entry-within-its-limits-is-written : (e : Entry) (out : List ℕ) (start : ℕ) → Limits e
+    → start + length (encode (jobOf e)) ≤ length out
+    → writeEntry e out start
+    ≡ written (Wrote.Done (start + length (encode (jobOf e)))) (sets out start (encode (jobOf e)))
+an-entry-within-its-limits-is-written = within-written
+
+pub an-entry-without-room-is-15 : (e : Entry) (out : List ℕ) (start : ℕ) → Limits e
+    → length out < start + length (encode (jobOf e))
+    → writeEntry e out start ≡ written (Wrote.Refused noRoom 0) out
+an-entry-without-room-is-15 = within-no-room
+
 -- A SHEET
 
 -- Valid jobs that are spelt one after the other are read back, all of them and in order.
@@ -108,6 +161,37 @@ pub a-read-sheet-is-written-the-same-exactly : (s : List ℕ) (js : List Job) (r
     → writeSheet (readSheet (decodeSheet s) rows .rows) out
     ≡ sheetWritten (SheetWrote.Done (length js) (length s)) (sets out 0 s)
 a-read-sheet-is-written-the-same-exactly = sheet-rewritten-exactly
+
+-- Each entry of a written sheet stands in the output behind the bytes of those before it.
+pub each-entry-stands-at-its-place : (rows out : List ℕ) (i n bytes : ℕ) → i < length rows / rowWords
+    → writeSheet rows out .answer ≡ SheetWrote.Done n bytes
+    → take (length (encode (jobOf (entryAt rows i)))) (drop (length (sheetSoFar rows i)) (writeSheet rows out .out))
+    ≡ encode (jobOf (entryAt rows i))
+each-entry-stands-at-its-place = entry-stands-there
+
+-- A sheet is refused by 14 exactly if an entry has a field off its limits, at the first such entry.
+pub a-sheet-is-refused-at-its-first-wrong-entry : (rows : List ℕ) → Below (2 ^ 32) rows → (out : List ℕ) (i place : ℕ)
+    → writeSheet rows out .answer ≡ SheetWrote.Refused offLimits i place → FirstWrong rows i place
+a-sheet-is-refused-at-its-first-wrong-entry = refused-first
+
+pub the-first-wrong-entry-refuses-a-sheet : (rows : List ℕ) → Below (2 ^ 32) rows → (out : List ℕ) (i place : ℕ)
+    → length rows % rowWords ≡ 0 → FirstWrong rows i place
+    → writeSheet rows out ≡ sheetWritten (SheetWrote.Refused offLimits i place) out
+the-first-wrong-entry-refuses-a-sheet = first-refused
+
+-- With every entry within its limits it is written where there is room, and else refused by 15.
+pub a-sheet-within-its-limits-is-written : (rows : List ℕ)
+    → ((i : ℕ) → i < length rows / rowWords → Limits (entryAt rows i))
+    → (out : List ℕ) → length rows % rowWords ≡ 0 → length (sheetBytes rows) ≤ length out
+    → writeSheet rows out
+    ≡ sheetWritten (SheetWrote.Done (length rows / rowWords) (length (sheetBytes rows))) (sets out 0 (sheetBytes rows))
+a-sheet-within-its-limits-is-written = sheet-fits
+
+pub a-sheet-without-room-is-15 : (rows : List ℕ)
+    → ((i : ℕ) → i < length rows / rowWords → Limits (entryAt rows i))
+    → (out : List ℕ) → length rows % rowWords ≡ 0 → length out < length (sheetBytes rows)
+    → writeSheet rows out ≡ sheetWritten (SheetWrote.Refused noRoom 0 0) out
+a-sheet-without-room-is-15 = sheet-no-room
 
 -- REFUSALS
 

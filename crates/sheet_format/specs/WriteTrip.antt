@@ -148,7 +148,8 @@ entry-reading e out start n w h =
 
 -- A SHEET
 
-entry-words : (rows : List ℕ) (i : ℕ) → Below (2 ^ 32) rows → rowWords * (i + 1) ≤ length rows → Words (entryAt rows i)
+pub entry-words : (rows : List ℕ) (i : ℕ) → Below (2 ^ 32) rows → rowWords * (i + 1) ≤ length rows
+    → Words (entryAt rows i)
 entry-words rows i b whole =
     record {
       name = below-getD _ (rowWords * i) rows (omega arith) b;

@@ -48,10 +48,6 @@ no-fault : (i : ℕ) (f : Fault) (others : SheetFault) → orElse i f others ≡
 no-fault i (Fault.at place) others h = (cc, cc)
 no-fault i Fault.none others h = (refl, h)
 
--- the bytes of the first n rows
-abbrev pub allBytes : List ℕ → ℕ → List ℕ
-allBytes rows n = encodeSheet (map jobOf (entriesFrom rows 0 n))
-
 module _ (rows : List ℕ) where
   pub names-all : (i : ℕ) → rowWords * (i + 1) ≤ length rows → length (entryAt rows i .names) ≡ mostNames
   names-all i h =
@@ -62,11 +58,6 @@ module _ (rows : List ℕ) where
       → jobOf (entryAt rows i) ≡ jobWith (getD rows (rowWords * i) 0) rows (rowWords * i + 4)
       (getD rows (rowWords * i + 1) 0) (getD rows (rowWords * i + 2) 0) (getD rows (rowWords * i + 3) 0)
   job-at i few = rw (take-take (getD rows (rowWords * i + 1) 0) mostNames (drop (rowWords * i + 4) rows) few)
-
-  pub entries-length : (i n : ℕ) → length (entriesFrom rows i n) ≡ n
-  unfolding entriesFrom
-  entries-length i zero = refl
-  entries-length i (suc n) = ap suc (entries-length (i + 1) n)
 
   module _ (i n : ℕ) (more : i < n) where
     next-entry : rest rows i n ≡ entryAt rows i ∷ rest rows (i + 1) n

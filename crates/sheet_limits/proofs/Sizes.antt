@@ -1,5 +1,5 @@
--- How long each field of an entry is, at every width, and room that is tested with no sum. Assumes nothing.
-use Prim.Native.Nat.{ℕ, zero, suc, _+_, _*_, _-_, _≤_}
+-- How long an entry is, and room that is tested with no sum. Assumes nothing.
+use Prim.Native.Nat.{ℕ, suc, _+_, _*_, _-_, _≤_}
 use mathlib.Core.Path.{_≡_, refl, sym, ap, _∙_}
 use mathlib.Core.List.{List, [], _∷_, _++_}
 use mathlib.Core.Bool.{Bool, true, false}
@@ -12,6 +12,8 @@ use Rattle.sheet_format.specs.Number.{spelt}
 use Rattle.sheet_format.specs.Job.{bitOf, nameBytes, countBytes, classBytes, growerBytes, speltUnlessZero, speltNames}
 use Rattle.sheet_format.specs.Job.{speltList, encode}
 use Rattle.sheet_format.specs.Write.{listPlace, listBytes}
+use Rattle.sheet_format.specs.NumberLaws.{length-spelt}
+use Rattle.sheet_format.specs.EntryTrip.{length-list, length-optional}
 use Rattle.sheet_limits.specs.Jobs.{jobWith}
 
 -- a field that is there
@@ -32,28 +34,6 @@ module _ (n : ℕ) (some : n ≡ 0 → ⊥) where
   list-some w [] h = absurd (some (sym h))
   list-some w (x ∷ xs) h = rw h
 
--- how long each field is
-pub spelt-length : (w n : ℕ) → length (spelt w n) ≡ w
-unfolding spelt
-spelt-length zero n = refl
-spelt-length (suc w) n = ap suc (spelt-length w _)
-
-pub unless-length : (w n : ℕ) → length (speltUnlessZero w n) ≡ w * bitOf n
-unless-length w zero = omega arith
-unless-length w (suc n) = spelt-length w (suc n) ∙ omega arith
-
-pub names-length : (w : ℕ) (xs : List ℕ) → length (speltNames w xs) ≡ w * length xs
-unfolding speltNames
-names-length w [] = omega arith
-names-length w (x ∷ xs) =
-    length-append (spelt w x) (speltNames w xs) ∙ omega (arith, spelt-length w x, names-length w xs)
-
-list-length : (xs : List ℕ) → length (speltList nameBytes xs) ≡ listBytes (length xs)
-list-length [] = refl
-list-length (x ∷ xs) =
-    length-append (spelt countBytes (length (x ∷ xs))) (speltNames nameBytes (x ∷ xs))
-    ∙ omega (arith, spelt-length countBytes (length (x ∷ xs)), names-length nameBytes (x ∷ xs))
-
 -- n of the words, the first at from
 pub taken : (words : List ℕ) (from n : ℕ) → from + n ≤ length words → length (take n (drop from words)) ≡ n
 taken words from n h = length-take-le n (drop from words) (simp length-drop (omega arith))
@@ -65,13 +45,13 @@ bytesOf count class grower = listPlace + listBytes count + classBytes * bitOf cl
 -- an entry
 module _ (words : List ℕ) (from count class grower : ℕ) (named : from + count ≤ length words) where
   pub list-bytes : length (speltList nameBytes (take count (drop from words))) ≡ listBytes count
-  list-bytes = list-length (take count (drop from words)) ∙ ap listBytes (taken words from count named)
+  list-bytes = length-list (take count (drop from words)) ∙ ap listBytes (taken words from count named)
 
   pub encode-length : (name : ℕ)
       → length (encode (jobWith name words from count class grower)) ≡ bytesOf count class grower
   unfolding encode
   encode-length name =
-      simp (length-append, spelt-length, list-bytes, unless-length) (omega arith)
+      simp (length-append, length-spelt, list-bytes, length-optional) (omega arith)
 
 -- room, tested with no sum
 pub room : (n at b : ℕ) → at ≤ n → leb b (n - at) ≡ leb (at + b) n

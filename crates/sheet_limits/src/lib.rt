@@ -82,24 +82,25 @@ fn list_bytes(n: u32) -> usize
     }
 }
 
-// Judges an entry by its count, class and grower, whatever its names are.
+// Judges an entry by its count, class and grower, whatever its names are, at the running place of its fields.
 pub fn judge(count: u32, class: u32, grower: u32) -> Judged
     ensures { λ r. ⌜ ((name : ℕ) (names : List ℕ) → length names ≡ mostNames
         → r ≡ judged (entryWith name count class grower names)) ⌝ }
 {
+    let mut place = LIST_PLACE;
     if MOST_NAMES < count {
-        return Judged::Refused { at: LIST_PLACE };
+        return Judged::Refused { at: place };
     }
-    let class_place = LIST_PLACE + list_bytes(count);
+    place += list_bytes(count);
     if MOST_CLASS < class {
-        return Judged::Refused { at: class_place };
+        return Judged::Refused { at: place };
     }
-    let grower_place = class_place + CLASS_BYTES * bit(class);
+    place += CLASS_BYTES * bit(class);
     if MOST_GROWER < grower {
-        return Judged::Refused { at: grower_place };
+        return Judged::Refused { at: place };
     }
-    let bytes = grower_place + GROWER_BYTES * bit(grower);
-    Judged::Takes { bytes }
+    place += GROWER_BYTES * bit(grower);
+    Judged::Takes { bytes: place }
 }
 
 // Whether so many bytes from an offset on lie before the end. No sum is made, so none can wrap.

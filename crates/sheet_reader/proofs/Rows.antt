@@ -8,12 +8,12 @@ use lib.Seq.{sets, length-sets}
 use borrow.Author.Tests.{le-leb, lt-leb}
 use Rattle.basics.specs.Limits.{mostNames}
 use Rattle.basics.specs.Laws.{never}
+use Rattle.basics.specs.Stores.{sets-append}
 use Rattle.sheet_format.specs.Job.{Job}
 use Rattle.sheet_format.specs.Decode.{job, end, refused, decode, Sheet, jobs, broken, before, decodeSheet, scanSheet}
 use Rattle.sheet_format.specs.Decode.{rowWords, rowOf, rowsOf, sheetRows, readSheet, noRoom}
 use Rattle.sheet_format.specs.declared.SheetRead.{SheetRead}
 use Rattle.entry_scan.proofs.Entries.{stands}
-use Rattle.sheet_reader.proofs.Stores.{sets-append}
 use Rattle.sheet_scan.proofs.Sheets.{rest, rest-start, rest-on}
 
 -- a sheet of jobs that was counted

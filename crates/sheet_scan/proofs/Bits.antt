@@ -23,7 +23,8 @@ use Rattle.sheet_format.specs.declared.Scan.{Scan}
 use Rattle.entry_scan.specs.Stages.{judgedThen, fromGrower, fromClass}
 use Rattle.sheet_scan.specs.Places.{longestEntry, classPlace, growerPlace}
 use Rattle.entry_scan.proofs.Fields.{got, through, limited-got, from-class-is}
-use Rattle.entry_scan.proofs.Entries.{decoded, inside, names-length, stands}
+use Rattle.sheet_format.specs.NumberLaws.{length-namesAt}
+use Rattle.entry_scan.proofs.Entries.{decoded, inside, stands}
 
 -- a number is left out, or from 1 to its limit
 abbrev pub within : ℕ → ℕ → ℕ → Bool
@@ -135,7 +136,7 @@ module _ (s : List ℕ) (at : ℕ) where
             (namesAt nameBytes s (at + 5 + countBytes) (count s at)),
         ends-by-bits s (classPlace at (map s at) (count s at)) (map s at) (numberAt nameBytes s (at + 1))
             (namesAt nameBytes s (at + 5 + countBytes) (count s at)) (omega arith) c g,
-        names-length,
+        length-namesAt,
       )
 
 -- A NAME ALONE, AND A NAME WITH A LIST
@@ -145,7 +146,7 @@ module _ (s : List ℕ) (at : ℕ) (fits : at + longestEntry ≤ length s) where
   unfolding decode mapAt nameAt
   name-alone m =
       let n : at + 1 + nameBytes ≡ at + 5 = omega arith in
-      rw (lt-ltb at (length s) (omega arith), m, le-leb (at + 1 + nameBytes) (length s) (omega arith), n, names-length)
+      rw (lt-ltb at (length s) (omega arith), m, le-leb (at + 1 + nameBytes) (length s) (omega arith), n, length-namesAt)
 
   pub name-and-list : map s at ≡ 3
       → (leb 1 (numberAt countBytes s (at + 5)) && leb (numberAt countBytes s (at + 5)) mostNames) ≡ true
@@ -166,7 +167,7 @@ module _ (s : List ℕ) (at : ℕ) (fits : at + longestEntry ≤ length s) where
         le-leb (at + 6) (length s) (omega arith),
         t,
         le-leb (at + 6 + nameBytes * c) (length s) (omega arith),
-        names-length,
+        length-namesAt,
       )
 
 -- WHERE AN ENTRY WAS READ
@@ -230,7 +231,7 @@ read-fields s at j n h =
     (growerPlace at (map s at) (count s at)) grower₀ n₄ (omega arith) (rw (p₀ .0, p₃ .1) at e₄) in
     let all : Scan.Fields name₀ (length (namesAt nameBytes s (n₁ + countBytes) count₀)) class₀ grower₀ n₄
     ≡ scanOf (job j n) = ap scanOf h₄ in
-    rw (names-length, p₁ .0, p₂ .0, p₃ .0, p₄ .0, p₄ .1) at all
+    rw (length-namesAt, p₁ .0, p₂ .0, p₃ .0, p₄ .0, p₄ .1) at all
 
 not-end : (f : Field) (k : ℕ → ℕ → Decoded) → ((v n : ℕ) → k v n ≡ end → ⊥) → thenDecoded f k ≡ end → ⊥
 not-end (Got v n) k onward h = onward v n h

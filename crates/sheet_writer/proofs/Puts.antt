@@ -1,4 +1,4 @@
--- Runs of stores at a running place. Assumes nothing.
+-- Stores at a running place, and the parts of an entry one after the other. Assumes nothing.
 use Prim.Native.Nat.{ℕ, suc, _+_, _-_, _≤_, _<_}
 use mathlib.Core.Path.{_≡_, refl, ap, _∙_}
 use mathlib.Core.List.{List, [], _∷_, _++_}
@@ -6,15 +6,12 @@ use native.Mathlib.Omega.{arith}
 use lib.ListN.{length, getD, set, take, drop, length-append}
 use lib.Seq.{sets, drop-cons, length-sets}
 use Rattle.sheet_format.specs.Number.{spelt}
-use Rattle.sheet_format.specs.Job.{nameBytes, classBytes, growerBytes, speltUnlessZero, speltNames, speltList}
-use Rattle.sheet_format.specs.Job.{mapByte, encode}
-use Rattle.sheet_limits.specs.Jobs.{jobWith}
-use Rattle.sheet_writer.specs.Put.{Put}
-
--- a run of stores after another is one run
-pub sets-append : (l vs ws : List ℕ) (i k : ℕ) → k ≡ i + length vs → sets (sets l i vs) k ws ≡ sets l i (vs ++ ws)
-sets-append l [] ws i k q = let e : k ≡ i = omega arith in rw e
-sets-append l (v ∷ vs) ws i k q = sets-append (set l i v) vs ws (suc i) k (omega arith)
+use Rattle.sheet_format.specs.Job.{Job, speltNames, encode}
+use Rattle.basics.specs.Stores.{sets-append}
+use Rattle.sheet_format.specs.Place.{Part, bytesOf, soFar, Running, running, put, upTo}
+use Rattle.sheet_format.specs.PlaceLaws.{sets-there, part-room, keeps-place, all-put}
+use Rattle.sheet_writer.specs.declared.Fields.{Fields}
+use Rattle.sheet_writer.specs.Put.{Put, jobIn, Fits, Due}
 
 -- a field stored after a field
 pub after : {a b out mid left : List ℕ} {place p next : ℕ} → Put a out place mid p → Put b mid p left next
@@ -26,13 +23,6 @@ after {a} {b} {out} {mid} {left} {place} {p} {next} f g =
       stored = e ∙ rw (f .stored) (sets-append out a b place p (f .past));
       past = omega (arith, f .past, g .past);
     }
-
--- the room that is left after a field
-pub room-after : {a out left : List ℕ} {place next : ℕ} (size rest : ℕ) → Put a out place left next → length a ≡ size
-    → place + (size + rest) ≤ length out → next + rest ≤ length left
-room-after {a} {out} {left} {place} size rest f q h =
-    let k : length left ≡ length out = ap length (f .stored) ∙ length-sets out place a in
-    omega (arith, f .past)
 
 pub nothing : (out : List ℕ) (place : ℕ) → Put [] out place out place
 nothing out place = record { stored = refl; past = omega arith }
@@ -56,15 +46,38 @@ pub onward : {a rest out mid whole : List ℕ} {place p : ℕ} (b : List ℕ) �
 onward {a} {rest} {out} {mid} {whole} {place} {p} b f e h =
     rw (f .stored) (sets-append out a b place p (f .past) ∙ rw e at h)
 
--- an entry
-module _ (words : List ℕ) (from count class grower : ℕ) (named : from + count ≤ length words) where
-  -- the map byte and the fields, stored one after the other
-  pub entry : {b place p₁ p₂ p₃ p₄ : ℕ} {out l₁ l₂ l₃ l₄ : List ℕ} (name : ℕ)
-      → b ≡ mapByte (jobWith name words from count class grower)
-      → Put (spelt nameBytes name) (set out place b) (place + 1) l₁ p₁
-      → Put (speltList nameBytes (take count (drop from words))) l₁ p₁ l₂ p₂
-      → Put (speltUnlessZero classBytes class) l₂ p₂ l₃ p₃ → Put (speltUnlessZero growerBytes grower) l₃ p₃ l₄ p₄
-      → Put (encode (jobWith name words from count class grower)) out place l₄ p₄
-  unfolding encode
-  entry {b} {place} name m f₁ f₂ f₃ f₄ =
-      rw (← m) (after (one _ place b) (after f₁ (after f₂ (after f₃ f₄))))
+-- BEFORE AND AFTER A PART
+
+-- there is room for it
+pub part-fits : {part : Part} {words : List ℕ} {f : Fields} {place : ℕ} {out : List ℕ} → Due part words f place out
+    → place + length (bytesOf part (jobIn words f)) ≤ length out
+part-fits {part} {words} {f} d = omega (arith, part-room part (jobIn words f), d .here, d .fits .room)
+
+-- the bytes that were stored, and the place past them
+pub was-put : {bytes out left : List ℕ} {place next : ℕ} → Put bytes out place left next
+    → running left next ≡ running (sets out place bytes) (place + length bytes)
+was-put f = rw (f .stored, f .past)
+
+-- a part is due where all parts before it were put
+pub due : (part : Part) {words : List ℕ} {f : Fields} {place : ℕ} {out left : List ℕ} → Fits words f out
+    → running left place ≡ upTo put part (jobIn words f) (running out (f .start))
+    → Due part words f place left
+due part {words} {f} {place} {out} {left} fits e =
+    let j = jobIn words f in
+    let q = e ∙ keeps-place part j out (f .start) in
+    let stored = ap (λ (r : Running). r .out) q in
+    let k : length left ≡ length out = ap length stored ∙ length-sets out (f .start) (soFar part j) in
+    let room = part-room part j in
+    record {
+      here = ap (λ (r : Running). r .place) q;
+      stand = rw stored (sets-there (soFar part j) out (f .start) (omega (arith, fits .room)));
+      fits = record { names = fits .names; room = omega (arith, fits .room) };
+    }
+
+-- the entry is stored where all its parts were put
+pub entry-put : (j : Job) {out left : List ℕ} {start next : ℕ}
+    → running left next ≡ upTo put Part.end j (running out start)
+    → Put (encode j) out start left next
+entry-put j {out} {left} {start} e =
+    let q = e ∙ all-put j out start in
+    record { stored = ap (λ (r : Running). r .out) q; past = ap (λ (r : Running). r .place) q }

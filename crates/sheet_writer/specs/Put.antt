@@ -1,12 +1,31 @@
--- What storing a field at the running place leaves (docs/SHEETS.md: fields follow each other in order). Assumes
--- nothing.
-use Prim.Native.Nat.{ℕ, _+_}
+-- What storing at the running place leaves, and what holds before each part of an entry (docs/SHEETS.md: fields follow
+-- each other in order). Assumes nothing.
+use Prim.Native.Nat.{ℕ, _+_, _≤_}
 use mathlib.Core.Path.{_≡_}
 use mathlib.Core.List.{List}
-use lib.ListN.{length}
+use lib.ListN.{length, take, drop}
 use lib.Seq.{sets}
+use Rattle.sheet_format.specs.Job.{Job, encode}
+use Rattle.sheet_format.specs.Place.{Part, soFar, placeOf}
+use Rattle.sheet_limits.specs.Jobs.{jobWith}
+use Rattle.sheet_writer.specs.declared.Fields.{Fields}
 
 -- the bytes stand at the place, the rest of the output is as it was, and the next place is past them
 pub record Put (bytes out : List ℕ) (place : ℕ) (left : List ℕ) (next : ℕ) : Type 0 where
   pub stored : left ≡ sets out place bytes
   pub past : next ≡ place + length bytes
+
+-- the job of an entry whose names stand among the words
+abbrev pub jobIn : List ℕ → Fields → Job
+jobIn words f = jobWith (f .name) words (f .first) (f .count) (f .class) (f .grower)
+
+-- the names are there, and the output has room for the entry
+pub record Fits (words : List ℕ) (f : Fields) (out : List ℕ) : Type 0 where
+  pub names : f .first + f .count ≤ length words
+  pub room : f .start + length (encode (jobIn words f)) ≤ length out
+
+-- before a part: the running place is past the bytes of the entry so far, and they stand in the output
+pub record Due (part : Part) (words : List ℕ) (f : Fields) (place : ℕ) (out : List ℕ) : Type 0 where
+  pub here : place ≡ placeOf part (jobIn words f) (f .start)
+  pub stand : take (length (soFar part (jobIn words f))) (drop (f .start) out) ≡ soFar part (jobIn words f)
+  pub fits : Fits words f out

@@ -20,17 +20,16 @@ use sheet_limits::judge;
 use sheet_limits::judge_sheet;
 use sheet_limits::map_byte;
 ghost use mathlib.Core.Path.{_≡_};
-ghost use mathlib.Core.List.{map};
 ghost use Prim.Native.Nat.{_+_, _*_, _≤_};
 ghost use lib.ListN.{length, take, drop};
 ghost use Rattle.sheet_format.specs.Number.{spelt};
-ghost use Rattle.sheet_format.specs.Job.{nameBytes, classBytes, growerBytes, bitOf, speltUnlessZero, speltNames};
-ghost use Rattle.sheet_format.specs.Job.{speltList, encode, encodeSheet};
+ghost use Rattle.sheet_format.specs.Job.{nameBytes, speltNames, encode};
 ghost use Rattle.sheet_format.specs.Decode.{rowWords};
-ghost use Rattle.sheet_format.specs.Write.{listBytes, Fault, faultOf, jobOf, entryAt, entriesFrom};
+ghost use Rattle.sheet_format.specs.Write.{Fault, faultOf, jobOf, entryAt, entriesFrom};
 ghost use Rattle.sheet_format.specs.Write.{SheetFault, sheetFault, written, writeEntry, sheetWritten, writeSheet};
-ghost use Rattle.sheet_limits.specs.Jobs.{jobWith};
-ghost use Rattle.sheet_writer.specs.Put.{Put};
+ghost use Rattle.sheet_format.specs.Place.{Part, running, put, upTo};
+ghost use Rattle.sheet_format.specs.SheetPlace.{sheetSoFar};
+ghost use Rattle.sheet_writer.specs.Put.{Put, jobIn, Fits, Due};
 
 // Refusals: a table shorter than its records need, a field off its limits, an output without room.
 const CUT_TABLE: u32 = 1;
@@ -66,83 +65,110 @@ fn put_names(out: &mut [u8], place: usize, words: &[u32], from: usize, n: usize)
     next
 }
 
-// A list: its count and its names, or nothing.
-fn put_list(out: &mut [u8], place: usize, words: &[u32], from: usize, n: u32) -> usize
-    requires { ⌜ (from + n ≤ length (now words)) × (place + listBytes n ≤ length (now out)) ⌝ }
-    ensures { λ r. ⌜ Put (speltList nameBytes (take n (drop from (now (words .entry))))) (now (out .entry)) place
-        (now (out .exit)) r ⌝ }
-{
-    if n == 0 {
-        return place;
-    }
-    out[place] = (n % 256) as u8;
-    put_names(out, place + COUNT_BYTES, words, from, n as usize)
-}
-
-// A class, unless it is 0.
-fn put_class(out: &mut [u8], place: usize, class: u32) -> usize
-    requires { ⌜ place + classBytes * bitOf class ≤ length (now out) ⌝ }
-    ensures { λ r. ⌜ Put (speltUnlessZero classBytes class) (now (out .entry)) place (now (out .exit)) r ⌝ }
-{
-    if class == 0 {
-        return place;
-    }
-    out[place] = (class % 256) as u8;
-    place + CLASS_BYTES
-}
-
-// A grower, least byte first, unless it is 0.
-fn put_grower(out: &mut [u8], place: usize, grower: u32) -> usize
-    requires { ⌜ place + growerBytes * bitOf grower ≤ length (now out) ⌝ }
-    ensures { λ r. ⌜ Put (speltUnlessZero growerBytes grower) (now (out .entry)) place (now (out .exit)) r ⌝ }
-{
-    if grower == 0 {
-        return place;
-    }
-    out[place] = (grower % 256) as u8;
-    out[place + 1] = (grower / 256 % 256) as u8;
-    place + GROWER_BYTES
-}
-
-// An entry for which there is room, its names from words[from] on.
-fn put_entry(
-    out: &mut [u8],
-    place: usize,
+// An entry to be written: where it starts, its numbers, and where its names begin among the words.
+struct Fields {
+    start: usize,
     name: u32,
-    words: &[u32],
-    from: usize,
     count: u32,
     class: u32,
     grower: u32,
-) -> usize
-    requires { ⌜ (from + count ≤ length (now words))
-        × (place + length (encode (jobWith name (now words) from count class grower)) ≤ length (now out)) ⌝ }
-    ensures { λ r. ⌜ Put (encode (jobWith name (now (words .entry)) from count class grower)) (now (out .entry)) place
-        (now (out .exit)) r ⌝ }
+    first: usize,
+}
+
+// The parts of an entry, in their order. Each is due at the running place, which is past the bytes of the entry so far;
+// it is stored there, or left out, and the place past it is handed on.
+
+fn put_map(out: &mut [u8], place: usize, words: &[u32], fields: Fields) -> usize
+    requires { ⌜ Due Part.map (now words) fields place (now out) ⌝ }
+    ensures { λ r. ⌜ running (now (out .exit)) r
+        ≡ put Part.map (jobIn (now (words .entry)) fields) (running (now (out .entry)) place) ⌝ }
 {
-    out[place] = map_byte(count, class, grower);
-    let list_place = put_name(out, place + MAP_BYTES, name);
-    let class_place = put_list(out, list_place, words, from, count);
-    let grower_place = put_class(out, class_place, class);
-    put_grower(out, grower_place, grower)
+    out[place] = map_byte(fields.count, fields.class, fields.grower);
+    place + MAP_BYTES
+}
+
+fn put_own_name(out: &mut [u8], place: usize, words: &[u32], fields: Fields) -> usize
+    requires { ⌜ Due Part.name (now words) fields place (now out) ⌝ }
+    ensures { λ r. ⌜ running (now (out .exit)) r
+        ≡ put Part.name (jobIn (now (words .entry)) fields) (running (now (out .entry)) place) ⌝ }
+{
+    put_name(out, place, fields.name)
+}
+
+// The count and the names.
+fn put_list(out: &mut [u8], place: usize, words: &[u32], fields: Fields) -> usize
+    requires { ⌜ Due Part.list (now words) fields place (now out) ⌝ }
+    ensures { λ r. ⌜ running (now (out .exit)) r
+        ≡ put Part.list (jobIn (now (words .entry)) fields) (running (now (out .entry)) place) ⌝ }
+{
+    if fields.count == 0 {
+        return place;
+    }
+    out[place] = (fields.count % 256) as u8;
+    put_names(
+        out,
+        place + COUNT_BYTES,
+        words,
+        fields.first,
+        fields.count as usize,
+    )
+}
+
+fn put_class(out: &mut [u8], place: usize, words: &[u32], fields: Fields) -> usize
+    requires { ⌜ Due Part.class (now words) fields place (now out) ⌝ }
+    ensures { λ r. ⌜ running (now (out .exit)) r
+        ≡ put Part.class (jobIn (now (words .entry)) fields) (running (now (out .entry)) place) ⌝ }
+{
+    if fields.class == 0 {
+        return place;
+    }
+    out[place] = (fields.class % 256) as u8;
+    place + CLASS_BYTES
+}
+
+// Least byte first.
+fn put_grower(out: &mut [u8], place: usize, words: &[u32], fields: Fields) -> usize
+    requires { ⌜ Due Part.grower (now words) fields place (now out) ⌝ }
+    ensures { λ r. ⌜ running (now (out .exit)) r
+        ≡ put Part.grower (jobIn (now (words .entry)) fields) (running (now (out .entry)) place) ⌝ }
+{
+    if fields.grower == 0 {
+        return place;
+    }
+    out[place] = (fields.grower % 256) as u8;
+    out[place + 1] = (fields.grower / 256 % 256) as u8;
+    place + GROWER_BYTES
+}
+
+// An entry for which there is room. One place runs through it, and comes to each part, those left out too.
+fn put_entry(out: &mut [u8], words: &[u32], fields: Fields) -> usize
+    requires { ⌜ Fits (now words) fields (now out) ⌝ }
+    ensures { λ r. ⌜ running (now (out .exit)) r
+        ≡ upTo put Part.end (jobIn (now (words .entry)) fields) (running (now (out .entry)) (fields .start)) ⌝ }
+{
+    let mut place = fields.start;
+    place = put_map(out, place, words, fields);
+    place = put_own_name(out, place, words, fields);
+    place = put_list(out, place, words, fields);
+    place = put_class(out, place, words, fields);
+    put_grower(out, place, words, fields)
 }
 
 // An entry that is within its limits and for which there is room.
-fn put_whole(out: &mut [u8], place: usize, entry: Entry) -> usize
-    requires { ⌜ (faultOf entry ≡ Fault.none) × (place + length (encode (jobOf entry)) ≤ length (now out)) ⌝ }
-    ensures { λ r. ⌜ Put (encode (jobOf entry)) (now (out .entry)) place (now (out .exit)) r ⌝ }
+fn put_whole(out: &mut [u8], start: usize, entry: Entry) -> usize
+    requires { ⌜ (faultOf entry ≡ Fault.none) × (start + length (encode (jobOf entry)) ≤ length (now out)) ⌝ }
+    ensures { λ r. ⌜ Put (encode (jobOf entry)) (now (out .entry)) start (now (out .exit)) r ⌝ }
 {
     let names = entry.names;
-    put_entry(
-        out,
-        place,
-        entry.name,
-        &names,
-        0,
-        entry.count,
-        entry.class,
-        entry.grower,
-    )
+    let fields = Fields {
+        start,
+        name: entry.name,
+        count: entry.count,
+        class: entry.class,
+        grower: entry.grower,
+        first: 0,
+    };
+    put_entry(out, &names, fields)
 }
 
 // Writes an entry at an offset of the output, or leaves the output as it was.
@@ -168,36 +194,32 @@ pub fn write(out: &mut [u8], at: usize, entry: Entry) -> Wrote
     }
 }
 
-// The entry in row i, which is within its limits and for which there is room. Its names are read where they stand.
-fn put_row(out: &mut [u8], place: usize, rows: &[u32], i: usize) -> usize
+// The entry in row i, which is within its limits and for which there is room, behind the entries before it. Its names
+// are read where they stand.
+fn put_row(out: &mut [u8], start: usize, rows: &[u32], i: usize) -> usize
     requires { ⌜ (rowWords * (i + 1) ≤ length (now rows)) × (faultOf (entryAt (now rows) i) ≡ Fault.none)
-        × (place + length (encode (jobOf (entryAt (now rows) i))) ≤ length (now out)) ⌝ }
-    ensures { λ r. ⌜ Put (encode (jobOf (entryAt (now (rows .entry)) i))) (now (out .entry)) place
+        × (start ≡ length (sheetSoFar (now rows) i))
+        × (start + length (encode (jobOf (entryAt (now rows) i))) ≤ length (now out)) ⌝ }
+    ensures { λ r. ⌜ Put (encode (jobOf (entryAt (now (rows .entry)) i))) (now (out .entry)) start
         (now (out .exit)) r ⌝ }
 {
     let row = ROW_WORDS * i;
-    let name = rows[row];
-    let count = rows[row + COUNT_WORD];
-    let class = rows[row + CLASS_WORD];
-    let grower = rows[row + GROWER_WORD];
-    put_entry(
-        out,
-        place,
-        name,
-        rows,
-        row + NAMES_WORD,
-        count,
-        class,
-        grower,
-    )
+    let fields = Fields {
+        start,
+        name: rows[row],
+        count: rows[row + COUNT_WORD],
+        class: rows[row + CLASS_WORD],
+        grower: rows[row + GROWER_WORD],
+        first: row + NAMES_WORD,
+    };
+    put_entry(out, rows, fields)
 }
 
 // The entries of the first n rows, which are within their limits and for which there is room.
 fn put_rows(out: &mut [u8], rows: &[u32], n: usize) -> usize
     requires { ⌜ (rowWords * n ≤ length (now rows)) × (sheetFault 0 (entriesFrom (now rows) 0 n) ≡ SheetFault.none)
-        × (length (encodeSheet (map jobOf (entriesFrom (now rows) 0 n))) ≤ length (now out)) ⌝ }
-    ensures { λ r. ⌜ Put (encodeSheet (map jobOf (entriesFrom (now (rows .entry)) 0 n))) (now (out .entry)) 0
-        (now (out .exit)) r ⌝ }
+        × (length (sheetSoFar (now rows) n) ≤ length (now out)) ⌝ }
+    ensures { λ r. ⌜ Put (sheetSoFar (now (rows .entry)) n) (now (out .entry)) 0 (now (out .exit)) r ⌝ }
 {
     let mut next: usize = 0;
     let mut i: usize = 0;

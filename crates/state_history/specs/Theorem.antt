@@ -26,14 +26,14 @@ use Rattle.words.specs.Observed.{seen}
 use Rattle.rules.specs.Rules.{Call, idle, looking, linking, marking, notifying, Graph, empty}
 use Rattle.rules.specs.Rules as rules
 use Rattle.rules.specs.Observed as rules-seen
-use Rattle.rules.specs.Sound.{Sound, started}
+use Rattle.rules.specs.Sound.{started}
 use Rattle.sequential_model.specs.Book.{blank}
 use Rattle.linearization.specs.Calls.{Pending, adding, finishing, Reading, reading, Quiet, acceptedAdds}
 use Rattle.linearization.specs.Calls as reading
 use Rattle.linearizability.specs.Demand.{addOf, JobFinished}
 use Rattle.rules_history.specs.History.{History, start, PacedCall}
 use Rattle.rules_history.specs.Onward.{entriesBy, onward}
-use Rattle.rules_invariant.specs.Sound.{sound}
+use Rattle.rules_invariant.specs.Sound.{sound, soundly}
 use Rattle.rules_follow_model.specs.Paced.{paced}
 use Rattle.rules_follow_model.specs.Steps.{pending-there}
 use Rattle.locality.specs.Parts.{test}
@@ -118,9 +118,6 @@ module _ (s : Sizes) (t : Tables) (laid : layOut s t .answer ≡ Laid) (items : 
 
   abbrev r : Reading
   r = reading (events (rules.perform s) empty items)
-
-  soundly : (g : Graph) (r : Reading) (e : ℕ → ℕ) → History s g r e → Sound s g
-  soundly g r e history = sound history
 
   history : History s g r (λ j. 0 + entriesBy s empty items j)
   history = onward s start items

@@ -3,7 +3,7 @@
 use mathlib.Core.Path.{_≡_, refl, sym, ap, subst, _∙_}
 use mathlib.Core.Logic.{_↔_, _≢_}
 use mathlib.Core.List.{List, [], map}
-use Prim.Native.Nat.{ℕ, zero, suc, _+_, _/_, _%_, _≤_, _<_}
+use Prim.Native.Nat.{ℕ, _+_, _%_, _≤_, _<_}
 use native.Mathlib.Omega.{arith}
 use native.Mathlib.Decide.{decLt, ℕ-discrete}
 use lib.Dec.{eqb}
@@ -12,19 +12,17 @@ use lib.ListN.{List·getD-append, List·getD-map}
 use lib.Seq.{sets, sets-eq}
 use borrow.Author.Tests.{eq-eqb, ne-eqb}
 use Rattle.basics.specs.Laws.{pick-by}
+use Rattle.basics.specs.Stores.{sets-off}
 use Rattle.terms.specs.Terms.{Arguments, noArguments, mostEntries, wrongSizes}
 use Rattle.terms.specs.declared.Sizes.{Sizes}
 use Rattle.terms.specs.declared.Answer.{Answer}
 use Rattle.terms.specs.declared.Answer.the-variants.{Laid, Posted, Going, Ended, NoneReady, Handed, Refused}
 use Rattle.words.specs.Layout.{Tables}
 use Rattle.sheet_format.specs.Decode.{rowWords}
-use Rattle.sheet_format.specs.Write.{entriesFrom, entriesOf}
 use Rattle.whole_words.specs.Whole.{wholeAdd}
 use Rattle.whole_words.specs.Sheet.{SheetOutcome, sheetOutcome, sheetWords}
-use Rattle.sheet_rows.specs.Arguments.{argumentsOf}
 use Rattle.sheet_rows.specs.SheetRows.{addsOf, rowsWords, numberOf, placeOf, sheetAdded}
 use Rattle.taskgraph_answer.specs.Answers.{graphAnswer}
-use Rattle.fused_laws.specs.Records.{sets-off}
 use Rattle.whole_answers.specs.Numbers.{add-accepted}
 use Rattle.whole_answers.specs.SheetAdds.{afterAdds}
 use Rattle.whole_answers.specs.Sheets.{sheet-turned-away, sheet-fits, sheet-count, sheet-answer}
@@ -92,16 +90,6 @@ few s t w l = elim (ℕ-discrete (sheetWords s t w l .number) 0) [
   | no d ↦ rw (sheet-turned-away s t w l d) (omega arith)
 ]
 
-length-entries : (rows : List ℕ) (i n : ℕ) → length (entriesFrom rows i n) ≡ n
-unfolding entriesFrom
-length-entries rows i zero = refl
-length-entries rows i (suc n) = ap suc (length-entries rows (i + 1) n)
-
--- an entry for each row
-pub adds-of-rows : (rows : List ℕ) → length (addsOf rows) ≡ length rows / rowWords
-adds-of-rows rows =
-    length-map (entriesOf rows) argumentsOf ∙ length-entries rows 0 (length rows / rowWords)
-
 module _ (s : Sizes) (t : Tables) (w : ℕ) (rows : List ℕ) where
   -- "Words that make no whole rows are 1", with nothing changed
   pub rows-cut : length rows % rowWords ≢ 0 → rowsWords s t w rows ≡ sheetOutcome wrongSizes [] t
@@ -118,19 +106,6 @@ module _ (s : Sizes) (t : Tables) (w : ℕ) (rows : List ℕ) where
   rows-served z = elim (ℕ-discrete (length rows % rowWords) 0) [
     | yes e ↦ (e, rows-whole e)
     | no d ↦ let o = ap (λ (o : SheetOutcome). o .number) (rows-cut d) in absurd (omega arith)
-  ]
-
-  pub rows-count : rowsWords s t w rows .number ≡ 0
-      → length (rowsWords s t w rows .answers) ≡ length rows / rowWords
-  rows-count z =
-      let q = rows-served z .1 in
-      rw q (sheet-count s t w (addsOf rows) (rw q at z) ∙ adds-of-rows rows)
-
-  pub rows-turned-away : rowsWords s t w rows .number ≢ 0
-      → rowsWords s t w rows ≡ sheetOutcome (rowsWords s t w rows .number) [] t
-  rows-turned-away d = elim (ℕ-discrete (length rows % rowWords) 0) [
-    | yes e ↦ rw (rows-whole e) (sheet-turned-away s t w (addsOf rows) (rw (rows-whole e) at d))
-    | no n ↦ rw (rows-cut n)
   ]
 
   few-rows : length (rowsWords s t w rows .answers) ≤ mostEntries

@@ -1,11 +1,11 @@
 -- The numbers of calls run whole, for ALL tables and arguments: what turns an add, a finish or a sheet away, and that
 -- an add's number is 0 just if it ended. Follows docs/RULES.md, "Whole calls" and "Turned-away calls". Assumes nothing.
 use mathlib.Core.Path.{_≡_, refl, ap, subst}
-use mathlib.Core.Logic.{_↔_, _≢_}
+use mathlib.Core.Logic.{_↔_}
 use mathlib.Core.Bool.{true}
 use mathlib.Core.List.{List, [], _∷_, _++_}
-use Prim.Native.Nat.{ℕ, zero, suc, _%_, _<_}
-use lib.Dec.{leb, eqb}
+use Prim.Native.Nat.{ℕ, zero, suc, _<_}
+use lib.Dec.{leb}
 use lib.ListN.{length}
 use Rattle.basics.specs.Base.{contains}
 use Rattle.basics.specs.Laws.{never, pick-by}
@@ -16,10 +16,9 @@ use Rattle.terms.specs.declared.Answer.{Answer}
 use Rattle.terms.specs.declared.Answer.the-variants.{Going, Ended, Refused}
 use Rattle.words.specs.Layout.{Tables}
 use Rattle.words.specs.Words.{refusal}
-use Rattle.sheet_format.specs.Decode.{rowWords}
 use Rattle.whole_words.specs.Whole.{wholeAdd, wholeFinish}
-use Rattle.whole_words.specs.Sheet.{SheetOutcome, addEach, judgedSheet, served, sheetWords}
-use Rattle.sheet_rows.specs.SheetRows.{rowsWords, addsOf, numberOf}
+use Rattle.whole_words.specs.Sheet.{addEach, judgedSheet, served, sheetWords}
+use Rattle.sheet_rows.specs.SheetRows.{numberOf}
 use Rattle.fused_words.specs.FusedWorker.{isIdle}
 use Rattle.whole_answers.specs.Worker.{orderNumbers, by-admission, contains-left, contains-right}
 use Rattle.whole_answers.specs.AddEnds as add
@@ -28,11 +27,7 @@ use Rattle.whole_answers.specs.FinishEnds as finish
 use Rattle.whole_answers.specs.FinishEnds.{FinishEnds, finish-ends}
 
 -- ---- an add
-abbrev pub addNumbers : List ℕ
-addNumbers =
-    wrongSizes ∷ noSuchWorker ∷ damaged ∷ halfDone ∷ wrongArguments ∷ unknownName ∷ namePresent ∷ tablesFull ∷ []
-
--- all but 6, which alone has a place
+-- its numbers but 6, which alone has a place
 abbrev pub addPlaceless : List ℕ
 addPlaceless = wrongSizes ∷ noSuchWorker ∷ damaged ∷ halfDone ∷ wrongArguments ∷ namePresent ∷ tablesFull ∷ []
 
@@ -52,44 +47,6 @@ add-answer s t w a = go (add-ends s t w a)
     go (add.unfit {n} c b) = refused (contains-right n addAway addUnfit c)
     go (add.unknown h b) = unknown h
     go (add.half-done h) = refused refl
-
--- in equations: its number, and its place
-pub add-number : (s : Sizes) (t : Tables) (w : ℕ) (a : Arguments) (n i : ℕ) → wholeAdd s t w a .answer ≡ Refused n i
-    → contains n addNumbers ≡ true
-unfolding contains
-add-number s t w a n i = go (add-ends s t w a)
-  where
-    by : (m j : ℕ) → contains m addNumbers ≡ true → Refused m j ≡ Refused n i → contains n addNumbers ≡ true
-    by m j c e = subst (λ k. contains k addNumbers ≡ true) {x = m} {y = n} (cc) c
-
-    go : {x : Answer} {u : Tables} → AddEnds t w a x u → x ≡ Refused n i → contains n addNumbers ≡ true
-    go (add.ended b) e = never (cc)
-    go (add.turned-away {n = m} c) e = by m 0 (contains-left m addAway (unknownName ∷ addUnfit) c) e
-    go (add.unfit {n = m} c b) e = by m 0 (contains-right m (addAway ++ (unknownName ∷ [])) addUnfit c) e
-    go (add.unknown {i = j} h b) e = by unknownName j refl e
-    go (add.half-done h) e = by damaged 0 refl e
-
-pub add-place : (s : Sizes) (t : Tables) (w : ℕ) (a : Arguments) (n i : ℕ) → wholeAdd s t w a .answer ≡ Refused n i
-    → n ≢ unknownName → i ≡ 0
-add-place s t w a n i = go (add-answer s t w a)
-  where
-    go : {x : Answer} → AddAnswer a x → x ≡ Refused n i → n ≢ unknownName → i ≡ 0
-    go ended e d = never (cc)
-    go (refused c) e d = cc
-    go (unknown h) e d = absurd (d (cc))
-
--- "6 ... place in the list from 0"
-pub add-listed : (s : Sizes) (t : Tables) (w : ℕ) (a : Arguments) (i : ℕ)
-    → wholeAdd s t w a .answer ≡ Refused unknownName i
-    → i < a .count
-unfolding contains
-add-listed s t w a i = go (add-answer s t w a)
-  where
-    go : {x : Answer} → AddAnswer a x → x ≡ Refused unknownName i → i < a .count
-    go ended e = never (cc)
-    go (refused {n} c) e =
-        let d = subst (λ k. contains k addPlaceless ≡ true) {x = n} {y = unknownName} (cc) c in never (cc)
-    go (unknown {i = j} h) e = subst (λ k. k < a .count) {x = j} {y = i} (cc) h
 
 pub add-accepted : (s : Sizes) (t : Tables) (w : ℕ) (a : Arguments)
     → (numberOf (wholeAdd s t w a .answer) ≡ 0) ↔ (wholeAdd s t w a .answer ≡ Ended)
@@ -149,10 +106,3 @@ served-number s t w l = go (judgedSheet s t w (length l)) l
 pub sheet-number : (s : Sizes) (t : Tables) (w : ℕ) (l : List Arguments)
     → contains (sheetWords s t w l .number) sheetNumbers ≡ true
 sheet-number s t w l = rw (served-number s t w l) (judged-number s t w (length l))
-
-pub rows-number : (s : Sizes) (t : Tables) (w : ℕ) (rows : List ℕ)
-    → contains (rowsWords s t w rows .number) sheetNumbers ≡ true
-unfolding rowsWords contains
-rows-number s t w rows =
-    pick-by (λ (o : SheetOutcome). Of (o .number)) (eqb (length rows % rowWords) 0)
-    (λ _. sheet-number s t w (addsOf rows)) (λ _. refl)

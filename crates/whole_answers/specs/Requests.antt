@@ -41,12 +41,6 @@ of-request s t w a =
     sym (cut-add s t w a)
     ∙ ap (λ n. wholeAdd s t w (withNames a n (listed a))) (sym (length-prefix (a .count) (a .names)))
 
--- adds that request the same
-pub add-by-request : (s : Sizes) (t : Tables) (w : ℕ) (a b : Arguments) → request a ≡ request b
-    → wholeAdd s t w a ≡ wholeAdd s t w b
-add-by-request s t w a b e =
-    of-request s t w a ∙ ap (λ r. wholeAdd s t w (ofRequest r)) e ∙ sym (of-request s t w b)
-
 -- one add, and then the rest r
 abbrev first : Outcome Tables → SheetOutcome → SheetOutcome
 first o r = sheetOutcome 0 (o .answer ∷ r .answers) (r .state)

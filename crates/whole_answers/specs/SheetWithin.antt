@@ -4,7 +4,7 @@
 use mathlib.Core.Path.{_≡_, refl, sym, ap, ap₂, _∙_}
 use mathlib.Core.Bool.{Bool, true, false}
 use mathlib.Core.List.{List, [], _∷_}
-use Prim.Native.Nat.{ℕ, zero, suc, _%_}
+use Prim.Native.Nat.{ℕ, zero, suc}
 use lib.Dec.{ltb, leb, eqb}
 use lib.ListN.{length}
 use Rattle.basics.specs.Base.{pick}
@@ -16,10 +16,9 @@ use Rattle.terms.specs.declared.Answer.{Answer}
 use Rattle.words.specs.Layout.{Tables, view, HELD, sizesFit}
 use Rattle.words.specs.Words.{ownOk, admitted, addingWorker, posted, addWords, perform}
 use Rattle.locality.specs.Parts.{needed}
-use Rattle.sheet_format.specs.Decode.{rowWords}
 use Rattle.whole_words.specs.Whole.{wholeAdd}
-use Rattle.whole_words.specs.Sheet.{SheetOutcome, sheetOutcome, addEach, judgedSheet, served, sheetWords}
-use Rattle.sheet_rows.specs.SheetRows.{rowsWords, addsOf, numberOf}
+use Rattle.whole_words.specs.Sheet.{SheetOutcome, addEach, judgedSheet, served, sheetWords}
+use Rattle.sheet_rows.specs.SheetRows.{numberOf}
 use Rattle.fused_words.specs.FusedWorker.{isIdle}
 use Rattle.whole_answers.specs.Numbers.{served-number}
 use Rattle.whole_answers.specs.Within.{Within, item-within, stays-within, add-within}
@@ -112,12 +111,3 @@ sheet-within s w l = record {
 
     told : ℕ → List Answer → Told
     told n xs = record { number = n; answers = xs }
-
--- of rows
-pub rows-within : (s : Sizes) (w : ℕ) (rows : List ℕ) → SheetWithin s (λ t. rowsWords s t w rows)
-unfolding rowsWords
-rows-within s w rows = go (eqb (length rows % rowWords) 0)
-  where
-    go : (b : Bool) → SheetWithin s (λ t. pick b (sheetWords s t w (addsOf rows)) (sheetOutcome wrongSizes [] t))
-    go true = sheet-within s w (addsOf rows)
-    go false = stays-within s (record { number = wrongSizes; answers = [] })

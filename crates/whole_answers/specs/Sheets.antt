@@ -27,7 +27,7 @@ use Rattle.fused_laws.specs.Posts.{admitted-as}
 use Rattle.fused_add_laws.specs.Adds.{fused-add}
 use Rattle.fused_add_laws.specs.Sheets.{fused-sheet, sheet-admitted}
 use Rattle.whole_answers.specs.Worker.{orderNumbers, by-admission}
-use Rattle.whole_answers.specs.Numbers.{served-number, AddAnswer, add-answer}
+use Rattle.whole_answers.specs.Numbers.{served-number}
 use Rattle.whole_answers.specs.SheetAdds.{afterAdds, adds-state, adds-count, adds-answer, adds-append}
 
 -- ---- a sheet that was turned away, and one that was not
@@ -82,12 +82,6 @@ module _ (s : Sizes) (t : Tables) (w : ℕ) (l : List Arguments) where
       → getD (sheetWords s t w l .answers) i Laid
       ≡ wholeAdd s (afterAdds s w (take i l) t) w (getD l i noArguments) .answer
   sheet-answer e i h = rw (sheet-served e) (adds-answer s w l t i h)
-
-  -- each ended, or was refused by a number of an add
-  pub sheet-answered : sheetWords s t w l .number ≡ 0 → (i : ℕ) → i < length l
-      → AddAnswer (getD l i noArguments) (getD (sheetWords s t w l .answers) i Laid)
-  sheet-answered e i h =
-      rw (sheet-answer e i h) (add-answer s (afterAdds s w (take i l) t) w (getD l i noArguments))
 
 -- ---- "Where damage stops an add half done, each later entry gets what its post would get, 3"
 stuck-add : (s : Sizes) (t : Tables) (w : ℕ) (a : Arguments) → Admitted s t w → isIdle t w ≡ false

@@ -48,7 +48,7 @@ unfoldable pub putHeader : List ℕ → ℕ → ℕ → List ℕ
 putHeader l k v = set l k v
 
 -- ---- a record ends before the next begins
-before : (s : Shape) (i j : ℕ) → i < j → s .width * i + s .width ≤ s .width * j
+pub before : (s : Shape) (i j : ℕ) → i < j → s .width * i + s .width ≤ s .width * j
 before s i j h = rw (← (mul-suc (s .width) i)) (mul-le-mul-left (s .width) h)
 
 pub sep : (s : Shape) (i j k q : ℕ) → k < s .width → q < s .width → place s i k ≡ place s j q → (i ≡ j) × (k ≡ q)

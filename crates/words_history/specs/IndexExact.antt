@@ -1,23 +1,25 @@
--- "From a fresh graph the index holds exactly the waiting jobs after every step", of any machine over the tables. The
--- words' own keeps it so; four that do not, one in its step and three in its get, are refuted. Assumes nothing.
+-- "From a fresh graph the index holds exactly the waiting jobs after every step", and "the filled slots are a binary
+-- heap", of any machine over the tables. The words' own keeps it so; four that do not, one in its step and three in its
+-- get, are refuted. Assumes nothing.
 use mathlib.Core.Path.{_≡_, refl}
+use mathlib.Core.Bool.{true}
 use mathlib.Core.List.{List, [], _∷_, _++_}
-use Prim.Native.Nat.{ℕ, _+_, _^_}
+use Prim.Native.Nat.{ℕ, _+_, _^_, _≤_, _<_}
 use lib.ListN.{length, replicate}
 use Rattle.basics.specs.Base.{contains, repeats, occurrences, prefix}
 use Rattle.basics.specs.Laws.{never}
 use Rattle.bucket.specs.Bucket.{productOf, bucketOf}
-use Rattle.heap.specs.Sift.{siftUp, siftDown}
+use Rattle.heap.specs.Sift.{above, siftUp, siftDown}
 use Rattle.terms.specs.Terms.{argumentsWrong, withinLimits}
 use Rattle.terms.specs.Runs.{Item, postAdd, postFinish, step, get, Outcome, outcome, after}
 use Rattle.terms.specs.Starred.{S, add, steps}
 use Rattle.terms.specs.declared.Sizes.{Sizes}
 use Rattle.terms.specs.declared.Answer.the-variants.{Laid}
 use Rattle.words.specs.Columns.{columns, header, put, putHeader}
-use Rattle.words.specs.Layout.{none, queueShape, TAKEN, PUT, CELL, SLOT, POSITION, jobShape, Tables, tables, need}
-use Rattle.words.specs.Layout.{arcShape, bucketShape, workerShape, longEnough, sizesKept, repeated, freshTables}
-use Rattle.words.specs.Index.{levels, waits, seatFor, firstSeatBy, slotIn, shiftedDown, shiftedUp, putSeat, takeSeat}
-use Rattle.words.specs.Index.{emptied}
+use Rattle.words.specs.Layout.{none, queueShape, TAKEN, PUT, CELL, SLOT, POSITION, jobShape, Tables, tables, View, view}
+use Rattle.words.specs.Layout.{need, arcShape, bucketShape, workerShape, longEnough, sizesKept, repeated, freshTables}
+use Rattle.words.specs.Index.{levels, rankOf, placeIn, waits, filled, seatFor, firstSeatBy, slotIn, shiftedDown}
+use Rattle.words.specs.Index.{shiftedUp, putSeat, takeSeat, emptied}
 use Rattle.words.specs.Words.{perform, ownOk, walk, findOf, planLookUp, planEnter, planSettle, planAdd, planLinks}
 use Rattle.words.specs.Words.{planCall, planPhase, planStep, admitted, applied, stepWords, planTake, planQueue, planGet}
 use Rattle.words.specs.Words.{planGetOf, answerGet, appliedGet, getWords, posted, addWords, layOut, withSeat, answerOf}
@@ -28,20 +30,40 @@ use Rattle.words.specs.declared.Plan.the-variants.{Refuse, Quit, Pass, Enter, T
 use Rattle.words.specs.declared.Plan.the-variants.{SettleQueue, Mark, Notify, NotifyQueue}
 use Rattle.words.specs.declared.GetPlan.{GetPlan}
 use Rattle.words.specs.declared.GetPlan.the-variants.{RefuseGet, Wait, Take}
-use Rattle.words_history.specs.Indexed.{same-jobs, same-length}
+use Rattle.words_history.specs.Indexed.{same-jobs, same-length, each-waits, above-lower, not-in-use}
 
 abbrev pub Machine : Type 0
 Machine = Tables → Item → Outcome Tables
 
--- as many filled slots as jobs that wait, and each job in as many slots as it waits
-pub record IndexExact (m : Machine) (t : Tables) (items : List Item) : Type 0 where
+-- what is read after the items
+abbrev pub now : Machine → Tables → List Item → View
+now m t items = view (after m t items)
+
+-- as many filled slots as jobs that wait, and each job in as many slots as it waits; every filled slot waits, and the
+-- slot above another has the lower rank; the other slots are none, and so are the cells and positions of places where
+-- no job waits
+pub record IndexExact (m : Machine) (s : Sizes) (t : Tables) (items : List Item) : Type 0 where
   pub size : length (indexed (after m t items)) ≡ length (waiting (after m t items))
   pub jobs : (j : ℕ) → occurrences j (indexed (after m t items)) ≡ occurrences j (waiting (after m t items))
+  pub each : (k : ℕ) → k < filled (now m t items) → waits (now m t items) k ≡ true
+  pub heap : (k : ℕ) → 0 < k → k < filled (now m t items)
+      → rankOf (now m t items) (placeIn (now m t items) (above k)) < rankOf (now m t items) (placeIn (now m t items) k)
+  pub slots : (k : ℕ) → filled (now m t items) ≤ k → k < s .jobs → placeIn (now m t items) k ≡ none
+  pub cells : (p : ℕ) → now m t items .put ≤ p → p < s .jobs → now m t items .cell CELL p ≡ none
+  pub positions : (p : ℕ) → p < s .jobs → now m t items .cell CELL p ≡ none → now m t items .cell POSITION p ≡ none
 
 pub index-exact : (s : Sizes) (t : Tables) → layOut s t .answer ≡ Laid → (items : List Item)
-    → IndexExact perform (layOut s t .state) items
+    → IndexExact perform s (layOut s t .state) items
 index-exact s t laid items =
-    record { size = same-length s t laid items; jobs = same-jobs s t laid items }
+    record {
+      size = same-length s t laid items;
+      jobs = same-jobs s t laid items;
+      each = each-waits s t laid items;
+      heap = above-lower s t laid items;
+      slots = not-in-use s t laid items .slots;
+      cells = not-in-use s t laid items .cells;
+      positions = not-in-use s t laid items .positions;
+    }
 
 -- ---- the machine that stores otherwise in the queue's table, when a job enters or is taken
 abbrev withQueue : Outcome Tables → List ℕ → Outcome Tables
@@ -136,7 +158,7 @@ fresh =
     (replicate (need workerShape (S .workers)) 7)) .state
 
 abbrev Wrong : Machine → Type 0
-Wrong m = IndexExact m fresh items → ⊥
+Wrong m = IndexExact m S fresh items → ⊥
 
 pub each-is-refuted : Wrong (machine skipping takeSeat) × Wrong (machine putSeat dropping)
     × Wrong (machine putSeat leaving) × Wrong (machine putSeat keeping)

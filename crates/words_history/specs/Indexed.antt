@@ -1,30 +1,34 @@
 -- The index beside the queue holds each waiting job once and nothing else: after any items from tables that were laid
--- out, the jobs in the index are the jobs that wait. Assumes nothing.
+-- out, the jobs in the index are the jobs that wait, each filled slot waits, and the slot above one has the lower rank;
+-- what is not in use is none. Assumes nothing.
 use mathlib.Core.Path.{_≡_, refl, sym, ap, _∙_}
 use mathlib.Core.Logic.{_≢_}
+use mathlib.Core.Bool.{true}
 use mathlib.Core.List.{List}
 use Prim.Native.Nat.{ℕ, zero, suc, _+_, _*_, _<_}
 use native.Mathlib.Omega.{arith}
-use native.Mathlib.Decide.{ℕ-discrete}
+use native.Mathlib.Decide.{ℕ-discrete, decLt}
 use lib.ListN.{length}
 use borrow.Author.Tests.{lt-ltb}
 use Rattle.basics.specs.Base.{occurrences}
 use Rattle.basics.specs.Counting.{hit, hit-same, hit-other, sum, sum-same, sum-zero, sum-plus, sum-at, sum-first}
 use Rattle.basics.specs.Counting.{occurrences-nil, occurrences-cons}
+use Rattle.heap.specs.Sift.{above}
 use Rattle.heap.specs.Heap.{count}
+use Rattle.terms.specs.Terms.{mostJobs}
 use Rattle.terms.specs.Runs.{Item, after}
 use Rattle.terms.specs.declared.Sizes.{Sizes}
 use Rattle.terms.specs.declared.Answer.the-variants.{Laid}
 use Rattle.words.specs.Layout.{none, CELL, SLOT, Tables, View, view}
-use Rattle.words.specs.Index.{filled}
+use Rattle.words.specs.Index.{rankOf, placeIn, waits, filled}
 use Rattle.words.specs.Words.{perform, layOut}
 use Rattle.words.specs.Observed.{cells, jobsIn, jobAt, waiting, indexed}
 use Rattle.rules.specs.Rules.{Graph, empty}
 use Rattle.rules.specs.Rules as rules
-use Rattle.representation.specs.Rep.{Index}
-use Rattle.representation_kept.specs.Places.{is-place, slot-below, slot-has}
+use Rattle.representation.specs.Rep.{Index, Unused}
+use Rattle.representation_kept.specs.Places.{is-place, slot-below, slot-has, apart}
 use Rattle.representation_kept.specs.Cells.{jobs-occur, none-occurs}
-use Rattle.representation_kept.specs.Queue.{waiting-queue, fill}
+use Rattle.representation_kept.specs.Queue.{waiting-queue, room, fill, slot-waits}
 use Rattle.words_history.specs.Theorem.{Reached, after-items}
 
 -- ---- cells, as a list
@@ -114,6 +118,16 @@ module _ (v : View) (m : ℕ) (I : Index v m) (j : ℕ) where
         in-slots e ∙ sym (zero-on (λ p. hit j (cell p)) (v .put)) ∙ sym (jobs-occur cell j 0 (v .put) e)
   ]
 
+-- different places have different ranks
+ranks-differ : (a b p q : ℕ) → p < mostJobs → q < mostJobs → p ≢ q → a * mostJobs + p ≢ b * mostJobs + q
+ranks-differ a b p q x y n e = elim (decLt a b) [
+  | yes h ↦ omega arith
+  | no h ↦ elim (decLt b a) [
+    | yes k ↦ omega arith
+    | no k ↦ n (omega arith)
+  ]
+]
+
 -- ---- after any items
 module _ (s : Sizes) (t : Tables) (laid : layOut s t .answer ≡ Laid) (items : List Item) where
   abbrev T : Tables
@@ -137,3 +151,25 @@ module _ (s : Sizes) (t : Tables) (laid : layOut s t .answer ≡ Laid) (items : 
   same-length =
       cells-length (λ k. jobAt (view T) (view T .cell SLOT k)) 0 (filled (view T)) ∙ filling
       ∙ sym (ap length (waiting-queue (R .stands)))
+
+  abbrev v : View
+  v = view T
+
+  pub not-in-use : Unused (s .jobs) (v .put) (filled v) (v .cell)
+  not-in-use = rw filling (R .stands .rep .unused)
+
+  pub each-waits : (k : ℕ) → k < filled v → waits v k ≡ true
+  each-waits k h = slot-waits s T g (R .ghost) (R .stands) (R .sound) k (rw filling at h)
+
+  pub above-lower : (k : ℕ) → 0 < k → k < filled v → rankOf v (placeIn v (above k)) < rankOf v (placeIn v k)
+  above-lower k some h =
+      let here = rw filling at h in
+      let I = R .stands .rep .index in
+      let n = length (g .queue) in
+      let fits = room s T g (R .ghost) (R .stands) (R .sound) in
+      let over : above k < n = omega arith in
+      let differ : rankOf v (placeIn v (above k)) ≢ rankOf v (placeIn v k) =
+      ranks-differ _ _ (placeIn v (above k)) (placeIn v k) (omega (arith, slot-below v n I (above k) over))
+      (omega (arith, slot-below v n I k here))
+      (λ e. omega (arith, apart v n I (above k) k over here e)) in
+      omega (arith, I .heap .ordered (above k) k here (omega arith, omega arith))

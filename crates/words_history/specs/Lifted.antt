@@ -27,7 +27,7 @@ use Rattle.words.specs.Observed.{bucketFrom, newestFirst, seen}
 use Rattle.rules.specs.Rules.{Graph, empty, job}
 use Rattle.rules.specs.Rules as rules
 use Rattle.rules.specs.Observed as rules-seen
-use Rattle.rules.specs.Sound.{Sound, Finished}
+use Rattle.rules.specs.Sound.{Finished}
 use Rattle.linearization.specs.Calls.{adding, finishing, Reading, reading, Quiet, acceptedAdds}
 use Rattle.linearization.specs.Calls.{acceptedFinishes}
 use Rattle.linearization.specs.Calls as reading
@@ -44,7 +44,7 @@ use Rattle.words_refine_rules.specs.Reset.{idle-fresh, past-count}
 use Rattle.rules_follow_model.specs.Entries.{listed-length}
 use Rattle.rules_follow_model.specs.Paced.{paced, worker-idle, all-idle}
 use Rattle.rules_follow_model.specs.Steps.{add-step, finish-step, pending-there}
-use Rattle.rules_invariant.specs.Sound.{sound}
+use Rattle.rules_invariant.specs.Sound.{sound, soundly}
 use Rattle.audit.specs.Gets.{handed-ready}
 use Rattle.audit.specs.Gets as gets
 use Rattle.audit.specs.Handed.{handed-once}
@@ -66,9 +66,6 @@ module _ (s : Sizes) (t : Tables) (laid : layOut s t .answer ≡ Laid) (items : 
 
   abbrev read : Reading
   read = reading (events perform (layOut s t .state) items)
-
-  soundly : (g : Graph) (r : Reading) (e : ℕ → ℕ) → History s g r e → Sound s g
-  soundly g r e history = sound history
 
   history : History s g r (λ j. 0 + entriesBy s empty items j)
   history = onward s start items

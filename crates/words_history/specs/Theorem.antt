@@ -25,7 +25,7 @@ use Rattle.words_refine_rules.specs.Runs.{runs}
 use Rattle.words_refine_rules.specs.Never.{words-never-damaged}
 use Rattle.rules_follow_model.specs.Paced.{paced, all-idle}
 use Rattle.rules_follow_model.specs.Booked.{booked}
-use Rattle.rules_invariant.specs.Sound.{sound}
+use Rattle.rules_invariant.specs.Sound.{sound, soundly}
 use Rattle.rules_invariant.specs.Counted.{counted}
 use Rattle.rules_invariant.specs.Balanced.{balanced}
 use Rattle.rules_history.specs.Onward.{onward}
@@ -36,9 +36,6 @@ unfolding layOut
 laid-stands s t e = rw e (fresh-stands s t e)
 
 module _ (s : Sizes) where
-  soundly : (g : Graph) (r : Reading) (e : ℕ → ℕ) → History s g r e → Sound s g
-  soundly g r e history = sound history
-
   countedly : (g : Graph) (r : Reading) (e : ℕ → ℕ) → History s g r e → Counted g r e
   countedly g r e history = counted history
 

@@ -3,15 +3,15 @@
 use mathlib.Core.Path.{_≡_, refl, ap, _∙_}
 use mathlib.Core.Logic.{_≢_}
 use mathlib.Core.Bool.{true}
-use mathlib.Core.List.{List, [], _∷_}
-use Prim.Native.Nat.{ℕ, zero, suc, _+_, _≤_, _<_}
+use mathlib.Core.List.{List}
+use Prim.Native.Nat.{ℕ, suc, _+_, _≤_, _<_}
 use native.Mathlib.Omega.{arith}
 use lib.Dec.{ltb}
 use lib.ListN.{length, getD, length-replicate, take}
 use borrow.Author.Tests.{ne-eqb, ltb-true}
 use Rattle.basics.specs.Limits.{mostNames}
 use Rattle.basics.specs.Base.{prefix}
-use Rattle.basics.specs.Laws.{update-same, length-prefix}
+use Rattle.basics.specs.Laws.{update-same, length-prefix, getD-prefix, getD-past}
 use Rattle.terms.specs.Terms.{Arguments, listed}
 use Rattle.words.specs.Columns.{Rows, columns, columns-put, rows-put, store}
 use Rattle.words.specs.Layout.{none, workerShape, PHASE, HELD, TALLY, PLACE, OWN-JOB, OWN-ARC, NAMES, LOOKING, LINKING}
@@ -20,21 +20,12 @@ use Rattle.words.specs.Words.{putField, putWorker, addingWorker, firstArc}
 use Rattle.representation.specs.Rep.{AddWords, BareWords}
 use Rattle.representation_kept.specs.Change.{store-off}
 use Rattle.representation_kept.specs.Records.{record-at, record-off, rows-sets}
-use Rattle.representation_kept.specs.Lists.{bare-name, getD-past}
+use Rattle.representation_kept.specs.Lists.{bare-name}
 
 -- ---- one field stored
 -- a field before the names leaves the names
 store-names : (f : ℕ → ℕ → ℕ) (i k x q u : ℕ) → ltb k NAMES ≡ true → store f i k x (NAMES + q) u ≡ f (NAMES + q) u
 store-names f i k x q u e = rw (ne-eqb (NAMES + q) k (omega (arith, ltb-true k NAMES e)))
-
--- the first n of a list
-getD-prefix : (n : ℕ) (r : List ℕ) (q : ℕ) → q < n → getD (prefix n r) q 0 ≡ getD r q 0
-unfolding prefix
-getD-prefix zero r q h = absurd (omega arith)
-getD-prefix (suc n) [] zero h = refl
-getD-prefix (suc n) [] (suc q) h = getD-prefix n [] q (omega arith)
-getD-prefix (suc n) (x ∷ r) zero h = refl
-getD-prefix (suc n) (x ∷ r) (suc q) h = getD-prefix n r q (omega arith)
 
 -- ---- the list m is the list l, but for the words of worker w
 pub record Only (P : ℕ) (l m : List ℕ) (w : ℕ) : Type 0 where

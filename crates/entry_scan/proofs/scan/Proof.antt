@@ -4,9 +4,9 @@ use mathlib.Core.Path.{sym, ap, _∙_}
 use borrow.Author.Tests.{lt-ltb, le-ltb}
 use borrow.Author.Needs.{needs}
 use Rattle.sheet_format.specs.Job.{nameBytes}
+use Rattle.sheet_format.specs.NumberLaws.{length-namesAt}
 use Rattle.sheet_format.specs.Decode.{mapAt, decode, scanOf}
 use Rattle.entry_scan.proofs.Fields.{number-passed, listed, from-class-is}
-use Rattle.entry_scan.proofs.Entries.{names-length}
 use Rattle.entry_scan.proofs.scan.Statement.{statement}
 use Rattle.entry_scan.proofs.scan.Tie as tie
 
@@ -95,7 +95,7 @@ returns-4 c =
       ← c4 .list-if .ensures,
       c .before .before .count .given .1,
     )
-    (c .from-class .ensures _ (names-length nameBytes _ _ _) ∙ ap scanOf (from-class-is _ _ _ _ _))
+    (c .from-class .ensures _ (length-namesAt nameBytes _ _ _) ∙ ap scanOf (from-class-is _ _ _ _ _))
 
 returns-5 : tie.Need-returns-5
 unfolding decode mapAt

@@ -1,5 +1,4 @@
 -- `judge` finds the first field off its limits, or the bytes of the entry (docs/NUMBERS.md, 14). Assumes nothing.
--- `judge` finds the first field off its limits, or the bytes of the entry (docs/NUMBERS.md, 14). Assumes nothing.
 use native.Mathlib.Omega.{arith}
 use borrow.Author.Tests.{le-leb, lt-leb}
 use borrow.Author.Needs.{needs}
@@ -17,8 +16,8 @@ returns c = λ name names all. rw (lt-leb (c .before .args .count) mostNames (om
 list-bytes-requires : tie.Need-list-bytes-requires
 list-bytes-requires c κs = search needs
 
-add-class-place : tie.Need-add-class-place
-add-class-place c = search needs
+add-place : tie.Need-add-place
+add-place c = search needs
 
 returns-2 : tie.Need-returns-2
 unfolding judged faultOf
@@ -33,11 +32,11 @@ returns-2 c = λ name names all.
 bit-requires : tie.Need-bit-requires
 bit-requires c κs = search needs
 
-mul-grower-place : tie.Need-mul-grower-place
-mul-grower-place c = search needs
+mul-place : tie.Need-mul-place
+mul-place c = search needs
 
-add-grower-place : tie.Need-add-grower-place
-add-grower-place c = search needs
+add-place-2 : tie.Need-add-place-2
+add-place-2 c = search needs
 
 returns-3 : tie.Need-returns-3
 unfolding judged faultOf
@@ -56,11 +55,11 @@ returns-3 c =
 bit-requires-2 : tie.Need-bit-requires-2
 bit-requires-2 c κs = search needs
 
-mul-bytes : tie.Need-mul-bytes
-mul-bytes c = search needs
+mul-place-2 : tie.Need-mul-place-2
+mul-place-2 c = search needs
 
-add-bytes : tie.Need-add-bytes
-add-bytes c = search needs
+add-place-3 : tie.Need-add-place-3
+add-place-3 c = search needs
 
 returns-4 : tie.Need-returns-4
 unfolding judged faultOf
@@ -81,5 +80,5 @@ returns-4 c =
 pub judge-spec : {M : Type 1} → statement M
 judge-spec =
     tie.close
-    (tie.spec returns list-bytes-requires add-class-place returns-2 bit-requires mul-grower-place add-grower-place
-    returns-3 bit-requires-2 mul-bytes add-bytes returns-4)
+    (tie.spec returns list-bytes-requires add-place returns-2 bit-requires mul-place add-place-2
+    returns-3 bit-requires-2 mul-place-2 add-place-3 returns-4)

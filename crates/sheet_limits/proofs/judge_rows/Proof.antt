@@ -15,7 +15,8 @@ use Rattle.sheet_format.specs.Write.{entryAt, entriesFrom, jobOf, sheetFault}
 use Rattle.sheet_limits.specs.declared.SheetJudged.{SheetJudged}
 use Rattle.sheet_limits.specs.Judge.{sheetJudged}
 use Rattle.sheet_limits.proofs.Judging.{refused, takes}
-use Rattle.sheet_limits.proofs.Rows.{rest, restBytes, allBytes, rowBytes, names-all, entry-small, next-length}
+use Rattle.sheet_format.specs.SheetPlace.{sheetSoFar}
+use Rattle.sheet_limits.proofs.Rows.{rest, restBytes, rowBytes, names-all, entry-small, next-length}
 use Rattle.sheet_limits.proofs.Rows.{next-fault, end-fault, end-bytes}
 use Rattle.sheet_limits.proofs.judge_rows.Statement.{statement}
 use Rattle.sheet_limits.proofs.judge_rows.Tie as tie
@@ -25,7 +26,7 @@ Inv-loop rows n sum₀ i₀ sum i =
     (i ≤ n)
     × (sum ≤ rowBytes * i)
     × (sheetFault i (rest rows i n) ≡ sheetFault 0 (entriesFrom rows 0 n))
-    × (sum + length (restBytes rows i n) ≡ length (allBytes rows n))
+    × (sum + length (restBytes rows i n) ≡ length (sheetSoFar rows n))
 
 abbrev μ-loop : tie.MeasureT-loop
 μ-loop rows n sum₀ i₀ sum i = n - i
@@ -99,7 +100,7 @@ returns-2 c =
     let s = l .before .before in
     let rows = now (s .args .rows) in
     let b = ap length (end-bytes rows (l .loop .i) (s .args .n) (omega arith)) in
-    let q : l .loop .sum ≡ length (allBytes rows (s .args .n)) = omega arith in
+    let q : l .loop .sum ≡ length (sheetSoFar rows (s .args .n)) = omega arith in
     rw (← l .loop .inv .2, end-fault rows (l .loop .i) (s .args .n) (omega arith)) (ap SheetJudged.Takes q)
 
 pub judge-rows-spec : {M : Type 1} → statement M

@@ -1,7 +1,8 @@
 -- `read` answers the entry that `decode` finds. Assumes nothing.
 use native.Mathlib.Omega.{arith}
 use borrow.Author.Needs.{needs}
-use Rattle.entry_scan.proofs.Entries.{scan-job, scan-end, scan-refused, names-length}
+use Rattle.sheet_format.specs.NumberLaws.{length-namesAt}
+use Rattle.entry_scan.proofs.Entries.{scan-job, scan-end, scan-refused}
 use Rattle.sheet_reader.proofs.read.Statement.{statement}
 use Rattle.sheet_reader.proofs.read.Tie as tie
 
@@ -39,7 +40,7 @@ returns c =
     rw (
       scan-job (c4 .scan .ensures) (c .before .before .name .given .1) .entry,
       c .names .ensures,
-      names-length,
+      length-namesAt,
     )
 
 returns-2 : tie.Need-returns-2

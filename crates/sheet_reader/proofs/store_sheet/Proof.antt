@@ -5,7 +5,8 @@ use native.Mathlib.Omega.{arith}
 use lib.ListN.{length}
 use borrow.Author.Needs.{needs}
 use Rattle.sheet_reader.proofs.Rows.{Left, left-start, left-room, left-more, left-none, left-refused, left-sound}
-use Rattle.entry_scan.proofs.Entries.{scan-job, scan-end, scan-refused, names-length}
+use Rattle.sheet_format.specs.NumberLaws.{length-namesAt}
+use Rattle.entry_scan.proofs.Entries.{scan-job, scan-end, scan-refused}
 use Rattle.sheet_reader.proofs.store_sheet.Statement.{statement}
 use Rattle.sheet_reader.proofs.store_sheet.Tie as tie
 
@@ -64,8 +65,8 @@ loop-again c =
     let l = s .before .loop .inv in
     let e = scan-job (left-sound l (s .scan-again .ensures))
     (c4 .before .name .given .1) in
-    left-more l (e .entry) (rw names-length (e .reach .most))
-    (rw names-length (rw names-length at (c .before .before .store-row .ensures)))
+    left-more l (e .entry) (rw length-namesAt (e .reach .most))
+    (rw length-namesAt (rw length-namesAt at (c .before .before .store-row .ensures)))
 
 enum-told : tie.Need-enum-told Inv-loop μ-loop
 enum-told c = search needs

@@ -1,6 +1,5 @@
 -- `put_names` stores names one after the other. The loop's invariant: what is left to store, stored from the running
--- place
--- on, makes the whole. Assumes nothing.
+-- place on, makes the whole. Assumes nothing.
 use Prim.Native.Nat.{_+_, _*_, _-_, _≤_}
 use mathlib.Core.Path.{_≡_, _∙_}
 use native.Mathlib.Nat.{sub-zero, add-zero}
@@ -10,7 +9,8 @@ use lib.Seq.{sets}
 use borrow.Author.Needs.{needs}
 use denote.Ref.{now}
 use Rattle.sheet_format.specs.Job.{speltNames, nameBytes}
-use Rattle.sheet_limits.proofs.Sizes.{spelt-length, names-length, taken}
+use Rattle.sheet_format.specs.NumberLaws.{length-spelt, length-speltNames}
+use Rattle.sheet_limits.proofs.Sizes.{taken}
 use Rattle.sheet_writer.proofs.Puts.{onward, next-name}
 use Rattle.sheet_writer.proofs.put_names.Statement.{statement}
 use Rattle.sheet_writer.proofs.put_names.Tie as tie
@@ -55,7 +55,7 @@ loop-again c =
     let f = c .before .before .put-name .ensures in
     let a = l .before .before .before .args in
     let p = l .before .before .before .pre in
-    let n = spelt-length nameBytes (getD (now (a .words)) (a .from + l .loop .i) 0) in
+    let n = length-spelt nameBytes (getD (now (a .words)) (a .from + l .loop .i) 0) in
     let q = next-name nameBytes (now (a .words)) (a .from) (l .loop .i) (a .n) (omega arith) (p .0) in (
       omega arith,
       omega (arith, f .past),
@@ -74,7 +74,7 @@ returns c =
     let a = l .before .before .before .args in
     let p = l .before .before .before .pre in
     let e : a .n - l .loop .i ≡ 0 = omega arith in
-    let k = names-length nameBytes (take (a .n) (drop (a .from) (now (a .words)))) in
+    let k = length-speltNames nameBytes (take (a .n) (drop (a .from) (now (a .words)))) in
     let t = taken (now (a .words)) (a .from) (a .n) (p .0) in
     record { stored = rw e at (l .loop .inv .3); past = omega arith }
 

@@ -1,17 +1,18 @@
 -- `put_rows` stores the entries of the rows one after the other. The loop's invariant: what is left to store, stored
--- from the
--- running place on, makes the whole. Assumes nothing.
+-- from the running place on, makes the whole. Assumes nothing.
 use Prim.Native.Nat.{_+_, _-_, _≤_}
-use mathlib.Core.Path.{ap, _≡_, _∙_}
+use mathlib.Core.Path.{refl, ap, _≡_, _∙_}
 use native.Mathlib.Omega.{arith}
 use native.Mathlib.Nat.{sub-zero}
 use lib.ListN.{length}
 use lib.Seq.{sets}
 use borrow.Author.Needs.{needs}
 use denote.Ref.{now}
-use Rattle.sheet_format.specs.Write.{sheetFault, SheetFault}
+use Rattle.sheet_format.specs.Job.{encodeSheet}
+use Rattle.sheet_format.specs.Write.{sheetFault, SheetFault, entriesFrom}
+use Rattle.sheet_format.specs.SheetPlace.{sheetSoFar, so-far-length}
 use Rattle.sheet_writer.proofs.Puts.{onward}
-use Rattle.sheet_limits.proofs.Rows.{rest, restBytes, allBytes, next-bytes, next-length, next-sound, end-bytes}
+use Rattle.sheet_limits.proofs.Rows.{rest, restBytes, next-bytes, next-length, next-sound, end-bytes}
 use Rattle.sheet_writer.proofs.put_rows.Statement.{statement}
 use Rattle.sheet_writer.proofs.put_rows.Tie as tie
 
@@ -20,18 +21,19 @@ Inv-loop out₀ rows n next₀ i₀ out next i =
     (i ≤ n)
     × (length out ≡ length out₀)
     × (sheetFault i (rest rows i n) ≡ SheetFault.none)
-    × (next + length (restBytes rows i n) ≡ length (allBytes rows n))
-    × (sets out next (restBytes rows i n) ≡ sets out₀ 0 (allBytes rows n))
+    × (next ≡ length (sheetSoFar rows i))
+    × (sets out next (restBytes rows i n) ≡ sets out₀ 0 (sheetSoFar rows n))
 
 abbrev μ-loop : tie.MeasureT-loop
 μ-loop out₀ rows n next₀ i₀ out next i = n - i
 
 loop-holds : tie.Need-loop-holds Inv-loop μ-loop
+unfolding entriesFrom encodeSheet
 loop-holds c = (
   search needs,
   search needs,
   simp sub-zero (c .before .before .pre .1),
-  simp sub-zero (omega arith),
+  refl,
   simp sub-zero,
 )
 
@@ -41,8 +43,13 @@ put-row-requires c κs =
     let s = l .before .before .before in
     let rows = now (s .args .rows) in
     let i = l .loop .i in
-    let b = next-length rows i (s .args .n) (omega arith) in
-    (omega arith, next-sound rows i (s .args .n) (omega arith) (l .loop .inv .2) .0, omega arith)
+    let a = so-far-length rows i (s .args .n) (omega arith) in
+    let b = next-length rows i (s .args .n) (omega arith) in (
+      omega arith,
+      next-sound rows i (s .args .n) (omega arith) (l .loop .inv .2) .0,
+      l .loop .inv .3,
+      omega arith,
+    )
 
 add-i : tie.Need-add-i Inv-loop μ-loop
 add-i c = omega arith
@@ -57,6 +64,8 @@ loop-again c =
     let s = l .before .before .before in
     let rows = now (s .args .rows) in
     let i = l .loop .i in
+    let a = so-far-length rows i (s .args .n) (omega arith) in
+    let a′ = so-far-length rows (i + 1) (s .args .n) (omega arith) in
     let b = next-length rows i (s .args .n) (omega arith) in
     let f = c .before .before .put-row .ensures in (
       omega arith,
@@ -75,6 +84,7 @@ returns c =
     let l = c .before in
     let s = l .before .before .before in
     let e = end-bytes (now (s .args .rows)) (l .loop .i) (s .args .n) (omega arith) in
+    let a = so-far-length (now (s .args .rows)) (l .loop .i) (s .args .n) (omega arith) in
     let b = ap length e in
     record { stored = rw e at (l .loop .inv .4); past = omega arith }
 

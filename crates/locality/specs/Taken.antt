@@ -1,0 +1,118 @@
+-- For ALL tables: what a get answers and leaves, by how far it comes. Before it looks at the queue a number refuses it;
+-- over an empty queue it says "none ready"; at the index it takes the first. Follows docs/RULES.md, "Steps" (of a get),
+-- "The index" and "Turned-away calls". Assumes nothing.
+use mathlib.Core.Path.{_≡_, refl, ap, _∙_}
+use mathlib.Core.Bool.{true, _&&_}
+use Prim.Native.Nat.{ℕ, _<_}
+use native.Mathlib.Omega.{arith}
+use lib.Dec.{eqb}
+use borrow.Author.Tests.{ltb-true, leb-true}
+use Rattle.basics.specs.Laws.{never, pick-by, update-same}
+use Rattle.heap.specs.Sift.{siftDown}
+use Rattle.heap.specs.declared.Sifted.{Sifted}
+use Rattle.heap.specs.declared.Sifted.the-variants.{Rests, Astray}
+use Rattle.terms.specs.Runs.{Outcome, outcome}
+use Rattle.terms.specs.declared.Sizes.{Sizes}
+use Rattle.terms.specs.declared.Answer.the-variants.{NoneReady, Handed, Refused}
+use Rattle.words.specs.Columns.{columns, columns-put, put}
+use Rattle.words.specs.Layout.{jobShape, workerShape, LABEL, HELD, Tables, tables, View, view, longEnough}
+use Rattle.words.specs.Index.{levels, rankOf, placeIn, waits, seated, firstPlace, lastSlot, lastPlace, firstSeatBy}
+use Rattle.words.specs.Index.{firstSeat, takeSeat}
+use Rattle.words.specs.Words.{handOut, nextJob, takeFrom, answerGet, appliedGet, getWords}
+use Rattle.words.specs.declared.Seat.{Seat}
+use Rattle.words.specs.declared.Seating.{Seating}
+use Rattle.words.specs.declared.Seating.the-variants.{Seated, Unseated}
+use Rattle.locality.specs.Parts.{parts, Long, long}
+use Rattle.locality.specs.Compared.{early, empty, index, reach}
+use Rattle.locality.specs.IndexFirst.{Filled, planned}
+use Rattle.locality.specs.Looked.{isSeated, takesFirst, plan-here, takes-exact, some}
+use Rattle.locality.specs.Waits.{waits-means}
+use Rattle.locality.specs.Moved.{Emptied, seat-emptied}
+
+-- ---- it stops before the index, and nothing is changed
+module _ (s : Sizes) (t : Tables) (w : ℕ) where
+  pub early-refuses : (n : ℕ) → reach s t w ≡ early n → getWords s t w ≡ outcome (Refused n 0) t
+  unfolding getWords appliedGet
+  early-refuses n e = rw (planned s t w, e)
+
+  pub empty-none-ready : reach s t w ≡ empty → getWords s t w ≡ outcome NoneReady t
+  unfolding getWords appliedGet
+  empty-none-ready e = rw (planned s t w, e)
+
+-- ---- the seat of the job that is taken: the first place, and the last slot
+record FirstSeat (v : View) (e : Seat) : Type 0 where
+  place : e .place ≡ firstPlace v
+  last : e .last ≡ lastSlot v
+  waits : waits v 0 ≡ true
+
+first-seat : (v : View) (e : Seat) → firstSeat v ≡ Seated e → FirstSeat v e
+unfolding firstSeatBy
+first-seat v e =
+    pick-by Q (waits v 0 && waits v (lastSlot v))
+    (λ a. go (siftDown (rankOf v) (waits v) (placeIn v) levels (lastSlot v) (rankOf v (lastPlace v)) 0) (search parts))
+    (λ _ z. never cc)
+  where
+    Q : Seating → Type 0
+    Q r = r ≡ Seated e → FirstSeat v e
+
+    go : (f : Sifted) → waits v 0 ≡ true → Q (seated f (firstPlace v) (lastSlot v))
+    go (Rests k) a z = record { place = cc; last = cc; waits = a }
+    go Astray a z = never cc
+
+-- ---- the tables u after the first job was taken: it is executing and held, and of the queue its place is emptied; no
+-- other job, arc, bucket or worker is touched
+pub record FirstGot (t : Tables) (w : ℕ) (u : Tables) : Type 0 where
+  pub seat : Seat
+  pub found : firstSeat (view t) ≡ Seated seat
+  pub stored : u
+      ≡ tables (put jobShape (t .jobs) (nextJob (view t)) LABEL 1) (t .arcs) (t .buckets) (takeSeat (t .queue) seat)
+      (put workerShape (t .workers) w HELD (nextJob (view t)))
+  pub label : view u .job LABEL (nextJob (view t)) ≡ 1
+  pub held : view u .worker HELD w ≡ nextJob (view t)
+  pub queue : Emptied t (firstPlace (view t)) (lastSlot (view t)) (u .queue)
+
+-- and the answer with them
+abbrev pub GetsFirst : Tables → ℕ → Outcome Tables → Type 0
+GetsFirst t w o = (o .answer ≡ Handed (handOut (view t) (nextJob (view t)))) × FirstGot t w (o .state)
+
+module _ (s : Sizes) (t : Tables) (w : ℕ) (here : reach s t w ≡ index) where
+  abbrev v : View
+  v = view t
+
+  taken : (e : Seat) → firstSeat v ≡ Seated e
+      → FirstGot t w
+      (tables (put jobShape (t .jobs) (nextJob v) LABEL 1) (t .arcs) (t .buckets) (takeSeat (t .queue) e)
+      (put workerShape (t .workers) w HELD (nextJob v)))
+  taken e f =
+      let at : Filled s t w = some s t w here in
+      let fit = at .sizes in
+      let counters = at .counters in
+      let full : longEnough s t ≡ true = search parts in
+      let rows : Long s t = long full in
+      let seat = first-seat v e f in
+      let first = waits-means v 0 .0 (seat .waits) in
+      let job : nextJob v < s .jobs = omega (arith, first .made, leb-true (v .made) (s .jobs) (search parts)) in
+      let known = ltb-true w (s .workers) (at .known) in
+      record {
+        seat = e;
+        found = f;
+        stored = refl;
+        label = ap (λ c. c LABEL (nextJob v))
+            (columns-put jobShape (s .jobs) (t .jobs) (nextJob v) LABEL 1 refl (rows .jobs) job)
+            ∙ update-same (columns jobShape (t .jobs) LABEL) (nextJob v) 1;
+        held = ap (λ c. c HELD w)
+            (columns-put workerShape (s .workers) (t .workers) w HELD (nextJob v) refl (rows .workers) known)
+            ∙ update-same (columns workerShape (t .workers) HELD) w (nextJob v);
+        queue = rw (← (seat .place), ← (seat .last))
+            (seat-emptied (s .jobs) t e (rows .queue) (omega (arith, seat .place, first .put, at .fits))
+            (omega (arith, seat .last, at .some, at .fits)));
+      }
+
+  pub first-got : takesFirst v ≡ true → GetsFirst t w (getWords s t w)
+  unfolding getWords appliedGet
+  first-got e = rw (plan-here s t w here) (go (firstSeat v) refl (takes-exact s t w here ∙ e))
+    where
+      go : (r : Seating) → firstSeat v ≡ r → (isSeated r && eqb (v .job LABEL (nextJob v)) 0) ≡ true
+          → GetsFirst t w (outcome (answerGet (takeFrom v r)) (appliedGet (takeFrom v r) t w))
+      go (Seated x) f c = rw c (refl, taken x f)
+      go Unseated f c = never cc

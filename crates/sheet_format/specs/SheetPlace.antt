@@ -1,0 +1,229 @@
+-- Whole sheets: each entry stands behind the bytes of those before it, and a sheet is refused at its first wrong entry
+-- (docs/SHEETS.md, "Writing"). Assumes nothing.
+use Prim.Native.Nat.{ℕ, zero, suc, _+_, _-_, _/_, _%_, _≤_, _<_, _^_}
+use mathlib.Core.Path.{_≡_, refl, sym, ap, _∙_}
+use mathlib.Core.Bool.{Bool, true, false}
+use mathlib.Core.List.{List, _++_, append-assoc, map}
+use native.Mathlib.Omega.{arith}
+use native.Mathlib.Nat.{zero-add}
+use lib.ListN.{length, take, drop, length-append, length-map}
+use lib.Seq.{sets, sets-eq, drop-at, take-at}
+use lib.Dec.{leb, eqb}
+use borrow.Author.Tests.{eq-eqb, eqb-true, eqb-false, le-leb, lt-leb}
+use Rattle.basics.specs.Laws.{never}
+use Rattle.sheet_format.specs.Job.{Job, Below, encode, encodeSheet}
+use Rattle.sheet_format.specs.Decode.{rowWords, offLimits, noRoom}
+use Rattle.sheet_format.specs.Write.{jobOf, Fault, faultOf, entryAt, entriesFrom, entriesOf, SheetFault, orElse}
+use Rattle.sheet_format.specs.Write.{sheetFault, SheetWritten, sheetWritten, writeSheetJudged, writeSheet}
+use Rattle.sheet_format.specs.WriteTrip.{Words, Limits, faultless, entry-words, sheet-done}
+use Rattle.sheet_format.specs.Choice.{picked}
+use Rattle.sheet_format.specs.CodeLaws.{length-entriesFrom}
+use Rattle.sheet_format.specs.Place.{FirstOff}
+use Rattle.sheet_format.specs.PlaceLaws.{fault-place, place-fault}
+use Rattle.sheet_format.specs.declared.SheetWrote.{SheetWrote}
+
+-- the bytes of a sheet so far: the entries of the rows before row i
+abbrev pub sheetSoFar : List ℕ → ℕ → List ℕ
+sheetSoFar rows i = encodeSheet (map jobOf (entriesFrom rows 0 i))
+
+abbrev pub sheetBytes : List ℕ → List ℕ
+sheetBytes rows = sheetSoFar rows (length rows / rowWords)
+
+-- where a sheet is refused by 14: its first entry that has a field off its limits, and that field's place
+pub record FirstWrong (rows : List ℕ) (i place : ℕ) : Type 0 where
+  pub inside : i < length rows / rowWords
+  pub wrong : FirstOff (entryAt rows i) place
+  pub first : (k at : ℕ) → k < i → FirstOff (entryAt rows k) at → ⊥
+
+module _ (rows : List ℕ) where
+  -- EACH ENTRY AT ITS PLACE
+
+  abbrev bytesFrom : ℕ → ℕ → List ℕ
+  bytesFrom i n = encodeSheet (map jobOf (entriesFrom rows i n))
+
+  -- the entries from row i + k on stand behind those before it
+  pub split : (i k n : ℕ) → bytesFrom i (k + n) ≡ bytesFrom i k ++ bytesFrom (i + k) n
+  unfolding entriesFrom encodeSheet
+  split i zero n = let q : i + 0 ≡ i = omega arith in rw (q, zero-add n)
+  split i (suc k) n =
+      let q : i + suc k ≡ i + 1 + k = omega arith in
+      let r : suc k + n ≡ suc (k + n) = omega arith in
+      rw (q, r, split (i + 1) k n)
+      (sym (append-assoc (encode (jobOf (entryAt rows i))) (bytesFrom (i + 1) k) (bytesFrom (i + 1 + k) n)))
+
+  pub so-far-length : (i n : ℕ) → i ≤ n
+      → length (sheetSoFar rows n) ≡ length (sheetSoFar rows i) + length (bytesFrom i (n - i))
+  so-far-length i n some =
+      let q : n ≡ i + (n - i) = omega arith in
+      ap (λ (k : ℕ). length (bytesFrom 0 k)) q
+      ∙ (ap length (split 0 i (n - i)) ∙ (length-append (bytesFrom 0 i) (bytesFrom (0 + i) (n - i)) ∙ rw (zero-add i)))
+
+  -- the entry of row i, behind those before it and before those after it
+  around : (i n : ℕ) → i < n
+      → bytesFrom 0 n ≡ sheetSoFar rows i ++ (encode (jobOf (entryAt rows i)) ++ bytesFrom (i + 1) (n - (i + 1)))
+  unfolding entriesFrom encodeSheet
+  around i n more =
+      let q : n ≡ i + suc (n - (i + 1)) = omega arith in
+      ap (bytesFrom 0) q ∙ (split 0 i (suc (n - (i + 1))) ∙ rw (zero-add i))
+
+  pub entry-stands-there : (out : List ℕ) (i n bytes : ℕ) → i < length rows / rowWords
+      → writeSheet rows out .answer ≡ SheetWrote.Done n bytes
+      → take (length (encode (jobOf (entryAt rows i)))) (drop (length (sheetSoFar rows i)) (writeSheet rows out .out))
+      ≡ encode (jobOf (entryAt rows i))
+  entry-stands-there out i n bytes inside h =
+      let e = encode (jobOf (entryAt rows i)) in
+      let d = sheet-done rows out n bytes h in
+      let all = bytesFrom 0 (length rows / rowWords) in
+      let rest = drop (0 + length all) out in
+      let after = bytesFrom (i + 1) (length rows / rowWords - (i + 1)) in
+      let whole : writeSheet rows out .out ≡ sheetSoFar rows i ++ (e ++ (after ++ rest)) =
+      d .left ∙ (sets-eq all out 0 (omega (arith, d .room)) ∙ rw (around i _ inside) (simp append-assoc)) in
+      rw (whole, drop-at (sheetSoFar rows i) (e ++ (after ++ rest)) _ refl) (take-at e (after ++ rest) _ refl)
+
+  -- THE FIRST WRONG ENTRY
+
+  -- from row i on: entry k has the fault, and none before it has one
+  record At (i n k place : ℕ) : Type 0 where
+    pub from : i ≤ k
+    pub under : k < i + n
+    pub fault : faultOf (entryAt rows k) ≡ Fault.at place
+    pub none : (m : ℕ) → i ≤ m → m < k → faultOf (entryAt rows m) ≡ Fault.none
+
+  fault-at : (i n k place : ℕ) → sheetFault i (entriesFrom rows i n) ≡ SheetFault.at k place → At i n k place
+  unfolding entriesFrom sheetFault
+  fault-at i zero k place h = never (cc)
+  fault-at i (suc n) k place h = by-fault (faultOf (entryAt rows i)) refl h (fault-at (i + 1) n k place)
+    where
+      by-fault : (f : Fault) → faultOf (entryAt rows i) ≡ f
+          → orElse i f (sheetFault (i + 1) (entriesFrom rows (i + 1) n)) ≡ SheetFault.at k place
+          → (sheetFault (i + 1) (entriesFrom rows (i + 1) n) ≡ SheetFault.at k place → At (i + 1) n k place)
+          → At i (suc n) k place
+      by-fault (Fault.at p) e h′ later =
+          let here : i ≡ k = cc in
+          let same : p ≡ place = cc in
+          record {
+            from = omega arith;
+            under = omega arith;
+            fault = rw (← here, ← same) e;
+            none = λ m low high. absurd (omega arith);
+          }
+      by-fault Fault.none e h′ later =
+          let a = later h′ in
+          record {
+            from = omega (arith, a .from);
+            under = omega (arith, a .under);
+            fault = a .fault;
+            none = λ m low high. first-or m low high a;
+          }
+        where
+          first-or : (m : ℕ) → i ≤ m → m < k → At (i + 1) n k place → faultOf (entryAt rows m) ≡ Fault.none
+          first-or m low high a = by-order (eqb m i) refl
+            where
+              by-order : (t : Bool) → eqb m i ≡ t → faultOf (entryAt rows m) ≡ Fault.none
+              by-order true q = rw (eqb-true m i q) e
+              by-order false q = let other = eqb-false m i q in a .none m (omega arith) high
+
+  at-fault : (i n k place : ℕ) → At i n k place → sheetFault i (entriesFrom rows i n) ≡ SheetFault.at k place
+  unfolding entriesFrom sheetFault
+  at-fault i zero k place a = absurd (omega (arith, a .from, a .under))
+  at-fault i (suc n) k place a = by-order (eqb i k) refl (at-fault (i + 1) n k place)
+    where
+      by-order : (t : Bool) → eqb i k ≡ t
+          → (At (i + 1) n k place → sheetFault (i + 1) (entriesFrom rows (i + 1) n) ≡ SheetFault.at k place)
+          → orElse i (faultOf (entryAt rows i)) (sheetFault (i + 1) (entriesFrom rows (i + 1) n))
+          ≡ SheetFault.at k place
+      by-order true q later = let same = eqb-true i k q in rw (same, a .fault)
+      by-order false q later =
+          let other = eqb-false i k q in
+          let low = a .from in
+          rw (a .none i (omega arith) (omega arith)) (later (record {
+            from = omega arith;
+            under = omega (arith, a .under);
+            fault = a .fault;
+            none = λ m m-low m-high. a .none m (omega arith) m-high;
+          }))
+
+  -- rows of 32-bit words
+  module _ (words : Below (2 ^ 32) rows) where
+    words-at : (i : ℕ) → i < length rows / rowWords → Words (entryAt rows i)
+    words-at i inside = entry-words rows i words (omega arith)
+
+    first-wrong : (i place : ℕ) → sheetFault 0 (entriesOf rows) ≡ SheetFault.at i place → FirstWrong rows i place
+    first-wrong i place h =
+        let a = fault-at 0 (length rows / rowWords) i place h in
+        let under : i < length rows / rowWords = omega (arith, a .under) in
+        record {
+          inside = under;
+          wrong = fault-place (entryAt rows i) place (words-at i under) (a .fault);
+          first = λ k at low off.
+              let q = sym (a .none k (omega arith) low)
+              ∙ place-fault (entryAt rows k) at (words-at k (omega arith)) off in
+              never (cc);
+        }
+
+    wrong-first : (i place : ℕ) → FirstWrong rows i place → sheetFault 0 (entriesOf rows) ≡ SheetFault.at i place
+    wrong-first i place w =
+        at-fault 0 (length rows / rowWords) i place (record {
+          from = omega arith;
+          under = omega (arith, w .inside);
+          fault = place-fault (entryAt rows i) place (words-at i (w .inside)) (w .wrong);
+          none = λ m low high. right m high (faultOf (entryAt rows m)) refl;
+        })
+      where
+        right : (m : ℕ) → m < i → (f : Fault) → faultOf (entryAt rows m) ≡ f → faultOf (entryAt rows m) ≡ Fault.none
+        right m high (Fault.at p) e =
+            absurd (w .first m p high (fault-place (entryAt rows m) p (words-at m (omega (arith, w .inside))) e))
+        right m high Fault.none e = e
+
+    -- a sheet is refused by 14 exactly at its first wrong entry
+    pub refused-first : (out : List ℕ) (i place : ℕ)
+        → writeSheet rows out .answer ≡ SheetWrote.Refused offLimits i place → FirstWrong rows i place
+    unfolding writeSheet
+    refused-first out i place h =
+        picked Told (eqb (length rows % rowWords) 0) _ _ (by-fault (sheetFault 0 (entriesOf rows)) refl)
+        (λ h′. never (cc)) h
+      where
+        Told : SheetWritten → Type 0
+        Told w = w .answer ≡ SheetWrote.Refused offLimits i place → FirstWrong rows i place
+
+        js : List Job
+        js = map jobOf (entriesOf rows)
+
+        by-fault : (f : SheetFault) → sheetFault 0 (entriesOf rows) ≡ f → Told (writeSheetJudged f js out)
+        by-fault (SheetFault.at k p) e = λ h′.
+            let here : k ≡ i = cc in
+            let same : p ≡ place = cc in
+            first-wrong i place (rw (here, same) at e)
+        by-fault SheetFault.none e =
+            picked Told (leb (length (encodeSheet js)) (length out)) _ _ (λ h′. never (cc)) (λ h′. never (cc))
+
+    pub first-refused : (out : List ℕ) (i place : ℕ) → length rows % rowWords ≡ 0 → FirstWrong rows i place
+        → writeSheet rows out ≡ sheetWritten (SheetWrote.Refused offLimits i place) out
+    unfolding writeSheet
+    first-refused out i place whole w = rw (eq-eqb _ _ whole, wrong-first i place w)
+
+  -- WITHIN THE LIMITS
+
+  module _ (within : (i : ℕ) → i < length rows / rowWords → Limits (entryAt rows i)) where
+    no-fault : (f : SheetFault) → sheetFault 0 (entriesOf rows) ≡ f → sheetFault 0 (entriesOf rows) ≡ SheetFault.none
+    no-fault (SheetFault.at k p) e =
+        let a = fault-at 0 (length rows / rowWords) k p e in
+        let q = sym (faultless (entryAt rows k) (within k (omega (arith, a .under)))) ∙ a .fault in
+        never (cc)
+    no-fault SheetFault.none e = e
+
+    -- a sheet is written where there is room, and else refused by 15
+    module _ (out : List ℕ) (whole : length rows % rowWords ≡ 0) where
+      pub sheet-fits : length (sheetBytes rows) ≤ length out
+          → writeSheet rows out
+          ≡ sheetWritten (SheetWrote.Done (length rows / rowWords) (length (sheetBytes rows)))
+          (sets out 0 (sheetBytes rows))
+      unfolding writeSheet
+      sheet-fits room =
+          let k = length-map (entriesOf rows) jobOf ∙ length-entriesFrom rows 0 (length rows / rowWords) in
+          rw (eq-eqb _ _ whole, no-fault _ refl, le-leb _ _ room, k)
+
+      pub sheet-no-room : length out < length (sheetBytes rows)
+          → writeSheet rows out ≡ sheetWritten (SheetWrote.Refused noRoom 0 0) out
+      unfolding writeSheet
+      sheet-no-room short = rw (eq-eqb _ _ whole, no-fault _ refl, lt-leb _ _ short)
