@@ -1,6 +1,6 @@
 -- Which pairs of numbers a number that moves has compared: a list of few pairs, and no rank of any others tells where
 -- it comes to rest. For ALL slots. Assumes nothing.
-use mathlib.Core.Path.{_≡_, refl}
+use mathlib.Core.Path.{_≡_, refl, sym, _∙_}
 use mathlib.Core.Bool.{Bool, true, false, _&&_}
 use mathlib.Core.List.{List, [], _∷_, _++_}
 use Prim.Native.Nat.{ℕ, zero, suc, _*_, _≤_}
@@ -11,7 +11,7 @@ use Rattle.basics.specs.Base.{pick}
 use Rattle.heap.specs.declared.Sifted.{Sifted}
 use Rattle.heap.specs.declared.Sifted.the-variants.{Rests, Astray}
 use Rattle.heap.specs.Sift.{above, left, right, siftUp, lesser, soundBelow, siftDown}
-use Rattle.heap.specs.Looked.{slotsUp, slotsDown, few-slots-down}
+use Rattle.heap.specs.Looked.{eachSound, slotsUp, slotsBelow, slotsDown, exact-below, few-slots-down}
 
 -- ---- the pairs that are compared while x moves from slot i
 module _ (rank : ℕ → ℕ) (sound : ℕ → Bool) (slot : ℕ → ℕ) where
@@ -90,6 +90,22 @@ unfoldable pub Alike : (ℕ → ℕ) → (ℕ → ℕ) → List (ℕ × ℕ) →
 Alike rank other [] = Unit {0}
 Alike rank other (p ∷ l) = (ltb (other (p .0)) (other (p .1)) ≡ ltb (rank (p .0)) (rank (p .1))) × Alike rank other l
 
+-- two tests agree on each slot of a list
+unfoldable pub AgreeOn : (ℕ → Bool) → (ℕ → Bool) → List ℕ → Type 0
+AgreeOn sound sound′ [] = Unit {0}
+AgreeOn sound sound′ (i ∷ l) = (sound′ i ≡ sound i) × AgreeOn sound sound′ l
+
+module _ (sound sound′ : ℕ → Bool) where
+  agree-left : (l r : List ℕ) → AgreeOn sound sound′ (l ++ r) → AgreeOn sound sound′ l
+  unfolding AgreeOn
+  agree-left [] r B = tt
+  agree-left (i ∷ l) r B = (B .0, agree-left l r (B .1))
+
+  agree-right : (l r : List ℕ) → AgreeOn sound sound′ (l ++ r) → AgreeOn sound sound′ r
+  unfolding AgreeOn
+  agree-right [] r B = B
+  agree-right (i ∷ l) r B = agree-right l r (B .1)
+
 module _ (rank other : ℕ → ℕ) where
   alike-left : (l r : List (ℕ × ℕ)) → Alike rank other (l ++ r) → Alike rank other l
   unfolding Alike
@@ -144,11 +160,31 @@ module _ (rank other : ℕ → ℕ) where
         go true A = rw (A .0)
         go false A = refl
 
+  -- nor whether any other slot is sound
+  module _ (sound sound′ : ℕ → Bool) (slot : ℕ → ℕ) where
+    each-agrees : (l : List ℕ) → AgreeOn sound sound′ l → eachSound sound′ l ≡ eachSound sound l
+    unfolding AgreeOn eachSound
+    each-agrees [] B = refl
+    each-agrees (i ∷ l) B = rw (B .0, each-agrees l (B .1))
+
+    same-below : (m i : ℕ) → AgreeOn sound sound′ (slotsBelow rank sound slot m i)
+        → soundBelow other sound′ slot m i ≡ soundBelow rank sound slot m i
+    same-below m i B =
+        sym (exact-below other sound′ slot m i) ∙ each-agrees _ B ∙ exact-below rank sound slot m i
+
+    -- the pairs and slots beyond a test count only where it leads on
+    both-pick : (b : Bool) (l : List (ℕ × ℕ)) (k : List ℕ) (f g s : Sifted)
+        → (Alike rank other l → AgreeOn sound sound′ k → f ≡ g)
+        → Alike rank other (pick b l []) → AgreeOn sound sound′ (pick b k []) → pick b f s ≡ pick b g s
+    both-pick true l k f g s rest A B = rest A B
+    both-pick false l k f g s rest A B = refl
+
     pub same-down : (n m x i : ℕ) → Alike rank other (pairsDown rank sound slot n m x i)
-        → siftDown other sound slot n m (other x) i ≡ siftDown rank sound slot n m (rank x) i
-    unfolding siftDown pairsDown Alike
-    same-down zero m x i A = refl
-    same-down (suc n) m x i A = go (ltb (left i) m) (soundBelow rank sound slot m i) (same-down n m x c) A
+        → AgreeOn sound sound′ (slotsDown rank sound slot n m (rank x) i)
+        → siftDown other sound′ slot n m (other x) i ≡ siftDown rank sound slot n m (rank x) i
+    unfolding siftDown pairsDown slotsDown Alike AgreeOn
+    same-down zero m x i A B = refl
+    same-down (suc n) m x i A B = go (ltb (left i) m) (soundBelow rank sound slot m i) refl (same-down n m x c) A B
       where
         c : ℕ
         c = lesser rank sound slot m i
@@ -156,25 +192,39 @@ module _ (rank other : ℕ → ℕ) where
         d : ℕ
         d = lesser other sound slot m i
 
-        onward : List (ℕ × ℕ)
-        onward = (slot c, x) ∷ pick (ltb (rank (slot c)) (rank x)) (pairsDown rank sound slot n m x c) []
+        t : Bool
+        t = ltb (rank (slot c)) (rank x)
 
-        go : (a s : Bool)
-            → (Alike rank other (pairsDown rank sound slot n m x c)
-            → siftDown other sound slot n m (other x) c ≡ siftDown rank sound slot n m (rank x) c)
-            → Alike rank other (pick a (pick s (pairBelow rank sound slot m i ++ onward) []) [])
+        pairs : List (ℕ × ℕ)
+        pairs = pairsDown rank sound slot n m x c
+
+        slots : List ℕ
+        slots = slotsDown rank sound slot n m (rank x) c
+
+        below : List ℕ
+        below = slotsBelow rank sound slot m i
+
+        go : (a s : Bool) → soundBelow rank sound slot m i ≡ s
+            → (Alike rank other pairs → AgreeOn sound sound′ slots
+            → siftDown other sound′ slot n m (other x) c ≡ siftDown rank sound slot n m (rank x) c)
+            → Alike rank other
+            (pick a (pick s (pairBelow rank sound slot m i ++ ((slot c, x) ∷ pick t pairs [])) []) [])
+            → AgreeOn sound sound′ (pick a (below ++ pick s (pick t slots []) []) [])
             → pick a
-            (pick s
-            (pick (ltb (other (slot d)) (other x)) (siftDown other sound slot n m (other x) d) (Rests i)) Astray)
+            (pick (soundBelow other sound′ slot m i)
+            (pick (ltb (other (slot d)) (other x)) (siftDown other sound′ slot n m (other x) d) (Rests i)) Astray)
             (Rests i)
-            ≡ pick a
-            (pick s
-            (pick (ltb (rank (slot c)) (rank x)) (siftDown rank sound slot n m (rank x) c) (Rests i)) Astray)
-            (Rests i)
-        go false s rest A = refl
-        go true false rest A = refl
-        go true true rest A =
-            let B = alike-right (pairBelow rank sound slot m i) onward A in
-            rw (same-lesser m i (alike-left (pairBelow rank sound slot m i) onward A), B .0)
-            (alike-pick (ltb (rank (slot c)) (rank x)) (pairsDown rank sound slot n m x c)
-            (siftDown other sound slot n m (other x) c) (siftDown rank sound slot n m (rank x) c) (Rests i) rest (B .1))
+            ≡ pick a (pick s (pick t (siftDown rank sound slot n m (rank x) c) (Rests i)) Astray) (Rests i)
+        go false s e rest A B = refl
+        go true false e rest A B = rw (same-below m i (agree-left sound sound′ below [] B), e)
+        go true true e rest A B =
+            let ahead : List (ℕ × ℕ) = (slot c, x) ∷ pick t pairs [] in
+            let C = alike-right (pairBelow rank sound slot m i) ahead A in
+            rw (
+              same-below m i (agree-left sound sound′ below (pick t slots []) B),
+              e,
+              same-lesser sound slot m i (alike-left (pairBelow rank sound slot m i) ahead A),
+              C .0,
+            )
+            (both-pick t pairs slots _ _ (Rests i) rest (C .1)
+            (agree-right sound sound′ below (pick t slots []) B))

@@ -349,12 +349,12 @@ below-lesser rank sound slot m i =
     (λ _. (omega arith, omega arith)) (λ _. (omega arith, omega arith))
 
 -- of the slots below, the one with the lowest rank
-record Least (rank : ℕ → ℕ) (m : ℕ) (slot : ℕ → ℕ) (i c : ℕ) : Type 0 where
-  below : Below i c
-  within : c < m
-  least : (b : ℕ) → b < m → Below i b → rank (slot c) ≤ rank (slot b)
+pub record Least (rank : ℕ → ℕ) (m : ℕ) (slot : ℕ → ℕ) (i c : ℕ) : Type 0 where
+  pub below : Below i c
+  pub within : c < m
+  pub least : (b : ℕ) → b < m → Below i b → rank (slot c) ≤ rank (slot b)
 
-lesser-is : (rank : ℕ → ℕ) (sound : ℕ → Bool) (slot : ℕ → ℕ) (m i : ℕ) → left i < m
+pub lesser-is : (rank : ℕ → ℕ) (sound : ℕ → Bool) (slot : ℕ → ℕ) (m i : ℕ) → left i < m
     → Least rank m slot i (lesser rank sound slot m i)
 lesser-is rank sound slot m i l = go (ltb (right i) m) refl (ltb (rank (slot (right i))) (rank (slot (left i)))) refl
   where

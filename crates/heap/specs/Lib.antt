@@ -6,3 +6,4 @@ pub mod Positions
 pub mod Looked
 pub mod Compared
 pub mod Logarithm
+pub mod Shifted

@@ -76,7 +76,7 @@ module _ (rank : ℕ → ℕ) (sound : ℕ → Bool) (slot : ℕ → ℕ) where
       go rest false true e false = rw e refl
       go rest false false e t = rw e refl
 
-  exact-below : (m i : ℕ) → eachSound sound (slotsBelow m i) ≡ soundBelow rank sound slot m i
+  pub exact-below : (m i : ℕ) → eachSound sound (slotsBelow m i) ≡ soundBelow rank sound slot m i
   unfolding eachSound
   exact-below m i = ap (λ b. sound (left i) && b) (go (ltb (right i) m) refl)
     where

@@ -1,10 +1,11 @@
 -- "a get compares at most 64 pairs of jobs", and by their classes it tells nothing else: over tables that are the same
--- but for the classes of jobs, all within their limit, it answers the same and leaves the same, where the pairs that it
--- compares are ordered alike. For all tables, damaged ones too. Follows docs/RULES.md, "Steps". Assumes nothing.
-use mathlib.Core.Path.{_≡_, refl, sym, ap, _∙_, fun-ext}
+-- but for the classes of jobs, those that it looks at within their limit, it answers the same and leaves the same,
+-- where the pairs that it compares are ordered alike. For all tables, damaged ones too. Follows docs/RULES.md, "Steps".
+-- Assumes nothing.
+use mathlib.Core.Path.{_≡_, refl, sym, ap, _∙_}
 use mathlib.Core.Logic.{_≢_}
 use mathlib.Core.Bool.{Bool, true, false, _&&_}
-use mathlib.Core.List.{List}
+use mathlib.Core.List.{List, [], _∷_}
 use Prim.Native.Nat.{ℕ, _≤_, _<_}
 use native.Mathlib.Omega.{arith}
 use native.Mathlib.Decide.{ℕ-discrete, decLt}
@@ -13,29 +14,37 @@ use lib.ListN.{length, getD, set, length-set}
 use lib.Seq.{getD-set-same, getD-set-other, set-out}
 use borrow.Author.Tests.{ltb-true, le-leb}
 use Rattle.basics.specs.Limits.{mostClass}
-use Rattle.heap.specs.Compared.{Alike}
+use Rattle.basics.specs.Base.{pick}
+use Rattle.heap.specs.Sift.{siftDown}
+use Rattle.heap.specs.Compared.{pairsDown, Alike, AgreeOn, same-down}
+use Rattle.heap.specs.declared.Sifted.{Sifted}
 use Rattle.terms.specs.declared.Sizes.{Sizes}
 use Rattle.words.specs.Columns.{place, columns, header, put, sep}
 use Rattle.words.specs.Layout.{jobShape, JOBS, ARCS, BITS, WORKERS, MADE, NAME, LABEL, CLASS, CELL, POSITION}
 use Rattle.words.specs.Layout.{Tables, tables, View, view, longEnough, sizesKept}
-use Rattle.words.specs.Index.{rankOf, placeIn, waits, firstSeatBy, firstSeat}
+use Rattle.words.specs.Index.{levels, rankOf, placeIn, waits, seated, firstPlace, lastSlot, lastPlace, firstSeatBy}
+use Rattle.words.specs.Index.{firstSeat}
 use Rattle.words.specs.Words.{ownOk, admitted, nextJob, takeFrom, planGetOf, answerGet, appliedGet, getWords}
 use Rattle.words.specs.declared.Seating.{Seating}
 use Rattle.words.specs.declared.Seating.the-variants.{Seated, Unseated}
 use Rattle.words.specs.declared.GetPlan.{GetPlan}
 use Rattle.words.specs.declared.GetPlan.the-variants.{RefuseGet, Wait, Take}
 use Rattle.locality.specs.Parts.{test}
-use Rattle.locality.specs.Compared.{Reach, early, empty, index, reach, planAt, plan-by-rank, placesByGet}
-use Rattle.locality.specs.Compared.{comparedPlaces, atIndex, first-same}
+use Rattle.locality.specs.Compared.{Reach, early, empty, index, reach, planAt, placesByGet, comparedPlaces}
+use Rattle.locality.specs.Compared.{atIndex}
+use Rattle.locality.specs.IndexFirst.{planned}
+use Rattle.locality.specs.Looked.{lookedByGet}
 
 -- two jobs tables that differ in no word but classes
 pub record ButClasses (l m : List ℕ) : Type 0 where
   pub lengths : length m ≡ length l
   pub words : (q : ℕ) → ((j : ℕ) → q ≢ place jobShape j CLASS) → getD m q 0 ≡ getD l q 0
 
--- the classes of the jobs made are within their limit
-abbrev pub Classed : List ℕ → Type 0
-Classed l = (j : ℕ) → j < header l MADE → columns jobShape l CLASS j ≤ mostClass
+-- the classes of the jobs in some slots, as far as they were made, are within their limit
+unfoldable pub Classed : View → List ℕ → Type 0
+Classed v [] = Unit {0}
+Classed v (i ∷ l) =
+    (v .cell CELL (placeIn v i) < v .made → v .job CLASS (v .cell CELL (placeIn v i)) ≤ mostClass) × Classed v l
 
 -- the tables with another jobs table
 abbrev pub withJobs : Tables → List ℕ → Tables
@@ -66,7 +75,7 @@ module _ (l m : List ℕ) (b : ButClasses l m) where
     ];
   }
 
-module _ (t : Tables) (m : List ℕ) (b : ButClasses (t .jobs) m) (one : Classed (t .jobs)) (two : Classed m) where
+module _ (t : Tables) (m : List ℕ) (b : ButClasses (t .jobs) m) where
   abbrev v : View
   v = view t
 
@@ -74,30 +83,51 @@ module _ (t : Tables) (m : List ℕ) (b : ButClasses (t .jobs) m) (one : Classed
   u = view (withJobs t m)
 
   -- a class within its limit passes the test of it in both
-  job-same : (a : Bool) (j : ℕ)
+  job-same : (a : Bool) (j : ℕ) → (j < v .made → v .job CLASS j ≤ mostClass)
+      → (j < u .made → u .job CLASS j ≤ mostClass)
       → (a && ltb j (u .made) && leb (u .job CLASS j) mostClass)
       ≡ (a && ltb j (v .made) && leb (v .job CLASS j) mostClass)
-  job-same false j = refl
-  job-same true j =
+  job-same false j one two = refl
+  job-same true j one two =
       let made = header-same (t .jobs) m b MADE refl in
       rw made (test (ltb j (v .made))
       (λ e. let o = ltb-true j (v .made) e in
       rw (
         e,
-        le-leb (columns jobShape m CLASS j) mostClass (two j (rw made o)),
-        le-leb (columns jobShape (t .jobs) CLASS j) mostClass (one j o),
+        le-leb (columns jobShape m CLASS j) mostClass (two (rw made o)),
+        le-leb (columns jobShape (t .jobs) CLASS j) mostClass (one o),
       ))
       (λ e. rw e))
 
-  waits-same : waits u ≡ waits v
-  unfolding waits
-  waits-same = fun-ext (λ i.
-      let p = placeIn v i in
-      job-same (ltb p (v .put) && eqb (v .cell POSITION p) i) (v .cell CELL p))
+  waits-same : (l : List ℕ) → Classed v l → Classed u l → AgreeOn (waits v) (waits u) l
+  unfolding waits Classed AgreeOn
+  waits-same [] one two = tt
+  waits-same (i ∷ l) one two =
+      let p = placeIn v i in (
+        job-same (ltb p (v .put) && eqb (v .cell POSITION p) i) (v .cell CELL p) (one .0) (two .0),
+        waits-same l (one .1) (two .1),
+      )
 
-  seat-same : (by : ℕ → ℕ) → firstSeatBy by u ≡ firstSeatBy by v
-  unfolding firstSeatBy
-  seat-same by = rw waits-same
+  -- the seat of the job that is taken is told by the pairs compared and the slots looked at
+  seat-same : AgreeOn (waits v) (waits u) (lookedByGet v) → Alike (rankOf v) (rankOf u) (comparedPlaces v)
+      → firstSeat u ≡ firstSeat v
+  unfolding firstSeatBy lookedByGet AgreeOn
+  seat-same B A = rw (B .0, B .1 .0) (go (waits v 0 && waits v (lastSlot v)) A)
+    where
+      down : View → Sifted
+      down x = siftDown (rankOf x) (waits x) (placeIn v) levels (lastSlot v) (rankOf x (lastPlace v)) 0
+
+      pairs : List (ℕ × ℕ)
+      pairs = pairsDown (rankOf v) (waits v) (placeIn v) levels (lastSlot v) (lastPlace v) 0
+
+      go : (c : Bool) → Alike (rankOf v) (rankOf u) (pick c pairs [])
+          → pick c (seated (down u) (firstPlace v) (lastSlot v)) Unseated
+          ≡ pick c (seated (down v) (firstPlace v) (lastSlot v)) Unseated
+      go true A =
+          ap (λ r. seated r (firstPlace v) (lastSlot v))
+          (same-down (rankOf v) (rankOf u) (waits v) (waits u) (placeIn v) levels (lastSlot v) (lastPlace v) 0 A
+          (B .1 .1))
+      go false A = refl
 
   take-same : (r : Seating) → takeFrom u r ≡ takeFrom v r
   take-same (Seated e) =
@@ -120,18 +150,18 @@ module _ (t : Tables) (m : List ℕ) (b : ButClasses (t .jobs) m) (one : Classed
           header-same (t .jobs) m b MADE refl,
         )
 
-    plan-same : Alike (rankOf v) (rankOf u) (placesByGet s t w) → planGetOf s (withJobs t m) w ≡ planGetOf s t w
+    plan-same : Classed v (lookedByGet v) → Classed u (lookedByGet v)
+        → Alike (rankOf v) (rankOf u) (placesByGet s t w)
+        → planGetOf s (withJobs t m) w ≡ planGetOf s t w
     unfolding placesByGet
-    plan-same A =
-        sym (plan-by-rank s (withJobs t m) w)
-        ∙ rw (reach-same, seat-same (rankOf u), take-same (firstSeatBy (rankOf u) v)) (go (reach s t w) A)
-        ∙ plan-by-rank s t w
+    plan-same one two A =
+        planned s (withJobs t m) w ∙ rw reach-same (go (reach s t w) A) ∙ sym (planned s t w)
       where
         go : (r : Reach) → Alike (rankOf v) (rankOf u) (atIndex r (comparedPlaces v))
-            → planAt r (takeFrom v (firstSeatBy (rankOf u) v)) ≡ planAt r (takeFrom v (firstSeat v))
+            → planAt r (takeFrom u (firstSeat u)) ≡ planAt r (takeFrom v (firstSeat v))
         go (early n) A = refl
         go empty A = refl
-        go index A = ap (takeFrom v) (first-same v (rankOf u) A)
+        go index A = ap (takeFrom u) (seat-same (waits-same (lookedByGet v) one two) A) ∙ take-same (firstSeat v)
 
 -- what a plan leaves of both
 left-same : (t : Tables) (m : List ℕ) (w : ℕ) → ButClasses (t .jobs) m → (p : GetPlan)
@@ -150,12 +180,12 @@ pub record SameGet (s : Sizes) (t : Tables) (m : List ℕ) (w : ℕ) : Type 0 wh
   pub jobs : ButClasses (getWords s t w .state .jobs) (getWords s (withJobs t m) w .state .jobs)
 
 pub get-by-classes : (s : Sizes) (t : Tables) (m : List ℕ) (w : ℕ) → ButClasses (t .jobs) m
-    → Classed (t .jobs) → Classed m
+    → Classed (view t) (lookedByGet (view t)) → Classed (view (withJobs t m)) (lookedByGet (view t))
     → Alike (rankOf (view t)) (rankOf (view (withJobs t m))) (placesByGet s t w)
     → SameGet s t m w
 unfolding getWords appliedGet
 get-by-classes s t m w b one two A =
-    let e = plan-same t m b one two s w A in
+    let e = plan-same t m b s w one two A in
     let left = left-same t m w b (planGetOf s t w) in
     record {
       answer = ap answerGet e;

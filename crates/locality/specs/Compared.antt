@@ -1,7 +1,6 @@
--- "a get compares at most 64 pairs of jobs": which pairs a get compares, that they are few, and that the seat of
--- the job that it takes is the same by any other ranks that order those pairs alike, so that it compares no more. For
--- all tables, damaged ones too. Follows docs/RULES.md, "Steps". Assumes nothing.
-use mathlib.Core.Path.{_≡_, refl, ap}
+-- "a get compares at most 64 pairs of jobs": which pairs a get compares, and that they are few (that no others decide:
+-- Classes). For all tables, damaged ones too. Follows docs/RULES.md, "Steps". Assumes nothing.
+use mathlib.Core.Path.{_≡_, refl}
 use mathlib.Core.Bool.{Bool, true, false, _&&_}
 use mathlib.Core.List.{List, [], map}
 use Prim.Native.Nat.{ℕ, _≤_}
@@ -10,17 +9,12 @@ use lib.Dec.{ltb, leb, eqb}
 use lib.ListN.{length, length-map}
 use Rattle.basics.specs.Base.{pick}
 use Rattle.basics.specs.Laws.{pick-by}
-use Rattle.heap.specs.Sift.{siftDown}
-use Rattle.heap.specs.declared.Sifted.{Sifted}
-use Rattle.heap.specs.Compared.{pairsDown, few-down, Alike, same-down}
+use Rattle.heap.specs.Compared.{pairsDown, few-down}
 use Rattle.terms.specs.Terms.{wrongSizes, noSuchWorker, halfDone, damaged, alreadyHolding}
 use Rattle.terms.specs.declared.Sizes.{Sizes}
 use Rattle.words.specs.Layout.{none, CELL, PHASE, HELD, IDLE, Tables, View, view, sizesFit}
-use Rattle.words.specs.Index.{levels, rankOf, placeIn, waits, seated, firstPlace, lastSlot, lastPlace, firstSeatBy}
-use Rattle.words.specs.Index.{firstSeat}
+use Rattle.words.specs.Index.{levels, rankOf, placeIn, waits, lastSlot, lastPlace, firstSeat}
 use Rattle.words.specs.Words.{countersOk, ownOk, admitted, takeFrom, planTake, planQueue, planGet, planGetOf}
-use Rattle.words.specs.declared.Seating.{Seating}
-use Rattle.words.specs.declared.Seating.the-variants.{Unseated}
 use Rattle.words.specs.declared.GetPlan.{GetPlan}
 use Rattle.words.specs.declared.GetPlan.the-variants.{RefuseGet, Wait}
 
@@ -47,14 +41,11 @@ planAt (early n) p = RefuseGet n
 planAt empty p = Wait
 planAt index p = p
 
--- a get by other ranks of places
-abbrev pub planBy : (ℕ → ℕ) → Sizes → Tables → ℕ → GetPlan
-planBy by s t w = planAt (reach s t w) (takeFrom (view t) (firstSeatBy by (view t)))
-
--- by THE ORDER of hand-outs it is the get
-pub plan-by-rank : (s : Sizes) (t : Tables) (w : ℕ) → planBy (rankOf (view t)) s t w ≡ planGetOf s t w
+-- what it plans there
+pub plan-by-reach : (s : Sizes) (t : Tables) (w : ℕ)
+    → planAt (reach s t w) (takeFrom (view t) (firstSeat (view t))) ≡ planGetOf s t w
 unfolding reach admitted planGet planQueue planTake
-plan-by-rank s t w =
+plan-by-reach s t w =
     go (sizesFit s t) (ltb w (s .workers)) (ownOk s v w) (eqb (v .worker PHASE w) IDLE) (eqb (v .worker HELD w) none)
     (countersOk s v && leb (v .taken) (v .put) && leb (v .put) (s .jobs))
     (eqb (v .taken) (v .put))
@@ -138,22 +129,3 @@ few-compared s t w =
       length-map (placesByGet s t w) (jobsAt (view t)),
       at-index (reach s t w) (comparedPlaces (view t)) 24 (few-places (view t)),
     )
-
--- no others tell the seat of the job that is taken
-pub first-same : (v : View) (by : ℕ → ℕ) → Alike (rankOf v) by (comparedPlaces v) → firstSeatBy by v ≡ firstSeat v
-unfolding firstSeatBy
-first-same v by = go (waits v 0 && waits v (lastSlot v))
-  where
-    down : (ℕ → ℕ) → Sifted
-    down rank = siftDown rank (waits v) (placeIn v) levels (lastSlot v) (rank (lastPlace v)) 0
-
-    moved : (ℕ → ℕ) → Seating
-    moved rank = seated (down rank) (firstPlace v) (lastSlot v)
-
-    pairs : List (ℕ × ℕ)
-    pairs = pairsDown (rankOf v) (waits v) (placeIn v) levels (lastSlot v) (lastPlace v) 0
-
-    go : (b : Bool) → Alike (rankOf v) by (pick b pairs [])
-        → pick b (moved by) Unseated ≡ pick b (moved (rankOf v)) Unseated
-    go true A = ap (λ r. seated r (firstPlace v) (lastSlot v)) (same-down (rankOf v) by _ _ levels _ _ 0 A)
-    go false A = refl

@@ -32,15 +32,15 @@ pub record SameCounters (u v : View) : Type 0 where
   pub put : u .put ≡ v .put
 
 module _ (u v : View) (C : SameCounters u v) where
-  waits-same : (i : ℕ) → SameSlot u v i → waits u i ≡ waits v i
+  pub waits-same : (i : ℕ) → SameSlot u v i → waits u i ≡ waits v i
   unfolding waits
   waits-same i S = rw (S .place, S .position, S .cell, S .class, C .put, C .made)
 
-  rank-same : (i : ℕ) → SameSlot u v i → rankOf u (placeIn u i) ≡ rankOf v (placeIn v i)
+  pub rank-same : (i : ℕ) → SameSlot u v i → rankOf u (placeIn u i) ≡ rankOf v (placeIn v i)
   rank-same i S = rw (S .place, S .cell, S .class)
 
   -- the slots beyond a test count only where it leads on
-  beyond : (b : Bool) (l : List ℕ) (f g s : Sifted) → (SameSlots u v l → f ≡ g)
+  pub beyond : (b : Bool) (l : List ℕ) (f g s : Sifted) → (SameSlots u v l → f ≡ g)
       → SameSlots u v (pick b l []) → pick b f s ≡ pick b g s
   beyond true l f g s rest A = rest A
   beyond false l f g s rest A = refl

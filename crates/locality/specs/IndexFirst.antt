@@ -3,7 +3,7 @@
 -- "Turned-away calls". Assumes nothing.
 use mathlib.Core.Path.{_≡_, sym, ap, _∙_}
 use mathlib.Core.Bool.{true, false, _&&_}
-use Prim.Native.Nat.{ℕ, _≤_, _<_}
+use Prim.Native.Nat.{ℕ, _-_, _≤_, _<_}
 use native.Mathlib.Omega.{arith}
 use lib.Dec.{leb, ltb, eqb}
 use borrow.Author.Tests.{leb-true, eqb-true, eqb-false}
@@ -15,7 +15,7 @@ use Rattle.terms.specs.Terms.{damaged}
 use Rattle.terms.specs.declared.Sizes.{Sizes}
 use Rattle.terms.specs.declared.HandOut.{HandOut}
 use Rattle.terms.specs.declared.Answer.the-variants.{NoneReady, Handed}
-use Rattle.words.specs.Layout.{Tables, View, view, NAME, LABEL, CELL, PHASE, HELD, IDLE, none, sizesFit}
+use Rattle.words.specs.Layout.{Tables, View, view, NAME, LABEL, CELL, SLOT, PHASE, HELD, IDLE, none, sizesFit}
 use Rattle.words.specs.Index.{levels, rankOf, placeIn, waits, firstPlace, lastPlace, lastSlot, seated, firstSeatBy}
 use Rattle.words.specs.Index.{firstSeat}
 use Rattle.words.specs.Words.{admitted, ownOk, countersOk, takeFrom, nextJob, answerGet, getWords, planGetOf}
@@ -24,7 +24,7 @@ use Rattle.words.specs.declared.Seating.the-variants.{Seated, Unseated}
 use Rattle.words.specs.declared.GetPlan.{GetPlan}
 use Rattle.words.specs.declared.GetPlan.the-variants.{RefuseGet}
 use Rattle.locality.specs.Parts.{parts}
-use Rattle.locality.specs.Compared.{Reach, early, empty, index, reach, planAt, plan-by-rank}
+use Rattle.locality.specs.Compared.{Reach, early, empty, index, reach, planAt, plan-by-reach}
 
 -- ---- what a get knows where it has come to: the queue empty, or a job in it
 pub record Filled (s : Sizes) (t : Tables) (w : ℕ) : Type 0 where
@@ -78,14 +78,15 @@ reached s t w =
 -- its plan, by how far it comes
 pub planned : (s : Sizes) (t : Tables) (w : ℕ)
     → planGetOf s t w ≡ planAt (reach s t w) (takeFrom (view t) (firstSeat (view t)))
-planned s t w = sym (plan-by-rank s t w)
+planned s t w = sym (plan-by-reach s t w)
 
 -- ---- a job that is handed out
--- what a hand-out says of the index
+-- what a hand-out says of the index, by the words of the tables: the first place is that in slot 0, the last slot is
+-- below `put` less `taken`
 pub record FirstTaken (v : View) (h : HandOut) : Type 0 where
-  pub first : h .job ≡ v .cell CELL (firstPlace v)
+  pub first : h .job ≡ v .cell CELL (v .cell SLOT 0)
   pub name : h .name ≡ v .job NAME (h .job)
-  pub last : waits v (lastSlot v) ≡ true
+  pub last : waits v (v .put - v .taken - 1) ≡ true
   pub waits : waits v 0 ≡ true
   pub unexecuted : v .job LABEL (h .job) ≡ 0
 

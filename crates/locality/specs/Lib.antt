@@ -11,7 +11,12 @@ pub mod Classes
 pub mod IndexFirst
 pub mod Looked
 pub mod Waits
+pub mod Order
+pub mod Judged
+pub mod Comes
 pub mod EntryReads
+pub mod GetReads
+pub mod Slots
 pub mod Moved
 pub mod Taken
 pub mod Queued

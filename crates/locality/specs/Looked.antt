@@ -73,7 +73,7 @@ log-by-get v k h =
     )
 
 -- they tell whether there is a seat
-first-exact : (v : View) → isSeated (firstSeat v) ≡ eachWaits v (lookedByGet v)
+pub first-exact : (v : View) → isSeated (firstSeat v) ≡ eachWaits v (lookedByGet v)
 unfolding firstSeatBy lookedByGet eachSound
 first-exact v =
     go (waits v 0) (waits v (lastSlot v))

@@ -8,7 +8,7 @@ use mathlib.Core.List.{List}
 use Prim.Native.Nat.{ℕ, _+_, _-_, _≤_, _<_}
 use native.Mathlib.Omega.{arith}
 use lib.Dec.{leb, eqb}
-use borrow.Author.Tests.{eqb-true, leb-true, leb-false, lt-ltb, le-ltb, le-leb, ne-eqb}
+use borrow.Author.Tests.{eqb-true, leb-true, leb-false, le-ltb, le-leb, ne-eqb}
 use Rattle.basics.specs.Limits.{mostNames}
 use Rattle.basics.specs.Laws.{never, pick-by}
 use Rattle.terms.specs.Terms.{settles, damaged}
@@ -16,26 +16,25 @@ use Rattle.terms.specs.Runs.{Outcome, outcome}
 use Rattle.terms.specs.declared.Sizes.{Sizes}
 use Rattle.terms.specs.declared.Answer.the-variants.{Ended, Refused}
 use Rattle.words.specs.Columns.{Rows, put}
-use Rattle.words.specs.Layout.{none, jobShape, queueShape, COUNT, PHASE, PLACE, LIST-COUNT, TALLY, OWN-JOB, LINKING}
-use Rattle.words.specs.Layout.{Tables, tables, View, view, longEnough, sizesFit}
+use Rattle.words.specs.Layout.{none, jobShape, queueShape, COUNT, PHASE, HELD, PLACE, LIST-COUNT, TALLY, OWN-JOB, IDLE}
+use Rattle.words.specs.Layout.{LINKING, Tables, tables, View, view, longEnough, bareWorker}
 use Rattle.words.specs.Index.{seatFor, putSeat}
-use Rattle.words.specs.Words.{isPlace, countersOk, ownOk, inSeat, withSeat, planSettle, planLinks, planCall, planPhase}
-use Rattle.words.specs.Words.{admitted, answerOf, idleWorker, applied, stepWords}
+use Rattle.words.specs.Words.{isPlace, inSeat, withSeat, planSettle, planLinks, planCall, planPhase, answerOf}
+use Rattle.words.specs.Words.{putWorker, applied, stepWords}
 use Rattle.words.specs.declared.Seat.{Seat}
 use Rattle.words.specs.declared.Seating.{Seating}
 use Rattle.words.specs.declared.Seating.the-variants.{Seated, Unseated}
 use Rattle.words.specs.declared.Plan.{Plan}
 use Rattle.words.specs.declared.Plan.the-variants.{Refuse, SettleQueue}
 use Rattle.locality.specs.Parts.{test, parts, long}
+use Rattle.locality.specs.Judged.{Sized, sized-means, Counters, counters-mean, Admitted, admits}
 use Rattle.locality.specs.Moved.{Entered, entered}
 
 -- ---- where a step comes to
 -- its worker is in a phase, and nothing before the words of that phase turns the step away
 pub record Comes (s : Sizes) (t : Tables) (w phase : ℕ) : Type 0 where
-  pub fits : sizesFit s t ≡ true
-  pub known : w < s .workers
-  pub own : ownOk s (view t) w ≡ true
-  pub counters : countersOk s (view t) ≡ true
+  pub admitted : Admitted s t w
+  pub counters : Counters s (view t)
   pub here : view t .worker PHASE w ≡ phase
 
 -- "settles once place = count"
@@ -43,8 +42,11 @@ abbrev pub ComesToSettle : Sizes → Tables → ℕ → Type 0
 ComesToSettle s t w = Comes s t w LINKING × (view t .worker PLACE w ≡ view t .worker LIST-COUNT w)
 
 -- the tables are then long enough
-pub queue-rows : (s : Sizes) (t : Tables) → sizesFit s t ≡ true → Rows queueShape (s .jobs) (t .queue)
-queue-rows s t e = let h : longEnough s t ≡ true = search parts in long h .queue
+pub queue-rows : (s : Sizes) (t : Tables) → Sized s t → Rows queueShape (s .jobs) (t .queue)
+queue-rows s t z =
+    let e = sized-means s t .1 z in
+    let h : longEnough s t ≡ true = search parts in
+    long h .queue
 
 -- what is carried out of a plan
 abbrev pub did : Plan → Tables → ℕ → Outcome Tables
@@ -53,14 +55,19 @@ did p t w = outcome (answerOf p) (applied p t w)
 settle-here : (s : Sizes) (t : Tables) (w : ℕ) → ComesToSettle s t w
     → stepWords s t w
     ≡ did (planSettle s (view t) (view t .worker OWN-JOB w) (view t .worker TALLY w) (view t .worker LIST-COUNT w)) t w
-unfolding stepWords applied admitted planPhase planCall planLinks
+unfolding stepWords applied planPhase planCall planLinks
 settle-here s t w (c, e) =
     let n = view t .worker LIST-COUNT w in
-    rw (c .fits, lt-ltb w (s .workers) (c .known), c .own, c .here, c .counters, e, le-ltb n n (omega arith))
+    rw (admits s t w Refuse _ (c .admitted), c .here, counters-mean s (view t) .1 (c .counters), e)
+    (rw (le-ltb n n (omega arith)) refl)
 
 -- ---- the tables after a count: that of the job j is c, the queue's words are q and the workers' r
 abbrev pub counted : Tables → ℕ → ℕ → List ℕ → List ℕ → Tables
 counted t j c q r = tables (put jobShape (t .jobs) j COUNT c) (t .arcs) (t .buckets) q r
+
+-- the workers' words after a call of w that "puts the words of its call back": all but the hold are as laid out
+abbrev pub putBack : Tables → ℕ → List ℕ
+putBack t w = putWorker (t .workers) w (bareWorker IDLE (view t .worker HELD w))
 
 -- a place that is one
 pub place-some : (p : ℕ) → isPlace p ≡ true → p ≢ none
@@ -85,11 +92,11 @@ pub data Unsettled (s : Sizes) (v : View) (j tally d : ℕ) : Type 0 where
 pub data SettlesRightly (s : Sizes) (t : Tables) (w j tally d : ℕ) (o : Outcome Tables) : Type 0 where
   refused : Unsettled s (view t) j tally d → o ≡ outcome (Refused damaged 0) t → SettlesRightly s t w j tally d o
   waits-on : (c : ℕ) → Settles (view t) j tally c → settles c tally d ≡ false
-      → o ≡ outcome Ended (counted t j c (t .queue) (idleWorker (view t) w (t .workers)))
+      → o ≡ outcome Ended (counted t j c (t .queue) (putBack t w))
       → SettlesRightly s t w j tally d o
   queued : (c : ℕ) → Settles (view t) j tally c → settles c tally d ≡ true
       → (q : List ℕ) → Entered s t j q
-      → o ≡ outcome Ended (counted t j c q (idleWorker (view t) w (t .workers)))
+      → o ≡ outcome Ended (counted t j c q (putBack t w))
       → SettlesRightly s t w j tally d o
 
 module _ (s : Sizes) (t : Tables) (w j tally d : ℕ) where
@@ -107,9 +114,9 @@ module _ (s : Sizes) (t : Tables) (w j tally d : ℕ) where
   abbrev Q : Plan → Type 0
   Q p = SettlesRightly s t w j tally d (did p t w)
 
-  settle-exact : Rows queueShape (s .jobs) (t .queue) → Q (planSettle s v j tally d)
+  settle-exact : Rows queueShape (s .jobs) (t .queue) → s .jobs ≤ 4096 → Q (planSettle s v j tally d)
   unfolding planSettle withSeat applied
-  settle-exact r =
+  settle-exact r most =
       pick-by Q (isPlace j && leb n mostNames && leb tally n)
       (λ e. pick-by Q (settles (n - tally) tally d) (λ f. by (falls e) (seatFor s v j) refl f)
       (λ f. waits-on (n - tally) (falls e) f refl))
@@ -124,7 +131,7 @@ module _ (s : Sizes) (t : Tables) (w j tally d : ℕ) where
 
       by : Settles v j tally (n - tally) → (x : Seating) → seatFor s v j ≡ x → settles (n - tally) tally d ≡ true
           → Q (inSeat x (SettleQueue j (n - tally)))
-      by g (Seated e) z f = queued (n - tally) g f _ (entered s t j e r z) refl
+      by g (Seated e) z f = queued (n - tally) g f _ (entered s t j e r most z) refl
       by g Unseated z f = refused (no-seat (n - tally) (g .falls) f z) refl
 
   -- each of these is 9
@@ -154,7 +161,8 @@ module _ (s : Sizes) (t : Tables) (w : ℕ) (comes : ComesToSettle s t w) where
 
   pub settles-rightly : SettlesRightly s t w job tallied listed (stepWords s t w)
   settles-rightly =
-      rw (settle-here s t w comes) (settle-exact s t w job tallied listed (queue-rows s t (comes .0 .fits)))
+      rw (settle-here s t w comes) (settle-exact s t w job tallied listed (queue-rows s t (comes .0 .admitted .sizes))
+      (comes .0 .admitted .sizes .jobs .1))
 
   pub settling-is-9 : Unsettled s (view t) job tallied listed → stepWords s t w ≡ outcome (Refused damaged 0) t
   unfolding applied
@@ -164,7 +172,7 @@ module _ (s : Sizes) (t : Tables) (w : ℕ) (comes : ComesToSettle s t w) where
   pub settles-seated : (c : ℕ) (e : Seat) → Settles (view t) job tallied c → settles c tallied listed ≡ true
       → seatFor s (view t) job ≡ Seated e
       → stepWords s t w
-      ≡ outcome Ended (counted t job c (putSeat (t .queue) e job) (idleWorker (view t) w (t .workers)))
+      ≡ outcome Ended (counted t job c (putSeat (t .queue) e job) (putBack t w))
   unfolding planSettle withSeat applied
   settles-seated c e g f z =
       let n = view t .job COUNT job in

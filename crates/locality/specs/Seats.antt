@@ -9,7 +9,8 @@ use borrow.Author.Tests.{ltb-true, lt-ltb, le-leb}
 use Rattle.basics.specs.Limits.{mostClass}
 use Rattle.heap.specs.Sift.{siftUp, siftDown}
 use Rattle.heap.specs.Same.{RestsBelow, down-below, Matches, up-same, down-same}
-use Rattle.heap.specs.Way.{WayUp, WayFirst, up-weaker, first-weaker, way-up, down-leads, leads-first}
+use Rattle.heap.specs.Way.{WayUp, WayFirst, up-weaker, first-weaker, way-up, Raised, down-leads}
+use Rattle.heap.specs.Way.{leads-first}
 use Rattle.heap.specs.declared.Sifted.{Sifted}
 use Rattle.heap.specs.declared.Sifted.the-variants.{Rests, Astray}
 use Rattle.terms.specs.declared.Sizes.{Sizes}
@@ -136,7 +137,8 @@ module _ (s : Sizes) (v : View) (made : leb (v .made) (s .jobs) ≡ true) where
             lt-ltb (lastSlot v) (s .jobs) (omega arith),
             lt-ltb k (s .jobs) h,
             carries put (lastSlot v) b,
-            first-weaker (carries put) levels k (leads-first (λ i. waits v i ≡ true) levels way),
+            first-weaker {P = Raised (rankOf v) (waits v) (placeIn v) (lastSlot v) (rankOf v l)}
+                (λ i p. carries put i (p .waits)) levels k (leads-first _ levels way),
           ),
           w .0,
           w .1,

@@ -3,22 +3,19 @@
 -- "The index" and "Turned-away calls". Assumes nothing.
 use mathlib.Core.Path.{_≡_, refl, ap, _∙_}
 use mathlib.Core.Bool.{true, _&&_}
-use Prim.Native.Nat.{ℕ, _<_}
+use Prim.Native.Nat.{ℕ, _-_, _<_}
 use native.Mathlib.Omega.{arith}
 use lib.Dec.{eqb}
 use borrow.Author.Tests.{ltb-true, leb-true}
-use Rattle.basics.specs.Laws.{never, pick-by, update-same}
-use Rattle.heap.specs.Sift.{siftDown}
-use Rattle.heap.specs.declared.Sifted.{Sifted}
-use Rattle.heap.specs.declared.Sifted.the-variants.{Rests, Astray}
+use Rattle.basics.specs.Laws.{never, update-same}
 use Rattle.terms.specs.Runs.{Outcome, outcome}
 use Rattle.terms.specs.declared.Sizes.{Sizes}
 use Rattle.terms.specs.declared.Answer.the-variants.{NoneReady, Handed, Refused}
 use Rattle.words.specs.Columns.{columns, columns-put, put}
-use Rattle.words.specs.Layout.{jobShape, workerShape, LABEL, HELD, Tables, tables, View, view, longEnough}
-use Rattle.words.specs.Index.{levels, rankOf, placeIn, waits, seated, firstPlace, lastSlot, lastPlace, firstSeatBy}
-use Rattle.words.specs.Index.{firstSeat, takeSeat}
-use Rattle.words.specs.Words.{handOut, nextJob, takeFrom, answerGet, appliedGet, getWords}
+use Rattle.words.specs.Layout.{jobShape, workerShape, NAME, LABEL, CELL, SLOT, HELD, Tables, tables, View, view}
+use Rattle.words.specs.Layout.{longEnough}
+use Rattle.words.specs.Index.{firstPlace, lastSlot, firstSeat, takeSeat}
+use Rattle.words.specs.Words.{nextJob, takeFrom, answerGet, appliedGet, getWords}
 use Rattle.words.specs.declared.Seat.{Seat}
 use Rattle.words.specs.declared.Seating.{Seating}
 use Rattle.words.specs.declared.Seating.the-variants.{Seated, Unseated}
@@ -26,8 +23,9 @@ use Rattle.locality.specs.Parts.{parts, Long, long}
 use Rattle.locality.specs.Compared.{early, empty, index, reach}
 use Rattle.locality.specs.IndexFirst.{Filled, planned}
 use Rattle.locality.specs.Looked.{isSeated, takesFirst, plan-here, takes-exact, some}
+use Rattle.locality.specs.Judged.{sized-means}
 use Rattle.locality.specs.Waits.{waits-means}
-use Rattle.locality.specs.Moved.{Emptied, seat-emptied}
+use Rattle.locality.specs.Moved.{first-seat, Emptied, seat-emptied}
 
 -- ---- it stops before the index, and nothing is changed
 module _ (s : Sizes) (t : Tables) (w : ℕ) where
@@ -39,48 +37,33 @@ module _ (s : Sizes) (t : Tables) (w : ℕ) where
   unfolding getWords appliedGet
   empty-none-ready e = rw (planned s t w, e)
 
--- ---- the seat of the job that is taken: the first place, and the last slot
-record FirstSeat (v : View) (e : Seat) : Type 0 where
-  place : e .place ≡ firstPlace v
-  last : e .last ≡ lastSlot v
-  waits : waits v 0 ≡ true
-
-first-seat : (v : View) (e : Seat) → firstSeat v ≡ Seated e → FirstSeat v e
-unfolding firstSeatBy
-first-seat v e =
-    pick-by Q (waits v 0 && waits v (lastSlot v))
-    (λ a. go (siftDown (rankOf v) (waits v) (placeIn v) levels (lastSlot v) (rankOf v (lastPlace v)) 0) (search parts))
-    (λ _ z. never cc)
-  where
-    Q : Seating → Type 0
-    Q r = r ≡ Seated e → FirstSeat v e
-
-    go : (f : Sifted) → waits v 0 ≡ true → Q (seated f (firstPlace v) (lastSlot v))
-    go (Rests k) a z = record { place = cc; last = cc; waits = a }
-    go Astray a z = never cc
-
--- ---- the tables u after the first job was taken: it is executing and held, and of the queue its place is emptied; no
--- other job, arc, bucket or worker is touched
-pub record FirstGot (t : Tables) (w : ℕ) (u : Tables) : Type 0 where
+-- ---- the tables u after the job j in the place p was taken, and m slots are left: it is executing and held, and of
+-- the queue its place is emptied; no other job, arc, bucket or worker is touched
+pub record FirstGot (t : Tables) (w j p m : ℕ) (u : Tables) : Type 0 where
   pub seat : Seat
   pub found : firstSeat (view t) ≡ Seated seat
   pub stored : u
-      ≡ tables (put jobShape (t .jobs) (nextJob (view t)) LABEL 1) (t .arcs) (t .buckets) (takeSeat (t .queue) seat)
-      (put workerShape (t .workers) w HELD (nextJob (view t)))
-  pub label : view u .job LABEL (nextJob (view t)) ≡ 1
-  pub held : view u .worker HELD w ≡ nextJob (view t)
-  pub queue : Emptied t (firstPlace (view t)) (lastSlot (view t)) (u .queue)
+      ≡ tables (put jobShape (t .jobs) j LABEL 1) (t .arcs) (t .buckets) (takeSeat (t .queue) seat)
+      (put workerShape (t .workers) w HELD j)
+  pub label : view u .job LABEL j ≡ 1
+  pub held : view u .worker HELD w ≡ j
+  pub queue : Emptied t p m (seat .slot) (u .queue)
 
--- and the answer with them
+-- and the answer with them, of the place in slot 0
 abbrev pub GetsFirst : Tables → ℕ → Outcome Tables → Type 0
-GetsFirst t w o = (o .answer ≡ Handed (handOut (view t) (nextJob (view t)))) × FirstGot t w (o .state)
+GetsFirst t w o =
+    let v = view t in
+    let p = v .cell SLOT 0 in
+    let j = v .cell CELL p in
+    (o .answer ≡ Handed (record { job = j; name = v .job NAME j }))
+    × FirstGot t w j p (v .put - v .taken - 1) (o .state)
 
 module _ (s : Sizes) (t : Tables) (w : ℕ) (here : reach s t w ≡ index) where
   abbrev v : View
   v = view t
 
   taken : (e : Seat) → firstSeat v ≡ Seated e
-      → FirstGot t w
+      → FirstGot t w (nextJob v) (firstPlace v) (lastSlot v)
       (tables (put jobShape (t .jobs) (nextJob v) LABEL 1) (t .arcs) (t .buckets) (takeSeat (t .queue) e)
       (put workerShape (t .workers) w HELD (nextJob v)))
   taken e f =
@@ -90,7 +73,7 @@ module _ (s : Sizes) (t : Tables) (w : ℕ) (here : reach s t w ≡ index) where
       let full : longEnough s t ≡ true = search parts in
       let rows : Long s t = long full in
       let seat = first-seat v e f in
-      let first = waits-means v 0 .0 (seat .waits) in
+      let first = waits-means v 0 .0 (seat .first) in
       let job : nextJob v < s .jobs = omega (arith, first .made, leb-true (v .made) (s .jobs) (search parts)) in
       let known = ltb-true w (s .workers) (at .known) in
       record {
@@ -104,8 +87,7 @@ module _ (s : Sizes) (t : Tables) (w : ℕ) (here : reach s t w ≡ index) where
             (columns-put workerShape (s .workers) (t .workers) w HELD (nextJob v) refl (rows .workers) known)
             ∙ update-same (columns workerShape (t .workers) HELD) w (nextJob v);
         queue = rw (← (seat .place), ← (seat .last))
-            (seat-emptied (s .jobs) t e (rows .queue) (omega (arith, seat .place, first .put, at .fits))
-            (omega (arith, seat .last, at .some, at .fits)));
+            (seat-emptied (s .jobs) t e (rows .queue) (at .fits) (sized-means s t .0 fit .jobs .1) (at .some) seat);
       }
 
   pub first-got : takesFirst v ≡ true → GetsFirst t w (getWords s t w)

@@ -14,8 +14,10 @@
 --   held and drained          worker_state: specs/Held.antt, specs/Drained.antt; state_history: specs/Told.antt
 --   words needed, and rest    locality: specs/Parts.antt, specs/Refusals.antt, specs/Numbers.antt
 --   what a get compares       locality: specs/Compared.antt, specs/Classes.antt
+--   what is judged first      locality: specs/Judged.antt, specs/Comes.antt
 --   what it looks at, takes   locality: specs/Waits.antt, specs/Looked.antt, specs/IndexFirst.antt, specs/Taken.antt
 --   how a job enters          locality: specs/EntryReads.antt, specs/Moved.antt, specs/Queued.antt, specs/Notified.antt
+--   what the index writes     heap: specs/Shifted.antt
 --   the index is exact        words_history: specs/IndexExact.antt
 -- An item is a post, a step or a get, by any worker, with any sizes and arguments, right or wrong; `events` are the
 -- items with their answers, and `after` is the state that they leave. "Laid out" means: `layOut s t` answered so,
@@ -25,9 +27,8 @@ use mathlib.Core.Logic.{_↔_, _≢_}
 use mathlib.Core.Bool.{true, false, _&&_}
 use mathlib.Core.List.{List, [], _∷_, _++_}
 use mathlib.Core.Option.{none}
-use Prim.Native.Nat.{ℕ, suc, _+_, _*_, _^_, _≤_, _<_}
+use Prim.Native.Nat.{ℕ, suc, _+_, _*_, _-_, _^_, _≤_, _<_}
 use native.Mathlib.Omega.{arith}
-use lib.Dec.{eqb}
 use lib.ListN.{length, getD}
 use lib.Seq.{sets}
 use Rattle.basics.specs.Limits.{mostNames}
@@ -40,12 +41,14 @@ use Rattle.terms.specs.Runs.{Item, step, get, sizesOf, workerOf, outcome, after
 use Rattle.terms.specs.Seen.{Same, idle, handOut}
 use Rattle.terms.specs.declared.Sizes.{Sizes}
 use Rattle.terms.specs.declared.HandOut.{HandOut}
+use Rattle.terms.specs.declared.Answer.{Answer}
 use Rattle.terms.specs.declared.Answer.the-variants.{Laid, Posted, Ended, NoneReady, Handed, Refused}
 use Rattle.heap.specs.Compared.{Alike}
 use Rattle.words.specs.Layout.{Tables, View, view, workerShape, NAME, LABEL, CLASS, DEPENDENT, AFTER, HELD, LIST-COUNT}
-use Rattle.words.specs.Layout.{TALLY, OWN-JOB, OWN-ARC, NAMES, IDLE, NOTIFYING, bareWorker, roomFor}
+use Rattle.words.specs.Layout.{CELL, SLOT, TALLY, OWN-JOB, OWN-ARC, NAMES, IDLE, NOTIFYING, bareWorker, roomFor}
 use Rattle.words.specs.Layout as words
-use Rattle.words.specs.Index.{levels, rankOf, placeIn, waits, filled, firstPlace, seatFor, putSeat}
+use Rattle.words.specs.Index.{levels, rankIn, rankOf, placeIn, waits, filled, firstPlace, lastSlot, firstSeat, seatFor}
+use Rattle.words.specs.Index.{putSeat}
 use Rattle.words.specs.Words as by-words
 use Rattle.words.specs.Words.{nextJob, putWorker, finishWords, stepWords, getWords, perform, layOut}
 use Rattle.words.specs.Observed.{waiting, bucketFrom, newestFirst, seen}
@@ -67,19 +70,22 @@ use Rattle.locality.specs.Numbers as list
 use Rattle.locality.specs.Refusals.{idled, ends, wordsOf, holdAfter}
 use Rattle.locality.specs.Refusals as refusals
 use Rattle.locality.specs.Within as within
-use Rattle.locality.specs.Compared.{early, index, reach, placesByGet, comparedByGet, few-compared}
-use Rattle.locality.specs.Compared as compared
+use Rattle.locality.specs.Judged.{Sized, sized-means, Own, own-means, Counters, counters-mean, TurnedAway}
+use Rattle.locality.specs.Compared.{index, reach, placesByGet, comparedByGet, few-compared}
+use Rattle.locality.specs.Comes.{first-of-all, MayGet, GetRefused, at-empty, at-index, comes-early}
 use Rattle.locality.specs.Classes.{ButClasses, Classed, withJobs, SameGet, get-by-classes}
 use Rattle.locality.specs.IndexFirst.{FirstTaken, first-taken, none-ready-empty}
 use Rattle.locality.specs.Looked.{eachWaits, isSeated, lookedByGet, takesFirst, lookedByEntry, mayEnter}
 use Rattle.locality.specs.Looked as looked
 use Rattle.locality.specs.Waits.{Waits, waits-means, one-slot}
+use Rattle.locality.specs.Order.{classAt, GoesFirst, rank-means}
 use Rattle.locality.specs.EntryReads.{SameCounters, SameSlots, seat-same}
+use Rattle.locality.specs.GetReads.{first-seat-same, takes-same}
 use Rattle.locality.specs.Moved.{Next, seat-next}
 use Rattle.locality.specs.Taken.{GetsFirst, early-refuses, empty-none-ready, first-got}
-use Rattle.locality.specs.Queued.{Comes, ComesToSettle, counted, Settles, Unsettled, SettlesRightly, settles-rightly}
-use Rattle.locality.specs.Queued.{settling-is-9, settles-seated}
-use Rattle.locality.specs.Notified.{Lowers, Unlowered, NotifiesRightly, notifies-rightly, notifying-is-9}
+use Rattle.locality.specs.Queued.{Comes, ComesToSettle, counted, putBack, Settles, Unsettled, SettlesRightly}
+use Rattle.locality.specs.Queued.{settles-rightly, settling-is-9, settles-seated}
+use Rattle.locality.specs.Notified.{Lowers, Unlowered, Onward, NotifiesRightly, notifies-rightly, notifying-is-9}
 use Rattle.locality.specs.Notified.{notifies-seated}
 use Rattle.words.specs.declared.Seat.{Seat}
 use Rattle.words.specs.declared.Seating.the-variants.{Seated}
@@ -322,6 +328,24 @@ pub a-list-keeps-to-the-need : (t : Tables) (items : List Item)
     × (rest (laidOut t) (after perform t items) ≡ rest (laidOut t) t)
 a-list-keeps-to-the-need = within.list-within
 
+-- ---- what is judged first, on ALL tables: "1, 2, 9 for the worker's own words", whatever the call, and nothing is
+-- changed.
+pub every-call-is-turned-away-by-1-2-9-first : (t : Tables) (i : Item) (n : ℕ)
+    → TurnedAway (sizesOf i) t (workerOf i) n → perform t i ≡ outcome (Refused n 0) t
+every-call-is-turned-away-by-1-2-9-first = first-of-all
+
+-- The tests of the definitions are no others than these: "the sizes: their limits, the tables' lengths, the four sizes
+-- in the jobs header"; "the worker's words 0, 1 and 3 to 9, its places against `made`, `reserved`, R and A"; "`made`,
+-- at most R, and `reserved`, at most A".
+pub the-sizes-are-judged-exactly : (s : Sizes) (t : Tables) → (words.sizesFit s t ≡ true) ↔ Sized s t
+the-sizes-are-judged-exactly = sized-means
+
+pub own-words-are-judged-exactly : (s : Sizes) (v : View) (w : ℕ) → (by-words.ownOk s v w ≡ true) ↔ Own s v w
+own-words-are-judged-exactly = own-means
+
+pub the-counters-are-judged-exactly : (s : Sizes) (v : View) → (by-words.countersOk s v ≡ true) ↔ Counters s v
+the-counters-are-judged-exactly = counters-mean
+
 -- ---- the index beside the queue, on ALL tables
 module _ (s : Sizes) (t : Tables) (w : ℕ) where
   -- "a get compares at most 64 pairs of jobs": a definition lists them, and they are 24 at most;
@@ -331,22 +355,28 @@ module _ (s : Sizes) (t : Tables) (w : ℕ) where
   pub a-get-compares-at-most-24-pairs : length (comparedByGet s t w) ≤ 24
   a-get-compares-at-most-24-pairs = few-compared s t w
 
-  -- and no other pair decides: with other classes within their limit that order these pairs alike the get answers and
-  -- leaves the same.
-  pub no-other-pair-decides : (m : List ℕ) → ButClasses (t .jobs) m → Classed (t .jobs) → Classed m
+  -- and no other pair decides: with other classes that order these pairs alike, within their limit in the slots that it
+  -- looks at, the get answers and leaves the same.
+  pub no-other-pair-decides : (m : List ℕ) → ButClasses (t .jobs) m
+      → Classed (view t) (lookedByGet (view t)) → Classed (view (withJobs t m)) (lookedByGet (view t))
       → Alike (rankOf (view t)) (rankOf (view (withJobs t m))) (placesByGet s t w)
       → SameGet s t m w
   no-other-pair-decides m = get-by-classes s t m w
 
   -- How far a get comes decides what it does. "Order: 1, 2, 9 for the worker's own words", 3, 10, and 9 for the
   -- counters: the first of them that is met refuses it; over an empty queue it says "none ready"; nothing is changed.
-  pub a-get-plans-by-how-far-it-comes : ((n : ℕ) → reach s t w ≡ early n → getWords s t w ≡ outcome (Refused n 0) t)
-      × (reach s t w ≡ compared.empty → getWords s t w ≡ outcome NoneReady t)
-  a-get-plans-by-how-far-it-comes = (early-refuses s t w, empty-none-ready s t w)
+  pub a-get-plans-by-how-far-it-comes :
+      ((n : ℕ) → GetRefused s t w n → getWords s t w ≡ outcome (Refused n 0) t)
+      × (MayGet s t w → view t .taken ≡ view t .put → getWords s t w ≡ outcome NoneReady t)
+  a-get-plans-by-how-far-it-comes =
+      (λ n r. early-refuses s t w n (comes-early s t w n r), λ may e. empty-none-ready s t w (at-empty s t w may e))
 
   -- Of a get that comes to the index: "where a call finds that" it does not hold exactly the waiting jobs, "that is
   -- number 9": one of the slots that it looks at does not wait, or the first job is not unexecuted;
-  module _ (comes : reach s t w ≡ index) where
+  module _ (may : MayGet s t w) (some : view t .taken ≢ view t .put) where
+    abbrev comes : reach s t w ≡ index
+    comes = at-index s t w may some
+
     pub a-wrong-index-that-is-seen-is-9 : takesFirst (view t) ≡ false → getWords s t w ≡ outcome (Refused damaged 0) t
     a-wrong-index-that-is-seen-is-9 = looked.refused-at-index s t w comes
 
@@ -355,7 +385,9 @@ module _ (s : Sizes) (t : Tables) (w : ℕ) where
 
     -- "and where no word read shows it, get takes the index's first", whatever the order of its slots: it "labels it
     -- executing and records it as held", sets its cell and its position to none, and one more was taken; every other
-    -- cell is as before.
+    -- cell is as before. It writes "the slots on the way with the positions of their places, the last slot", and no
+    -- others: "the place in the last filled slot" goes down "while the lower rank of the places below is below its own;
+    -- that place moves up", and no further. As many slots are written as the logarithm of the waiting jobs, and one.
     pub a-get-takes-the-indexs-first : takesFirst (view t) ≡ true → GetsFirst t w (getWords s t w)
     a-get-takes-the-indexs-first = first-got s t w comes
 
@@ -374,7 +406,9 @@ module _ (s : Sizes) (t : Tables) (w : ℕ) where
   -- No step leaves a job out of the queue. A settling step that nothing turns away before its own words: "the remaining
   -- count falls by the tally, and the job enters the queue if the count is then 0 and either the tally is above 0 or d
   -- is 0". It enters in the next place, whose cell it gets, and that place is in the slot of its seat, which is its
-  -- position; one more was put, and every other cell is as before.
+  -- position; one more was put, and every other cell is as before. It writes "the slots on the way with the positions
+  -- of their places", and no others: it "goes up while its rank is below that of the place in the slot above, which
+  -- moves down", and no further, and the slots written are few.
   abbrev pub job : ℕ
   job = view t .worker OWN-JOB w
 
@@ -396,12 +430,11 @@ module _ (s : Sizes) (t : Tables) (w : ℕ) where
   -- and none is refused that has a seat.
   pub a-settling-job-with-a-seat-is-queued : ComesToSettle s t w → (c : ℕ) (e : Seat) → Settles (view t) job tally c
       → settles c tally d ≡ true → seatFor s (view t) job ≡ Seated e
-      → stepWords s t w
-      ≡ outcome Ended (counted t job c (putSeat (t .queue) e job) (by-words.idleWorker (view t) w (t .workers)))
+      → stepWords s t w ≡ outcome Ended (counted t job c (putSeat (t .queue) e job) (putBack t w))
   a-settling-job-with-a-seat-is-queued = settles-seated s t w
 
   -- The same of an arc's step: it "lowers that dependent's count by 1; a count that reaches 0 puts that job in the
-  -- queue".
+  -- queue"; it writes "the worker's arc", which is the arc's next one, "or its call where no arc is left".
   abbrev pub arc : ℕ
   arc = view t .worker OWN-ARC w
 
@@ -417,13 +450,32 @@ module _ (s : Sizes) (t : Tables) (w : ℕ) where
 
   pub a-notified-job-with-a-seat-is-queued : Comes s t w NOTIFYING → (e : Seat) → Lowers s (view t) arc 0
       → seatFor s (view t) dependent ≡ Seated e
-      → stepWords s t w
-      ≡ outcome (by-words.goingUnless (eqb (view t .arc AFTER arc) words.none))
-      (counted t dependent 0 (putSeat (t .queue) e dependent)
-      (by-words.arcsFrom (view t .arc AFTER arc) (view t) w (t .workers)))
+      → (a : Answer) (r : List ℕ) → Onward t w (view t .arc AFTER arc) a r
+      → stepWords s t w ≡ outcome a (counted t dependent 0 (putSeat (t .queue) e dependent) r)
   a-notified-job-with-a-seat-is-queued = notifies-seated s t w
 
 module _ (v : View) where
+  -- What is read of the index, by the words of the tables: the place in a slot; "the filled slots are those below `put`
+  -- less `taken`", so the last of them is one less; "the first to be handed out is in slot 0";
+  pub the-index-is-read-by-its-words : ((i : ℕ) → placeIn v i ≡ v .cell SLOT i) × (filled v ≡ v .put - v .taken)
+      × (lastSlot v ≡ v .put - v .taken - 1)
+      × (firstPlace v ≡ v .cell SLOT 0)
+      × (nextJob v ≡ v .cell CELL (v .cell SLOT 0))
+  the-index-is-read-by-its-words = (λ i. refl, refl, refl, refl, refl)
+
+  -- and "the rank" of a place: "15 less the class of the job in the place's cell, times 4,096, plus the place"; of one
+  -- whose cell a job is to get, by that job's class.
+  pub a-rank-is-read-by-its-words : (p : ℕ)
+      → (rankOf v p ≡ (15 - v .job CLASS (v .cell CELL p)) * 4096 + p)
+      × ((j : ℕ) → rankIn v j p ≡ (15 - v .job CLASS j) * 4096 + p)
+  a-rank-is-read-by-its-words p = (refl, λ j. refl)
+
+  -- "A lower rank means more minutes, or equal minutes and an earlier entry", for classes and places within their
+  -- limits.
+  pub a-lower-rank-goes-first : (p q : ℕ) → classAt v p ≤ 15 → classAt v q ≤ 15 → p < 4096 → q < 4096
+      → (rankOf v p < rankOf v q) ↔ GoesFirst v p q
+  a-lower-rank-goes-first = rank-means v
+
   -- "A slot waits if its place was put, that place's position is the slot, and its cell has a job that was made, of a
   -- class within its limit. So no place is in two slots that wait."
   pub a-slot-waits-exactly : (i : ℕ) → (waits v i ≡ true) ↔ Waits v i
@@ -449,6 +501,13 @@ module _ (v : View) where
       → u .job CLASS j ≡ v .job CLASS j → SameSlots u v (lookedByEntry v j)
       → seatFor s u j ≡ seatFor s v j
   no-other-word-tells-the-seat u = seat-same u v
+
+  -- Nor does another word tell of a get whether it takes the first, and how the places move then, than these counters,
+  -- the four words of each slot that it looks at, and the label of the first job.
+  pub no-other-word-tells-what-is-taken : (u : View) → SameCounters u v → SameSlots u v (lookedByGet v)
+      → u .job LABEL (nextJob v) ≡ v .job LABEL (nextJob v)
+      → (firstSeat u ≡ firstSeat v) × (takesFirst u ≡ takesFirst v)
+  no-other-word-tells-what-is-taken u C A e = (first-seat-same u v C A, takes-same u v C A e)
 
   -- None is without a seat in an index whose filled slots all wait, whatever their order.
   pub slots-that-wait-are-trusted-by-entries : (s : Sizes) (j : ℕ) → mayEnter s v j ≡ true

@@ -41,7 +41,8 @@ pub sets-there : (bytes out : List ℕ) (start : ℕ) → start + length bytes �
 sets-there bytes out start room =
     let rest = drop (start + length bytes) out in
     let t : length (take start out) ≡ start = length-take-le start out (omega arith) in
-    rw (sets-eq bytes out start room, append-assoc, drop-at (take start out) (bytes ++ rest) start t) (take-at bytes rest _ refl)
+    rw (sets-eq bytes out start room, append-assoc, drop-at (take start out) (bytes ++ rest) start t)
+    (take-at bytes rest _ refl)
 
 -- there is room for a part where there is room for the entry
 pub part-room : (part : Part) (j : Job) → length (soFar part j) + length (bytesOf part j) ≤ length (encode j)

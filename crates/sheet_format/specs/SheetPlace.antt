@@ -2,6 +2,7 @@
 -- (docs/SHEETS.md, "Writing"). Assumes nothing.
 use Prim.Native.Nat.{ℕ, zero, suc, _+_, _-_, _/_, _%_, _≤_, _<_, _^_}
 use mathlib.Core.Path.{_≡_, refl, sym, ap, _∙_}
+use mathlib.Core.Logic.{_≢_}
 use mathlib.Core.Bool.{Bool, true, false}
 use mathlib.Core.List.{List, _++_, append-assoc, map}
 use native.Mathlib.Omega.{arith}
@@ -9,12 +10,13 @@ use native.Mathlib.Nat.{zero-add}
 use lib.ListN.{length, take, drop, length-append, length-map}
 use lib.Seq.{sets, sets-eq, drop-at, take-at}
 use lib.Dec.{leb, eqb}
-use borrow.Author.Tests.{eq-eqb, eqb-true, eqb-false, le-leb, lt-leb}
+use borrow.Author.Tests.{eq-eqb, ne-eqb, eqb-true, eqb-false, le-leb, lt-leb}
 use Rattle.basics.specs.Laws.{never}
 use Rattle.sheet_format.specs.Job.{Job, Below, encode, encodeSheet}
 use Rattle.sheet_format.specs.Decode.{rowWords, offLimits, noRoom}
 use Rattle.sheet_format.specs.Write.{jobOf, Fault, faultOf, entryAt, entriesFrom, entriesOf, SheetFault, orElse}
-use Rattle.sheet_format.specs.Write.{sheetFault, SheetWritten, sheetWritten, writeSheetJudged, writeSheet}
+use Rattle.sheet_format.specs.Write.{sheetFault, cutTable, SheetWritten, sheetWritten, writeSheetJudged}
+use Rattle.sheet_format.specs.Write.{writeSheet}
 use Rattle.sheet_format.specs.WriteTrip.{Words, Limits, faultless, entry-words, sheet-done}
 use Rattle.sheet_format.specs.Choice.{picked}
 use Rattle.sheet_format.specs.CodeLaws.{length-entriesFrom}
@@ -201,6 +203,12 @@ module _ (rows : List ℕ) where
         → writeSheet rows out ≡ sheetWritten (SheetWrote.Refused offLimits i place) out
     unfolding writeSheet
     first-refused out i place whole w = rw (eq-eqb _ _ whole, wrong-first i place w)
+
+  -- rows that are cut are refused before anything else is judged
+  pub cut-refused : (out : List ℕ) → length rows % rowWords ≢ 0
+      → writeSheet rows out ≡ sheetWritten (SheetWrote.Refused cutTable 0 0) out
+  unfolding writeSheet
+  cut-refused out cut = rw (ne-eqb _ _ cut)
 
   -- WITHIN THE LIMITS
 

@@ -5,6 +5,7 @@
 -- else is assumed.
 use Prim.Native.Nat.{ℕ, _+_, _*_, _-_, _/_, _%_, _≤_, _<_, _^_}
 use mathlib.Core.Path.{_≡_}
+use mathlib.Core.Logic.{_≢_}
 use mathlib.Core.List.{List, _++_, map}
 use lib.ListN.{length, take, drop}
 use lib.Seq.{sets}
@@ -12,7 +13,8 @@ use Rattle.sheet_format.specs.Number.{spelt}
 use Rattle.sheet_format.specs.Job.{Job, Below, Valid, encode, encodeSheet}
 use Rattle.sheet_format.specs.Decode.{job, decode, Sheet, jobs, decodeSheet, entryOf, readingOf, readSheet}
 use Rattle.sheet_format.specs.Decode.{rowWords, offLimits, noRoom}
-use Rattle.sheet_format.specs.Write.{jobOf, entryAt, entriesOf, written, writeEntry, sheetWritten, writeSheet}
+use Rattle.sheet_format.specs.Write.{jobOf, entryAt, entriesOf, written, writeEntry, sheetWritten}
+use Rattle.sheet_format.specs.Write.{cutTable, writeSheet}
 use Rattle.sheet_format.specs.SheetCases.{Hold, FaultsHold, case-8, whole-sheets, rules, faults, cases-hold}
 use Rattle.sheet_format.specs.NumberLaws.{Bytes, NumberRead, NumberSpelt, number-there, number-back}
 use Rattle.sheet_format.specs.EntryTrip.{entry-there, entry-back}
@@ -24,7 +26,7 @@ use Rattle.sheet_format.specs.Place.{KeepsPlace, FirstOff}
 use Rattle.sheet_format.specs.PlaceLaws.{keeps-place, places, parts-put, entry-parts, part-there, refused-place}
 use Rattle.sheet_format.specs.PlaceLaws.{place-refused, within-written, within-no-room}
 use Rattle.sheet_format.specs.SheetPlace.{sheetSoFar, sheetBytes, FirstWrong, entry-stands-there, refused-first}
-use Rattle.sheet_format.specs.SheetPlace.{first-refused, sheet-fits, sheet-no-room}
+use Rattle.sheet_format.specs.SheetPlace.{first-refused, cut-refused, sheet-fits, sheet-no-room}
 use Rattle.sheet_format.specs.Refusals.{entry-refused, sheet-refused, rows-refused}
 use Rattle.sheet_format.specs.declared.Entry.{Entry}
 use Rattle.sheet_format.specs.declared.Read.{Read}
@@ -169,7 +171,12 @@ pub each-entry-stands-at-its-place : (rows out : List ℕ) (i n bytes : ℕ) →
     ≡ encode (jobOf (entryAt rows i))
 each-entry-stands-at-its-place = entry-stands-there
 
--- A sheet is refused by 14 exactly if an entry has a field off its limits, at the first such entry.
+-- Words that are no whole number of rows are refused by 1, before anything else is judged.
+pub cut-rows-are-1 : (rows out : List ℕ) → length rows % rowWords ≢ 0
+    → writeSheet rows out ≡ sheetWritten (SheetWrote.Refused cutTable 0 0) out
+cut-rows-are-1 = cut-refused
+
+-- Whole rows are refused by 14 exactly if an entry has a field off its limits, at the first such entry.
 pub a-sheet-is-refused-at-its-first-wrong-entry : (rows : List ℕ) → Below (2 ^ 32) rows → (out : List ℕ) (i place : ℕ)
     → writeSheet rows out .answer ≡ SheetWrote.Refused offLimits i place → FirstWrong rows i place
 a-sheet-is-refused-at-its-first-wrong-entry = refused-first
@@ -179,7 +186,7 @@ pub the-first-wrong-entry-refuses-a-sheet : (rows : List ℕ) → Below (2 ^ 32)
     → writeSheet rows out ≡ sheetWritten (SheetWrote.Refused offLimits i place) out
 the-first-wrong-entry-refuses-a-sheet = first-refused
 
--- With every entry within its limits it is written where there is room, and else refused by 15.
+-- Whole rows with every entry within its limits are written where there is room, and else refused by 15.
 pub a-sheet-within-its-limits-is-written : (rows : List ℕ)
     → ((i : ℕ) → i < length rows / rowWords → Limits (entryAt rows i))
     → (out : List ℕ) → length rows % rowWords ≡ 0 → length (sheetBytes rows) ≤ length out

@@ -1,5 +1,5 @@
--- Writers that lose their place or what stands before it (docs/SHEETS.md, "Writing"), each refuted by one entry. Assumes
--- nothing.
+-- Writers that lose their place or what stands before it (docs/SHEETS.md, "Writing"), each refuted by one entry.
+-- Assumes nothing.
 use Prim.Native.Nat.{ℕ, _+_, _*_, _-_}
 use mathlib.Core.List.{List, [], _∷_}
 use mathlib.Core.Path.{_≡_, ap}

@@ -82,7 +82,7 @@ fn list_bytes(n: u32) -> usize
     }
 }
 
-// Judges an entry by its count, class and grower, whatever its names are, at the running place of its fields.
+// Judges an entry by its count, class and grower, whatever its names are. The place of its fields is counted on.
 pub fn judge(count: u32, class: u32, grower: u32) -> Judged
     ensures { λ r. ⌜ ((name : ℕ) (names : List ℕ) → length names ≡ mostNames
         → r ≡ judged (entryWith name count class grower names)) ⌝ }

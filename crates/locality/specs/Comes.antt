@@ -1,0 +1,101 @@
+-- For ALL tables: how far a call comes, by the words of the tables. Each call with a worker is turned away by 1, 2 or 9
+-- first; a get then by 3, 10 or 9, or it finds the queue empty, or it comes to the index. Follows docs/RULES.md,
+-- "Turned-away calls", and docs/TABLES.md, "What each step reads and writes". Assumes nothing.
+use mathlib.Core.Path.{_≡_, refl}
+use mathlib.Core.Logic.{_≢_}
+use mathlib.Core.Bool.{Bool, true, false, _&&_}
+use Prim.Native.Nat.{ℕ, _≤_}
+use lib.Dec.{leb}
+use borrow.Author.Tests.{leb-true, le-leb, eq-eqb, ne-eqb}
+use Rattle.terms.specs.Runs.{Item, postAdd, postFinish, step, get, sizesOf, workerOf, outcome}
+use Rattle.terms.specs.declared.Sizes.{Sizes}
+use Rattle.terms.specs.declared.Answer.the-variants.{Refused}
+use Rattle.words.specs.Layout.{none, PHASE, HELD, IDLE, Tables, View, view}
+use Rattle.words.specs.Words.{countersOk, applied, appliedGet, posted, addWords, finishWords, stepWords, getWords}
+use Rattle.words.specs.Words.{perform}
+use Rattle.locality.specs.Parts.{parts}
+use Rattle.locality.specs.Compared.{early, empty, index, reach}
+use Rattle.locality.specs.Judged.{Counters, counters-mean, Admitted, TurnedAway, by-1, by-2, by-9, fails, admits}
+use Rattle.locality.specs.Judged.{turns-away}
+
+-- ---- "Order: 1, 2, 9 for the worker's own words": whatever the call, and nothing is changed
+pub first-of-all : (t : Tables) (i : Item) (n : ℕ) → TurnedAway (sizesOf i) t (workerOf i) n
+    → perform t i ≡ outcome (Refused n 0) t
+unfolding perform addWords finishWords stepWords getWords posted applied appliedGet
+first-of-all t (postAdd s w a) n (by-1 f) = rw (turns-away s t w _ _ 1 (by-1 f))
+first-of-all t (postAdd s w a) n (by-2 h o) = rw (turns-away s t w _ _ 2 (by-2 h o))
+first-of-all t (postAdd s w a) n (by-9 h o f) = rw (turns-away s t w _ _ 9 (by-9 h o f))
+first-of-all t (postFinish s w a) n (by-1 f) = rw (turns-away s t w _ _ 1 (by-1 f))
+first-of-all t (postFinish s w a) n (by-2 h o) = rw (turns-away s t w _ _ 2 (by-2 h o))
+first-of-all t (postFinish s w a) n (by-9 h o f) = rw (turns-away s t w _ _ 9 (by-9 h o f))
+first-of-all t (step s w) n r = rw (turns-away s t w _ _ n r)
+first-of-all t (get s w) n r = rw (turns-away s t w _ _ n r)
+
+-- ---- a get
+-- the counters that it reads then: "`taken` is at most `put`, and `put` at most R"
+pub record Counts (s : Sizes) (v : View) : Type 0 where
+  pub counters : Counters s v
+  pub order : v .taken ≤ v .put
+  pub room : v .put ≤ s .jobs
+
+-- it comes to look whether a job waits
+pub record MayGet (s : Sizes) (t : Tables) (w : ℕ) : Type 0 where
+  pub admitted : Admitted s t w
+  pub idle : view t .worker PHASE w ≡ IDLE
+  pub jobless : view t .worker HELD w ≡ none
+  pub counts : Counts s (view t)
+
+-- or is refused by a number before
+pub data GetRefused (s : Sizes) (t : Tables) (w : ℕ) : ℕ → Type 0 where
+  first : {n : ℕ} → TurnedAway s t w n → GetRefused s t w n
+  by-3 : Admitted s t w → view t .worker PHASE w ≢ IDLE → GetRefused s t w 3
+  by-10 : Admitted s t w → view t .worker PHASE w ≡ IDLE → view t .worker HELD w ≢ none → GetRefused s t w 10
+  counters : Admitted s t w → view t .worker PHASE w ≡ IDLE → view t .worker HELD w ≡ none
+      → (Counts s (view t) → ⊥) → GetRefused s t w 9
+
+module _ (s : Sizes) (t : Tables) (w : ℕ) where
+  abbrev v : View
+  v = view t
+
+  abbrev counted : Bool
+  counted = countersOk s v && leb (v .taken) (v .put) && leb (v .put) (s .jobs)
+
+  counts : Counts s v → counted ≡ true
+  counts c =
+      rw (
+        counters-mean s v .1 (c .counters),
+        le-leb (v .taken) (v .put) (c .order),
+        le-leb (v .put) (s .jobs) (c .room),
+      )
+
+  miscounts : (Counts s v → ⊥) → counted ≡ false
+  miscounts = fails counted (λ e. record {
+    counters = counters-mean s v .0 (search parts);
+    order = leb-true (v .taken) (v .put) (search parts);
+    room = leb-true (v .put) (s .jobs) (search parts);
+  })
+
+  module _ (may : MayGet s t w) where
+    pub at-empty : v .taken ≡ v .put → reach s t w ≡ empty
+    unfolding reach
+    at-empty e =
+        rw (admits s t w early _ (may .admitted), may .idle, may .jobless, counts (may .counts), e)
+        (rw (eq-eqb (v .put) (v .put) refl) refl)
+
+    pub at-index : v .taken ≢ v .put → reach s t w ≡ index
+    unfolding reach
+    at-index n =
+        rw (
+          admits s t w early _ (may .admitted),
+          may .idle,
+          may .jobless,
+          counts (may .counts),
+          ne-eqb (v .taken) (v .put) n,
+        )
+
+  pub comes-early : (n : ℕ) → GetRefused s t w n → reach s t w ≡ early n
+  unfolding reach
+  comes-early n (first r) = turns-away s t w early _ n r
+  comes-early n (by-3 a p) = rw (admits s t w early _ a, ne-eqb (v .worker PHASE w) IDLE p)
+  comes-early n (by-10 a p h) = rw (admits s t w early _ a, p, ne-eqb (v .worker HELD w) none h)
+  comes-early n (counters a p h f) = rw (admits s t w early _ a, p, h, miscounts f)
