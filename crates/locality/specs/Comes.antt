@@ -7,12 +7,14 @@ use mathlib.Core.Bool.{Bool, true, false, _&&_}
 use Prim.Native.Nat.{ℕ, _≤_}
 use lib.Dec.{leb}
 use borrow.Author.Tests.{leb-true, le-leb, eq-eqb, ne-eqb}
+use Rattle.terms.specs.Terms.{Arguments, Finish, argumentsWrong}
 use Rattle.terms.specs.Runs.{Item, postAdd, postFinish, step, get, sizesOf, workerOf, outcome}
 use Rattle.terms.specs.declared.Sizes.{Sizes}
 use Rattle.terms.specs.declared.Answer.the-variants.{Refused}
 use Rattle.words.specs.Layout.{none, PHASE, HELD, IDLE, Tables, View, view}
 use Rattle.words.specs.Words.{countersOk, applied, appliedGet, posted, addWords, finishWords, stepWords, getWords}
-use Rattle.words.specs.Words.{perform}
+use Rattle.words.specs.Words.{planPhase, refusal, holdsName, perform}
+use Rattle.words.specs.declared.Plan.the-variants.{Refuse}
 use Rattle.locality.specs.Parts.{parts}
 use Rattle.locality.specs.Compared.{early, empty, index, reach}
 use Rattle.locality.specs.Judged.{Counters, counters-mean, Admitted, TurnedAway, by-1, by-2, by-9, fails, admits}
@@ -30,6 +32,47 @@ first-of-all t (postFinish s w a) n (by-2 h o) = rw (turns-away s t w _ _ 2 (by-
 first-of-all t (postFinish s w a) n (by-9 h o f) = rw (turns-away s t w _ _ 9 (by-9 h o f))
 first-of-all t (step s w) n r = rw (turns-away s t w _ _ n r)
 first-of-all t (get s w) n r = rw (turns-away s t w _ _ n r)
+
+-- ---- a step or a post that is admitted
+-- its first test that is met, in the order of "Turned-away calls"
+pub data StepRefused (s : Sizes) (t : Tables) (w : ℕ) : ℕ → Type 0 where
+  by-4 : view t .worker PHASE w ≡ IDLE → StepRefused s t w 4
+  counters : view t .worker PHASE w ≢ IDLE → (Counters s (view t) → ⊥) → StepRefused s t w 9
+
+pub data AddRefused (s : Sizes) (t : Tables) (w : ℕ) (a : Arguments) : ℕ → Type 0 where
+  by-3 : view t .worker PHASE w ≢ IDLE → AddRefused s t w a 3
+  by-5 : view t .worker PHASE w ≡ IDLE → argumentsWrong a ≡ true → AddRefused s t w a 5
+  counters : view t .worker PHASE w ≡ IDLE → argumentsWrong a ≡ false → (Counters s (view t) → ⊥)
+      → AddRefused s t w a 9
+
+pub data FinishRefused (s : Sizes) (t : Tables) (w name : ℕ) : ℕ → Type 0 where
+  by-3 : view t .worker PHASE w ≢ IDLE → FinishRefused s t w name 3
+  by-11 : view t .worker PHASE w ≡ IDLE → holdsName (view t) w name ≡ false → FinishRefused s t w name 11
+  counters : view t .worker PHASE w ≡ IDLE → holdsName (view t) w name ≡ true → (Counters s (view t) → ⊥)
+      → FinishRefused s t w name 9
+
+module _ (s : Sizes) (t : Tables) (w : ℕ) (a : Admitted s t w) where
+  off : (Counters s (view t) → ⊥) → countersOk s (view t) ≡ false
+  off = fails (countersOk s (view t)) (counters-mean s (view t) .0)
+
+  pub step-refused : (n : ℕ) → StepRefused s t w n → stepWords s t w ≡ outcome (Refused n 0) t
+  unfolding stepWords planPhase applied
+  step-refused n (by-4 e) = rw (admits s t w Refuse _ a, e)
+  step-refused n (counters e f) = rw (admits s t w Refuse _ a, ne-eqb (view t .worker PHASE w) IDLE e, off f)
+
+  pub add-is-refused : (x : Arguments) (n : ℕ) → AddRefused s t w x n
+      → perform t (postAdd s w x) ≡ outcome (Refused n 0) t
+  unfolding perform addWords posted
+  add-is-refused x n (by-3 e) = rw (admits s t w refusal _ a, ne-eqb (view t .worker PHASE w) IDLE e)
+  add-is-refused x n (by-5 e h) = rw (admits s t w refusal _ a, e, h)
+  add-is-refused x n (counters e h f) = rw (admits s t w refusal _ a, e, h, off f)
+
+  pub finish-is-refused : (f : Finish) (n : ℕ) → FinishRefused s t w (f .name) n
+      → perform t (postFinish s w f) ≡ outcome (Refused n 0) t
+  unfolding perform finishWords posted
+  finish-is-refused x n (by-3 e) = rw (admits s t w refusal _ a, ne-eqb (view t .worker PHASE w) IDLE e)
+  finish-is-refused x n (by-11 e h) = rw (admits s t w refusal _ a, e, h)
+  finish-is-refused x n (counters e h f) = rw (admits s t w refusal _ a, e, h, off f)
 
 -- ---- a get
 -- the counters that it reads then: "`taken` is at most `put`, and `put` at most R"

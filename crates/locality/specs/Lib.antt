@@ -14,6 +14,7 @@ pub mod Waits
 pub mod Order
 pub mod Judged
 pub mod Comes
+pub mod Elsewhere
 pub mod EntryReads
 pub mod GetReads
 pub mod Slots

@@ -255,6 +255,7 @@ pub record Emptied (t : Tables) (p m k : ℕ) (q : List ℕ) : Type 0 where
   pub taken : header q TAKEN ≡ view t .taken + 1
   pub put : header q PUT ≡ view t .put
   pub cells : columns queueShape q CELL ≡ update (view t .cell CELL) p none
+  pub within : (k ≤ m) × (m ≢ 0 → k < m)
   pub moved-slots : ℕ → ℕ
   pub moved-positions : ℕ → ℕ
   pub index : Shifts (view t .cell SLOT) (view t .cell POSITION) moved-slots moved-positions (wayUp levels k 0)
@@ -298,6 +299,7 @@ seat-emptied R t e r full most some seat =
       taken = simp (stores, header-putHeader queueShape R, rl);
       put = simp stores (u .counters PUT refl);
       cells = ap (λ f. f CELL) all ∙ ap (λ f. update f p none) (u .cells);
+      within = rw (seat .last) (seat .within, seat .under);
       moved-slots = shiftUp levels (v .cell SLOT) x (e .slot);
       moved-positions = positionsUp levels (v .cell SLOT) (v .cell POSITION) x (e .slot);
       index = up-shifts levels way (v .cell SLOT) (v .cell POSITION) x (λ i o d.

@@ -7,11 +7,11 @@ use native.Mathlib.Decide.{decLt}
 use Rattle.words.specs.Layout.{CLASS, CELL, View}
 use Rattle.words.specs.Index.{rankOf}
 
--- the class of the job in a place's cell: "minutes rise with the class"
+-- the class of the job in a place's cell
 abbrev pub classAt : View → ℕ → ℕ
 classAt v p = v .job CLASS (v .cell CELL p)
 
--- "more minutes, or equal minutes and an earlier entry"
+-- a higher class, which has more minutes, or an equal class and an earlier place
 pub data GoesFirst (v : View) (p q : ℕ) : Type 0 where
   longer : classAt v q < classAt v p → GoesFirst v p q
   earlier : classAt v p ≡ classAt v q → p < q → GoesFirst v p q

@@ -14,7 +14,7 @@
 --   held and drained          worker_state: specs/Held.antt, specs/Drained.antt; state_history: specs/Told.antt
 --   words needed, and rest    locality: specs/Parts.antt, specs/Refusals.antt, specs/Numbers.antt
 --   what a get compares       locality: specs/Compared.antt, specs/Classes.antt
---   what is judged first      locality: specs/Judged.antt, specs/Comes.antt
+--   what is judged first      locality: specs/Judged.antt, specs/Comes.antt; what leaves the queue: specs/Elsewhere.antt
 --   what it looks at, takes   locality: specs/Waits.antt, specs/Looked.antt, specs/IndexFirst.antt, specs/Taken.antt
 --   how a job enters          locality: specs/EntryReads.antt, specs/Moved.antt, specs/Queued.antt, specs/Notified.antt
 --   what the index writes     heap: specs/Shifted.antt
@@ -37,7 +37,7 @@ use Rattle.bucket.specs.Bucket.{bucketOf}
 use Rattle.terms.specs.Terms.{Arguments, withinLimits, sameSizes, wrongSizes, noSuchWorker, damaged}
 use Rattle.terms.specs.Terms.{settles, halfDone, nothingToStep, mostJobs, mostWorkers, Finish}
 use Rattle.terms.specs.Order.{First}
-use Rattle.terms.specs.Runs.{Item, step, get, sizesOf, workerOf, outcome, after, events}
+use Rattle.terms.specs.Runs.{Item, postAdd, postFinish, step, get, sizesOf, workerOf, outcome, after, events}
 use Rattle.terms.specs.Seen.{Same, idle, handOut}
 use Rattle.terms.specs.declared.Sizes.{Sizes}
 use Rattle.terms.specs.declared.HandOut.{HandOut}
@@ -70,9 +70,11 @@ use Rattle.locality.specs.Numbers as list
 use Rattle.locality.specs.Refusals.{idled, ends, wordsOf, holdAfter}
 use Rattle.locality.specs.Refusals as refusals
 use Rattle.locality.specs.Within as within
-use Rattle.locality.specs.Judged.{Sized, sized-means, Own, own-means, Counters, counters-mean, TurnedAway}
+use Rattle.locality.specs.Judged.{Sized, sized-means, Own, own-means, Counters, counters-mean, Admitted, TurnedAway}
 use Rattle.locality.specs.Compared.{index, reach, placesByGet, comparedByGet, few-compared}
-use Rattle.locality.specs.Comes.{first-of-all, MayGet, GetRefused, at-empty, at-index, comes-early}
+use Rattle.locality.specs.Comes.{first-of-all, StepRefused, AddRefused, FinishRefused, step-refused, add-is-refused}
+use Rattle.locality.specs.Comes.{finish-is-refused, MayGet, GetRefused, at-empty, at-index, comes-early}
+use Rattle.locality.specs.Elsewhere.{withQueue, Elsewhere, elsewhere}
 use Rattle.locality.specs.Classes.{ButClasses, Classed, withJobs, SameGet, get-by-classes}
 use Rattle.locality.specs.IndexFirst.{FirstTaken, first-taken, none-ready-empty}
 use Rattle.locality.specs.Looked.{eachWaits, isSeated, lookedByGet, takesFirst, lookedByEntry, mayEnter}
@@ -328,15 +330,35 @@ pub a-list-keeps-to-the-need : (t : Tables) (items : List Item)
     × (rest (laidOut t) (after perform t items) ≡ rest (laidOut t) t)
 a-list-keeps-to-the-need = within.list-within
 
--- ---- what is judged first, on ALL tables: "1, 2, 9 for the worker's own words", whatever the call, and nothing is
--- changed.
+-- ---- what is judged first, on ALL tables: "1, 2, 9 for the worker's own words", whatever the post, step or get, and
+-- nothing is changed;
 pub every-call-is-turned-away-by-1-2-9-first : (t : Tables) (i : Item) (n : ℕ)
     → TurnedAway (sizesOf i) t (workerOf i) n → perform t i ≡ outcome (Refused n 0) t
 every-call-is-turned-away-by-1-2-9-first = first-of-all
 
--- The tests of the definitions are no others than these: "the sizes: their limits, the tables' lengths, the four sizes
--- in the jobs header"; "the worker's words 0, 1 and 3 to 9, its places against `made`, `reserved`, R and A"; "`made`,
--- at most R, and `reserved`, at most A".
+-- then a step by 4 or by 9 for the counters, a post by 3, by 5 or 11, and by 9 for the counters (a get: below).
+pub a-step-is-refused-by-4-then-9 : (s : Sizes) (t : Tables) (w : ℕ) → Admitted s t w → (n : ℕ) → StepRefused s t w n
+    → stepWords s t w ≡ outcome (Refused n 0) t
+a-step-is-refused-by-4-then-9 = step-refused
+
+pub an-add-is-refused-by-3-5-then-9 : (s : Sizes) (t : Tables) (w : ℕ) → Admitted s t w → (a : Arguments) (n : ℕ)
+    → AddRefused s t w a n → perform t (postAdd s w a) ≡ outcome (Refused n 0) t
+an-add-is-refused-by-3-5-then-9 = add-is-refused
+
+pub a-finish-is-refused-by-3-11-then-9 : (s : Sizes) (t : Tables) (w : ℕ) → Admitted s t w → (f : Finish) (n : ℕ)
+    → FinishRefused s t w (f .name) n → perform t (postFinish s w f) ≡ outcome (Refused n 0) t
+a-finish-is-refused-by-3-11-then-9 = finish-is-refused
+
+-- "`taken` and `put` are read only where the table below names them": a post, and a step that neither settles nor goes
+-- along an arc, do with any queue what they do with this one, and leave it as it is.
+pub the-queue-is-left-alone-elsewhere : (t : Tables) (q : List ℕ) → length q ≡ length (t .queue) → (i : Item)
+    → Elsewhere t i
+    → perform (withQueue t q) i ≡ outcome (perform t i .answer) (withQueue (perform t i .state) q)
+the-queue-is-left-alone-elsewhere = elsewhere
+
+-- What these three tests mean, both ways: "the sizes: their limits, the tables' lengths, the four sizes in the jobs
+-- header"; "the worker's words 0, 1 and 3 to 9, its places against `made`, `reserved`, R and A"; "`made`, at most R,
+-- and `reserved`, at most A".
 pub the-sizes-are-judged-exactly : (s : Sizes) (t : Tables) → (words.sizesFit s t ≡ true) ↔ Sized s t
 the-sizes-are-judged-exactly = sized-means
 
@@ -356,7 +378,7 @@ module _ (s : Sizes) (t : Tables) (w : ℕ) where
   a-get-compares-at-most-24-pairs = few-compared s t w
 
   -- and no other pair decides: with other classes that order these pairs alike, within their limit in the slots that it
-  -- looks at, the get answers and leaves the same.
+  -- looks at, the get answers the same, and leaves the same but for the classes.
   pub no-other-pair-decides : (m : List ℕ) → ButClasses (t .jobs) m
       → Classed (view t) (lookedByGet (view t)) → Classed (view (withJobs t m)) (lookedByGet (view t))
       → Alike (rankOf (view t)) (rankOf (view (withJobs t m))) (placesByGet s t w)
@@ -387,7 +409,8 @@ module _ (s : Sizes) (t : Tables) (w : ℕ) where
     -- executing and records it as held", sets its cell and its position to none, and one more was taken; every other
     -- cell is as before. It writes "the slots on the way with the positions of their places, the last slot", and no
     -- others: "the place in the last filled slot" goes down "while the lower rank of the places below is below its own;
-    -- that place moves up", and no further. As many slots are written as the logarithm of the waiting jobs, and one.
+    -- that place moves up", and no further. The slots on the way are at most as many as the logarithm of the waiting
+    -- jobs, rounded up, and one.
     pub a-get-takes-the-indexs-first : takesFirst (view t) ≡ true → GetsFirst t w (getWords s t w)
     a-get-takes-the-indexs-first = first-got s t w comes
 
@@ -470,8 +493,8 @@ module _ (v : View) where
       × ((j : ℕ) → rankIn v j p ≡ (15 - v .job CLASS j) * 4096 + p)
   a-rank-is-read-by-its-words p = (refl, λ j. refl)
 
-  -- "A lower rank means more minutes, or equal minutes and an earlier entry", for classes and places within their
-  -- limits.
+  -- A lower rank means a higher class, or an equal class and an earlier place, for classes and places within their
+  -- limits. (Minutes rise with the class: minutes, specs/Rising.antt.)
   pub a-lower-rank-goes-first : (p q : ℕ) → classAt v p ≤ 15 → classAt v q ≤ 15 → p < 4096 → q < 4096
       → (rankOf v p < rankOf v q) ↔ GoesFirst v p q
   a-lower-rank-goes-first = rank-means v
@@ -485,8 +508,8 @@ module _ (v : View) where
       → i ≡ k
   no-place-is-in-two-slots-that-wait = one-slot v
 
-  -- A job that enters has a seat exactly if there is room, its class is within the limit, and each slot that it looks
-  -- at waits;
+  -- A job that enters has a seat exactly if `taken` is at most `put`, there is room, its class is within the limit, and
+  -- each slot that it looks at waits;
   pub a-job-is-seated-exactly : (s : Sizes) (j : ℕ)
       → isSeated (seatFor s v j) ≡ (mayEnter s v j && eachWaits v (lookedByEntry v j))
   a-job-is-seated-exactly s = looked.entry-exact s v
