@@ -4,16 +4,18 @@
 use mathlib.Core.Path.{_≡_, refl}
 use mathlib.Core.Logic.{_≢_}
 use mathlib.Core.Bool.{Bool, true, false, _&&_}
+use mathlib.Core.List.{List}
 use Prim.Native.Nat.{ℕ, _≤_}
 use lib.Dec.{leb}
-use borrow.Author.Tests.{leb-true, le-leb, eq-eqb, ne-eqb}
+use borrow.Author.Tests.{leb-true, le-leb, eqb-true, eq-eqb, ne-eqb}
+use Rattle.basics.specs.Laws.{never}
 use Rattle.terms.specs.Terms.{Arguments, Finish, argumentsWrong}
 use Rattle.terms.specs.Runs.{Item, postAdd, postFinish, step, get, sizesOf, workerOf, outcome}
 use Rattle.terms.specs.declared.Sizes.{Sizes}
-use Rattle.terms.specs.declared.Answer.the-variants.{Refused}
-use Rattle.words.specs.Layout.{none, PHASE, HELD, IDLE, Tables, View, view}
+use Rattle.terms.specs.declared.Answer.the-variants.{Posted, Refused}
+use Rattle.words.specs.Layout.{none, NAME, PHASE, HELD, IDLE, MARKING, Tables, tables, View, view, bareWorker}
 use Rattle.words.specs.Words.{countersOk, applied, appliedGet, posted, addWords, finishWords, stepWords, getWords}
-use Rattle.words.specs.Words.{planPhase, refusal, holdsName, perform}
+use Rattle.words.specs.Words.{planPhase, refusal, holdsName, addingWorker, putWorker, perform}
 use Rattle.words.specs.declared.Plan.the-variants.{Refuse}
 use Rattle.locality.specs.Parts.{parts}
 use Rattle.locality.specs.Compared.{early, empty, index, reach}
@@ -45,18 +47,36 @@ pub data AddRefused (s : Sizes) (t : Tables) (w : ℕ) (a : Arguments) : ℕ →
   counters : view t .worker PHASE w ≡ IDLE → argumentsWrong a ≡ false → (Counters s (view t) → ⊥)
       → AddRefused s t w a 9
 
+-- the tables with other words of a worker
+abbrev pub withWorker : Tables → ℕ → List ℕ → Tables
+withWorker t w r = tables (t .jobs) (t .arcs) (t .buckets) (t .queue) (putWorker (t .workers) w r)
+
+-- it holds a job of that name
+pub record Holds (v : View) (w name : ℕ) : Type 0 where
+  pub held : v .worker HELD w ≢ none
+  pub named : v .job NAME (v .worker HELD w) ≡ name
+
 pub data FinishRefused (s : Sizes) (t : Tables) (w name : ℕ) : ℕ → Type 0 where
   by-3 : view t .worker PHASE w ≢ IDLE → FinishRefused s t w name 3
-  by-11 : view t .worker PHASE w ≡ IDLE → holdsName (view t) w name ≡ false → FinishRefused s t w name 11
-  counters : view t .worker PHASE w ≡ IDLE → holdsName (view t) w name ≡ true → (Counters s (view t) → ⊥)
+  by-11 : view t .worker PHASE w ≡ IDLE → (Holds (view t) w name → ⊥) → FinishRefused s t w name 11
+  counters : view t .worker PHASE w ≡ IDLE → Holds (view t) w name → (Counters s (view t) → ⊥)
       → FinishRefused s t w name 9
 
 module _ (s : Sizes) (t : Tables) (w : ℕ) (a : Admitted s t w) where
   off : (Counters s (view t) → ⊥) → countersOk s (view t) ≡ false
   off = fails (countersOk s (view t)) (counters-mean s (view t) .0)
 
-  pub step-refused : (n : ℕ) → StepRefused s t w n → stepWords s t w ≡ outcome (Refused n 0) t
-  unfolding stepWords planPhase applied
+  holds : (name : ℕ) → Holds (view t) w name → holdsName (view t) w name ≡ true
+  holds name h = rw (ne-eqb (view t .worker HELD w) none (h .held), eq-eqb _ name (h .named))
+
+  holds-not : (name : ℕ) → (Holds (view t) w name → ⊥) → holdsName (view t) w name ≡ false
+  holds-not name = fails (holdsName (view t) w name) (λ e. record {
+    held = λ z. let no = rw z at e in never cc;
+    named = eqb-true (view t .job NAME (view t .worker HELD w)) name (search parts);
+  })
+
+  pub step-refused : (n : ℕ) → StepRefused s t w n → perform t (step s w) ≡ outcome (Refused n 0) t
+  unfolding perform stepWords planPhase applied
   step-refused n (by-4 e) = rw (admits s t w Refuse _ a, e)
   step-refused n (counters e f) = rw (admits s t w Refuse _ a, ne-eqb (view t .worker PHASE w) IDLE e, off f)
 
@@ -71,8 +91,20 @@ module _ (s : Sizes) (t : Tables) (w : ℕ) (a : Admitted s t w) where
       → perform t (postFinish s w f) ≡ outcome (Refused n 0) t
   unfolding perform finishWords posted
   finish-is-refused x n (by-3 e) = rw (admits s t w refusal _ a, ne-eqb (view t .worker PHASE w) IDLE e)
-  finish-is-refused x n (by-11 e h) = rw (admits s t w refusal _ a, e, h)
-  finish-is-refused x n (counters e h f) = rw (admits s t w refusal _ a, e, h, off f)
+  finish-is-refused x n (by-11 e h) = rw (admits s t w refusal _ a, e, holds-not (x .name) h)
+  finish-is-refused x n (counters e h f) = rw (admits s t w refusal _ a, e, holds (x .name) h, off f)
+
+  -- and what no number refuses is posted: the worker's words are written, and nothing else
+  module _ (here : view t .worker PHASE w ≡ IDLE) (sound : Counters s (view t)) where
+    pub add-is-posted : (x : Arguments) → argumentsWrong x ≡ false
+        → perform t (postAdd s w x) ≡ outcome Posted (withWorker t w (addingWorker (view t .worker HELD w) x))
+    unfolding perform addWords posted
+    add-is-posted x h = rw (admits s t w refusal _ a, here, h, counters-mean s (view t) .1 sound)
+
+    pub finish-is-posted : (f : Finish) → Holds (view t) w (f .name)
+        → perform t (postFinish s w f) ≡ outcome Posted (withWorker t w (bareWorker MARKING (view t .worker HELD w)))
+    unfolding perform finishWords posted
+    finish-is-posted f h = rw (admits s t w refusal _ a, here, holds (f .name) h, counters-mean s (view t) .1 sound)
 
 -- ---- a get
 -- the counters that it reads then: "`taken` is at most `put`, and `put` at most R"

@@ -14,7 +14,8 @@
 --   held and drained          worker_state: specs/Held.antt, specs/Drained.antt; state_history: specs/Told.antt
 --   words needed, and rest    locality: specs/Parts.antt, specs/Refusals.antt, specs/Numbers.antt
 --   what a get compares       locality: specs/Compared.antt, specs/Classes.antt
---   what is judged first      locality: specs/Judged.antt, specs/Comes.antt; what leaves the queue: specs/Elsewhere.antt
+--   what is judged first      locality: specs/Judged.antt, specs/Comes.antt
+--   what leaves the queue     locality: specs/Elsewhere.antt
 --   what it looks at, takes   locality: specs/Waits.antt, specs/Looked.antt, specs/IndexFirst.antt, specs/Taken.antt
 --   how a job enters          locality: specs/EntryReads.antt, specs/Moved.antt, specs/Queued.antt, specs/Notified.antt
 --   what the index writes     heap: specs/Shifted.antt
@@ -35,7 +36,7 @@ use Rattle.basics.specs.Limits.{mostNames}
 use Rattle.basics.specs.Base.{pick, contains, occurrences}
 use Rattle.bucket.specs.Bucket.{bucketOf}
 use Rattle.terms.specs.Terms.{Arguments, withinLimits, sameSizes, wrongSizes, noSuchWorker, damaged}
-use Rattle.terms.specs.Terms.{settles, halfDone, nothingToStep, mostJobs, mostWorkers, Finish}
+use Rattle.terms.specs.Terms.{argumentsWrong, settles, halfDone, nothingToStep, mostJobs, mostWorkers, Finish}
 use Rattle.terms.specs.Order.{First}
 use Rattle.terms.specs.Runs.{Item, postAdd, postFinish, step, get, sizesOf, workerOf, outcome, after, events}
 use Rattle.terms.specs.Seen.{Same, idle, handOut}
@@ -73,7 +74,8 @@ use Rattle.locality.specs.Within as within
 use Rattle.locality.specs.Judged.{Sized, sized-means, Own, own-means, Counters, counters-mean, Admitted, TurnedAway}
 use Rattle.locality.specs.Compared.{index, reach, placesByGet, comparedByGet, few-compared}
 use Rattle.locality.specs.Comes.{first-of-all, StepRefused, AddRefused, FinishRefused, step-refused, add-is-refused}
-use Rattle.locality.specs.Comes.{finish-is-refused, MayGet, GetRefused, at-empty, at-index, comes-early}
+use Rattle.locality.specs.Comes.{finish-is-refused, withWorker, Holds, add-is-posted, finish-is-posted, MayGet}
+use Rattle.locality.specs.Comes.{GetRefused, at-empty, at-index, comes-early}
 use Rattle.locality.specs.Elsewhere.{withQueue, Elsewhere, elsewhere}
 use Rattle.locality.specs.Classes.{ButClasses, Classed, withJobs, SameGet, get-by-classes}
 use Rattle.locality.specs.IndexFirst.{FirstTaken, first-taken, none-ready-empty}
@@ -338,7 +340,7 @@ every-call-is-turned-away-by-1-2-9-first = first-of-all
 
 -- then a step by 4 or by 9 for the counters, a post by 3, by 5 or 11, and by 9 for the counters (a get: below).
 pub a-step-is-refused-by-4-then-9 : (s : Sizes) (t : Tables) (w : ℕ) → Admitted s t w → (n : ℕ) → StepRefused s t w n
-    → stepWords s t w ≡ outcome (Refused n 0) t
+    → perform t (step s w) ≡ outcome (Refused n 0) t
 a-step-is-refused-by-4-then-9 = step-refused
 
 pub an-add-is-refused-by-3-5-then-9 : (s : Sizes) (t : Tables) (w : ℕ) → Admitted s t w → (a : Arguments) (n : ℕ)
@@ -349,8 +351,19 @@ pub a-finish-is-refused-by-3-11-then-9 : (s : Sizes) (t : Tables) (w : ℕ) → 
     → FinishRefused s t w (f .name) n → perform t (postFinish s w f) ≡ outcome (Refused n 0) t
 a-finish-is-refused-by-3-11-then-9 = finish-is-refused
 
+-- What none of them refuses is posted: the worker's words are written, and nothing else.
+pub an-add-is-posted-else : (s : Sizes) (t : Tables) (w : ℕ) → Admitted s t w → view t .worker words.PHASE w ≡ IDLE
+    → Counters s (view t) → (a : Arguments) → argumentsWrong a ≡ false
+    → perform t (postAdd s w a) ≡ outcome Posted (withWorker t w (by-words.addingWorker (view t .worker HELD w) a))
+an-add-is-posted-else = add-is-posted
+
+pub a-finish-is-posted-else : (s : Sizes) (t : Tables) (w : ℕ) → Admitted s t w → view t .worker words.PHASE w ≡ IDLE
+    → Counters s (view t) → (f : Finish) → Holds (view t) w (f .name)
+    → perform t (postFinish s w f) ≡ outcome Posted (withWorker t w (bareWorker words.MARKING (view t .worker HELD w)))
+a-finish-is-posted-else = finish-is-posted
+
 -- "`taken` and `put` are read only where the table below names them": a post, and a step that neither settles nor goes
--- along an arc, do with any queue what they do with this one, and leave it as it is.
+-- along an arc, do with any queue of the same length what they do with this one, and leave it as it is.
 pub the-queue-is-left-alone-elsewhere : (t : Tables) (q : List ℕ) → length q ≡ length (t .queue) → (i : Item)
     → Elsewhere t i
     → perform (withQueue t q) i ≡ outcome (perform t i .answer) (withQueue (perform t i .state) q)

@@ -24,9 +24,6 @@ after {a} {b} {out} {mid} {left} {place} {p} {next} f g =
       past = omega (arith, f .past, g .past);
     }
 
-pub nothing : (out : List ℕ) (place : ℕ) → Put [] out place out place
-nothing out place = record { stored = refl; past = omega arith }
-
 pub one : (out : List ℕ) (place b : ℕ) → Put (b ∷ []) out place (set out place b) (place + 1)
 one out place b = record { stored = refl; past = refl }
 
