@@ -17,10 +17,10 @@
 extern "C" {
 #endif
 
-#define TG_VERSION_MAJOR 2
+#define TG_VERSION_MAJOR 3
 #define TG_VERSION_MINOR 0
 #define TG_VERSION_PATCH 0
-#define TG_VERSION "2.0.0"
+#define TG_VERSION "3.0.0"
 
 /* The numbers of the refusals (docs/RULES.md, "Turned-away calls"), as they stand in a `number`. docs/NUMBERS.md
  * says what a host does about each. */
@@ -41,7 +41,9 @@ enum {
     TG_MAP = 13,          /* a wrong map byte */
     TG_VALUE = 14,        /* a field's value off its limits */
     TG_NO_ROOM = 15,      /* the output lacks room */
-    TG_ENTRIES = 16       /* more entries than one call takes */
+    TG_ENTRIES = 16,      /* more entries than one call takes */
+    TG_MINUTES = 17,      /* minute values that do not rise strictly or leave 1 to 1,440 */
+    TG_ENTERED = 18       /* a load after a job has entered */
 };
 
 /* The limits. */
@@ -52,6 +54,8 @@ enum {
     TG_MAX_WORKERS = 16,       /* P is 1 to this */
     TG_MAX_NAMES = 32,         /* the longest list of prerequisites */
     TG_MAX_CLASS = 15,         /* a class is 0 to this */
+    TG_CLASSES = 16,           /* the minute values of a load, one for each class */
+    TG_MAX_MINUTES = 1440,     /* minutes that are loaded are 1 to this */
     TG_MAX_GROWER = 65535,     /* a grower is 0 to this */
     TG_MAX_RECORDS = 4096,     /* the longest row that the totals take */
     TG_ENTRY_WORDS = 36,       /* the 32-bit words of a tg_entry, which is a row of tg_read_sheet */
@@ -148,7 +152,7 @@ tg_sheet_written tg_write_sheet(const uint32_t *rows, size_t rows_len, uint8_t *
  * bits it is 0, with 32 and more the whole product. */
 uint32_t tg_bucket(uint32_t name, uint32_t bits);
 
-/* The minutes of a class from 0 to 15; 0 for any other. */
+/* The fixed minutes of a class from 0 to 15; 0 for any other. */
 uint32_t tg_minutes(uint32_t class_);
 
 /* ---- The board of totals (docs/RULES.md, "The board and the day list") ---- */
@@ -160,6 +164,7 @@ typedef struct {
 
 /* number 0: the jobs under each label, and the sums of their minutes.
  * number 1: more than TG_MAX_RECORDS records, or words that make no whole records.
+ * number 17: a district's minutes that do not rise strictly or leave 1 to TG_MAX_MINUTES, or are not TG_CLASSES.
  * number 9: a wrong label or class.
  * On a refusal all else is 0. */
 typedef struct {
@@ -168,13 +173,18 @@ typedef struct {
     uint32_t minutes[3];
 } tg_totals;
 
-/* The totals of records given as words: label, class, label, class and so on. */
+/* The totals of records given as words, by the fixed minutes: label, class, label, class and so on. */
 tg_totals tg_totals_of_words(const uint32_t *words, size_t words_len);
 
-/* The totals of a row of records. */
+/* The totals of a row of records, by the fixed minutes. */
 tg_totals tg_totals_of_records(const tg_job_record *records, size_t records_len);
 
-/* ---- The task graph (docs/RULES.md, "Tables and their measures" and "Steps") ---- */
+/* The totals of a row of records, by a district's minutes: TG_CLASSES of them, class 0 first, which rise strictly from
+ * class to class, each from 1 to TG_MAX_MINUTES. Refused with 1, 17 for minutes that are not so, or 9. */
+tg_totals tg_totals_by_minutes(const tg_job_record *records, size_t records_len, const uint32_t *minutes,
+                               size_t minutes_len);
+
+/* ---- The task graph (docs/RULES.md, "Tables and their measures", "A district's minutes" and "Steps") ---- */
 
 /* Sizes R, A, b and P: jobs 1 to 4,096; arcs 0 to 32,768; bucket bits 1 to 8; workers 1 to 16. They come
  * with each call. Laying out keeps them, and a later call must bring the same. */
@@ -190,7 +200,8 @@ enum {
     TG_GOING_ON = 3,
     TG_ENDED = 4,
     TG_NONE_READY = 5,
-    TG_HANDED_OUT = 6   /* `job` and `name` */
+    TG_HANDED_OUT = 6,  /* `job` and `name` */
+    TG_LOADED = 7
 };
 
 /* The kind of an answer, and the fields that belong to it; all others are 0. */
@@ -200,8 +211,8 @@ typedef struct {
 
 /* The five lent tables, which hold no addresses and may lie in memory that several processes map. They
  * may be longer than needed; words past the need are never touched. "None" as a place is 4294967295.
- *   jobs     the sizes jobs, arcs, bits, workers; the jobs made; then 8 words a job: name, label, count,
- *            class, grower, first arc, last arc, next job in its bucket
+ *   jobs     the sizes jobs, arcs, bits, workers; the jobs made; the minutes of each class, 16 words; then 8 words a
+ *            job: name, label, count, class, grower, first arc, last arc, next job in its bucket
  *   arcs     the arcs reserved; then 2 words an arc: dependent, next arc
  *   buckets  2 to the power b heads
  *   queue    taken, put; then 3 words for each of R places: its cell, which has the job that waits there; a slot
@@ -221,8 +232,15 @@ typedef struct {
 
 tg_need tg_words_needed(tg_sizes sizes);
 
-/* Makes a fresh graph: laid out, or refused with 1. */
+/* Makes a fresh graph, with the fixed minutes: laid out, or refused with 1. */
 tg_answer tg_lay_out(tg_sizes sizes, TG_TABLES);
+
+/* Loads a district's minutes in place of those that stand in the graph, before the first job enters: TG_CLASSES of
+ * them, class 0 first, which rise strictly from class to class, each from 1 to TG_MAX_MINUTES. Loaded, or refused with
+ * 1, 17 for minutes that are not so, 9, or 18 where a job has entered; a refusal changes nothing. Hand-outs and the
+ * totals of the graph follow them until it is laid out anew. No worker is needed; an add that is posted and has not
+ * entered does not hinder a load, and there may be several. */
+tg_answer tg_load_minutes(tg_sizes sizes, TG_TABLES, const uint32_t *minutes, size_t minutes_len);
 
 /* Posts an add: posted, or refused with 1, 2, 9, 3 or 5. Names past the count are ignored. */
 tg_answer tg_post_add(tg_sizes sizes, TG_TABLES, uint32_t worker, tg_entry entry);
@@ -300,10 +318,23 @@ typedef struct {
  * that entered is finished. */
 tg_drained_answer tg_drained(tg_sizes sizes, TG_TABLES_READ);
 
-/* The totals of the jobs made.
+/* The totals of the jobs made, by the minutes that stand in the graph.
  * number 1: a size off its limits or not the one laid out, or the table too short.
- * number 9: a wrong label or class among the jobs made, or more jobs made than R. */
+ * number 9: a wrong label or class among the jobs made, more jobs made than R, or minutes that do not rise strictly or
+ *           leave 1 to TG_MAX_MINUTES. */
 tg_totals tg_totals_of_graph(tg_sizes sizes, const uint32_t *jobs, size_t jobs_len);
+
+/* number 0: the minutes of each class, 0 to 15.
+ * number 1: a size off its limits or not the one laid out, or the table too short.
+ * number 9: minutes that do not rise strictly or leave 1 to TG_MAX_MINUTES.
+ * On a refusal all minutes are 0. */
+typedef struct {
+    uint32_t number;
+    uint32_t minutes[TG_CLASSES];
+} tg_graph_minutes;
+
+/* The minutes that stand in the graph: the fixed ones, or those loaded since it was laid out. */
+tg_graph_minutes tg_minutes_of_graph(tg_sizes sizes, const uint32_t *jobs, size_t jobs_len);
 
 /* ---- The day list (docs/RULES.md, "The board and the day list") ---- */
 

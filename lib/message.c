@@ -20,6 +20,8 @@ static const char *const texts[] = {
     [TG_VALUE] = "a field's value is off its limits",
     [TG_NO_ROOM] = "the output lacks room",
     [TG_ENTRIES] = "more entries than one call takes",
+    [TG_MINUTES] = "minutes that do not rise or leave their limits",
+    [TG_ENTERED] = "a job has entered",
 };
 
 const char *tg_message(uint32_t number)

@@ -35,6 +35,9 @@ _Static_assert(offsetof(tg_answer, number) == 4, "tg_answer.number");
 _Static_assert(offsetof(tg_answer, place) == 8, "tg_answer.place");
 _Static_assert(offsetof(tg_answer, job) == 12, "tg_answer.job");
 _Static_assert(offsetof(tg_answer, name) == 16, "tg_answer.name");
+_Static_assert(sizeof(tg_graph_minutes) == 4 * (1 + TG_CLASSES), "tg_graph_minutes");
+_Static_assert(offsetof(tg_graph_minutes, minutes) == 4, "tg_graph_minutes.minutes");
+_Static_assert(TG_CLASSES == TG_MAX_CLASS + 1, "a minute value for each class");
 _Static_assert(sizeof(tg_need) == 48, "tg_need");
 _Static_assert(sizeof(tg_sheet_added) == 4 * (1 + 2 * TG_MAX_ENTRIES), "tg_sheet_added");
 _Static_assert(offsetof(tg_sheet_added, numbers) == 4, "tg_sheet_added.numbers");
@@ -64,6 +67,7 @@ static void same(const char *what, uint64_t answered, uint64_t wanted)
     }
 }
 
+/* Compares bytes; of a struct only where it has no padding, which an answer leaves as it was. */
 static void same_bytes(const char *what, const void *answered, const void *wanted, size_t len)
 {
     same(what, memcmp(answered, wanted, len) == 0, 1);
@@ -212,6 +216,19 @@ static void check_read_and_write_sheet(void)
     same("tg_write_sheet, four jobs: the byte behind", out[29], 7);
 }
 
+static const uint32_t fixed_minutes[TG_CLASSES] = {1, 2, 3, 5, 8, 10, 15, 20, 30, 45, 60, 90, 120, 180, 240, 480};
+
+/* A district's minutes, and values of which each is wrong in one way. */
+static const uint32_t district[TG_CLASSES] = {2, 3, 4, 6, 9, 12, 18, 25, 35, 50, 70, 100, 150, 200, 300, 1440};
+static const uint32_t wrong_minutes[][TG_CLASSES] = {
+    {0, 3, 4, 6, 9, 12, 18, 25, 35, 50, 70, 100, 150, 200, 300, 1440},
+    {3, 3, 4, 6, 9, 12, 18, 25, 35, 50, 70, 100, 150, 200, 300, 1440},
+    {2, 3, 4, 6, 9, 12, 18, 35, 25, 50, 70, 100, 150, 200, 300, 1440},
+    {2, 3, 4, 6, 9, 12, 18, 25, 35, 50, 70, 100, 150, 200, 1440, 1440},
+    {2, 3, 4, 6, 9, 12, 18, 25, 35, 50, 70, 100, 150, 200, 300, 1441},
+    {2, 3, 4, 6, 9, 12, 18, 25, 35, 50, 70, 100, 150, 200, 300, UINT32_MAX},
+    {2, 3, 4, 6, 9, 12, 18, UINT32_MAX, 35, 50, 70, 100, 150, 200, 300, 1440}};
+
 static void check_buckets_and_minutes(void)
 {
     const uint32_t buckets[5] = {2, 0, 3, 1, 0};
@@ -221,9 +238,8 @@ static void check_buckets_and_minutes(void)
     same("tg_bucket, 32 bits", tg_bucket(1, 32), 2654435769u);
     same("tg_bucket, more bits", tg_bucket(1, UINT32_MAX), 2654435769u);
 
-    const uint32_t minutes[16] = {1, 2, 3, 5, 8, 10, 15, 20, 30, 45, 60, 90, 120, 180, 240, 480};
     for (uint32_t class_ = 0; class_ < 16; class_++)
-        same("tg_minutes of classes 0 to 15", tg_minutes(class_), minutes[class_]);
+        same("tg_minutes of classes 0 to 15", tg_minutes(class_), fixed_minutes[class_]);
     same("tg_minutes, class 16", tg_minutes(16), 0);
     same("tg_minutes, the highest number", tg_minutes(UINT32_MAX), 0);
 }
@@ -257,10 +273,48 @@ static void check_totals(void)
     same_bytes("tg_totals_of_words, class 16", &totals, &refused_damaged, sizeof totals);
 }
 
+/* The board over a lent row by a district's minutes; the order of 1, 17 and 9. */
+static void check_totals_by_minutes(void)
+{
+    static const tg_job_record records[TG_MAX_RECORDS + 1] = {{0, 0}, {2, 15}, {1, 3}, {2, 15}, {0, 9}};
+    const tg_job_record wrong_label[1] = {{3, 0}}, wrong_class[1] = {{0, 16}};
+    const tg_totals five = {0, {2, 1, 2}, {52, 6, 2880}};
+    const tg_totals refused_size = {.number = TG_SIZE}, refused_minutes = {.number = TG_MINUTES},
+                    refused_damaged = {.number = TG_DAMAGED};
+
+    tg_totals totals = tg_totals_by_minutes(records, 5, district, TG_CLASSES);
+    same_bytes("tg_totals_by_minutes, five records", &totals, &five, sizeof totals);
+    totals = tg_totals_by_minutes(records, 5, fixed_minutes, TG_CLASSES);
+    const tg_totals by_fixed = tg_totals_of_records(records, 5);
+    same_bytes("tg_totals_by_minutes, the fixed ones", &totals, &by_fixed, sizeof totals);
+    totals = tg_totals_by_minutes(records, TG_MAX_RECORDS, district, TG_CLASSES);
+    same("tg_totals_by_minutes, 4,096 records: jobs", totals.jobs[0], TG_MAX_RECORDS - 3);
+    same("tg_totals_by_minutes, 4,096 records: minutes", totals.minutes[0], 2 * (TG_MAX_RECORDS - 4) + 50);
+    totals = tg_totals_by_minutes(records, TG_MAX_RECORDS + 1, district, 0);
+    same_bytes("tg_totals_by_minutes, 4,097 records", &totals, &refused_size, sizeof totals);
+    const size_t lens[3] = {0, TG_CLASSES - 1, TG_CLASSES + 1};
+    const uint32_t more[TG_CLASSES + 1] = {1, 2, 3, 4, 5, 6, 7, 8, 9, 10, 11, 12, 13, 14, 15, 16, 17};
+    for (size_t i = 0; i < 3; i++) {
+        totals = tg_totals_by_minutes(wrong_label, 1, more, lens[i]);
+        same_bytes("tg_totals_by_minutes, not sixteen", &totals, &refused_minutes, sizeof totals);
+    }
+    for (size_t i = 0; i < sizeof wrong_minutes / sizeof *wrong_minutes; i++) {
+        totals = tg_totals_by_minutes(wrong_class, 1, wrong_minutes[i], TG_CLASSES);
+        same_bytes("tg_totals_by_minutes, wrong minutes", &totals, &refused_minutes, sizeof totals);
+    }
+    totals = tg_totals_by_minutes(wrong_label, 1, district, TG_CLASSES);
+    same_bytes("tg_totals_by_minutes, label 3", &totals, &refused_damaged, sizeof totals);
+    totals = tg_totals_by_minutes(wrong_class, 1, district, TG_CLASSES);
+    same_bytes("tg_totals_by_minutes, class 16", &totals, &refused_damaged, sizeof totals);
+}
+
 /* ---- the task graph ---- */
 
+/* The minutes of the classes, and the first job, among the words of the jobs table. */
+enum { MINUTES_AT = 5, JOBS_AT = MINUTES_AT + TG_CLASSES };
+
 /* Tables for up to 8 jobs, 8 arcs, 4 buckets and 2 workers. */
-static uint32_t jobs[5 + 8 * 8], arcs[1 + 2 * 8], buckets[4], queue[2 + 3 * 8], workers[2 * 42];
+static uint32_t jobs[JOBS_AT + 8 * 8], arcs[1 + 2 * 8], buckets[4], queue[2 + 3 * 8], workers[2 * 42];
 
 #define LEN(table) (sizeof table / sizeof *table)
 #define LENT jobs, LEN(jobs), arcs, LEN(arcs), buckets, LEN(buckets), queue, LEN(queue), workers, LEN(workers)
@@ -278,7 +332,7 @@ static void answers(const char *what, tg_answer answer, tg_answer wanted)
 }
 
 static const tg_answer laid_out = {.kind = TG_LAID_OUT}, posted = {.kind = TG_POSTED}, going_on = {.kind = TG_GOING_ON},
-                       ended = {.kind = TG_ENDED}, none_ready = {.kind = TG_NONE_READY};
+                       ended = {.kind = TG_ENDED}, none_ready = {.kind = TG_NONE_READY}, loaded = {.kind = TG_LOADED};
 
 static tg_answer refused(uint32_t number, uint32_t place)
 {
@@ -312,10 +366,11 @@ static void check_words_needed(void)
     same("tg_words_needed: workers", need.workers, LEN(workers));
     const tg_sizes wrong[] = {{0, 0, 1, 1}, {4097, 0, 1, 1}, {1, 32769, 1, 1}, {1, 0, 0, 1},
                               {1, 0, 9, 1}, {1, 0, 1, 0},    {1, 0, 1, 17},    {UINT32_MAX, 0, 1, 1}};
-    const tg_need nothing = {.number = TG_SIZE};
     for (size_t i = 0; i < LEN(wrong); i++) {
         need = tg_words_needed(wrong[i]);
-        same_bytes("tg_words_needed, off the limits", &need, &nothing, sizeof need);
+        same("tg_words_needed, off the limits: number", need.number, TG_SIZE);
+        same("tg_words_needed, off the limits: words",
+             need.jobs | need.arcs | need.buckets | need.queue | need.workers, 0);
         answers("tg_lay_out, off the limits", tg_lay_out(wrong[i], LENT), refused(TG_SIZE, 0));
     }
 }
@@ -337,7 +392,8 @@ static void check_lay_out(void)
     answers("tg_lay_out", tg_lay_out(sizes, LENT), laid_out);
     same_bytes("tg_lay_out: the sizes", jobs, &sizes, sizeof sizes);
     same("tg_lay_out: jobs made", jobs[4], 0);
-    same("tg_lay_out: first job, name", jobs[5], 0);
+    same_bytes("tg_lay_out: the fixed minutes", jobs + MINUTES_AT, fixed_minutes, sizeof fixed_minutes);
+    same("tg_lay_out: first job, name", jobs[JOBS_AT], 0);
     same("tg_lay_out: last job, next", jobs[LEN(jobs) - 1], UINT32_MAX);
     same("tg_lay_out: arcs reserved", arcs[0], 0);
     same("tg_lay_out: last arc", arcs[LEN(arcs) - 1], UINT32_MAX);
@@ -364,7 +420,7 @@ static void check_graph(void)
     answers("tg_step, a look-up", tg_step(sizes, LENT, 0), going_on);
     answers("tg_step, job 4", run_whole("2d + 2 steps, one taken", 0, 5), ended);
     const uint32_t words[8] = {4, 0, 2, 15, 9, UINT32_MAX, UINT32_MAX, UINT32_MAX};
-    same_bytes("the words of job 4", jobs + 5 + 8 * 3, words, sizeof words);
+    same_bytes("the words of job 4", jobs + JOBS_AT + 8 * 3, words, sizeof words);
 
     for (uint32_t name = 1; name <= 2; name++)
         answers("tg_get", tg_get(sizes, LENT, name - 1), handed_out(name - 1, name));
@@ -452,7 +508,7 @@ static void check_graph_refusals(void)
     same("tg_totals_of_graph, too short", totals.number, TG_SIZE);
     totals = tg_totals_of_graph(other, jobs, LEN(jobs));
     same("tg_totals_of_graph, other sizes", totals.number, TG_SIZE);
-    jobs[5 + 1] = 3;
+    jobs[JOBS_AT + 1] = 3;
     totals = tg_totals_of_graph(sizes, jobs, LEN(jobs));
     same("tg_totals_of_graph, label 3", totals.number, TG_DAMAGED);
     answers("tg_get, label 3", tg_get(sizes, LENT, 0), refused(TG_DAMAGED, 0));
@@ -502,7 +558,7 @@ static void check_index_damaged(void)
         get_is_damaged("tg_get, the position of a place is another slot", of_place(slot, POSITION), 3 - slot);
         get_is_damaged("tg_get, the position of a place is none", of_place(slot, POSITION), UINT32_MAX);
         get_is_damaged("tg_get, a cell with a job that was not made", of_place(slot, CELL), 4);
-        get_is_damaged("tg_get, a job of class 16", jobs + 5 + 8 * slot + 3, 16);
+        get_is_damaged("tg_get, a job of class 16", jobs + JOBS_AT + 8 * slot + 3, 16);
     }
     *of_place(1, SLOT) = 7;
     answers("tg_add, a wrong slot on its way", tg_add(sizes, LENT, 0, (tg_entry){.name = 5}), refused(TG_DAMAGED, 0));
@@ -523,7 +579,7 @@ static void check_whole_calls(void)
     answers("tg_add", tg_add(sizes, LENT, 0, first), ended);
     answers("tg_add, job 2", tg_add(sizes, LENT, 0, second), ended);
     const uint32_t words[8] = {2, 0, 1, 3, 9, UINT32_MAX, UINT32_MAX, UINT32_MAX};
-    same_bytes("tg_add: the words of job 2", jobs + 5 + 8, words, sizeof words);
+    same_bytes("tg_add: the words of job 2", jobs + JOBS_AT + 8, words, sizeof words);
     answers("tg_get", tg_get(sizes, LENT, 1), handed_out(0, 1));
     answers("tg_finish", tg_finish(sizes, LENT, 1, 1), ended);
     answers("tg_get, the dependent", tg_get(sizes, LENT, 0), handed_out(1, 2));
@@ -570,18 +626,18 @@ static void check_whole_damaged(void)
 {
     answers("tg_lay_out", tg_lay_out(sizes, LENT), laid_out);
     answers("tg_add", tg_add(sizes, LENT, 0, (tg_entry){.name = 1}), ended);
-    jobs[5 + 1] = 3;
+    jobs[JOBS_AT + 1] = 3;
     const tg_entry second = {.name = 2, .count = 1, .names = {1}};
     answers("tg_add, label 3 in its middle", tg_add(sizes, LENT, 0, second), refused(TG_DAMAGED, 0));
     answers("tg_add, after it", tg_add(sizes, LENT, 0, second), refused(TG_HALF_DONE, 0));
-    jobs[5 + 1] = 0;
+    jobs[JOBS_AT + 1] = 0;
     answers("tg_step, put right", run_whole("a link and settling", 0, 2), ended);
 
     arcs[1 + 1] = 0;
-    jobs[5 + 8 + 2] = 32;
+    jobs[JOBS_AT + 8 + 2] = 32;
     answers("tg_get", tg_get(sizes, LENT, 0), handed_out(0, 1));
     answers("tg_finish, arcs in a circle", tg_finish(sizes, LENT, 0, 1), going_on);
-    same("tg_finish: a mark, and a step for each of 8 arcs", jobs[5 + 8 + 2], 32 - 8);
+    same("tg_finish: a mark, and a step for each of 8 arcs", jobs[JOBS_AT + 8 + 2], 32 - 8);
     arcs[1 + 1] = UINT32_MAX;
     answers("tg_step, put right", tg_step(sizes, LENT, 0), ended);
 }
@@ -657,15 +713,113 @@ static void check_sheet_damaged(void)
 {
     answers("tg_lay_out", tg_lay_out(sizes, LENT), laid_out);
     answers("tg_add", tg_add(sizes, LENT, 0, (tg_entry){.name = 1}), ended);
-    jobs[5 + 1] = 3;
+    jobs[JOBS_AT + 1] = 3;
     const tg_entry four[4] = {
         {.name = 2}, {.name = 3, .count = 1, .names = {1}}, {.name = 4}, {.name = 5, .class_ = 16}};
     const uint32_t wanted[4][2] = {{0, 0}, {9, 0}, {3, 0}, {3, 0}};
     memcpy(sheet, four, sizeof four);
     adds("tg_add_sheet, label 3 in its middle", tg_add_sheet(sizes, LENT, 0, ROWS(4)), 0, wanted, 4);
     same("tg_add_sheet, label 3 in its middle: made", jobs[4], 3);
-    jobs[5 + 1] = 0;
+    jobs[JOBS_AT + 1] = 0;
     answers("tg_step, put right", run_whole("a link and settling", 0, 2), ended);
+}
+
+static tg_answer load(const uint32_t *minutes, size_t len)
+{
+    return tg_load_minutes(sizes, LENT, minutes, len);
+}
+
+/* The minutes that stand in the graph, or the number by which they are refused. */
+static void graph_has(const char *what, uint32_t number, const uint32_t *minutes)
+{
+    tg_graph_minutes wanted = {.number = number};
+    if (minutes)
+        memcpy(wanted.minutes, minutes, sizeof wanted.minutes);
+    const tg_graph_minutes answer = tg_minutes_of_graph(sizes, jobs, LEN(jobs));
+    same_bytes(what, &answer, &wanted, sizeof answer);
+}
+
+/* A district's minutes: loaded before the first job enters, counted by the board, and gone when the graph is laid out
+ * anew. Jobs of classes 0, 15 and 7. */
+static void check_load(void)
+{
+    answers("tg_lay_out", tg_lay_out(sizes, LENT), laid_out);
+    graph_has("tg_minutes_of_graph, a fresh graph", 0, fixed_minutes);
+    copy_tables(kept);
+    answers("tg_load_minutes", load(district, TG_CLASSES), loaded);
+    graph_has("tg_minutes_of_graph, loaded", 0, district);
+    same_bytes("tg_load_minutes: the words", jobs + MINUTES_AT, district, sizeof district);
+    memcpy(jobs + MINUTES_AT, fixed_minutes, sizeof fixed_minutes);
+    unchanged("tg_load_minutes: all other words");
+    answers("tg_post_add", tg_post_add(sizes, LENT, 0, (tg_entry){.name = 1}), posted);
+    answers("tg_load_minutes, an add has not entered", load(district, TG_CLASSES), loaded);
+    answers("tg_load_minutes, again", load(district, TG_CLASSES), loaded);
+    answers("tg_step, entering", tg_step(sizes, LENT, 0), going_on);
+    copy_tables(kept);
+    answers("tg_load_minutes, entered", load(fixed_minutes, TG_CLASSES), refused(TG_ENTERED, 0));
+    unchanged("tg_load_minutes, entered: the tables");
+    answers("tg_step, settling", tg_step(sizes, LENT, 0), ended);
+    answers("tg_add, class 15", tg_add(sizes, LENT, 0, (tg_entry){.name = 2, .class_ = 15}), ended);
+    answers("tg_add, class 7", tg_add(sizes, LENT, 0, (tg_entry){.name = 3, .class_ = 7}), ended);
+    works_on("tg_get, 1,440 minutes", 1, 2);
+    answers("tg_get, 25 minutes", tg_get(sizes, LENT, 1), handed_out(2, 3));
+    const tg_totals totals = tg_totals_of_graph(sizes, jobs, LEN(jobs)), wanted = {0, {1, 1, 1}, {2, 25, 1440}};
+    same_bytes("tg_totals_of_graph, by what was loaded", &totals, &wanted, sizeof totals);
+    answers("tg_finish", tg_finish(sizes, LENT, 1, 3), ended);
+    works_on("tg_get, 2 minutes", 0, 1);
+    answers("tg_load_minutes, all finished", load(fixed_minutes, TG_CLASSES), refused(TG_ENTERED, 0));
+    answers("tg_lay_out", tg_lay_out(sizes, LENT), laid_out);
+    graph_has("tg_minutes_of_graph, laid out anew", 0, fixed_minutes);
+}
+
+/* The order of 1, 17, 9 and 18, with nothing changed. */
+static void check_load_refusals(void)
+{
+    answers("tg_lay_out", tg_lay_out(sizes, LENT), laid_out);
+    const tg_sizes other = {.jobs = 8, .arcs = 8, .bits = 2, .workers = 1};
+    const uint32_t more[TG_CLASSES + 1] = {1, 2, 3, 4, 5, 6, 7, 8, 9, 10, 11, 12, 13, 14, 15, 16, 17};
+    const size_t lens[3] = {0, TG_CLASSES - 1, TG_CLASSES + 1};
+    for (uint32_t made = 0; made <= 9; made += made ? 8 : 1) {
+        jobs[4] = made;
+        copy_tables(kept);
+        answers("tg_load_minutes, other sizes", tg_load_minutes(other, LENT, more, 0), refused(TG_SIZE, 0));
+        answers("tg_load_minutes, a table too short",
+                tg_load_minutes(sizes, jobs, LEN(jobs), arcs, LEN(arcs), buckets, LEN(buckets), queue, LEN(queue),
+                                workers, LEN(workers) - 1, more, 0),
+                refused(TG_SIZE, 0));
+        for (size_t i = 0; i < 3; i++)
+            answers("tg_load_minutes, not sixteen", load(more, lens[i]), refused(TG_MINUTES, 0));
+        for (size_t i = 0; i < LEN(wrong_minutes); i++)
+            answers("tg_load_minutes, wrong minutes", load(wrong_minutes[i], TG_CLASSES), refused(TG_MINUTES, 0));
+        if (made)
+            answers("tg_load_minutes, jobs made", load(district, TG_CLASSES),
+                    refused(made > sizes.jobs ? TG_DAMAGED : TG_ENTERED, 0));
+        unchanged("tg_load_minutes, refused: the tables");
+    }
+    jobs[4] = sizes.jobs;
+    answers("tg_load_minutes, R jobs made", load(district, TG_CLASSES), refused(TG_ENTERED, 0));
+    jobs[4] = 0;
+    workers[0] = 5, arcs[0] = 9, queue[0] = 9, jobs[MINUTES_AT] = 0;
+    answers("tg_load_minutes reads none of these", load(district, TG_CLASSES), loaded);
+}
+
+/* Minutes that do not rise or leave their limits are damage to the board and to a question, and to no other call. */
+static void check_minutes_damaged(void)
+{
+    answers("tg_lay_out", tg_lay_out(sizes, LENT), laid_out);
+    const tg_sizes other = {.jobs = 8, .arcs = 8, .bits = 2, .workers = 1};
+    const tg_totals refused_damaged = {.number = TG_DAMAGED};
+    same("tg_minutes_of_graph, other sizes", tg_minutes_of_graph(other, jobs, LEN(jobs)).number, TG_SIZE);
+    const tg_graph_minutes too_short = tg_minutes_of_graph(sizes, jobs, LEN(jobs) - 1), nothing = {.number = TG_SIZE};
+    same_bytes("tg_minutes_of_graph, too short", &too_short, &nothing, sizeof nothing);
+    for (size_t i = 0; i < LEN(wrong_minutes); i++) {
+        memcpy(jobs + MINUTES_AT, wrong_minutes[i], sizeof wrong_minutes[i]);
+        graph_has("tg_minutes_of_graph, wrong minutes", TG_DAMAGED, NULL);
+        const tg_totals totals = tg_totals_of_graph(sizes, jobs, LEN(jobs));
+        same_bytes("tg_totals_of_graph, wrong minutes", &totals, &refused_damaged, sizeof totals);
+        answers("tg_add, wrong minutes", tg_add(sizes, LENT, 0, (tg_entry){.name = (uint32_t)i}), ended);
+        works_on("tg_get, wrong minutes", (uint32_t)i, (uint32_t)i);
+    }
 }
 
 static void holds(const char *what, uint32_t worker, tg_holding wanted)
@@ -755,7 +909,9 @@ static void check_texts(void)
     same_text("tg_message, 0", tg_message(TG_ACCEPTED), "accepted");
     same_text("tg_message, 15", tg_message(TG_NO_ROOM), "the output lacks room");
     same_text("tg_message, 16", tg_message(TG_ENTRIES), "more entries than one call takes");
-    same_text("tg_message, 17", tg_message(TG_ENTRIES + 1), "unknown number");
+    same_text("tg_message, 17", tg_message(TG_MINUTES), "minutes that do not rise or leave their limits");
+    same_text("tg_message, 18", tg_message(TG_ENTERED), "a job has entered");
+    same_text("tg_message, 19", tg_message(TG_ENTERED + 1), "unknown number");
     same_text("tg_message, the greatest", tg_message(UINT32_MAX), "unknown number");
 }
 
@@ -769,6 +925,7 @@ int main(void)
     check_read_and_write_sheet();
     check_buckets_and_minutes();
     check_totals();
+    check_totals_by_minutes();
     check_words_needed();
     check_lay_out();
     check_graph();
@@ -781,6 +938,9 @@ int main(void)
     check_add_sheet();
     check_sheet_refusals();
     check_sheet_damaged();
+    check_load();
+    check_load_refusals();
+    check_minutes_damaged();
     check_state();
     check_day_list();
     printf("%u passed, %u failed\n", passed, failed);

@@ -1,6 +1,8 @@
 """What an argument must be to be passed to C at all. Limits of the rules are the library's to judge."""
 from __future__ import annotations
 
+from collections.abc import Iterable
+
 MOST = 2**32 - 1
 
 
@@ -11,6 +13,13 @@ def word(value: object, what: str) -> int:
     if not 0 <= value <= MOST:
         raise ValueError(f"{what} must be 0 to {MOST}, not {value}")
     return value
+
+
+def words(values: object, what: str) -> list[int]:
+    """Whole numbers of 32 bits, each of which is `what`."""
+    if isinstance(values, (str, bytes)) or not isinstance(values, Iterable):
+        raise TypeError(f"{what} must be one of a list, not of {type(values).__name__}")
+    return [word(value, what) for value in values]
 
 
 def octets(value: object, what: str) -> bytes:

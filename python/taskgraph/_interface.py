@@ -9,6 +9,7 @@ from typing import Any
 
 MAX_NAMES = 32
 MAX_ENTRIES = 64
+CLASSES = 16
 REFUSED, GOING_ON, HANDED_OUT = 0, 3, 6
 
 
@@ -32,6 +33,10 @@ class tg_sheet_written(c.Structure):
     _fields_ = _words("number") + _lengths("entry", "at")
 
 
+class tg_job_record(c.Structure):
+    _fields_ = _words("label", "class_")
+
+
 class tg_totals(c.Structure):
     _fields_ = _words("number") + [("jobs", c.c_uint32 * 3), ("minutes", c.c_uint32 * 3)]
 
@@ -42,6 +47,10 @@ class tg_sizes(c.Structure):
 
 class tg_answer(c.Structure):
     _fields_ = _words("kind", "number", "place", "job", "name")
+
+
+class tg_graph_minutes(c.Structure):
+    _fields_ = _words("number") + [("minutes", c.c_uint32 * CLASSES)]
 
 
 class tg_sheet_added(c.Structure):
@@ -68,6 +77,7 @@ class tg_day(c.Structure):
 _BYTES = [c.c_char_p, c.c_size_t]
 _WORDS = [c.POINTER(c.c_uint32), c.c_size_t]
 _ROWS = [c.POINTER(tg_entry), c.c_size_t]
+_RECORDS = [c.POINTER(tg_job_record), c.c_size_t]
 _GRAPH = [tg_sizes, *_WORDS * 5]
 
 # What each function answers and takes.
@@ -77,8 +87,10 @@ FUNCTIONS: dict[str, tuple[Any, list[Any]]] = {
     "tg_write_sheet": (tg_sheet_written, [*_ROWS, *_BYTES]),
     "tg_bucket": (c.c_uint32, [c.c_uint32, c.c_uint32]),
     "tg_minutes": (c.c_uint32, [c.c_uint32]),
+    "tg_totals_by_minutes": (tg_totals, [*_RECORDS, *_WORDS]),
     "tg_words_needed": (tg_need, [tg_sizes]),
     "tg_lay_out": (tg_answer, [*_GRAPH]),
+    "tg_load_minutes": (tg_answer, [*_GRAPH, *_WORDS]),
     "tg_post_add": (tg_answer, [*_GRAPH, c.c_uint32, tg_entry]),
     "tg_post_finish": (tg_answer, [*_GRAPH, c.c_uint32, c.c_uint32]),
     "tg_step": (tg_answer, [*_GRAPH, c.c_uint32]),
@@ -89,6 +101,7 @@ FUNCTIONS: dict[str, tuple[Any, list[Any]]] = {
     "tg_held": (tg_holding, [*_GRAPH, c.c_uint32]),
     "tg_drained": (tg_drained_answer, [*_GRAPH]),
     "tg_totals_of_graph": (tg_totals, [tg_sizes, *_WORDS]),
+    "tg_minutes_of_graph": (tg_graph_minutes, [tg_sizes, *_WORDS]),
     "tg_day_list": (tg_day, [*_BYTES, c.c_uint32, *_BYTES]),
 }
 # Functions that a library may lack.

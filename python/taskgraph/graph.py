@@ -12,6 +12,7 @@ from typing import Any, NamedTuple, NoReturn
 from ._arguments import word
 from ._interface import GOING_ON, HANDED_OUT, MAX_ENTRIES, REFUSED, tg_sizes
 from ._library import library
+from .board import Totals, told, values
 from .refusal import Refusal
 from .sheets import Entry, row, rows
 
@@ -63,21 +64,6 @@ class Holding(NamedTuple):
     adds: int | None
 
 
-class Labels(NamedTuple):
-    """A figure for each label."""
-
-    unexecuted: int
-    executing: int
-    finished: int
-
-
-class Totals(NamedTuple):
-    """The number of jobs under each label, and the sums of their minutes."""
-
-    jobs: Labels
-    minutes: Labels
-
-
 class Graph:
     """A task graph over lent memory, whose first `Graph.room(sizes)` bytes hold the tables.
 
@@ -124,8 +110,23 @@ class Graph:
     # ---- single calls
 
     def lay_out(self) -> None:
-        """Starts a new graph in the memory; an old one is forgotten."""
+        """Starts a new graph in the memory, with the fixed minutes; an old one is forgotten."""
         self._answer("tg_lay_out")
+
+    def load_minutes(self, minutes: Iterable[int]) -> None:
+        """Loads a district's minutes in place of the fixed ones, before the first job enters.
+
+        There is one for each class, 0 to 15; they rise strictly, each from 1 to 1,440. Hand-outs and totals follow them
+        until the graph is laid out anew. Refused by 1, 17 for minutes that are not so, 9, or 18 where a job has entered.
+        """
+        self._answer("tg_load_minutes", *values(minutes))
+
+    def minutes(self) -> tuple[int, ...]:
+        """The minutes of each class that stand in the graph. Refused by 1 or 9."""
+        answer = self._called("tg_minutes_of_graph", tables=2)
+        if answer.number:
+            raise Refusal(answer.number)
+        return tuple(answer.minutes)
 
     def post_add(self, worker: int, entry: Entry) -> None:
         """Posts an add, which `step` then carries out. Refused by 1, 2, 9, 3 or 5."""
@@ -158,11 +159,8 @@ class Graph:
         return bool(self._read("tg_drained").drained)
 
     def totals(self) -> Totals:
-        """The board of totals over the jobs made. Refused by 1 or 9."""
-        totals = self._called("tg_totals_of_graph", tables=2)
-        if totals.number:
-            raise Refusal(totals.number)
-        return Totals(Labels(*totals.jobs), Labels(*totals.minutes))
+        """The board of totals over the jobs made, by the minutes that stand in the graph. Refused by 1 or 9."""
+        return told(self._called("tg_totals_of_graph", tables=2))
 
     # ---- whole calls
 

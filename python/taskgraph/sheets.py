@@ -103,5 +103,5 @@ def bucket(name: int, bits: int) -> int:
 
 
 def minutes(class_: int) -> int:
-    """The minutes of a class from 0 to 15; 0 for any other."""
+    """The fixed minutes of a class from 0 to 15; 0 for any other."""
     return int(library().tg_minutes(word(class_, "the class")))

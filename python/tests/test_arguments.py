@@ -2,7 +2,9 @@
 import unittest
 
 from support import FOUR, SMALL
-from taskgraph import Entry, Graph, Sizes, bucket, day_list, message, minutes, read_sheet, write_sheet
+from taskgraph import (
+    Entry, Graph, Sizes, bucket, day_list, message, minutes, read_sheet, totals_by_minutes, write_sheet,
+)
 
 # calls with one number left open
 NUMBERS = {
@@ -28,6 +30,10 @@ NUMBERS = {
     "add": lambda n: GRAPH.add(n, Entry(1)),
     "finish": lambda n: GRAPH.finish(n, 1),
     "held": lambda n: GRAPH.held(n),
+    "load_minutes": lambda n: GRAPH.load_minutes([*range(1, 16), n]),
+    "a label": lambda n: totals_by_minutes([(n, 0)], range(1, 17)),
+    "a class": lambda n: totals_by_minutes([(0, n)], range(1, 17)),
+    "totals_by_minutes": lambda n: totals_by_minutes([], [*range(1, 16), n]),
 }
 # calls with something else left open
 THINGS = {
@@ -39,6 +45,7 @@ THINGS = {
     "words": (Graph.words, "must be Sizes"),
     "room": (Graph.room, "must be Sizes"),
     "graph": (Graph, "must be Sizes"),
+    "load_minutes": (lambda thing: GRAPH.load_minutes(thing), "must be one of a list|must be a whole number"),
     "prerequisites": (lambda thing: Entry(1, thing), "must be a tuple of names|must be a whole number"),
 }
 MEMORY = bytearray(Graph.room(SMALL))

@@ -6,8 +6,11 @@ import unittest
 from multiprocessing.shared_memory import SharedMemory
 
 from support import SMALL, put_word, random_entry, seeded, word_place
-from taskgraph import Call, Entry, Graph, Holding, Job, Refusal, Sizes, Words
+from taskgraph import Call, Entry, Graph, Holding, Job, Refusal, Sizes, Words, minutes, totals_by_minutes
 
+# The first job stands behind five words and the minutes of each class.
+JOBS_AT = 5 + 16
+DISTRICT = (5, 10, 15, 20, 25, 30, 40, 50, 60, 75, 90, 120, 180, 240, 480, 1440)
 
 class Counter:
     """A lock that counts how often it was taken, and that is never taken twice."""
@@ -167,11 +170,11 @@ class WholeSheets(unittest.TestCase):
         graph = Graph(sizes, memory)
         graph.lay_out()
         graph.add(0, Entry(1000))
-        put_word(memory, word_place(sizes, "jobs", 6), 3)  # the label of job 0
+        put_word(memory, word_place(sizes, "jobs", JOBS_AT + 1), 3)  # the label of job 0
         entries = [Entry(0), Entry(1, (1000,)), *map(Entry, range(2, 100))]
         answers = graph.add_all(0, entries)
         self.assertEqual(numbers(answers), [None, (9, None), *[(3, None)] * 98])
-        put_word(memory, word_place(sizes, "jobs", 6), 0)
+        put_word(memory, word_place(sizes, "jobs", JOBS_AT + 1), 0)
         self.assertEqual(graph.held(0), Holding(None, Call.ADD, 1))
         self.assertEqual(steps(graph, 0), 2)
         self.assertEqual(numbers(graph.add_all(0, entries[2:])), [None] * 98)
@@ -183,16 +186,65 @@ class WholeSheets(unittest.TestCase):
         graph.add_sheet(0, [Entry(1), Entry(2, (1,))])
         graph.get(0)
         put_word(memory, word_place(SMALL, "arcs", 2), 0)  # the next arc of arc 0
-        put_word(memory, word_place(SMALL, "jobs", 5 + 8 + 2), 32)  # the remaining count of job 1
+        put_word(memory, word_place(SMALL, "jobs", JOBS_AT + 8 + 2), 32)  # the remaining count of job 1
         with self.assertRaises(Refusal) as caught:
             graph.finish(0, 1)
         self.assertEqual(caught.exception.number, 9)
         self.assertEqual(graph.held(0), Holding(None, Call.FINISH, None))
 
 
+class Minutes(unittest.TestCase):
+    def test_a_district_has_its_own(self):
+        graph = Graph(SMALL)
+        self.assertEqual(graph.minutes(), tuple(map(minutes, range(16))))
+        graph.post_add(1, Entry(9, class_=15))
+        graph.load_minutes(range(1, 17))  # the add has not entered
+        graph.load_minutes(DISTRICT)
+        self.assertEqual(graph.minutes(), DISTRICT)
+        steps(graph, 1)
+        graph.add_sheet(0, [Entry(1), Entry(2, class_=3)])
+        self.assertEqual(graph.get(0), Job(0, 9))
+        graph.finish(0, 9)
+        self.assertEqual(graph.get(1), Job(2, 2))
+        self.assertEqual(graph.totals(), ((1, 1, 1), (5, 20, 1440)))
+        self.assertEqual(totals_by_minutes([(2, 15), (0, 0), (1, 3)], DISTRICT), graph.totals())
+        graph.lay_out()
+        self.assertEqual(graph.minutes(), tuple(map(minutes, range(16))))
+
+    def test_a_refused_load_changes_nothing(self):
+        memory = bytearray(Graph.room(SMALL))
+        graph = Graph(SMALL, memory)
+        graph.lay_out()
+        for entries in ([], [Entry(1)]):
+            graph.add_all(0, entries)
+            before = bytes(memory)
+            for wrong in ((), DISTRICT[1:], (*DISTRICT, 1441), (0, *DISTRICT[1:]), (10, *DISTRICT[1:])):
+                with self.subTest(wrong), self.assertRaises(Refusal) as caught:
+                    graph.load_minutes(wrong)
+                self.assertEqual((caught.exception.number, bytes(memory)), (17, before))
+        with self.assertRaises(Refusal) as caught:
+            graph.load_minutes(DISTRICT)
+        self.assertEqual((caught.exception.number, bytes(memory)), (18, before))
+
+    def test_random_minutes(self):
+        source = seeded("minutes")
+        for _ in range(300):
+            district = sorted(source.sample(range(1, 1441), 16))
+            records = [(source.randrange(3), source.randrange(16)) for _ in range(source.randrange(40))]
+            totals = totals_by_minutes(records, district)
+            for label in range(3):
+                found = [district[class_] for of_job, class_ in records if of_job == label]
+                self.assertEqual((totals.jobs[label], totals.minutes[label]), (len(found), sum(found)))
+            place = source.randrange(15)
+            district[place] = district[place + 1]
+            with self.assertRaises(Refusal) as caught:
+                totals_by_minutes(records, district)
+            self.assertEqual(caught.exception.number, 17)
+
+
 class Memory(unittest.TestCase):
     def test_room(self):
-        self.assertEqual(Graph.words(SMALL), Words(5 + 8 * 4, 1 + 2 * 4, 4, 2 + 3 * 4, 42 * 2))
+        self.assertEqual(Graph.words(SMALL), Words(JOBS_AT + 8 * 4, 1 + 2 * 4, 4, 2 + 3 * 4, 42 * 2))
         self.assertEqual(Graph.room(SMALL), 4 * sum(Graph.words(SMALL)))
 
     def each(self):
@@ -271,6 +323,9 @@ class Locking(unittest.TestCase):
         self.assertEqual(lock.taken, 9)
         graph.add_all(0, [Entry(3)] * 65)
         self.assertEqual(lock.taken, 11)
+        self.assertRaises(Refusal, graph.load_minutes, DISTRICT)
+        graph.minutes()
+        self.assertEqual((lock.taken, lock.held), (13, False))
 
     def test_free_after_a_refusal(self):
         lock = Counter()

@@ -7,7 +7,8 @@ from support import TOP
 from taskgraph import Call, _interface
 
 KINDS = {"uint32_t": ctypes.c_uint32, "size_t": ctypes.c_size_t}
-# Of these a host in Python has no need: whole sheets are read and written, and the board is the graph's.
+# Of these a host in Python has no need: whole sheets are read and written, and the board by the fixed minutes is the
+# graph's.
 UNUSED = {"tg_read_entry", "tg_write_entry", "tg_totals_of_words", "tg_totals_of_records", "tg_version"}
 
 
@@ -66,6 +67,7 @@ class Interface(unittest.TestCase):
         _, constants = header()
         self.assertEqual(int(constants["TG_MAX_NAMES"]), _interface.MAX_NAMES)
         self.assertEqual(int(constants["TG_MAX_ENTRIES"]), _interface.MAX_ENTRIES)
+        self.assertEqual(int(constants["TG_CLASSES"]), _interface.CLASSES)
         self.assertEqual(int(constants["TG_ENTRY_WORDS"]) * 4, ctypes.sizeof(_interface.tg_entry))
         for name in ("REFUSED", "GOING_ON", "HANDED_OUT"):
             self.assertEqual(int(constants[f"TG_{name}"]), getattr(_interface, name))

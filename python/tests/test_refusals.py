@@ -4,7 +4,7 @@ import unittest
 
 from support import SMALL, put_word, word_place
 from taskgraph import Entry, Graph, Refusal, Sizes, message, read_sheet, write_sheet
-from taskgraph import _library, day_list, refusal
+from taskgraph import _library, day_list, refusal, totals_by_minutes
 
 
 def small(*entries):
@@ -52,6 +52,22 @@ def of_another_job():
     graph.finish(0, 2)
 
 
+def with_damaged_minutes(minutes):
+    memory = bytearray(Graph.room(SMALL))
+    graph = Graph(SMALL, memory)
+    graph.lay_out()
+    put_word(memory, word_place(SMALL, "jobs", 5), 2)  # the minutes of class 0 are those of class 1
+    graph.minutes() if minutes else graph.totals()
+
+
+def with_too_many_made():
+    memory = bytearray(Graph.room(SMALL))
+    graph = Graph(SMALL, memory)
+    graph.lay_out()
+    put_word(memory, word_place(SMALL, "jobs", 4), 5)
+    graph.load_minutes(range(1, 17))
+
+
 # number, place, offset, entry, and what provokes it
 CASES = [
     (1, None, None, None, lambda: Graph(Sizes(0, 4, 2, 2))),
@@ -80,6 +96,21 @@ CASES = [
     (14, None, 5, 0, lambda: write_sheet([Entry(99, tuple(range(33)))], most=0)),
     (15, None, None, None, lambda: write_sheet([Entry(1), Entry(2)], most=9)),
     (16, None, None, None, lambda: small().add_sheet(0, [Entry(1)] * 65)),
+    (17, None, None, None, lambda: small().load_minutes(range(16))),
+    (17, None, None, None, lambda: small().load_minutes(range(1, 16))),
+    (17, None, None, None, lambda: small().load_minutes([])),
+    (17, None, None, None, lambda: small().load_minutes([*range(1, 16), 1441])),
+    (17, None, None, None, lambda: small(Entry(1)).load_minutes([1] * 16)),
+    (17, None, None, None, lambda: totals_by_minutes([(3, 0)], [1] * 16)),
+    (18, None, None, None, lambda: small(Entry(1)).load_minutes(range(1, 17))),
+    (1, None, None, None, lambda: Graph(SMALL, bytearray(Graph.room(SMALL))).load_minutes([])),
+    (1, None, None, None, lambda: Graph(SMALL, bytearray(Graph.room(SMALL))).minutes()),
+    (1, None, None, None, lambda: totals_by_minutes([(3, 0)] * 4097, [])),
+    (9, None, None, None, lambda: totals_by_minutes([(0, 0), (3, 0)], range(1, 17))),
+    (9, None, None, None, lambda: totals_by_minutes([(0, 16)], range(1, 17))),
+    (9, None, None, None, lambda: with_damaged_minutes(True)),
+    (9, None, None, None, lambda: with_damaged_minutes(False)),
+    (9, None, None, None, with_too_many_made),
     (3, None, None, None, sheet_while_half_done),
 ]
 
@@ -95,7 +126,7 @@ class Refusals(unittest.TestCase):
             self.assertTrue(str(found).startswith(f"refused by {number}: {found.message}"), str(found))
 
     def test_none_is_left_out(self):
-        self.assertEqual({number for number, *_ in CASES}, set(range(1, 17)))
+        self.assertEqual({number for number, *_ in CASES}, set(range(1, 19)))
 
     def test_text(self):
         self.assertEqual(str(Refusal(6, place=2)), f"refused by 6: {message(6)} (place 2)")
@@ -110,8 +141,8 @@ class Refusals(unittest.TestCase):
 
 class Messages(unittest.TestCase):
     def test_one_for_each_number(self):
-        self.assertEqual(sorted(refusal.MESSAGES), list(range(1, 17)))
-        self.assertEqual(len(set(refusal.MESSAGES.values())), 16)
+        self.assertEqual(sorted(refusal.MESSAGES), list(range(1, 19)))
+        self.assertEqual(len(set(refusal.MESSAGES.values())), 18)
 
     def test_are_those_of_the_library(self):
         library = _library.library()
@@ -122,4 +153,4 @@ class Messages(unittest.TestCase):
                     self.assertEqual(library.tg_message(number).decode(), text)
 
     def test_another_number(self):
-        self.assertEqual(message(17), "unknown number")
+        self.assertEqual(message(19), "unknown number")

@@ -11,6 +11,10 @@ pub const ENTRY_WORDS: usize = 36;
 pub const MAX_ENTRY_BYTES: usize = 137;
 /// The entries that one call adds at most.
 pub const MAX_ENTRIES: usize = 64;
+/// The classes, each of which has its minutes.
+pub const CLASSES: usize = 16;
+/// The most minutes of a class.
+pub const MAX_MINUTES: u32 = 1_440;
 /// The longest day list of two workers, in bytes.
 pub const MAX_DAY_LIST: usize = 97_979;
 /// The jobs that a day list has room for.
@@ -94,7 +98,7 @@ pub struct JobRecord {
 #[repr(C)]
 #[derive(Clone, Copy, Debug, Default, PartialEq, Eq)]
 pub struct Totals {
-    /// 0, 1 or 9.
+    /// 0, 1, 9 or 17.
     pub number: u32,
     /// The jobs under each label.
     pub jobs: [u32; 3],
@@ -130,6 +134,16 @@ pub struct Answer {
     pub job: u32,
     /// Its name.
     pub name: u32,
+}
+
+/// The minutes that stand in a graph.
+#[repr(C)]
+#[derive(Clone, Copy, Debug, Default, PartialEq, Eq)]
+pub struct GraphMinutes {
+    /// 0, 1 or 9.
+    pub number: u32,
+    /// The minutes of each class, all 0 on a refusal.
+    pub minutes: [u32; CLASSES],
 }
 
 /// The words that each table needs.
@@ -215,6 +229,7 @@ const _: () = assert!(size_of::<JobRecord>() == 8);
 const _: () = assert!(size_of::<Totals>() == 28);
 const _: () = assert!(size_of::<Sizes>() == 16);
 const _: () = assert!(size_of::<Answer>() == 20);
+const _: () = assert!(size_of::<GraphMinutes>() == 4 * (1 + CLASSES));
 const _: () = assert!(size_of::<Need>() == 48);
 const _: () = assert!(size_of::<SheetAdded>() == 4 + 8 * MAX_ENTRIES);
 const _: () = assert!(size_of::<Holding>() == 24);
@@ -238,12 +253,19 @@ extern "C" {
     pub fn tg_write_sheet(rows: *const u32, rows_len: usize, out: *mut u8, out_len: usize) -> SheetWritten;
     /// The bucket of a name.
     pub fn tg_bucket(name: u32, bits: u32) -> u32;
-    /// The minutes of a class.
+    /// The fixed minutes of a class.
     pub fn tg_minutes(class: u32) -> u32;
-    /// The totals of records given as words.
+    /// The totals of records given as words, by the fixed minutes.
     pub fn tg_totals_of_words(words: *const u32, words_len: usize) -> Totals;
-    /// The totals of a row of records.
+    /// The totals of a row of records, by the fixed minutes.
     pub fn tg_totals_of_records(records: *const JobRecord, records_len: usize) -> Totals;
+    /// The totals of a row of records, by a district's minutes.
+    pub fn tg_totals_by_minutes(
+        records: *const JobRecord,
+        records_len: usize,
+        minutes: *const u32,
+        minutes_len: usize,
+    ) -> Totals;
     /// The words that each table needs.
     pub fn tg_words_needed(sizes: Sizes) -> Need;
     /// Makes a fresh graph.
@@ -259,6 +281,22 @@ extern "C" {
         queue_len: usize,
         workers: *mut u32,
         workers_len: usize,
+    ) -> Answer;
+    /// Loads a district's minutes.
+    pub fn tg_load_minutes(
+        sizes: Sizes,
+        jobs: *mut u32,
+        jobs_len: usize,
+        arcs: *mut u32,
+        arcs_len: usize,
+        buckets: *mut u32,
+        buckets_len: usize,
+        queue: *mut u32,
+        queue_len: usize,
+        workers: *mut u32,
+        workers_len: usize,
+        minutes: *const u32,
+        minutes_len: usize,
     ) -> Answer;
     /// Posts an add.
     pub fn tg_post_add(
@@ -400,8 +438,10 @@ extern "C" {
         workers: *const u32,
         workers_len: usize,
     ) -> DrainedAnswer;
-    /// The totals of the jobs made.
+    /// The totals of the jobs made, by the minutes that stand in the graph.
     pub fn tg_totals_of_graph(sizes: Sizes, jobs: *const u32, jobs_len: usize) -> Totals;
+    /// The minutes that stand in the graph.
+    pub fn tg_minutes_of_graph(sizes: Sizes, jobs: *const u32, jobs_len: usize) -> GraphMinutes;
     /// What the day list prints of a sheet.
     pub fn tg_day_list(sheet: *const u8, sheet_len: usize, workers: u32, out: *mut u8, out_len: usize) -> Day;
 }

@@ -1,7 +1,7 @@
 //! The task graph: its calls over any memory, and a graph in memory of its own.
 
 use crate::{
-    raw::{self, kind, Answer, SheetAdded, Sizes, Tables, CALL_ADD, CALL_NONE, MAX_ENTRIES},
+    raw::{self, kind, Answer, SheetAdded, Sizes, Tables, CALL_ADD, CALL_NONE, CLASSES, MAX_ENTRIES},
     Job, Refusal, Totals,
 };
 
@@ -71,6 +71,38 @@ pub trait TaskGraph {
 
     /// The tables, lent for a call.
     fn tables(&mut self) -> Tables<'_>;
+
+    /// Loads a district's minutes in place of the fixed ones, before the first job enters: [`CLASSES`] of them, class 0
+    /// first, which rise strictly from class to class, each from 1 to [`MAX_MINUTES`](crate::raw::MAX_MINUTES).
+    /// Hand-outs and [`totals`](TaskGraph::totals) then follow them. No worker is needed, and they may be loaded again.
+    ///
+    /// # Errors
+    /// With nothing changed: 17 for values that are not so, 18 where a job has entered.
+    ///
+    /// ```
+    /// # use taskgraph::{Graph, Job, Refusal, Sizes, TaskGraph};
+    /// let mut graph = Graph::create(Sizes { jobs: 16, arcs: 64, bits: 4, workers: 1 })?;
+    /// let district = [5, 10, 15, 20, 25, 30, 40, 50, 60, 75, 90, 120, 180, 240, 480, 1440];
+    /// graph.load_minutes(&district)?;
+    /// assert_eq!(graph.minutes()?, district);
+    /// graph.add(0, &Job { class: 3, ..Job::new(1, &[]) })?;
+    /// assert_eq!(graph.totals()?.unexecuted.minutes, 20);
+    /// assert_eq!(graph.load_minutes(&district), Err(Refusal::Entered));
+    /// assert_eq!(graph.load_minutes(&[5; 16]), Err(Refusal::Minutes));
+    /// # Ok::<(), Refusal>(())
+    /// ```
+    fn load_minutes(&mut self, minutes: &[u32]) -> Result<(), Refusal> {
+        accepted(raw::load_minutes(self.sizes(), &mut self.tables(), minutes)).map(drop)
+    }
+
+    /// The minutes of each class that stand in the graph: the fixed ones, or those that were loaded.
+    ///
+    /// # Errors
+    /// 1 or 9, where the words are not those of a graph of these sizes.
+    fn minutes(&self) -> Result<[u32; CLASSES], Refusal> {
+        let answer = raw::minutes_of_graph(self.sizes(), self.words()[0]);
+        Refusal::unless_accepted(answer.number, 0).map(|()| answer.minutes)
+    }
 
     /// Adds a job by a worker, run whole in one call.
     ///
@@ -197,7 +229,7 @@ pub trait TaskGraph {
         Ok(answer.drained == 1)
     }
 
-    /// The jobs and minutes under each label.
+    /// The jobs and minutes under each label, by the minutes that stand in the graph.
     ///
     /// # Errors
     /// 1 or 9, where the words are not those of a graph of these sizes.

@@ -52,9 +52,9 @@ mod totals;
 pub use day::day_list;
 pub use graph::{Graph, HalfDone, HandedOut, Holding, Progress, TaskGraph};
 pub use job::Job;
-pub use raw::{bucket, minutes, version, Sizes};
+pub use raw::{bucket, minutes, version, Sizes, CLASSES};
 pub use refusal::Refusal;
 #[cfg(all(target_os = "linux", target_pointer_width = "64"))]
 pub use shared::{Locked, SharedError, SharedGraph};
 pub use sheet::{read_sheet, write_sheet, WriteRefusal};
-pub use totals::{Sum, Totals};
+pub use totals::{totals_by_minutes, Sum, Totals};

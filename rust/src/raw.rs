@@ -6,8 +6,9 @@ use std::{ffi::CStr, os::raw::c_char};
 use crate::ffi;
 
 pub use crate::ffi::{
-    Answer, Day, DrainedAnswer, Entry, Holding, JobRecord, Need, Reading, Sheet, SheetAdded, SheetWritten, Sizes,
-    Totals, Written, DAY_JOBS, ENTRY_WORDS, MAX_DAY_LIST, MAX_ENTRIES, MAX_ENTRY_BYTES, MAX_NAMES,
+    Answer, Day, DrainedAnswer, Entry, GraphMinutes, Holding, JobRecord, Need, Reading, Sheet, SheetAdded,
+    SheetWritten, Sizes, Totals, Written, CLASSES, DAY_JOBS, ENTRY_WORDS, MAX_DAY_LIST, MAX_ENTRIES, MAX_ENTRY_BYTES,
+    MAX_MINUTES, MAX_NAMES,
 };
 
 /// The kinds of an answer.
@@ -26,6 +27,8 @@ pub mod kind {
     pub const NONE_READY: u32 = 5;
     /// `job` was taken, whose name is `name`.
     pub const HANDED_OUT: u32 = 6;
+    /// Minutes were loaded.
+    pub const LOADED: u32 = 7;
 }
 
 /// A worker has no call half done.
@@ -37,7 +40,7 @@ pub const CALL_FINISH: u32 = 2;
 
 /// The five lent tables; `include/taskgraph.h` says which words they hold.
 pub struct Tables<'a> {
-    /// Sizes, the jobs made, and a record for each job.
+    /// Sizes, the jobs made, the minutes of each class, and a record for each job.
     pub jobs: &'a mut [u32],
     /// The arcs reserved, and a record for each arc.
     pub arcs: &'a mut [u32],
@@ -82,6 +85,11 @@ pub fn words_needed(sizes: Sizes) -> Need {
 /// Makes a fresh graph.
 pub fn lay_out(sizes: Sizes, tables: &mut Tables) -> Answer {
     call!(tg_lay_out, sizes, tables)
+}
+
+/// Loads a district's minutes, one for each class, before the first job enters.
+pub fn load_minutes(sizes: Sizes, tables: &mut Tables, minutes: &[u32]) -> Answer {
+    call!(tg_load_minutes, sizes, tables, minutes.as_ptr(), minutes.len())
 }
 
 /// Posts an add.
@@ -129,20 +137,30 @@ pub fn drained(sizes: Sizes, tables: [&[u32]; 5]) -> DrainedAnswer {
     ask!(tg_drained, sizes, tables)
 }
 
-/// The totals of the jobs made.
+/// The totals of the jobs made, by the minutes that stand in the graph.
 pub fn totals_of_graph(sizes: Sizes, jobs: &[u32]) -> Totals {
     // SAFETY: the pointers and the lengths are those of slices, here and below.
     unsafe { ffi::tg_totals_of_graph(sizes, jobs.as_ptr(), jobs.len()) }
 }
 
-/// The totals of records given as words.
+/// The minutes that stand in the graph.
+pub fn minutes_of_graph(sizes: Sizes, jobs: &[u32]) -> GraphMinutes {
+    unsafe { ffi::tg_minutes_of_graph(sizes, jobs.as_ptr(), jobs.len()) }
+}
+
+/// The totals of records given as words, by the fixed minutes.
 pub fn totals_of_words(words: &[u32]) -> Totals {
     unsafe { ffi::tg_totals_of_words(words.as_ptr(), words.len()) }
 }
 
-/// The totals of a row of records.
+/// The totals of a row of records, by the fixed minutes.
 pub fn totals_of_records(records: &[JobRecord]) -> Totals {
     unsafe { ffi::tg_totals_of_records(records.as_ptr(), records.len()) }
+}
+
+/// The totals of a row of records, by a district's minutes.
+pub fn totals_by_minutes(records: &[JobRecord], minutes: &[u32]) -> Totals {
+    unsafe { ffi::tg_totals_by_minutes(records.as_ptr(), records.len(), minutes.as_ptr(), minutes.len()) }
 }
 
 /// What the day list prints of a sheet.
@@ -180,7 +198,7 @@ pub fn bucket(name: u32, bits: u32) -> u32 {
     unsafe { ffi::tg_bucket(name, bits) }
 }
 
-/// The minutes of a class, or 0.
+/// The fixed minutes of a class, or 0.
 pub fn minutes(class: u32) -> u32 {
     unsafe { ffi::tg_minutes(class) }
 }

@@ -55,6 +55,10 @@ pub enum Refusal {
     NoRoom,
     /// 16: more entries than one call takes.
     Entries,
+    /// 17: minute values that do not rise strictly from class to class, or leave 1 to 1,440.
+    Minutes,
+    /// 18: a load after a job has entered.
+    Entered,
 }
 
 impl Refusal {
@@ -80,6 +84,8 @@ impl Refusal {
             14 => Refusal::Value { at },
             15 => Refusal::NoRoom,
             16 => Refusal::Entries,
+            17 => Refusal::Minutes,
+            18 => Refusal::Entered,
             _ => panic!("the library answered {number}, which is no number of the list"),
         }
     }
@@ -111,6 +117,8 @@ impl Refusal {
             Refusal::Value { .. } => 14,
             Refusal::NoRoom => 15,
             Refusal::Entries => 16,
+            Refusal::Minutes => 17,
+            Refusal::Entered => 18,
         }
     }
 }
@@ -134,7 +142,7 @@ mod tests {
 
     #[test]
     fn numbers_go_there_and_back() {
-        for number in 1..=16 {
+        for number in 1..=18 {
             assert_eq!(Refusal::of(number, 7).number(), number);
         }
         assert_eq!(Refusal::unless_accepted(0, 7), Ok(()));
@@ -146,5 +154,7 @@ mod tests {
         assert_eq!(Refusal::of(2, 0).to_string(), "no such worker");
         assert_eq!(Refusal::of(6, 3).to_string(), "a listed name has no job (place 3 of the list)");
         assert_eq!(Refusal::of(12, 20).to_string(), "the sheet ends inside an entry (byte 20)");
+        assert_eq!(Refusal::of(17, 0).to_string(), "minutes that do not rise or leave their limits");
+        assert_eq!(Refusal::of(18, 0).to_string(), "a job has entered");
     }
 }

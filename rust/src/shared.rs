@@ -11,7 +11,7 @@ use file::{SharedFile, TORN, WHOLE, WRITING};
 
 use crate::{
     graph::{in_parts, TurnedAway},
-    raw::{Sizes, Tables},
+    raw::{Sizes, Tables, CLASSES},
     HandedOut, Holding, Job, Progress, Refusal, TaskGraph, Totals,
 };
 
@@ -97,6 +97,22 @@ impl SharedGraph {
         Ok(call(&mut self.lock()?)?)
     }
 
+    /// Loads a district's minutes in place of the fixed ones, before the first job enters.
+    ///
+    /// # Errors
+    /// As [`TaskGraph::load_minutes`], and as [`lock`](SharedGraph::lock).
+    pub fn load_minutes(&self, minutes: &[u32]) -> Result<(), SharedError> {
+        self.call(|graph| graph.load_minutes(minutes))
+    }
+
+    /// The minutes of each class that stand in the graph.
+    ///
+    /// # Errors
+    /// As [`TaskGraph::minutes`], and as [`lock`](SharedGraph::lock).
+    pub fn minutes(&self) -> Result<[u32; CLASSES], SharedError> {
+        self.call(|graph| graph.minutes())
+    }
+
     /// Adds a job by a worker, run whole under one lock.
     ///
     /// Where the lock should be free between the steps, for a long list beside other workers, it is
@@ -166,7 +182,7 @@ impl SharedGraph {
         self.call(|graph| graph.drained())
     }
 
-    /// The jobs and minutes under each label.
+    /// The jobs and minutes under each label, by the minutes that stand in the graph.
     ///
     /// # Errors
     /// As [`TaskGraph::totals`], and as [`lock`](SharedGraph::lock).

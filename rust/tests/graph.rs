@@ -1,8 +1,18 @@
 //! The calls of a graph in memory of its own, and the refusals that each may answer.
 
-use taskgraph::{Graph, HalfDone, HandedOut, Holding, Job, Progress, Refusal, Sizes, Sum, TaskGraph};
+use taskgraph::{
+    minutes, raw::JobRecord, totals_by_minutes, Graph, HalfDone, HandedOut, Holding, Job, Progress, Refusal, Sizes,
+    Sum, TaskGraph, CLASSES,
+};
 
 const SIZES: Sizes = Sizes { jobs: 4, arcs: 3, bits: 2, workers: 2 };
+
+/// The first job stands behind five words and the minutes of each class; its label is its second word.
+const JOBS_AT: usize = 5 + CLASSES;
+const LABEL: usize = JOBS_AT + 1;
+
+/// A district's minutes.
+const DISTRICT: [u32; CLASSES] = [5, 10, 15, 20, 25, 30, 40, 50, 60, 75, 90, 120, 180, 240, 480, 1_440];
 
 fn fresh() -> Graph {
     Graph::create(SIZES).expect("the sizes are within their limits")
@@ -123,8 +133,7 @@ fn gets_and_finishes_that_are_refused() {
 fn damage_is_found() {
     let mut graph = fresh();
     assert_eq!(graph.add(0, &Job::new(1, &[])), Ok(()));
-    // The label of job 0 stands behind the five counters and its name.
-    graph.tables().jobs[6] = 3;
+    graph.tables().jobs[LABEL] = 3;
     assert_eq!(graph.get(0), Err(Refusal::Damaged));
     assert_eq!(graph.totals(), Err(Refusal::Damaged));
     graph.tables().jobs[0] = 5;
@@ -197,13 +206,13 @@ fn more_jobs_than_one_call_takes() {
 fn damage_in_the_middle_of_many_jobs() {
     let mut graph = Graph::create(Sizes { jobs: 200, arcs: 1, bits: 8, workers: 1 }).expect("within the limits");
     assert_eq!(graph.add(0, &Job::new(1_000, &[])), Ok(()));
-    graph.tables().jobs[6] = 3;
+    graph.tables().jobs[LABEL] = 3;
     let mut all = jobs(0..100);
     all[1].prerequisites.push(1_000);
     let answers = graph.add_all(0, &all).expect("the first call is not turned away");
     assert_eq!(answers[..2], [Ok(()), Err(Refusal::Damaged)]);
     assert_eq!(answers[2..], vec![Err(Refusal::HalfDone); 98]);
-    graph.tables().jobs[6] = 0;
+    graph.tables().jobs[LABEL] = 0;
     assert_eq!(graph.run(0), Ok(()));
     assert_eq!(graph.add_all(0, &all[2..]), Ok(vec![Ok(()); 98]));
 }
@@ -216,7 +225,74 @@ fn a_finish_whose_arcs_run_in_a_circle() {
     assert_eq!(graph.get(0), Ok(Some(HandedOut { job: 0, name: 1 })));
     graph.tables().arcs[2] = 0;
     // The remaining count of job 1.
-    graph.tables().jobs[5 + 8 + 2] = 32;
+    graph.tables().jobs[JOBS_AT + 8 + 2] = 32;
     assert_eq!(graph.finish(0, 1), Err(Refusal::Damaged));
     assert_eq!(graph.held(0), Ok(Holding { job: None, call: Some(HalfDone::Finish) }));
+}
+
+#[test]
+fn a_district_has_minutes_of_its_own() {
+    let mut graph = fresh();
+    let fixed: Vec<u32> = (0..CLASSES as u32).map(minutes).collect();
+    assert_eq!(graph.minutes().map(|minutes| minutes.to_vec()), Ok(fixed));
+    assert_eq!(graph.post_add(1, &Job { class: 15, ..Job::new(9, &[]) }), Ok(()));
+    assert_eq!(graph.load_minutes(&DISTRICT), Ok(()), "an add that has not entered does not hinder it");
+    assert_eq!(graph.load_minutes(&DISTRICT), Ok(()), "nor does a load before it");
+    assert_eq!(graph.minutes(), Ok(DISTRICT));
+    for (name, class) in [(1, 0), (2, 3)] {
+        assert_eq!(graph.add(0, &Job { class, ..Job::new(name, &[]) }), Ok(()));
+    }
+    assert_eq!(graph.run(1), Ok(()));
+    assert_eq!(graph.get(0), Ok(Some(HandedOut { job: 2, name: 9 })), "the most minutes first");
+    assert_eq!(graph.finish(0, 9), Ok(()));
+    assert_eq!(graph.get(1), Ok(Some(HandedOut { job: 1, name: 2 })));
+    let totals = graph.totals().expect("the graph is not damaged");
+    assert_eq!(totals.unexecuted, Sum { jobs: 1, minutes: 5 });
+    assert_eq!(totals.executing, Sum { jobs: 1, minutes: 20 });
+    assert_eq!(totals.finished, Sum { jobs: 1, minutes: 1_440 });
+    let records = [(2, 15), (0, 0), (1, 3)].map(|(label, class)| JobRecord { label, class });
+    assert_eq!(totals_by_minutes(&records, &DISTRICT), Ok(totals));
+}
+
+#[test]
+fn loads_that_are_refused() {
+    let mut graph = fresh();
+    let before = graph.words().map(<[u32]>::to_vec);
+    let mut wrong: Vec<Vec<u32>> = vec![vec![], DISTRICT[..15].to_vec(), [&DISTRICT[..], &[1_441]].concat()];
+    for (class, value) in [(0, 0), (0, 10), (7, 40), (7, 60), (15, 480), (15, 1_441), (15, u32::MAX)] {
+        let mut values = DISTRICT.to_vec();
+        values[class] = value;
+        wrong.push(values);
+    }
+    for values in &wrong {
+        assert_eq!(graph.load_minutes(values), Err(Refusal::Minutes), "{values:?}");
+        assert_eq!(totals_by_minutes(&[], values).map(drop), Err(Refusal::Minutes), "{values:?}");
+    }
+    assert_eq!(graph.words().map(<[u32]>::to_vec), before);
+    assert_eq!(graph.add(0, &Job::new(1, &[])), Ok(()));
+    assert_eq!(graph.load_minutes(&wrong[0]), Err(Refusal::Minutes));
+    let before = graph.words().map(<[u32]>::to_vec);
+    assert_eq!(graph.load_minutes(&DISTRICT), Err(Refusal::Entered));
+    assert_eq!(graph.words().map(<[u32]>::to_vec), before);
+    // The jobs made.
+    graph.tables().jobs[4] = 5;
+    assert_eq!(graph.load_minutes(&DISTRICT), Err(Refusal::Damaged));
+    graph.tables().jobs[0] = 5;
+    assert_eq!(graph.load_minutes(&wrong[0]), Err(Refusal::Size));
+    assert_eq!(graph.minutes(), Err(Refusal::Size));
+}
+
+#[test]
+fn damaged_minutes() {
+    let mut graph = fresh();
+    // The minutes of class 7 are those of class 6.
+    graph.tables().jobs[5 + 7] = 15;
+    assert_eq!(graph.minutes(), Err(Refusal::Damaged));
+    assert_eq!(graph.totals(), Err(Refusal::Damaged));
+    assert_eq!(graph.add(0, &Job::new(1, &[])), Ok(()), "no other call reads them");
+    assert_eq!(graph.get(0), Ok(Some(HandedOut { job: 0, name: 1 })));
+    let mut graph = fresh();
+    graph.tables().jobs[5 + 7] = 0;
+    assert_eq!(graph.load_minutes(&DISTRICT), Ok(()), "nor does a load read them");
+    assert_eq!(graph.minutes(), Ok(DISTRICT));
 }

@@ -165,6 +165,21 @@ fn sheets_of_a_shared_graph() {
     assert!(matches!(graph.add_all(4, &many), Err(SharedError::Refused(Refusal::Worker))));
 }
 
+/// What one process loads stands for all, until a job enters.
+#[test]
+fn minutes_of_a_shared_graph() {
+    let file = TestFile::new("minutes");
+    let graph = file.create();
+    let district: [u32; 16] = std::array::from_fn(|class| 10 + 7 * class as u32);
+    let other = SharedGraph::open(&file.0).expect("the file is a graph");
+    graph.load_minutes(&district).expect("no job has entered");
+    assert_eq!(other.minutes().expect("the graph is whole"), district);
+    assert!(matches!(other.load_minutes(&[1; 16]), Err(SharedError::Refused(Refusal::Minutes))));
+    other.add(0, &Job { class: 15, ..Job::new(1, &[]) }).expect("it is accepted");
+    assert!(matches!(graph.load_minutes(&district), Err(SharedError::Refused(Refusal::Entered))));
+    assert_eq!(graph.totals().expect("the graph is whole").unexecuted.minutes, 115);
+}
+
 #[test]
 fn a_lock_that_died_before_a_call_loses_nothing() {
     let file = TestFile::new("died-before");

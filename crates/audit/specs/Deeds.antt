@@ -202,7 +202,7 @@ module _ (s : Sizes) (g : Graph) (r : Reading) (S : Sound s g) where
   did : {i : Item} {x : Answer} {h : Graph} (d : Deed s g i x h) → Did s g r (workerOf i) x h (reads r d)
   unfolding acceptedFinishes
   did (by.otherSizes e) = alone (λ l. refl) refl (λ v. refl) refl
-  did (by.workerUnknown e k) = alone (λ l. refl) refl (λ v. refl) refl
+  did (by.workerUnknown e n k) = alone (λ l. refl) refl (λ v. refl) refl
   did (by.callHalfDone A n c) = alone (λ l. refl) refl (λ v. refl) refl
   did (by.made A c (by.addWrong e)) = alone (λ l. refl) refl (λ v. refl) (no-finish (r .calls) _ refl)
   did (by.made A c (by.addPosted e)) = alone (λ l. refl) refl (held-still _ _) refl
@@ -230,6 +230,9 @@ module _ (s : Sizes) (g : Graph) (r : Reading) (S : Sound s g) where
   did (by.stepped A c (by.markedGoing p e f)) = marking p (notifying p 0) (λ l. refl) e refl
   did (by.stepped A c (by.arcNotified k)) = changed _ _ (λ l. refl) refl refl (held-still _ _) refl
   did (by.stepped A c (by.lastNotified k)) = changed _ _ (λ l. refl) refl refl (held-still _ _) refl
+  did (by.loading e (by.notRising u)) = alone (λ l. refl) refl (λ v. refl) refl
+  did (by.loading e (by.tooLate u k)) = alone (λ l. refl) refl (λ v. refl) refl
+  did (by.loading e (by.minutesLoaded u k)) = alone (λ l. refl) refl (λ v. refl) refl
 
 -- every item of a history does one of these
 pub deeds : {s : Sizes} {g : Graph} {r : Reading} {e : ℕ → ℕ} → History s g r e → (i : Item)

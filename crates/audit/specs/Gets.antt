@@ -36,7 +36,7 @@ pub none-ready : (s q : Sizes) (g : Graph) (w : ℕ) → (perform s g (get q w) 
 unfolding occurrences
 none-ready s q g w = (
   λ z. to (rw z at (deed s g (get q w))),
-  λ o. from (own-made s g (get q w) (o .0) (o .1) refl (o .2)) (o .3) (o .4),
+  λ o. from (own-made s g (get q w) (o .0) (o .1) refl refl (o .2)) (o .3) (o .4),
 )
   where
     to : {h : Graph} → Deed s g (get q w) NoneReady h

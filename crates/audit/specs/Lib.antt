@@ -6,4 +6,5 @@ pub mod Held
 pub mod Earlier
 pub mod Drained
 pub mod TurnedAway
+pub mod Loads
 pub mod LongFirst

@@ -36,6 +36,7 @@ use Rattle.linearizability.specs.ByCount.{hands-none, same-longest, by-count}
 use Rattle.rules_invariant.specs.Sound.{sound}
 use Rattle.rules_follow_model.specs.Settled.{hands-next}
 use Rattle.audit.specs.Deeds.{HandsNone, deeds}
+use Rattle.audit.specs.Loads.{minutes-stay}
 
 -- ---- the queue after an item: the first is taken, or jobs enter behind
 data Queued (g : Graph) : Answer → Graph → Type 0 where
@@ -70,7 +71,7 @@ module _ {g : Graph} where
 
   queued : {s : Sizes} {i : Item} {x : Answer} {h : Graph} → Deed s g i x h → Queued g x h
   queued (by.otherSizes e) = kept (λ l. refl) refl
-  queued (by.workerUnknown e l) = kept (λ l. refl) refl
+  queued (by.workerUnknown e n l) = kept (λ l. refl) refl
   queued (by.callHalfDone A n c) = kept (λ l. refl) refl
   queued (by.made A c (by.addWrong e)) = kept (λ l. refl) refl
   queued (by.made A c (by.addPosted e)) = kept (λ l. refl) refl
@@ -80,6 +81,9 @@ module _ {g : Graph} where
   queued (by.made A c (by.getNone e f)) = kept (λ l. refl) refl
   queued (by.made A c (by.getHanded e j f)) = took j f refl
   queued (by.stepped A c S) = queued-step S
+  queued (by.loading e (by.notRising u)) = kept (λ l. refl) refl
+  queued (by.loading e (by.tooLate u l)) = kept (λ l. refl) refl
+  queued (by.loading e (by.minutesLoaded u l)) = kept (λ l. refl) refl
 
   takes : {x : Answer} {h : Graph} → Queued g x h → (o : HandOut) → x ≡ Handed o → Takes (seen g) x (seen h)
   takes (took j f q) o z = record { job = j; first = first-is (minutesOf g) (g .queue) j f; handed = refl; left = q }
@@ -113,7 +117,11 @@ module _ {s : Sizes} {g : Graph} {r : Reading} {e : ℕ → ℕ} (history : Hist
     enters = λ i. enters (queued (deed s g i));
     stays = λ i j h.
         let o = deeds history i .grown in
-        record { made = omega (arith, o .longer); class = o .class j h };
+        record {
+          made = omega (arith, o .longer);
+          class = o .class j h;
+          minutes = minutes-stay s g i (omega arith);
+        };
     there = sound history .queue-there;
   }
 
@@ -162,6 +170,7 @@ pub rules-hand-out-by-count : (s : Sizes) (items : List Item)
 rules-hand-out-by-count s = hands-out-by-count (rules.perform s) seen s empty (λ is. refl) (λ is. record {
   made = refl;
   reserved = refl;
+  minutes = refl;
   jobs = λ j h. refl;
   waiting = refl;
   held = λ w h. refl;

@@ -8,7 +8,7 @@ use Prim.Native.Nat.{ℕ}
 use borrow.Author.Tests.{lt-ltb, le-ltb}
 use Rattle.basics.specs.Base.{pick}
 use Rattle.terms.specs.Terms.{halfDone, nothingToStep}
-use Rattle.terms.specs.Runs.{Item, postAdd, postFinish, step, get, workerOf}
+use Rattle.terms.specs.Runs.{Item, postAdd, postFinish, step, get, load, workerOf, isLoad}
 use Rattle.terms.specs.declared.Sizes.{Sizes}
 use Rattle.terms.specs.declared.Answer.{Answer}
 use Rattle.rules.specs.Rules.{Call, idle, looking, linking, marking, notifying, Graph, perform}
@@ -31,11 +31,12 @@ half-done g none marking p P n = absurd P
 half-done g (some j) marking p P n = rw P
 half-done g h (notifying j k) p P n = rw P
 
-busy : (i : Item) → isStep i ≡ false → halfDone ≡ byCall i false
-busy (postAdd t w a) e = refl
-busy (postFinish t w f) e = refl
-busy (step t w) e = absurd (true≢false e)
-busy (get t w) e = refl
+busy : (i : Item) → isStep i ≡ false → isLoad i ≡ false → halfDone ≡ byCall i false
+busy (postAdd t w a) e n = refl
+busy (postFinish t w f) e n = refl
+busy (step t w) e n = absurd (true≢false e)
+busy (get t w) e n = refl
+busy (load t m) e n = absurd (true≢false n)
 
 -- ---- a call's own rules give none of them
 passed-made : {s : Sizes} {g : Graph} {i : Item} {x : Answer} {h : Graph} → Made s g i x h
@@ -69,17 +70,21 @@ module _ {s : Sizes} {g : Graph} (r : Reading) (S : Sound s g) (P : Paced g r) w
 
   by-deed : {i : Item} {x : Answer} {h : Graph} → Deed s g i x h → turnedAwayBy x ≡ turningAway s r i
   by-deed (by.otherSizes e) = rw e
-  by-deed {i} (by.workerUnknown e l) = rw (e, le-ltb (workerOf i) (s .workers) l)
+  by-deed {i} (by.workerUnknown e n l) = rw (e, n, le-ltb (workerOf i) (s .workers) l)
   by-deed {i} (by.callHalfDone A n c) = rw (
     A .sizes,
+    A .no-load,
     lt-ltb (workerOf i) (s .workers) (A .worker),
     half-done g _ _ _ (P (workerOf i)) c,
-  ) (busy i n)
+  ) (busy i n (A .no-load))
   by-deed {i} (by.made A c M) =
       let idle : r .pending (workerOf i) ≡ Pending.idle = rw c at (P (workerOf i)) in
-      rw (A .sizes, lt-ltb (workerOf i) (s .workers) (A .worker), idle) (passed-made M)
+      rw (A .sizes, A .no-load, lt-ltb (workerOf i) (s .workers) (A .worker), idle) (passed-made M)
   by-deed (by.stepped {w} A c T) = rw (A .sizes, lt-ltb w (s .workers) (A .worker))
       (by-step (rw c at (S .calls w)) (rw c at (P w)) T)
+  by-deed (by.loading e (by.notRising u)) = rw e
+  by-deed (by.loading e (by.tooLate u l)) = rw e
+  by-deed (by.loading e (by.minutesLoaded u l)) = rw e
 
 pub turned-away : {s : Sizes} {g : Graph} {r : Reading} {e : ℕ → ℕ} → History s g r e → (i : Item)
     → turnedAwayBy (perform s g i .answer) ≡ turningAway s r i

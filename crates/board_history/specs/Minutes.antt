@@ -1,21 +1,24 @@
 -- After any items from a fresh graph, the board over the graph's own row accounts for every job (graph_board,
--- Accounted.antt), by any table of minutes. Assumes nothing.
+-- Accounted.antt), by the minutes that were loaded; these are told, and of other sizes neither. Assumes nothing.
 use mathlib.Core.Path.{_≡_, refl, sym, ap, _∙_}
 use mathlib.Core.Bool.{Bool, true, false, _||_}
 use mathlib.Core.List.{List, [], _∷_}
+use mathlib.Core.Logic.{_↔_}
 use Prim.Native.Nat.{ℕ, zero, suc, _+_, _≤_, _<_}
 use native.Mathlib.Omega.{arith}
 use lib.ListN.{length, getD}
-use borrow.Author.Tests.{le-leb, le-ltb, lt-ltb, ltb-false}
+use borrow.Author.Tests.{le-leb, ltb-false, eqb-true, eq-eqb}
 use Rattle.basics.specs.Base.{pick}
-use Rattle.basics.specs.Laws.{never}
+use Rattle.basics.specs.Laws.{never, and-left, and-right}
+use Rattle.minutes.specs.Rising.{isRising, rising-means}
+use Rattle.minutes.specs.Judged.{allMinutes, noMinutes, judgedMinutes}
 use Rattle.terms.specs.Terms.{noArguments, Label, unexecuted, executing, finished, labelNumber, Arguments}
-use Rattle.terms.specs.Terms.{argumentsWrong}
+use Rattle.terms.specs.Terms.{argumentsWrong, sameSizes, wrongSizes}
 use Rattle.terms.specs.Runs.{Item, after, events}
 use Rattle.terms.specs.declared.Sizes.{Sizes}
 use Rattle.terms.specs.declared.Answer.the-variants.{Laid}
 use Rattle.words.specs.Columns.{columns, header, rows}
-use Rattle.words.specs.Layout.{Tables, jobShape, LABEL, CLASS}
+use Rattle.words.specs.Layout.{Tables, jobShape, storedMinutes, LABEL, CLASS}
 use Rattle.words.specs.Words.{perform, layOut}
 use Rattle.rules.specs.Rules.{Graph, empty, job}
 use Rattle.rules.specs.Rules as rules
@@ -23,14 +26,14 @@ use Rattle.sequential_model.specs.Book.{Book, Call, add, get, finish, End, acce
 use Rattle.sequential_model.specs.Book.{addEnd}
 use Rattle.sequential_model.specs.Book.{addKnown, firstUnknown, Follows, done, feed}
 use Rattle.sequential_model.specs.Book as book
-use Rattle.linearization.specs.Calls.{reading, acceptedAdds}
-use Rattle.representation_kept.specs.Stand.{limits-of}
-use Rattle.totals.specs.Board.{sumOver, minutesOfAll, allWellFormed, mostRecords, served}
-use Rattle.totals.specs.Board.{totalsOf, counted}
+use Rattle.linearization.specs.Calls.{reading, acceptedAdds, minutesLoaded}
+use Rattle.totals.specs.Board.{sumOver, minutesOfAll, served, totalsOf}
 use Rattle.totals.specs.AllJobs.{all-jobs}
-use Rattle.graph_board.specs.Board.{rowsFrom, jobsFit, graphTotals, minutesEntered}
+use Rattle.totals.specs.declared.Totals.{Totals}
+use Rattle.graph_board.specs.Board.{rowsFrom, jobsFit, graphMinutes, graphTotals, minutesEntered}
 use Rattle.graph_board.specs.Accounted.{Accounted, graph-counts}
-use Rattle.words_history.specs.Theorem.{Reached, after-items}
+use Rattle.graph_board.specs.Exactly.{JobsSized, jobs-sized-means, boards-exactly, minutes-exactly}
+use Rattle.words_history.specs.Theorem.{Reached, after-items, demand}
 
 add-right : (s : Sizes) (b : Book) (a : Arguments) → accepted ≡ addEnd s b a → argumentsWrong a ≡ false
 unfolding addEnd
@@ -77,22 +80,6 @@ label-small unexecuted = omega arith
 label-small executing = omega arith
 label-small finished = omega arith
 
-rows-length : (f : ℕ → ℕ → ℕ) (j n : ℕ) → length (rowsFrom f j n) ≡ n
-unfolding rowsFrom
-rows-length f j zero = refl
-rows-length f j (suc n) = ap suc (rows-length f (suc j) n)
-
-rows-well : (f : ℕ → ℕ → ℕ) (j n : ℕ) → ((k : ℕ) → k < n → (f LABEL (j + k) ≤ 2) × (f CLASS (j + k) ≤ 15))
-    → allWellFormed (rowsFrom f j n) ≡ true
-unfolding rowsFrom allWellFormed
-rows-well f j zero h = refl
-rows-well f j (suc n) h =
-    let z : j + 0 ≡ j = omega arith in
-    let here = rw z at (h 0 (omega arith)) in
-    let rest = rows-well f (suc j) n (λ k l. let e : suc j + k ≡ j + suc k = omega arith in
-    rw e (h (suc k) (omega arith))) in
-    rw (le-leb (f LABEL j) 2 (here .0), lt-ltb (f CLASS j) 16 (omega (arith, here .1)), rest)
-
 rows-minutes : (table : List ℕ) (f : ℕ → ℕ → ℕ) (l : List Arguments) (j : ℕ)
     → ((k : ℕ) → k < length l → f CLASS (j + k) ≡ getD l k noArguments .class)
     → minutesOfAll table (rowsFrom f j (length l)) ≡ minutesEntered table l
@@ -105,13 +92,37 @@ rows-minutes table f (a ∷ l) j h =
     ap (f CLASS) e ∙ h (suc k) (omega arith)) in
     rw (here, rest)
 
+-- ---- sizes are the same exactly if each is
+abbrev Same : Sizes → Sizes → Type 0
+Same q s = (q .jobs ≡ s .jobs) × (q .arcs ≡ s .arcs) × (q .bits ≡ s .bits) × (q .workers ≡ s .workers)
+
+same-means : (q s : Sizes) → (sameSizes q s ≡ true) ↔ Same q s
+unfolding sameSizes
+same-means q s = (
+  λ e. (
+    eqb-true (q .jobs) (s .jobs) (search (and-left, and-right)),
+    eqb-true (q .arcs) (s .arcs) (search (and-left, and-right)),
+    eqb-true (q .bits) (s .bits) (search (and-left, and-right)),
+    eqb-true (q .workers) (s .workers) (search (and-left, and-right)),
+  ),
+  λ h. rw (
+    eq-eqb (q .jobs) (s .jobs) (h .0),
+    eq-eqb (q .arcs) (s .arcs) (h .1),
+    eq-eqb (q .bits) (s .bits) (h .2),
+    eq-eqb (q .workers) (s .workers) (h .3),
+  ),
+)
+
 -- ---- the theorem
-module _ (table : List ℕ) (s : Sizes) (t : Tables) (laid : layOut s t .answer ≡ Laid) (items : List Item) where
+module _ (s : Sizes) (t : Tables) (laid : layOut s t .answer ≡ Laid) (items : List Item) where
   abbrev T : Tables
   T = after perform (layOut s t .state) items
 
   abbrev g : Graph
   g = after (rules.perform s) empty items
+
+  abbrev table : List ℕ
+  table = minutesLoaded (events perform (layOut s t .state) items)
 
   abbrev adds : List Arguments
   adds = acceptedAdds (reading (events perform (layOut s t .state) items) .calls)
@@ -147,30 +158,76 @@ module _ (table : List ℕ) (s : Sizes) (t : Tables) (laid : layOut s t .answer 
   unfolding jobsFit rows
   fit = rw (R .stands .limits, R .stands .jobs, R .stands .kept)
 
-  plain : graphTotals table s (T .jobs) ≡ totalsOf table (rowsFrom f 0 (length adds))
+  -- the minutes that stand in the table are the loaded ones, and they rise
+  stored : storedMinutes (T .jobs) ≡ table
+  stored = demand s t laid items .minutes
+
+  rises : isRising table ≡ true
+  rises = rw (sym (R .stands .minutes) ∙ stored) at (R .sound .minutes)
+
+  plain : graphTotals s (T .jobs) ≡ totalsOf table (rowsFrom f 0 (length adds))
   unfolding graphTotals
-  plain = rw (fit, made, le-leb (length adds) (s .jobs) few)
+  plain = rw (fit, made, le-leb (length adds) (s .jobs) few, stored, rises)
 
-  formed : allWellFormed (rowsFrom f 0 (length adds)) ≡ true
-  formed = rows-well f 0 (length adds) (λ k h. let e : 0 + k ≡ k = omega arith in rw e (well k h))
+  sized : JobsSized s (T .jobs)
+  sized = jobs-sized-means s (T .jobs) .0 fit
 
-  answers : totalsOf table (rowsFrom f 0 (length adds)) .number ≡ served
-  unfolding totalsOf counted
-  answers =
-      let n = rows-length f 0 (length adds) in
-      let small : length (rowsFrom f 0 (length adds)) ≤ mostRecords =
-      omega (arith, few, limits-of s (R .stands .limits) .jobs) in
-      rw (le-ltb mostRecords (length (rowsFrom f 0 (length adds))) small, formed)
+  is-served : (q : Sizes) → JobsSized q (T .jobs) → length adds ≤ q .jobs → graphTotals q (T .jobs) .number ≡ served
+  unfolding columns header
+  is-served q z h =
+      boards-exactly q (T .jobs) .serves z (rw made h) (rising-means (storedMinutes (T .jobs)) .0 (rw stored rises))
+      (λ k l. well k (rw made at l)) .0
 
-  is-served : graphTotals table s (T .jobs) .number ≡ served
-  is-served = rw plain answers
+  laid-served : graphTotals s (T .jobs) .number ≡ served
+  laid-served = is-served s sized few
 
   pub accounted : Accounted graphTotals table s (T .jobs) adds
   accounted = record {
-    answered = is-served;
-    under-labels = graph-counts table s (T .jobs) is-served;
+    answered = laid-served;
+    under-labels = rw (← stored) (graph-counts s (T .jobs) laid-served);
     all-minutes =
         rw plain
-        (all-jobs table (rowsFrom f 0 (length adds)) answers .minutes
+        (all-jobs table (rowsFrom f 0 (length adds)) (rw plain at laid-served) .minutes
         ∙ rows-minutes table f adds 0 (λ k h. let e : 0 + k ≡ k = omega arith in rw e (class-of k h)));
   }
+
+  -- ---- of any sizes: the table takes those that were laid out, and no others
+  sized-as : (q : Sizes) → sameSizes q s ≡ true → JobsSized q (T .jobs)
+  sized-as q e =
+      let z = sized in
+      let same = same-means q s .0 e in
+      record {
+        limits = record {
+          jobs = (omega arith, omega arith);
+          arcs = omega arith;
+          bits = (omega arith, omega arith);
+          workers = (omega arith, omega arith);
+        };
+        long = rw (same .0) (z .long);
+        kept = record { jobs = omega arith; arcs = omega arith; bits = omega arith; workers = omega arith };
+      }
+
+  others : (q : Sizes) → sameSizes q s ≡ false → JobsSized q (T .jobs) → ⊥
+  others q e z =
+      let laid = sized in
+      let same = same-means q s .1 (omega arith, omega arith, omega arith, omega arith) in
+      never (cc)
+
+  -- the minutes that are told are the loaded ones
+  pub minutes-told : (q : Sizes)
+      → graphMinutes q (T .jobs) ≡ pick (sameSizes q s) (allMinutes table) (noMinutes wrongSizes)
+  unfolding graphMinutes judgedMinutes
+  minutes-told q = go (sameSizes q s) refl
+    where
+      go : (b : Bool) → sameSizes q s ≡ b
+          → graphMinutes q (T .jobs) ≡ pick b (allMinutes table) (noMinutes wrongSizes)
+      go true e = rw (jobs-sized-means q (T .jobs) .1 (sized-as q e), stored, rises)
+      go false e = minutes-exactly q (T .jobs) .by-1 (others q e)
+
+  -- the board is refused by 1 alone
+  pub board-number : (q : Sizes) → graphTotals q (T .jobs) .number ≡ pick (sameSizes q s) 0 wrongSizes
+  board-number q = go (sameSizes q s) refl
+    where
+      go : (b : Bool) → sameSizes q s ≡ b → graphTotals q (T .jobs) .number ≡ pick b 0 wrongSizes
+      go true e = is-served q (sized-as q e) (omega (arith, same-means q s .0 e .0, few))
+      go false e = ap (λ (x : Totals). x .number) (boards-exactly q (T .jobs) .by-1 (others q e))

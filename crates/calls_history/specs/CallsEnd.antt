@@ -68,12 +68,12 @@ module _ (s : Sizes) (t : Tables) (laid : layOut s t .answer ≡ Laid) where
     module _ (w : ℕ) (h : w < s .workers) (free : r .pending w ≡ idle) where
       add-post : (a : Arguments) → AddPost (perform x (postAdd s w a) .answer)
       add-post a =
-          rw (says (postAdd s w a)) (made-add (own-made s g (postAdd s w a) (own-sizes s) h refl (rests w free)))
+          rw (says (postAdd s w a)) (made-add (own-made s g (postAdd s w a) (own-sizes s) h refl refl (rests w free)))
 
       finish-post : (f : Finish) → FinishPost (perform x (postFinish s w f) .answer)
       finish-post f =
           rw (says (postFinish s w f))
-          (made-finish (own-made s g (postFinish s w f) (own-sizes s) h refl (rests w free)))
+          (made-finish (own-made s g (postFinish s w f) (own-sizes s) h refl refl (rests w free)))
 
       -- ---- a call run whole
       pub add-ends : (a : Arguments) → AddAnswer (lastOf perform (addMade perform s w a x) x)

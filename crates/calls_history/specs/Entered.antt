@@ -1,5 +1,5 @@
--- Posts and steps never take a job out of the queue, so that the entries by the items of a call run whole are those
--- from before the call to after it. Assumes nothing.
+-- Posts, steps and loads never take a job out of the queue, so that the entries by the items of a call run whole are
+-- those from before the call to after it. Assumes nothing.
 use mathlib.Core.Path.{_≡_, refl}
 use mathlib.Core.Bool.{Bool, true, false, true≢false}
 use mathlib.Core.List.{List, [], _∷_, _++_}
@@ -9,10 +9,10 @@ use lib.Dec.{eqb}
 use lib.ListN.{getD}
 use Rattle.basics.specs.Base.{occurrences}
 use Rattle.terms.specs.Terms.{Arguments, settles}
-use Rattle.terms.specs.Runs.{Item, postAdd, postFinish, step, get, after, entries}
+use Rattle.terms.specs.Runs.{Item, postAdd, postFinish, step, get, load, after, entries}
 use Rattle.terms.specs.declared.Sizes.{Sizes}
 use Rattle.terms.specs.declared.Answer.{Answer}
-use Rattle.terms.specs.declared.Answer.the-variants.{Laid, Posted, Going, Ended, NoneReady, Handed, Refused}
+use Rattle.terms.specs.declared.Answer.the-variants.{Laid, Loaded, Posted, Going, Ended, NoneReady, Handed, Refused}
 use Rattle.words.specs.Layout.{Tables}
 use Rattle.words.specs.Words.{perform, layOut}
 use Rattle.words.specs.Observed.{waiting}
@@ -37,6 +37,7 @@ isGet (get s w) = true
 isGet (postAdd s w a) = false
 isGet (postFinish s w f) = false
 isGet (step s w) = false
+isGet (load s m) = false
 
 -- ---- by the rules
 module _ (v : ℕ) where
@@ -69,7 +70,7 @@ module _ (v : ℕ) where
 
   grows : {s : Sizes} {g : Graph} {i : Item} {x : Answer} {h : Graph} → Deed s g i x h → isGet i ≡ false → Grows g h
   grows (by.otherSizes e) n = omega arith
-  grows (by.workerUnknown e l) n = omega arith
+  grows (by.workerUnknown e u l) n = omega arith
   grows (by.callHalfDone A m c) n = omega arith
   grows (by.made A c (by.addWrong e)) n = omega arith
   grows (by.made A c (by.addPosted e)) n = omega arith
@@ -79,6 +80,9 @@ module _ (v : ℕ) where
   grows (by.made A c (by.getNone e f)) n = absurd (true≢false n)
   grows (by.made A c (by.getHanded e k f)) n = absurd (true≢false n)
   grows (by.stepped A c S) n = step-grows S
+  grows (by.loading e (by.notRising r)) n = omega arith
+  grows (by.loading e (by.tooLate r l)) n = omega arith
+  grows (by.loading e (by.minutesLoaded r l)) n = omega arith
 
 -- ---- over the words
 module _ (s : Sizes) (t : Tables) (laid : layOut s t .answer ≡ Laid) (j : ℕ) where
@@ -115,6 +119,7 @@ module _ (s : Sizes) (t : Tables) (laid : layOut s t .answer ≡ Laid) (j : ℕ)
   sums-going Posted x is S = S
   sums-going Going x is S = S
   sums-going Laid x is S = sums-none x
+  sums-going Loaded x is S = sums-none x
   sums-going Ended x is S = sums-none x
   sums-going NoneReady x is S = sums-none x
   sums-going (Handed h) x is S = sums-none x

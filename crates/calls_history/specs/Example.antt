@@ -6,6 +6,8 @@ use lib.ListN.{replicate}
 use Rattle.basics.specs.Base.{contains, repeats, prefix}
 use Rattle.bucket.specs.Bucket.{productOf, bucketOf}
 use Rattle.heap.specs.Sift.{siftUp, siftDown}
+use Rattle.minutes.specs.Minutes.{fixedMinutes}
+use Rattle.minutes.specs.Rising.{risesAbove, isRising}
 use Rattle.terms.specs.Terms.{argumentsWrong, withinLimits}
 use Rattle.terms.specs.Starred.{S}
 use Rattle.terms.specs.declared.Answer.the-variants.{Laid}
@@ -16,7 +18,7 @@ use Rattle.words.specs.Index.{waits, seatFor, firstSeatBy, shiftedDown, shifted
 use Rattle.words.specs.Words.{perform, ownOk, walk, findOf, planLookUp, planEnter, planAppend, planLink, withSeat}
 use Rattle.words.specs.Words.{planSettle, planMark, planNotify, planAdd, planLinks, planCall, planPhase, admitted}
 use Rattle.words.specs.Words.{applied, stepWords, planTake, planQueue, planGet, appliedGet, getWords, posted, addWords}
-use Rattle.words.specs.Words.{finishWords, layOut}
+use Rattle.words.specs.Words.{finishWords, layOut, loading, loadWords}
 use Rattle.words.specs.Observed.{seen}
 use Rattle.whole_words.specs.Whole.{stepsOf, wholeAdd, wholeFinish}
 use Rattle.whole_words.specs.Sheet.{addEach, served, sheetWords}
@@ -42,7 +44,8 @@ unfolding contains repeats prefix argumentsWrong withinLimits productOf bucketOf
     sizesKept repeated freshTables siftUp siftDown waits seatFor firstSeatBy shiftedDown shiftedUp putSeat takeSeat
     perform ownOk walk findOf planLookUp planEnter planAppend planLink withSeat planSettle planMark planNotify planAdd
     planLinks planCall planPhase admitted applied stepWords planTake planQueue planGet appliedGet getWords posted
-    addWords finishWords layOut stepsOf wholeAdd wholeFinish addEach served sheetWords answerWords repliesTo
+    addWords finishWords layOut loading loadWords stepsOf wholeAdd wholeFinish addEach served sheetWords answerWords
+    repliesTo fixedMinutes risesAbove isRising
 replies-so = refl
 
 pub example-holds : CallsDemand perform turnedWords answerWords seen S (layOut S old .state) everyKind

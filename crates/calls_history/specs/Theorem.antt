@@ -3,16 +3,18 @@
 use mathlib.Core.Path.{_≡_, refl, ap}
 use mathlib.Core.List.{List, [], _∷_}
 use Prim.Native.Nat.{ℕ}
+use Rattle.minutes.specs.Minutes.{fixedMinutes}
 use Rattle.terms.specs.Runs.{Item, after, events, entries}
 use Rattle.terms.specs.declared.Sizes.{Sizes}
 use Rattle.terms.specs.declared.Answer.the-variants.{Laid}
 use Rattle.words.specs.Layout.{Tables}
 use Rattle.words.specs.Words.{perform, layOut}
 use Rattle.words.specs.Observed.{waiting, seen}
-use Rattle.linearization.specs.Calls.{Reading, unread, readOn}
+use Rattle.linearization.specs.Calls.{Reading, unread, readOn, minutesOn}
 use Rattle.words_history.specs.Theorem.{demand}
 use Rattle.host_calls.specs.HostCalls.{HostCall, Replied, worth, replyWorth, afterCalls, callEntries}
-use Rattle.host_calls.specs.CallsDemand.{allWorth, readCalls, CallsDemand}
+use Rattle.host_calls.specs.CallsDemand.{allWorth, readCalls, readMinutes, CallsDemand}
+use Rattle.host_calls.specs.MinutesRead.{minutes-joined, call-minutes}
 use Rattle.calls_history.specs.WordsCalls.{turnedWords, answerWords}
 use Rattle.host_calls.specs.Joined.{after-joined, entries-joined, reads-joined}
 use Rattle.calls_history.specs.Worth.{whole-is-worth}
@@ -50,6 +52,15 @@ module _ (s : Sizes) (t : Tables) (laid : layOut s t .answer ≡ Laid) where
       rw (leaves-worth x c, replies-worth x c, call-read s t laid N c, reads-joined perform r x is)
       (all-read cs (on s t laid N is))
 
+  all-minutes : (cs : List HostCall) (m : List ℕ) (x : Tables)
+      → readMinutes perform turnedWords answerWords seen s T m x cs ≡ minutesOn m (events perform x (made x cs))
+  unfolding readMinutes allWorth events minutesOn
+  all-minutes [] m x = refl
+  all-minutes (c ∷ cs) m x =
+      let is : List Item = worth perform turnedWords x c in
+      rw (replies-worth x c, call-minutes perform turnedWords m x c, minutes-joined perform m is, ← (leaves-worth x c))
+      (all-minutes cs (minutesOn m (events perform x is)) (answerWords x c .state))
+
   all-enter : (cs : List HostCall) {x : Tables} {r : Reading} → Now s t laid x r → (j : ℕ)
       → callEntries answerWords waiting x cs j ≡ entries perform waiting x (made x cs) j
   unfolding callEntries allWorth entries
@@ -73,6 +84,7 @@ module _ (s : Sizes) (t : Tables) (laid : layOut s t .answer ≡ Laid) where
     pub calls-demand : CallsDemand perform turnedWords answerWords seen s T calls
     calls-demand = record {
       replies = whole-is-worth (afterCalls answerWords T calls);
+      reads-minutes = all-minutes calls fixedMinutes T;
       turns-away = sheet-turned s t laid at-calls;
       leaves = all-leave calls T;
       reads = let e = all-read calls (at-start s t laid) in record {

@@ -12,7 +12,7 @@ use Rattle.terms.specs.Terms.{Arguments, Finish}
 use Rattle.terms.specs.Runs.{Item, postAdd, postFinish, Outcome, outcome, after, events}
 use Rattle.terms.specs.declared.Sizes.{Sizes}
 use Rattle.terms.specs.declared.Answer.{Answer}
-use Rattle.terms.specs.declared.Answer.the-variants.{Laid, Posted, Going, Ended, NoneReady, Handed, Refused}
+use Rattle.terms.specs.declared.Answer.the-variants.{Laid, Loaded, Posted, Going, Ended, NoneReady, Handed, Refused}
 use Rattle.words.specs.Layout.{none, Tables}
 use Rattle.words.specs.Words.{answerOf, goingUnless, planStep, stepWords, perform}
 use Rattle.words.specs.declared.Plan.{Plan}
@@ -60,6 +60,7 @@ module _ (s : Sizes) (w : ℕ) where
   goes-on zero Posted t more e = absurd (omega (arith, more refl))
   goes-on (suc k) Posted t more e = e
   goes-on k Laid t more e = refl
+  goes-on k Loaded t more e = refl
   goes-on k Ended t more e = refl
   goes-on k NoneReady t more e = refl
   goes-on k (Handed h) t more e = refl

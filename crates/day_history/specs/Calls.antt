@@ -173,7 +173,7 @@ module _ (s : Sizes) (w : ℕ) (hw : w < s .workers) where
       unfolding wholeAdd words.perform
       whole-add t D =
           let o = onward (D .at) (postAdd s w a) in
-          rw (o .0) (posted (own-made s (D .graph) (postAdd s w a) (own-sizes s) hw refl (D .team .own)) _ (o .1))
+          rw (o .0) (posted (own-made s (D .graph) (postAdd s w a) (own-sizes s) hw refl refl (D .team .own)) _ (o .1))
         where
           posted : {x : Answer} {after : Graph} → Made s (D .graph) (postAdd s w a) x after
               → Next Added (2 * a .count + 2) x after
@@ -267,7 +267,7 @@ module _ (s : Sizes) (w : ℕ) (hw : w < s .workers) where
         let i = postFinish s w (finishOf (name p)) in
         let o = onward (D .at) i in
         rw (o .0) (rw (add-one (s .arcs))
-        (posted (own-made s (D .graph) i (own-sizes s) hw refl (D .team .own)) _ (o .1)))
+        (posted (own-made s (D .graph) i (own-sizes s) hw refl refl (D .team .own)) _ (o .1)))
       where
         has : D .graph .workers w .held ≡ some p
         has = D .team .held w ∙ holds
@@ -300,7 +300,7 @@ module _ (s : Sizes) (w : ℕ) (hw : w < s .workers) where
     whole-get t D =
         let o = onward (D .at) (get s w) in
         let ends : GetEnds Handing Drained (outcome (getWords s t w .answer) (getWords s t w .state)) =
-        rw (o .0) (got (own-made s (D .graph) (get s w) (own-sizes s) hw refl (D .team .own)) _ (o .1)) in
+        rw (o .0) (got (own-made s (D .graph) (get s w) (own-sizes s) hw refl refl (D .team .own)) _ (o .1)) in
         ends
       where
         got : {x : Answer} {after : Graph} → Made s (D .graph) (get s w) x after → (v : Tables) → At s v after

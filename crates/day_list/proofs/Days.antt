@@ -9,7 +9,7 @@ use Rattle.basics.specs.Laws.{never}
 use Rattle.terms.specs.Terms.{mostWorkers}
 use Rattle.terms.specs.declared.Sizes.{Sizes}
 use Rattle.terms.specs.declared.Answer.{Answer}
-use Rattle.terms.specs.declared.Answer.the-variants.{Laid, Posted, Going, Ended, NoneReady, Handed, Refused}
+use Rattle.terms.specs.declared.Answer.the-variants.{Laid, Loaded, Posted, Going, Ended, NoneReady, Handed, Refused}
 use Rattle.words.specs.Layout.{Tables}
 use Rattle.sheet_format.specs.Job.{Job}
 use Rattle.sheet_format.specs.Decode.{Sheet, jobs, broken, decodeSheet, scanSheet}
@@ -34,6 +34,7 @@ few-refused : (i : ℕ) (a : Answer) → length (refusal i a) ≤ 1
 few-refused i (Refused n p) = omega arith
 few-refused i (Handed h) = omega arith
 few-refused i Laid = omega arith
+few-refused i Loaded = omega arith
 few-refused i Posted = omega arith
 few-refused i Going = omega arith
 few-refused i Ended = omega arith

@@ -10,7 +10,7 @@ use Rattle.basics.specs.Base.{pick}
 use Rattle.terms.specs.Terms.{Arguments, mostWorkers}
 use Rattle.terms.specs.declared.Sizes.{Sizes}
 use Rattle.terms.specs.declared.Answer.{Answer}
-use Rattle.terms.specs.declared.Answer.the-variants.{Laid, Posted, Going, Ended, NoneReady, Handed, Refused}
+use Rattle.terms.specs.declared.Answer.the-variants.{Laid, Loaded, Posted, Going, Ended, NoneReady, Handed, Refused}
 use Rattle.words.specs.Layout.{Tables, tables, need, jobShape, arcShape, bucketShape, queueShape, workerShape}
 use Rattle.words.specs.Words.{getWords, layOut}
 use Rattle.sheet_format.specs.Job.{Job}
@@ -49,6 +49,7 @@ pub record Refusal : Type 0 where
 abbrev pub refusal : ℕ → Answer → List Refusal
 refusal i (Refused n p) = record { entry = i; number = n } ∷ []
 refusal i Laid = []
+refusal i Loaded = []
 refusal i Posted = []
 refusal i Going = []
 refusal i Ended = []
@@ -82,6 +83,7 @@ holder w n = record { worker = w; name = n }
 abbrev pub handOut : ℕ → Answer → List Holder
 handOut w (Handed h) = holder w (h .name) ∷ []
 handOut w Laid = []
+handOut w Loaded = []
 handOut w Posted = []
 handOut w Going = []
 handOut w Ended = []

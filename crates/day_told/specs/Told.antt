@@ -5,7 +5,7 @@ use mathlib.Core.List.{[], _∷_}
 use Prim.Native.Nat.{ℕ}
 use Rattle.basics.specs.Base.{pick}
 use Rattle.terms.specs.declared.Answer.{Answer}
-use Rattle.terms.specs.declared.Answer.the-variants.{Laid, Posted, Going, Ended, NoneReady, Handed, Refused}
+use Rattle.terms.specs.declared.Answer.the-variants.{Laid, Loaded, Posted, Going, Ended, NoneReady, Handed, Refused}
 use Rattle.day_rounds.specs.Rounds.{refusal, holder, handOut}
 use Rattle.day_told.specs.declared.Told.{Told}
 
@@ -16,6 +16,7 @@ abbrev pub toldOf : Answer → Told
 toldOf (Handed h) = told true false (h .name)
 toldOf (Refused n p) = told false true n
 toldOf Laid = told false false 0
+toldOf Loaded = told false false 0
 toldOf Posted = told false false 0
 toldOf Going = told false false 0
 toldOf Ended = told false false 0
@@ -27,6 +28,7 @@ pub hand-out-told : (w : ℕ) (a : Answer)
 hand-out-told w (Handed h) = refl
 hand-out-told w (Refused n p) = refl
 hand-out-told w Laid = refl
+hand-out-told w Loaded = refl
 hand-out-told w Posted = refl
 hand-out-told w Going = refl
 hand-out-told w Ended = refl
@@ -38,6 +40,7 @@ pub refusal-told : (i : ℕ) (a : Answer)
 refusal-told i (Handed h) = refl
 refusal-told i (Refused n p) = refl
 refusal-told i Laid = refl
+refusal-told i Loaded = refl
 refusal-told i Posted = refl
 refusal-told i Going = refl
 refusal-told i Ended = refl

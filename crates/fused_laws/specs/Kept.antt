@@ -37,7 +37,7 @@ start = record { long = refl; kept = λ k h. refl }
 job-put : {l m : List ℕ} → Jobs l m → (i k v : ℕ) → Jobs l (put jobShape m i k v)
 job-put {l} {m} a i k v = record {
   long = length-put jobShape m i k v ∙ a .long;
-  kept = λ q h. header-put jobShape m i k v q (lt-ltb q 5 (omega arith)) ∙ a .kept q h;
+  kept = λ q h. header-put jobShape m i k v q (lt-ltb q 21 (omega arith)) ∙ a .kept q h;
 }
 
 job-record : {l m : List ℕ} → Jobs l m → (i : ℕ) (r : List ℕ) → Jobs l (sets m (place jobShape i 0) r)

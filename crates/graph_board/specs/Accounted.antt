@@ -2,7 +2,7 @@
 -- job: "the number of jobs and the sum of minutes under each label", and "the three sums together equal the minutes of
 -- all jobs that ever entered". (Wrong.antt has boards that do not.) Assumes nothing.
 use mathlib.Core.Path.{_≡_, refl}
-use mathlib.Core.Bool.{Bool, true, false}
+use mathlib.Core.Bool.{Bool, true, false, _&&_}
 use mathlib.Core.List.{List, [], _∷_}
 use Prim.Native.Nat.{ℕ, zero, suc, _+_}
 use native.Mathlib.Omega.{arith}
@@ -11,24 +11,20 @@ use lib.ListN.{length}
 use Rattle.basics.specs.Base.{pick}
 use Rattle.basics.specs.Laws.{never}
 use Rattle.minutes.specs.Minutes.{minutesIn}
+use Rattle.minutes.specs.Rising.{isRising}
 use Rattle.terms.specs.Terms.{damaged, wrongSizes, Label, unexecuted, executing, finished, labelNumber, Arguments}
 use Rattle.terms.specs.declared.Sizes.{Sizes}
 use Rattle.words.specs.Columns.{columns, header}
-use Rattle.words.specs.Layout.{jobShape, MADE, LABEL, CLASS}
+use Rattle.words.specs.Layout.{jobShape, storedMinutes, MADE, LABEL, CLASS}
 use Rattle.totals.specs.Board.{served, refused, sumOver, under, oneJob, itsMinutes}
 use Rattle.totals.specs.Board.{mostRecords, allWellFormed, counted, totalsOf}
 use Rattle.totals.specs.AllJobs.{together}
+use Rattle.totals.specs.Exactly.{overJobs}
 use Rattle.totals.specs.declared.JobRecord.{JobRecord}
 use Rattle.totals.specs.declared.Totals.{Totals}
 use Rattle.graph_board.specs.Board.{rowsFrom, graphRows, jobsFit, graphTotals, minutesEntered}
 
--- ---- sums over jobs by their number
--- of the first n jobs
-unfoldable pub overJobs : (ℕ → ℕ) → ℕ → ℕ
-overJobs amount zero = 0
-overJobs amount (suc n) = overJobs amount n + amount n
-
--- how many of them have a label, and their minutes, by the columns of the jobs table
+-- ---- sums over jobs by their number: how many of the first n have a label, and their minutes, by the columns of the jobs table
 abbrev pub jobsOf : (ℕ → ℕ → ℕ) → ℕ → Label → ℕ
 jobsOf f n l = overJobs (λ j. pick (eqb (f LABEL j) (labelNumber l)) 1 0) n
 
@@ -45,13 +41,14 @@ pub record UnderLabels (table words : List ℕ) (t : Totals) : Type 0 where
   pub minutes : t .minutes ≡ byLabel (minutesOf table (columns jobShape words) (header words MADE))
 
 abbrev pub Board : Type 0
-Board = List ℕ → Sizes → List ℕ → Totals
+Board = Sizes → List ℕ → Totals
 
+-- by the minutes that were loaded, a table
 pub record Accounted (board : Board) (table : List ℕ) (s : Sizes) (words : List ℕ) (adds : List Arguments)
     : Type 0 where
-  pub answered : board table s words .number ≡ served
-  pub under-labels : UnderLabels table words (board table s words)
-  pub all-minutes : together (board table s words .minutes) ≡ minutesEntered table adds
+  pub answered : board s words .number ≡ served
+  pub under-labels : UnderLabels table words (board s words)
+  pub all-minutes : together (board s words .minutes) ≡ minutesEntered table adds
 
 -- ---- the graph's board has them: a sum over the row is the sum over its jobs
 abbrev recordOf : (ℕ → ℕ → ℕ) → ℕ → JobRecord
@@ -71,27 +68,31 @@ row-sum f amount zero = refl
 row-sum f amount (suc n) =
     let e : 0 + n ≡ n = omega arith in omega (arith, rw e at (last-row f amount 0 n), row-sum f amount n)
 
--- the board of the graph's own row, if it is served
-pub graph-counts : (table : List ℕ) (s : Sizes) (words : List ℕ) → graphTotals table s words .number ≡ served
-    → UnderLabels table words (graphTotals table s words)
+-- the board of the graph's own row, if it is served, by the minutes that stand in the table
+pub graph-counts : (s : Sizes) (words : List ℕ) → graphTotals s words .number ≡ served
+    → UnderLabels (storedMinutes words) words (graphTotals s words)
 unfolding graphTotals totalsOf counted
-graph-counts table s words =
-    by (jobsFit s words) (leb (header words MADE) (s .jobs)) (ltb mostRecords (length rows)) (allWellFormed rows)
+graph-counts s words =
+    by (jobsFit s words) (leb (header words MADE) (s .jobs) && isRising (storedMinutes words))
+    (ltb mostRecords (length rows)) (allWellFormed rows)
   where
     f : ℕ → ℕ → ℕ
     f = columns jobShape words
+
+    table : List ℕ
+    table = storedMinutes words
 
     rows : List JobRecord
     rows = graphRows words
 
     given : Bool → Bool → Bool → Bool → Totals
-    given fit made many formed =
+    given fit right many formed =
         let row = pick many (refused wrongSizes) (pick formed (counted table rows) (refused damaged)) in
-        pick fit (pick made row (refused damaged)) (refused wrongSizes)
+        pick fit (pick right row (refused damaged)) (refused wrongSizes)
 
-    by : (fit made many formed : Bool) → given fit made many formed .number ≡ served
-        → UnderLabels table words (given fit made many formed)
-    by false made many formed e = never (cc)
+    by : (fit right many formed : Bool) → given fit right many formed .number ≡ served
+        → UnderLabels table words (given fit right many formed)
+    by false right many formed e = never (cc)
     by true false many formed e = never (cc)
     by true true true formed e = never (cc)
     by true true false false e = never (cc)

@@ -7,10 +7,13 @@ use lib.Dec.{leb}
 use lib.ListN.{length}
 use Rattle.basics.specs.Base.{pick}
 use Rattle.minutes.specs.Minutes.{minutesIn}
+use Rattle.minutes.specs.Rising.{isRising}
+use Rattle.minutes.specs.Judged.{noMinutes, judgedMinutes}
+use Rattle.minutes.specs.declared.GraphMinutes.{GraphMinutes}
 use Rattle.terms.specs.Terms.{damaged, wrongSizes, Arguments, withinLimits}
 use Rattle.terms.specs.declared.Sizes.{Sizes}
 use Rattle.words.specs.Columns.{columns, header}
-use Rattle.words.specs.Layout.{jobShape, need, sizesKept, MADE, LABEL, CLASS}
+use Rattle.words.specs.Layout.{jobShape, need, sizesKept, storedMinutes, MADE, LABEL, CLASS}
 use Rattle.totals.specs.Board.{totalsOf, refused}
 use Rattle.totals.specs.declared.JobRecord.{JobRecord}
 use Rattle.totals.specs.declared.Totals.{Totals}
@@ -27,11 +30,18 @@ graphRows jobs = rowsFrom (columns jobShape jobs) 0 (header jobs MADE)
 unfoldable pub jobsFit : Sizes → List ℕ → Bool
 jobsFit s jobs = withinLimits s && leb (need jobShape (s .jobs)) (length jobs) && sizesKept s jobs
 
--- number 9 for a counter over R, or a wrong label or class
-unfoldable pub graphTotals : List ℕ → Sizes → List ℕ → Totals
-graphTotals table s jobs =
+-- the stored minutes: number 9 where they do not rise or leave their limits
+unfoldable pub graphMinutes : Sizes → List ℕ → GraphMinutes
+graphMinutes s jobs = pick (jobsFit s jobs) (judgedMinutes damaged (storedMinutes jobs)) (noMinutes wrongSizes)
+
+-- number 9 for a counter over R, stored minutes that do not rise or leave their limits, or a wrong label or class; the
+-- minutes are the stored ones
+unfoldable pub graphTotals : Sizes → List ℕ → Totals
+graphTotals s jobs =
     pick (jobsFit s jobs)
-    (pick (leb (header jobs MADE) (s .jobs)) (totalsOf table (graphRows jobs)) (refused damaged))
+    (pick (leb (header jobs MADE) (s .jobs) && isRising (storedMinutes jobs))
+    (totalsOf (storedMinutes jobs) (graphRows jobs))
+    (refused damaged))
     (refused wrongSizes)
 
 -- the minutes of the jobs that ever entered, by their adds

@@ -1,3 +1,4 @@
 pub mod Board
 pub mod Accounted
+pub mod Exactly
 pub mod Wrong

@@ -1,15 +1,17 @@
 // The stores of laying out. Follows docs/RULES.md, "Tables and their measures": no jobs, all workers idle and holding
-// nothing, unused words 0, every place none. Assumes nothing.
+// nothing, the fixed minutes, unused words 0, every place none. Assumes nothing.
 ghost use mathlib.Core.Path.{_≡_};
 ghost use Prim.Native.Nat.{_+_, _*_, _^_, _≤_};
 ghost use lib.Seq.{sets};
+ghost use Rattle.minutes.specs.Minutes.{fixedMinutes};
 ghost use Rattle.terms.specs.Terms.{mostBits};
 ghost use Rattle.words.specs.Columns.{place};
 ghost use Rattle.words.specs.Layout.{none, jobShape, workerShape, IDLE, bareWorker, repeated, freshJob, freshJobs};
-ghost use Rattle.words.specs.Layout.{freshArcs, freshBuckets, freshQueue, freshTables, atEntry, atExit};
+ghost use Rattle.words.specs.Layout.{putMinutes, freshArcs, freshBuckets, freshQueue, freshTables, atEntry, atExit};
 use graph_records::fill;
 use graph_records::put_bare_worker;
 use graph_records::put_job_record;
+use graph_records::put_words;
 use graph_words::layout::*;
 use graph_words::numbers::*;
 use graph_words::put_header;
@@ -38,6 +40,14 @@ fn fresh_workers(workers: &mut [u32], count: u32)
     }
 }
 
+// The fixed minutes of all classes.
+fn fresh_minutes(jobs: &mut [u32])
+    ensures { λ _. ⌜ now (jobs .exit) ≡ putMinutes (now (jobs .entry)) fixedMinutes ⌝ }
+{
+    let fixed = minutes::fixed();
+    put_words(jobs, MINUTES, &fixed);
+}
+
 fn fresh_jobs(sizes: Sizes, jobs: &mut [u32])
     ensures { λ _. ⌜ now (jobs .exit) ≡ sets (now (jobs .entry)) 0 (freshJobs sizes) ⌝ }
 {
@@ -46,6 +56,7 @@ fn fresh_jobs(sizes: Sizes, jobs: &mut [u32])
     put_header(jobs, BITS, sizes.bits);
     put_header(jobs, WORKERS, sizes.workers);
     put_header(jobs, MADE, 0);
+    fresh_minutes(jobs);
     fresh_job_records(jobs, sizes.jobs);
 }
 

@@ -5,8 +5,8 @@ use Prim.Native.Nat.{ℕ, zero, suc, _+_, _-_, _≤_, _<_}
 use native.Mathlib.Omega.{arith}
 use native.Mathlib.Numerals.{add-one}
 use lib.Dec.{lit<}
-use lib.ListN.{length, set, replicate, length-set}
-use lib.Seq.{sets, set-out}
+use lib.ListN.{length, getD, set, drop, replicate, length-set, drop-of-length-le}
+use lib.Seq.{sets, set-out, drop-cons}
 use Rattle.basics.specs.Stores.{set-in}
 use Rattle.words.specs.Columns.{Shape, place, put}
 use Rattle.words.specs.Layout.{none, workerShape, PHASE, HELD, OWN-JOB, OWN-ARC, bareWorker}
@@ -45,6 +45,14 @@ fill-one l i e v h = let z : e - i ≡ suc (e - (i + 1)) = omega arith in rw (z,
 
 pub fill-none : (l : List ℕ) (i e v : ℕ) → e ≤ i → l ≡ sets l i (replicate (e - i) v)
 fill-none l i e v h = let z : e - i ≡ 0 = omega arith in rw z
+
+pub words-one : (l ws : List ℕ) (k i : ℕ) → i < length ws
+    → sets (set l (k + i) (getD ws i 0)) (k + (i + 1)) (drop (i + 1) ws) ≡ sets l (k + i) (drop i ws)
+words-one l ws k i h =
+    let z : k + (i + 1) ≡ suc (k + i) = omega arith in rw (z, add-one i, drop-cons ws i 0 h)
+
+pub words-none : (l ws : List ℕ) (k i : ℕ) → length ws ≤ i → l ≡ sets l (k + i) (drop i ws)
+words-none l ws k i h = rw (drop-of-length-le ws {i = i} h)
 
 -- ---- a store into a run
 put-in : (l vs : List ℕ) (w k v : ℕ) → k < length vs

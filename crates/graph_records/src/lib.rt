@@ -1,5 +1,6 @@
-// The stores of whole records: a job's, and that of a worker whose call has no arguments. Follows docs/RULES.md,
-// "Tables and their measures". A store past a table's end changes nothing. Assumes nothing.
+// The stores of words one after another, and of whole records: a job's, and that of a worker whose call has no
+// arguments. Follows docs/RULES.md, "Tables and their measures". A store past a table's end changes nothing. Assumes
+// nothing.
 ghost use mathlib.Core.Path.{_≡_};
 ghost use mathlib.Core.List.{[], _∷_};
 ghost use Prim.Native.Nat.{_-_, _≤_};
@@ -10,6 +11,7 @@ ghost use Rattle.words.specs.Layout.{none, jobShape, workerShape, PHASE, bareWo
 ghost use Rattle.words.specs.Words.{putWorker};
 use graph_words::layout::*;
 use graph_words::put_job;
+use graph_words::put_word;
 use graph_words::put_worker;
 
 // The words from `from` up to `end`, which is within the table.
@@ -36,6 +38,17 @@ pub fn fill(s: &mut [u32], from: usize, count: usize, value: u32)
         fill_to(s, from, from + count, value);
     } else {
         fill_to(s, from, len, value);
+    }
+}
+
+// Words one after another from `from` on, as far as the table reaches.
+pub fn put_words(s: &mut [u32], from: u32, words: &[u32])
+    ensures { λ _. ⌜ now (s .exit) ≡ sets (now (s .entry)) from (now (words .entry)) ⌝ }
+{
+    let mut i = 0;
+    while i < words.len() {
+        put_word(s, (from as usize) + i, words[i]);
+        i += 1;
     }
 }
 

@@ -1,14 +1,15 @@
-// The board of totals over the graph's own jobs: the label and class of each job that was made. Follows docs/RULES.md,
-// "The board and the day list" and "Turned-away calls". Assumes nothing.
+// The minutes that a graph stores, and the board of totals over its own jobs by them: the label and class of each job
+// that was made. Follows docs/RULES.md, "The board and the day list" and "Turned-away calls". Assumes nothing.
 ghost use mathlib.Core.Path.{_≡_};
-ghost use Rattle.minutes.specs.Minutes.{fixedMinutes};
-ghost use Rattle.graph_board.specs.Board.{jobsFit, graphTotals};
+ghost use Rattle.graph_board.specs.Board.{jobsFit, graphMinutes, graphTotals};
 use graph_sizes::need;
 use graph_sizes::within_limits;
 use graph_words::header;
 use graph_words::layout::*;
 use graph_words::numbers::*;
+use minutes::GraphMinutes;
 use terms::Sizes;
+use totals::SERVED;
 use totals::Totals;
 use totals::blank;
 use totals_of_words::of_table;
@@ -25,19 +26,34 @@ fn jobs_fit(sizes: Sizes, jobs: &[u32]) -> bool
             & (header(jobs, WORKERS) == sizes.workers))
 }
 
-// The totals of the jobs that were made. A counter of more jobs than the table has is damage.
-pub fn totals_of_graph(sizes: Sizes, jobs: &[u32]) -> Totals
-    ensures { λ r. ⌜ r ≡ graphTotals fixedMinutes sizes (now (jobs .entry)) ⌝ }
+// The stored minutes. Words off their limits are damage.
+pub fn minutes_of_graph(sizes: Sizes, jobs: &[u32]) -> GraphMinutes
+    ensures { λ r. ⌜ r ≡ graphMinutes sizes (now (jobs .entry)) ⌝ }
 {
     let fit = jobs_fit(sizes, jobs);
     if fit {
+        let from = MINUTES as usize;
+        let end = JOB_HEAD as usize;
+        minutes::judged(DAMAGED, &jobs[from..end])
+    } else {
+        minutes::none(WRONG_SIZES)
+    }
+}
+
+// The totals of the jobs that were made, by the stored minutes. A counter of more jobs than the table has is damage.
+pub fn totals_of_graph(sizes: Sizes, jobs: &[u32]) -> Totals
+    ensures { λ r. ⌜ r ≡ graphTotals sizes (now (jobs .entry)) ⌝ }
+{
+    let by = minutes_of_graph(sizes, jobs);
+    let number = by.number;
+    if number == SERVED {
         let made = header(jobs, MADE);
         if made <= sizes.jobs {
-            of_table(jobs, JOB_HEAD, JOB_WIDTH, LABEL, CLASS, made as usize)
+            of_table(by, jobs, JOB_HEAD, JOB_WIDTH, LABEL, CLASS, made as usize)
         } else {
             blank(DAMAGED)
         }
     } else {
-        blank(WRONG_SIZES)
+        blank(number)
     }
 }

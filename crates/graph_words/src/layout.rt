@@ -4,7 +4,8 @@
 // No place.
 pub const NONE: u32 = 4294967295;
 
-// The counters of the jobs table: the sizes laid out, and the number of jobs made.
+// The counters of the jobs table: the sizes laid out, the number of jobs made, and the minutes of class 0, which those
+// of the other classes follow.
 pub const JOBS: u32 = 0;
 
 pub const ARCS: u32 = 1;
@@ -14,6 +15,8 @@ pub const BITS: u32 = 2;
 pub const WORKERS: u32 = 3;
 
 pub const MADE: u32 = 4;
+
+pub const MINUTES: u32 = 5;
 
 // A job's fields.
 pub const NAME: u32 = 0;
@@ -96,7 +99,7 @@ pub const MARKING: u32 = 3;
 pub const NOTIFYING: u32 = 4;
 
 // Words before the first record of a table, and words of a record.
-pub const JOB_HEAD: u32 = 5;
+pub const JOB_HEAD: u32 = 21;
 
 pub const JOB_WIDTH: u32 = 8;
 

@@ -40,3 +40,7 @@ pub const ALREADY_HOLDING: u32 = 10;
 pub const NOT_HELD: u32 = 11;
 
 pub const TOO_MANY_ENTRIES: u32 = 16;
+
+pub const WRONG_MINUTES: u32 = 17;
+
+pub const JOBS_ENTERED: u32 = 18;

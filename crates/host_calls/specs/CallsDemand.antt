@@ -1,22 +1,23 @@
 -- Demand 3 of lists in which single items stand beside adds and finishes run whole and sheets: what is read off calls
--- and replies alone, and the claim, of any machine. (WrongSheets.antt, WrongTurned.antt and WrongWhole.antt have
--- machines that do not meet it.) Follows docs/RULES.md, "Whole calls". Assumes nothing.
+-- and replies alone, and the claim, of any machine. (WrongSheets.antt, WrongTurned.antt, WrongWhole.antt and
+-- WrongLoads.antt have machines that do not meet it.) Follows docs/RULES.md, "Whole calls". Assumes nothing.
 use mathlib.Core.Path.{_≡_}
 use mathlib.Core.List.{List, [], _∷_, _++_}
 use Prim.Native.Nat.{ℕ}
 use lib.Dec.{ltb, leb}
 use lib.ListN.{length}
 use Rattle.basics.specs.Base.{pick}
+use Rattle.minutes.specs.Minutes.{fixedMinutes}
 use Rattle.terms.specs.Terms.{Arguments, Finish, sameSizes, mostEntries, wrongSizes, noSuchWorker, halfDone}
 use Rattle.terms.specs.Terms.{tooManyEntries}
 use Rattle.terms.specs.Runs.{Item, Outcome, after, events, entries}
 use Rattle.terms.specs.Seen.{Seen}
 use Rattle.terms.specs.declared.Sizes.{Sizes}
 use Rattle.terms.specs.declared.Answer.{Answer}
-use Rattle.terms.specs.declared.Answer.the-variants.{Laid, Posted, Going, Ended, NoneReady, Handed, Refused}
+use Rattle.terms.specs.declared.Answer.the-variants.{Laid, Loaded, Posted, Going, Ended, NoneReady, Handed, Refused}
 use Rattle.sequential_model.specs.Book.{Call, add, finish, accepted, refused}
 use Rattle.sequential_model.specs.Book as book
-use Rattle.linearization.specs.Calls.{Reading, unread, note, endsCall, reading}
+use Rattle.linearization.specs.Calls.{Reading, unread, note, noteMinutes, minutesLoaded, endsCall, reading}
 use Rattle.linearizability.specs.Demand.{Demand, isIdle}
 use Rattle.host_calls.specs.HostCalls.{HostCall, single, wholeAdd, wholeFinish, sheet, Reply, one, each, Replied}
 use Rattle.host_calls.specs.HostCalls.{replied, worth, replyWorth, afterCalls, callEntries}
@@ -27,6 +28,7 @@ abbrev pub endedBy : Call → Answer → List book.Ended
 endedBy c Ended = record { call = c; end = accepted } ∷ []
 endedBy c (Refused n i) = pick (endsCall n) (record { call = c; end = refused n i } ∷ []) []
 endedBy c Laid = []
+endedBy c Loaded = []
 endedBy c Posted = []
 endedBy c Going = []
 endedBy c NoneReady = []
@@ -37,6 +39,7 @@ abbrev pub nameIfEnded : ℕ → Answer → List ℕ
 nameIfEnded name Ended = name ∷ []
 nameIfEnded name (Refused n i) = []
 nameIfEnded name Laid = []
+nameIfEnded name Loaded = []
 nameIfEnded name Posted = []
 nameIfEnded name Going = []
 nameIfEnded name NoneReady = []
@@ -76,6 +79,14 @@ noteCall r (wholeAdd s w a) (each n xs) = r
 noteCall r (wholeFinish s w f) (each n xs) = r
 noteCall r (sheet s w l) (one x) = r
 
+-- the minutes, by the loads among the calls
+unfoldable pub noteLoad : List ℕ → HostCall → Reply → List ℕ
+noteLoad m (single i) (one x) = noteMinutes m i x
+noteLoad m (single i) (each n xs) = m
+noteLoad m (wholeAdd s w a) y = m
+noteLoad m (wholeFinish s w f) y = m
+noteLoad m (sheet s w l) y = m
+
 -- the same is read
 pub record SameReading (r q : Reading) : Type 0 where
   pub pending : (w : ℕ) → r .pending w ≡ q .pending w
@@ -105,6 +116,10 @@ module _ {S : Type 0} (perform : S → Item → Outcome S) (turned : S → Sizes
   readCalls r x [] = r
   readCalls r x (c ∷ cs) = readCalls (noteCall r c (answer x c .reply)) (answer x c .state) cs
 
+  unfoldable pub readMinutes : List ℕ → S → List HostCall → List ℕ
+  readMinutes m x [] = m
+  readMinutes m x (c ∷ cs) = readMinutes (noteLoad m c (answer x c .reply)) (answer x c .state) cs
+
   module _ (calls : List HostCall) where
     abbrev pub items : List Item
     items = allWorth t calls
@@ -133,6 +148,10 @@ module _ {S : Type 0} (perform : S → Item → Outcome S) (turned : S → Sizes
     abbrev pub Reads : Type 0
     Reads = SameReading read (reading (events perform t items))
 
+    -- the minutes that were loaded too,
+    abbrev pub ReadsMinutes : Type 0
+    ReadsMinutes = readMinutes fixedMinutes t calls ≡ minutesLoaded (events perform t items)
+
     abbrev pub Enters : Type 0
     Enters =
         (j : ℕ)
@@ -145,5 +164,6 @@ module _ {S : Type 0} (perform : S → Item → Outcome S) (turned : S → Sizes
       pub turns-away : TurnsAway
       pub leaves : Leaves
       pub reads : Reads
+      pub reads-minutes : ReadsMinutes
       pub enters : Enters
       pub demand : Demand perform see s t items

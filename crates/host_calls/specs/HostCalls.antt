@@ -8,7 +8,7 @@ use Rattle.terms.specs.Terms.{Arguments, Finish}
 use Rattle.terms.specs.Runs.{Item, postAdd, postFinish, step, Outcome, Event, after, events}
 use Rattle.terms.specs.declared.Sizes.{Sizes}
 use Rattle.terms.specs.declared.Answer.{Answer}
-use Rattle.terms.specs.declared.Answer.the-variants.{Laid, Posted, Going, Ended, NoneReady, Handed, Refused}
+use Rattle.terms.specs.declared.Answer.the-variants.{Laid, Loaded, Posted, Going, Ended, NoneReady, Handed, Refused}
 
 -- a call of a host: an item, an add run whole, a finish run whole, or a sheet, whose adds are run whole in order
 pub data HostCall : Type 0 where
@@ -35,6 +35,7 @@ abbrev pub whereGoing : {A : Type 0} → Answer → List A → List A
 whereGoing Posted l = l
 whereGoing Going l = l
 whereGoing Laid l = []
+whereGoing Loaded l = []
 whereGoing Ended l = []
 whereGoing NoneReady l = []
 whereGoing (Handed h) l = []

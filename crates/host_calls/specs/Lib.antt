@@ -1,8 +1,10 @@
 pub mod HostCalls
 pub mod CallsDemand
+pub mod MinutesRead
 pub mod Joined
 pub mod WrongCalls
 pub mod WrongSheets
 pub mod WrongTurned
 pub mod WrongWhole
+pub mod WrongLoads
 pub mod RightCalls

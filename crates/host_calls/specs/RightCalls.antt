@@ -4,12 +4,13 @@ use mathlib.Core.Path.{_≡_, refl}
 use mathlib.Core.List.{List, [], _∷_, _++_}
 use Prim.Native.Nat.{ℕ}
 use Rattle.terms.specs.Terms.{finishOf}
-use Rattle.terms.specs.Runs.{postAdd, step, get, after, events, entries}
+use Rattle.terms.specs.Runs.{postAdd, step, get, load, after, events, entries}
 use Rattle.terms.specs.Starred.{S, job, hands}
-use Rattle.terms.specs.declared.Answer.the-variants.{Posted, Going, Ended, Refused}
+use Rattle.terms.specs.declared.Answer.the-variants.{Loaded, Posted, Going, Ended, Refused}
 use Rattle.rules.specs.Rules.{Graph, empty}
 use Rattle.rules.specs.Observed.{seen}
 use Rattle.linearization.specs.Calls.{reading}
+use Rattle.linearizability.specs.WrongLoads.{district, equalOnes}
 use Rattle.host_calls.specs.HostCalls.{HostCall, single, wholeAdd, wholeFinish, sheet, Reply, one, each, Replied}
 use Rattle.host_calls.specs.HostCalls.{worth, afterCalls, callEntries}
 use Rattle.host_calls.specs.CallsDemand.{turningSheet, allWorth, items, read, at-end, Replies, Leaves}
@@ -24,19 +25,22 @@ module _ {X : Type 0} (answer : X → HostCall → Replied X) where
   repliesTo x [] = []
   repliesTo x (c ∷ cs) = answer x c .reply ∷ repliesTo (answer x c .state) cs
 
--- worker 0 brings a sheet of 4 needing 1, which 6 refuses, of 1, and of 4 again; worker 1 posts an add of 5, and a
--- sheet of 65 that it brings meanwhile is refused by 3; it steps its add to the end; worker 0 gets 1 and finishes it; 1
--- is there already; a sheet of 65 is refused by 16; and one with no entry is served
+-- minutes that do not rise are refused by 17, and a district's are loaded; worker 0 brings a sheet of 4 needing 1,
+-- which 6 refuses, of 1, and of 4 again; worker 1 posts an add of 5, and a sheet of 65 that it brings meanwhile is
+-- refused by 3; a load is refused by 18; worker 1 steps its add to the end; worker 0 gets 1 and finishes it; 1 is there
+-- already; a sheet of 65 is refused by 16; and one with no entry is served
 abbrev pub everyKind : List HostCall
 everyKind =
-    sheet S 0 (job 4 (1 ∷ []) ∷ job 1 [] ∷ job 4 (1 ∷ []) ∷ []) ∷ single (postAdd S 1 (job 5 [])) ∷ sheet S 1 tooMany
-    ∷ single (step S 1) ∷ single (step S 1) ∷ single (get S 0) ∷ wholeFinish S 0 (finishOf 1) ∷ wholeAdd S 1 (job 1 [])
-    ∷ sheet S 0 tooMany ∷ sheet S 0 [] ∷ []
+    single (load S equalOnes) ∷ single (load S district)
+    ∷ sheet S 0 (job 4 (1 ∷ []) ∷ job 1 [] ∷ job 4 (1 ∷ []) ∷ []) ∷ single (postAdd S 1 (job 5 [])) ∷ sheet S 1 tooMany
+    ∷ single (load S district) ∷ single (step S 1) ∷ single (step S 1) ∷ single (get S 0)
+    ∷ wholeFinish S 0 (finishOf 1) ∷ wholeAdd S 1 (job 1 []) ∷ sheet S 0 tooMany ∷ sheet S 0 [] ∷ []
 
 abbrev pub itsReplies : List Reply
 itsReplies =
-    each 0 (Refused 6 0 ∷ Ended ∷ Ended ∷ []) ∷ one Posted ∷ each 3 [] ∷ one Going ∷ one Ended ∷ one (hands 0 1)
-    ∷ one Ended ∷ one (Refused 7 0) ∷ each 16 [] ∷ each 0 [] ∷ []
+    one (Refused 17 0) ∷ one Loaded ∷ each 0 (Refused 6 0 ∷ Ended ∷ Ended ∷ []) ∷ one Posted ∷ each 3 []
+    ∷ one (Refused 18 0) ∷ one Going ∷ one Ended ∷ one (hands 0 1) ∷ one Ended ∷ one (Refused 7 0) ∷ each 16 []
+    ∷ each 0 [] ∷ []
 
 abbrev pub right : Answering
 right = rightly turning

@@ -1,6 +1,6 @@
 -- How a machine of calls is shown to be wrong: the clauses of the claim one by one, and the rules' machine of calls
--- with one part put otherwise. The machines stand in WrongSheets.antt, WrongTurned.antt and WrongWhole.antt. Assumes
--- nothing.
+-- with one part put otherwise. The machines stand in WrongSheets.antt, WrongTurned.antt, WrongWhole.antt and
+-- WrongLoads.antt. Assumes nothing.
 use mathlib.Core.Path.{_≡_, refl}
 use mathlib.Core.List.{List}
 use Prim.Native.Nat.{ℕ}
@@ -20,8 +20,8 @@ use Rattle.host_calls.specs.HostCalls.{HostCall, single, wholeAdd, whole
 use Rattle.host_calls.specs.HostCalls.{lastAnswer, stepsMade, callMade, addMade, finishMade, addsMade, lastOf}
 use Rattle.host_calls.specs.HostCalls.{addsAnswer, sheetWorth, sheetReply, worth, replyWorth, afterCalls}
 use Rattle.host_calls.specs.HostCalls.{callEntries}
-use Rattle.host_calls.specs.CallsDemand.{noteAdds, noteCall, allWorth, readCalls, items, Replies, TurnsAway}
-use Rattle.host_calls.specs.CallsDemand.{Leaves, Reads, Enters, CallsDemand}
+use Rattle.host_calls.specs.CallsDemand.{noteAdds, noteCall, noteLoad, allWorth, readCalls, readMinutes, items}
+use Rattle.host_calls.specs.CallsDemand.{Replies, TurnsAway, Leaves, Reads, ReadsMinutes, Enters, CallsDemand}
 
 -- ---- the rules' machine of calls, from a fresh graph of R 4, A 4, b 2 and P 2
 abbrev pub acts : Graph → Item → Outcome Graph
@@ -85,7 +85,7 @@ own-parts g (sheet s w l) = refl
 
 -- ---- the clauses of `CallsDemand`
 pub data Clause : Type 0 where
-  replies turns-away leaves reads enters demand : Clause
+  replies turns-away leaves reads reads-minutes enters demand : Clause
 
 -- the clause does not hold of the machine for the calls
 module _ (turned : Turning) (answer : Answering) (calls : List HostCall) where
@@ -94,6 +94,7 @@ module _ (turned : Turning) (answer : Answering) (calls : List HostCall) where
   Lacks turns-away = TurnsAway acts turned answer seen S empty calls → ⊥
   Lacks leaves = Leaves acts turned answer seen S empty calls → ⊥
   Lacks reads = Reads acts turned answer seen S empty calls → ⊥
+  Lacks reads-minutes = ReadsMinutes acts turned answer seen S empty calls → ⊥
   Lacks enters = Enters acts turned answer seen S empty calls → ⊥
   Lacks demand = Demand acts seen S empty (items acts turned answer seen S empty calls) → ⊥
 
@@ -103,11 +104,12 @@ module _ (turned : Turning) (answer : Answering) (calls : List HostCall) where
   refuted turns-away lacks d = lacks (d .turns-away)
   refuted leaves lacks d = lacks (d .leaves)
   refuted reads lacks d = lacks (d .reads)
+  refuted reads-minutes lacks d = lacks (d .reads-minutes)
   refuted enters lacks d = lacks (d .enters)
   refuted demand lacks d = lacks (d .demand)
 
 -- ---- what a run of calls computes with
 unfoldable pub calling : ℕ
 unfolding booking lastAnswer stepsMade callMade addsMade addsAnswer worth replyWorth afterCalls callEntries noteAdds
-    noteCall allWorth readCalls machine
+    noteCall noteLoad allWorth readCalls readMinutes machine
 calling = 0

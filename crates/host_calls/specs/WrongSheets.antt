@@ -11,7 +11,7 @@ use Rattle.terms.specs.Runs.{postAdd, step, after}
 use Rattle.terms.specs.Starred.{S, job}
 use Rattle.terms.specs.declared.Sizes.{Sizes}
 use Rattle.terms.specs.declared.Answer.{Answer}
-use Rattle.terms.specs.declared.Answer.the-variants.{Laid, Posted, Going, Ended, NoneReady, Handed, Refused}
+use Rattle.terms.specs.declared.Answer.the-variants.{Laid, Loaded, Posted, Going, Ended, NoneReady, Handed, Refused}
 use Rattle.rules.specs.Rules.{Graph, Call, idle, looking, linking, marking, notifying, withCall}
 use Rattle.rules.specs.Rules as rules
 use Rattle.linearizability.specs.Wrong.{apart}
@@ -43,6 +43,7 @@ abbrev pub whereAccepted : Answer → List Arguments → List Arguments
 whereAccepted Ended l = l
 whereAccepted (Refused n i) l = []
 whereAccepted Laid l = []
+whereAccepted Loaded l = []
 whereAccepted Posted l = []
 whereAccepted Going l = []
 whereAccepted NoneReady l = []
@@ -67,6 +68,7 @@ allAccepted [] = true
 allAccepted (Ended ∷ l) = allAccepted l
 allAccepted (Refused n i ∷ l) = false
 allAccepted (Laid ∷ l) = false
+allAccepted (Loaded ∷ l) = false
 allAccepted (Posted ∷ l) = false
 allAccepted (Going ∷ l) = false
 allAccepted (NoneReady ∷ l) = false

@@ -11,7 +11,6 @@ use borrow.Author.Tests.{le-ltb, lt-ltb}
 use lib.ListN.{length, getD}
 use Rattle.basics.specs.Base.{occurrences}
 use Rattle.basics.specs.Counting.{occurrences-append}
-use Rattle.minutes.specs.Minutes.{minutesIn, fixedMinutes}
 use Rattle.terms.specs.Order.{without, ahead, First}
 use Rattle.terms.specs.OrderLaws.{first-occurs, first-out}
 use Rattle.terms.specs.AheadLaws.{Each, is-first, first-same, ahead-first, ahead-leaves, ahead-enters, ahead-same}
@@ -20,7 +19,7 @@ use Rattle.terms.specs.Seen.{JobSeen, Seen, Same, handOut}
 use Rattle.terms.specs.declared.Sizes.{Sizes}
 use Rattle.terms.specs.declared.HandOut.{HandOut}
 use Rattle.terms.specs.declared.Answer.{Answer}
-use Rattle.terms.specs.declared.Answer.the-variants.{Laid, Posted, Going, Ended, NoneReady, Handed, Refused}
+use Rattle.terms.specs.declared.Answer.the-variants.{Laid, Loaded, Posted, Going, Ended, NoneReady, Handed, Refused}
 use Rattle.linearizability.specs.Demand.{orHanded, handedOut}
 use Rattle.linearizability.specs.LongFirst.{minutesSeen, longFirst, Takes, InTurn, TakesLongest}
 use Rattle.linearizability.specs.LongFirst.{jobsBefore, NoHeavierEnters, ByCount}
@@ -32,6 +31,7 @@ data Handing : Answer → Type 0 where
 
 handing : (x : Answer) → Handing x
 handing Laid = none (λ l. refl)
+handing Loaded = none (λ l. refl)
 handing Posted = none (λ l. refl)
 handing Going = none (λ l. refl)
 handing Ended = none (λ l. refl)
@@ -81,7 +81,7 @@ module _ {S : Type 0} (perform : S → Item → Outcome S) (see : S → Seen) (s
   minutes-stay x L [] k h = refl
   minutes-stay x L (i ∷ is) k h =
       let o = takes-now x L .stays i k h in
-      minutes-stay (perform x i .state) (takes-on x L i) is k (o .made) ∙ ap (minutesIn fixedMinutes) (o .class)
+      minutes-stay (perform x i .state) (takes-on x L i) is k (o .made) ∙ rw (o .minutes, o .class)
 
   module _ (j : ℕ) where
     abbrev Turn : S → List Item → Type 0
@@ -97,7 +97,7 @@ module _ {S : Type 0} (perform : S → Item → Outcome S) (see : S → Seen) (s
       y = perform x i .state
 
       same-minutes : (k : ℕ) → 0 < occurrences k (see x .waiting) → minutesSeen (see y) k ≡ minutesSeen (see x) k
-      same-minutes k h = ap (minutesIn fixedMinutes) (T .stays i k (T .there k h) .class)
+      same-minutes k h = let o = T .stays i k (T .there k h) in rw (o .minutes, o .class)
 
       -- in a list of what waited as many are ahead of j as before the item
       same-ahead : (l : List ℕ) → Each (λ k. 0 < occurrences k (see x .waiting)) l
@@ -198,7 +198,7 @@ module _ {S R : Type 0} (perform : S → Item → Outcome S) (see : S → Seen) 
       record {
         job = o .job;
         first = rw (same .waiting) (first-same (minutesSeen (shown y)) (minutesSeen (see x))
-            (λ k h. ap (λ (z : JobSeen). minutesIn fixedMinutes (z .class)) (queued k h)) F);
+            (λ k h. rw (same .minutes, queued k h)) F);
         handed = answers i ∙ o .handed ∙ rw named;
         left = does i .waiting ∙ o .left ∙ ap (without (o .job)) (sym (same .waiting));
       }
@@ -219,6 +219,7 @@ module _ {S R : Type 0} (perform : S → Item → Outcome S) (see : S → Seen) 
           made = omega (arith, does i .made, o .made);
           class = ap (λ (z : JobSeen). z .class) (does i .jobs j (o .made)) ∙ o .class
               ∙ sym (ap (λ (z : JobSeen). z .class) (same .jobs j there));
+          minutes = does i .minutes ∙ o .minutes ∙ sym (same .minutes);
         };
     there = λ j h. omega (arith, same .made, T .there j (rw (same .waiting) at h));
   }

@@ -10,22 +10,23 @@ use Prim.Native.Nat.{ℕ, _-_, _≤_, _<_}
 use lib.Dec.{ltb, leb, eqb}
 use lib.ListN.{length, getD}
 use Rattle.basics.specs.Base.{pick, contains, occurrences}
+use Rattle.minutes.specs.Rising.{isRising}
 use Rattle.terms.specs.Terms.{noArguments, Arguments, listed, labelNumber, unexecuted, finished, sameSizes, wrongSizes}
-use Rattle.terms.specs.Terms.{noSuchWorker, halfDone, nothingToStep}
-use Rattle.terms.specs.Runs.{Item, postAdd, postFinish, step, get, Event, Outcome, after, events, entries}
-use Rattle.terms.specs.Runs.{sizesOf, workerOf}
+use Rattle.terms.specs.Terms.{noSuchWorker, halfDone, nothingToStep, wrongMinutes, jobsEntered}
+use Rattle.terms.specs.Runs.{Item, postAdd, postFinish, step, get, load, Event, Outcome, after, events}
+use Rattle.terms.specs.Runs.{entries, sizesOf, workerOf, isLoad}
 use Rattle.terms.specs.Seen.{Seen, Same}
 use Rattle.terms.specs.declared.Sizes.{Sizes}
 use Rattle.terms.specs.declared.HandOut.{HandOut}
 use Rattle.terms.specs.declared.Answer.{Answer}
-use Rattle.terms.specs.declared.Answer.the-variants.{Laid, Posted, Going, Ended, NoneReady, Handed, Refused}
+use Rattle.terms.specs.declared.Answer.the-variants.{Laid, Loaded, Posted, Going, Ended, NoneReady, Handed, Refused}
 use Rattle.rules.specs.Rules.{empty}
 use Rattle.rules.specs.Rules as rules
 use Rattle.rules.specs.Observed as rules-seen
 use Rattle.sequential_model.specs.Book.{Book, blank, entry, remaining, Ready, Follows}
 use Rattle.sequential_model.specs.Book as book
 use Rattle.linearization.specs.Calls.{Pending, idle, adding, finishing, Reading, reading, Quiet, acceptedAdds}
-use Rattle.linearization.specs.Calls.{acceptedFinishes}
+use Rattle.linearization.specs.Calls.{acceptedFinishes, minutesLoaded}
 
 -- ---- the prerequisites of a job: "the jobs of the listed names", among the accepted adds
 abbrev pub addOf : List Arguments → ℕ → Arguments
@@ -86,23 +87,37 @@ byCall (step q w) b = pick b nothingToStep 0
 byCall (postAdd q w a) b = pick b 0 halfDone
 byCall (postFinish q w f) b = pick b 0 halfDone
 byCall (get q w) b = pick b 0 halfDone
+byCall (load q m) b = 0
+
+-- a load has no worker
+abbrev pub hasWorker : Sizes → Item → Bool
+hasWorker s i = isLoad i || ltb (workerOf i) (s .workers)
 
 -- the number that turns an item away, or 0
 abbrev pub turningAway : Sizes → Reading → Item → ℕ
 turningAway s r i =
     pick (sameSizes (sizesOf i) s)
-    (pick (ltb (workerOf i) (s .workers)) (byCall i (isIdle (r .pending (workerOf i)))) noSuchWorker)
+    (pick (hasWorker s i) (byCall i (isIdle (r .pending (workerOf i)))) noSuchWorker)
     wrongSizes
 
 -- the number by which an answer turned an item away, or 0
 abbrev pub turnedAwayBy : Answer → ℕ
 turnedAwayBy (Refused n i) = pick (leb n nothingToStep) n 0
 turnedAwayBy Laid = 0
+turnedAwayBy Loaded = 0
 turnedAwayBy Posted = 0
 turnedAwayBy Going = 0
 turnedAwayBy Ended = 0
 turnedAwayBy NoneReady = 0
 turnedAwayBy (Handed h) = 0
+
+-- ---- what a load answers, by the values and by whether a job has entered: "the order is 1, 17, 9, 18", of which 9
+-- never comes from a fresh graph
+abbrev pub loadEnd : Sizes → List Arguments → Sizes → List ℕ → Answer
+loadEnd s adds q m =
+    pick (sameSizes q s)
+    (pick (isRising m) (pick (eqb (length adds) 0) Loaded (Refused jobsEntered 0)) (Refused wrongMinutes 0))
+    (Refused wrongSizes 0)
 
 -- ---- the claim, of a machine, the sizes laid out, the state that laying out left, and a list of items. Lists are of
 -- any length, so that what is said of the state after the items is said of every moment.
@@ -162,6 +177,14 @@ module _ {S : Type 0} (perform : S → Item → Outcome S) (see : S → Seen) (s
   abbrev pub TurnsAway : Type 0
   TurnsAway = (i : Item) → turnedAwayBy (perform at-end i .answer) ≡ turningAway s read i
 
+  -- loads: each is accepted, or refused by its number, as its values and the jobs that entered say;
+  abbrev pub Loads : Type 0
+  Loads = (q : Sizes) (m : List ℕ) → perform at-end (load q m) .answer ≡ loadEnd s adds q m
+
+  -- the minutes are those of the last that was accepted, and "laying out anew brings the fixed ones back"
+  abbrev pub Minutes : Type 0
+  Minutes = see at-end .minutes ≡ minutesLoaded (events perform t items)
+
   pub record Demand : Type 0 where
     pub answers : Answers
     pub does : Does
@@ -173,12 +196,15 @@ module _ {S : Type 0} (perform : S → Item → Outcome S) (see : S → Seen) (s
     pub shows : ShownBy book
     pub none-ready : NoneReadyBy book
     pub turns-away : TurnsAway
+    pub loads : Loads
+    pub minutes : Minutes
 
 -- ---- what else is claimed of every history
 -- an answer by a number
 abbrev pub isNumber : ℕ → Answer → Bool
 isNumber n (Refused m i) = eqb m n
 isNumber n Laid = false
+isNumber n Loaded = false
 isNumber n Posted = false
 isNumber n Going = false
 isNumber n Ended = false
@@ -193,6 +219,7 @@ gives n (e ∷ es) = isNumber n (e .answer) || gives n es
 abbrev pub orHanded : Answer → List ℕ → List ℕ
 orHanded (Handed h) l = h .job ∷ l
 orHanded Laid l = l
+orHanded Loaded l = l
 orHanded Posted l = l
 orHanded Going l = l
 orHanded Ended l = l

@@ -7,3 +7,4 @@ pub mod WrongIdle
 pub mod WrongTexts
 pub mod WrongOthers
 pub mod WrongOrders
+pub mod WrongLoads

@@ -9,7 +9,7 @@ use mathlib.Core.Option.{none}
 use Prim.Native.Nat.{ℕ, _≤_, _<_}
 use lib.ListN.{length, getD}
 use Rattle.basics.specs.Base.{occurrences}
-use Rattle.minutes.specs.Minutes.{minutesIn, fixedMinutes}
+use Rattle.minutes.specs.Minutes.{minutesIn}
 use Rattle.terms.specs.Order.{Order, heavierFirst, without, ahead, First}
 use Rattle.terms.specs.Runs.{Item, get, Outcome, after, events, entries}
 use Rattle.terms.specs.Seen.{idle, Seen, handOut}
@@ -21,7 +21,7 @@ use Rattle.linearizability.specs.Demand.{handedOut}
 
 -- ---- THE ORDER of what is seen: more minutes go first, and equal minutes as they stand in the queue
 abbrev pub minutesSeen : Seen → ℕ → ℕ
-minutesSeen x j = minutesIn fixedMinutes (x .job j .class)
+minutesSeen x j = minutesIn (x .minutes) (x .job j .class)
 
 abbrev pub longFirst : Seen → Order
 longFirst x = heavierFirst (minutesSeen x)
@@ -39,10 +39,11 @@ pub record Enters (x y : Seen) : Type 0 where
   pub entered : List ℕ
   pub behind : y .waiting ≡ x .waiting ++ entered
 
--- a job that was made stays, with its class and so with its minutes
+-- a job that was made stays, with its class, and no load is accepted any more, so that it keeps its minutes
 pub record Stays (x y : Seen) (j : ℕ) : Type 0 where
   pub made : j < y .made
   pub class : y .job j .class ≡ x .job j .class
+  pub minutes : y .minutes ≡ x .minutes
 
 -- the k-th job handed out, counted from 0, is j, and none before it; until then j waits
 pub record InTurn (j k : ℕ) (handed : List ℕ) (x : Seen) : Type 0 where

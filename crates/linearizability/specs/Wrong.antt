@@ -1,5 +1,6 @@
 -- How a system is shown to be wrong: the clauses of the claim one by one, and the rules with one part put otherwise.
--- The systems stand in WrongIdle.antt, WrongTexts.antt, WrongOthers.antt and WrongOrders.antt. Assumes nothing.
+-- The systems stand in WrongIdle.antt, WrongTexts.antt, WrongOthers.antt, WrongOrders.antt and WrongLoads.antt.
+-- Assumes nothing.
 use mathlib.Core.Path.{_≡_, refl, sym, ap, subst}
 use mathlib.Core.Bool.{false}
 use mathlib.Core.List.{List, [], _∷_}
@@ -11,17 +12,19 @@ use lib.ListN.{length, getD, take}
 use borrow.Author.Tests.{eqb-false}
 use Rattle.basics.specs.Base.{update, contains, repeats, occurrences, prefix}
 use Rattle.minutes.specs.Minutes.{minutesIn, fixedMinutes}
+use Rattle.minutes.specs.Rising.{risesAbove, isRising}
 use Rattle.terms.specs.Terms.{Arguments, argumentsWrong, sameSizes, alreadyHolding}
-use Rattle.terms.specs.Runs.{Item, postAdd, postFinish, step, get, Outcome, outcome, Event, after, events, entries}
+use Rattle.terms.specs.Runs.{Item, postAdd, postFinish, step, get, load, Outcome, outcome, Event, after, events}
+use Rattle.terms.specs.Runs.{entries}
 use Rattle.terms.specs.Order.{earliest, firstBy, without}
 use Rattle.terms.specs.Starred.{S, steps}
 use Rattle.terms.specs.declared.Sizes.{Sizes}
 use Rattle.terms.specs.declared.HandOut.{HandOut}
 use Rattle.terms.specs.declared.Answer.{Answer}
-use Rattle.terms.specs.declared.Answer.the-variants.{Laid, Posted, Going, Ended, NoneReady, Handed, Refused}
+use Rattle.terms.specs.declared.Answer.the-variants.{Laid, Loaded, Posted, Going, Ended, NoneReady, Handed, Refused}
 use Rattle.rules.specs.Rules.{Graph, Call, idle, looking, linking, marking, notifying, empty, seek, lookUp, enter}
 use Rattle.rules.specs.Rules.{linkTo, link, markDependents, mark, notify, stepCall, whenIdle, addPosted, finishPosted}
-use Rattle.rules.specs.Rules.{takeNext, getJob, admitted, perform, nextOut}
+use Rattle.rules.specs.Rules.{takeNext, getJob, loadMinutes, admitted, perform, nextOut}
 use Rattle.rules.specs.Observed.{seen}
 use Rattle.sequential_model.specs.Book.{Book, blank, entry, Ready, Ends, GetEnd, taken, Follows, done, feed, End}
 use Rattle.sequential_model.specs.Book.{handed}
@@ -31,9 +34,9 @@ use Rattle.sequential_model.specs.Book.{finishedBy, next}
 use Rattle.sequential_model.specs.Book as book
 use Rattle.linearization.specs.Calls.{unread, anyCallOf, withoutLast, noteStep, noteAdd, noteFinish, noteGet, note}
 use Rattle.linearization.specs.Calls.{readOn}
-use Rattle.linearization.specs.Calls.{acceptedAdds}
+use Rattle.linearization.specs.Calls.{acceptedAdds, minutesOn}
 use Rattle.linearizability.specs.Demand.{Answers, Does, Once, AfterPrerequisites, WhenEnded, FollowedBy, ShownBy}
-use Rattle.linearizability.specs.Demand.{NoneReadyBy, TurnsAway, Demand}
+use Rattle.linearizability.specs.Demand.{NoneReadyBy, TurnsAway, Loads, Minutes, Demand}
 
 -- ---- a system, from a fresh graph of R 4, A 4, b 2 and P 2
 abbrev pub System : Type 0
@@ -79,6 +82,7 @@ module _ (onPost : Graph → ℕ → Arguments → Outcome Graph) (onLook : Grap
   system g (postFinish s w f) = perform S g (postFinish s w f)
   system g (step s w) = admitted S s g w (stepped g w (g .workers w .call))
   system g (get s w) = admitted S s g w (whenIdle g (g .workers w .call) (got g w (g .workers w .held)))
+  system g (load s m) = perform S g (load s m)
 
 -- with the parts above it is the rules
 own-step : (g : Graph) (w : ℕ) (c : Call) → stepped posts looks links marks notifies takes g w c ≡ stepCall S g w c
@@ -100,10 +104,12 @@ own-parts g (postFinish s w f) = refl
 own-parts g (step s w) = ap (admitted S s g w) (own-step g w (g .workers w .call))
 own-parts g (get s w) =
     ap (λ r. admitted S s g w (whenIdle g (g .workers w .call) r)) (own-get g w (g .workers w .held))
+own-parts g (load s m) = refl
 
 -- ---- the clauses of `Demand`
 pub data Clause : Type 0 where
-  answers does once after-prerequisites when-ended follows shows none-ready turns-away : Clause
+  answers does once after-prerequisites when-ended follows shows none-ready turns-away loads
+      minutes : Clause
 
 -- the clause does not hold of the system for the items; `shows` and `none-ready`, of the book that `follows` gives
 module _ (m : System) (items : List Item) where
@@ -117,6 +123,8 @@ module _ (m : System) (items : List Item) where
   Lacks shows = (b : Book) → FollowedBy m seen S empty items b → ShownBy m seen S empty items b → ⊥
   Lacks none-ready = (b : Book) → FollowedBy m seen S empty items b → NoneReadyBy m seen S empty items b → ⊥
   Lacks turns-away = TurnsAway m seen S empty items → ⊥
+  Lacks loads = Loads m seen S empty items → ⊥
+  Lacks minutes = Minutes m seen S empty items → ⊥
 
   -- a system that lacks a clause does not meet the claim
   pub refuted : (c : Clause) → Lacks c → Demand m seen S empty items → ⊥
@@ -129,18 +137,20 @@ module _ (m : System) (items : List Item) where
   refuted shows lacks d = lacks (d .book) (d .follows) (d .shows)
   refuted none-ready lacks d = lacks (d .book) (d .follows) (d .none-ready)
   refuted turns-away lacks d = lacks (d .turns-away)
+  refuted loads lacks d = lacks (d .loads)
+  refuted minutes lacks d = lacks (d .minutes)
 
 -- ---- what a run computes with, and the reading of it and the book
 unfoldable pub running : ℕ
 unfolding update contains repeats occurrences prefix earliest firstBy without argumentsWrong sameSizes after events
     entries steps empty seek
     lookUp enter linkTo link markDependents mark notify stepCall whenIdle addPosted finishPosted takeNext getJob
-    admitted perform minutesIn fixedMinutes
+    admitted loadMinutes perform minutesIn fixedMinutes risesAbove isRising
 running = 0
 
 unfoldable pub booking : ℕ
 unfolding running unread anyCallOf withoutLast noteStep noteAdd noteFinish noteGet note readOn acceptedAdds blank known
-    awaited awaitedNames firstUnknown listedNames addKnown addEnd finishEnd finishedBy next
+    awaited awaitedNames firstUnknown listedNames addKnown addEnd finishEnd finishedBy next minutesOn
 booking = 0
 
 -- ---- things that are told apart by a number
@@ -150,6 +160,7 @@ apart {A} {x} {y} f e p = eqb-false (f x) (f y) e (ap f p)
 -- an answer's number: a refusal's number and place, and a job's number and name, are part of it
 abbrev pub code : Answer → ℕ
 code Laid = 0
+code Loaded = 5
 code Posted = 1
 code Going = 2
 code Ended = 3

@@ -14,7 +14,7 @@ use Rattle.basics.specs.Base.{occurrences}
 use Rattle.basics.specs.Laws.{never, pick-by}
 use Rattle.basics.specs.Counting.{occurrences-cons}
 use Rattle.terms.specs.Terms.{alreadyHolding}
-use Rattle.terms.specs.Runs.{Item, postAdd, postFinish, step, get, Outcome, outcome, after, entries}
+use Rattle.terms.specs.Runs.{Item, postAdd, postFinish, step, get, load, Outcome, outcome, after, entries}
 use Rattle.terms.specs.Order.{firstBy, without, before, ahead}
 use Rattle.terms.specs.OrderLaws.{first-out}
 use Rattle.terms.specs.AheadLaws.{is-first}
@@ -48,6 +48,7 @@ module _ (s : Sizes) (next : Graph → Option ℕ) (left : ℕ → List ℕ → 
   taking g (postFinish t w f) = perform s g (postFinish t w f)
   taking g (step t w) = perform s g (step t w)
   taking g (get t w) = admitted s t g w (whenIdle g (g .workers w .call) (got g w (g .workers w .held)))
+  taking g (load t m) = perform s g (load t m)
 
 -- with the rules' own order and queue it is the rules
 own-taken : (s : Sizes) (g : Graph) (w : ℕ) (o : Option ℕ) → taken s nextOut without g w o ≡ takeNext g w o
@@ -67,6 +68,7 @@ own-order s g (postFinish t w f) = refl
 own-order s g (step t w) = refl
 own-order s g (get t w) =
     ap (λ r. admitted s t g w (whenIdle g (g .workers w .call) r)) (own-got s g w (g .workers w .held))
+own-order s g (load t m) = refl
 
 -- a list without one has no more of any
 without-fewer : (j : ℕ) (l : List ℕ) (k : ℕ) → occurrences k (without j l) ≤ occurrences k l

@@ -9,7 +9,7 @@ use lib.Dec.{ltb, eqb, eqb·suc-zero}
 use lib.ListN.{length, getD, set}
 use Rattle.basics.specs.Base.{pick, update, contains}
 use Rattle.terms.specs.Terms.{labelNumber, Arguments, listed, unknownName, tablesFull, finishOf}
-use Rattle.terms.specs.Runs.{Item, postAdd, postFinish, step, get, Outcome, outcome, events}
+use Rattle.terms.specs.Runs.{Item, postAdd, postFinish, step, get, load, Outcome, outcome, events}
 use Rattle.terms.specs.Order.{firstBy, without}
 use Rattle.terms.specs.Starred.{S, sizes, job, steps, add, added, answersOf, hands}
 use Rattle.terms.specs.declared.Answer.{Answer}
@@ -197,6 +197,7 @@ stepsBoth g (postFinish s w f) = perform S g (postFinish s w f)
 stepsBoth g (step s w) =
     let o = perform S g (step s w) in outcome (o .answer) (perform S (o .state) (step s (1 - w)) .state)
 stepsBoth g (get s w) = perform S g (get s w)
+stepsBoth g (load s m) = perform S g (load s m)
 
 -- `does`: two adds are posted, one steps, and both have entered
 pub steps-both : Lacks stepsBoth (postAdd S 0 (job 1 []) ∷ postAdd S 1 (job 2 []) ∷ step S 0 ∷ []) does
@@ -209,6 +210,7 @@ ignoresSizes g (postAdd s w a) = perform S g (postAdd S w a)
 ignoresSizes g (postFinish s w f) = perform S g (postFinish S w f)
 ignoresSizes g (step s w) = perform S g (step S w)
 ignoresSizes g (get s w) = perform S g (get S w)
+ignoresSizes g (load s m) = perform S g (load S m)
 
 -- `turns-away`: a get with other sizes is not refused by 1
 pub ignores-sizes : Lacks ignoresSizes [] turns-away

@@ -6,10 +6,11 @@ use mathlib.Core.List.{List, [], _∷_, _++_}
 use Prim.Native.Nat.{ℕ, suc, _+_}
 use lib.Dec.{ltb, leb, eqb}
 use Rattle.basics.specs.Base.{pick, update}
+use Rattle.minutes.specs.Minutes.{fixedMinutes}
 use Rattle.terms.specs.Terms.{Arguments, Finish, damaged}
-use Rattle.terms.specs.Runs.{Item, postAdd, postFinish, step, get, Event}
+use Rattle.terms.specs.Runs.{Item, postAdd, postFinish, step, get, load, Event}
 use Rattle.terms.specs.declared.Answer.{Answer}
-use Rattle.terms.specs.declared.Answer.the-variants.{Laid, Posted, Going, Ended, NoneReady, Handed, Refused}
+use Rattle.terms.specs.declared.Answer.the-variants.{Laid, Loaded, Posted, Going, Ended, NoneReady, Handed, Refused}
 use Rattle.sequential_model.specs.Book.{Call, add, finish, End, accepted, noneReady, handed, refused}
 use Rattle.sequential_model.specs.Book as book
 
@@ -100,10 +101,12 @@ noteStep r w (finishing f k) (Refused n i) =
     pick (endsCall n) (becomes (decided (withdrawnIf (ltb 0 k) r w) (finish w f) (refused n i)) w idle) r
 noteStep r w idle x = r
 noteStep r w (adding a k) Laid = r
+noteStep r w (adding a k) Loaded = r
 noteStep r w (adding a k) Posted = r
 noteStep r w (adding a k) NoneReady = r
 noteStep r w (adding a k) (Handed h) = r
 noteStep r w (finishing f k) Laid = r
+noteStep r w (finishing f k) Loaded = r
 noteStep r w (finishing f k) Posted = r
 noteStep r w (finishing f k) NoneReady = r
 noteStep r w (finishing f k) (Handed h) = r
@@ -114,6 +117,7 @@ unfoldable pub noteAdd : Reading → ℕ → Arguments → Answer → Reading
 noteAdd r w a Posted = becomes r w (adding a 0)
 noteAdd r w a (Refused n i) = decidedIf (endsCall n) r (add w a) (refused n i)
 noteAdd r w a Laid = r
+noteAdd r w a Loaded = r
 noteAdd r w a Going = r
 noteAdd r w a Ended = r
 noteAdd r w a NoneReady = r
@@ -123,6 +127,7 @@ unfoldable pub noteFinish : Reading → ℕ → Finish → Answer → Reading
 noteFinish r w f Posted = becomes r w (finishing f 0)
 noteFinish r w f (Refused n i) = decidedIf (endsCall n) r (finish w f) (refused n i)
 noteFinish r w f Laid = r
+noteFinish r w f Loaded = r
 noteFinish r w f Going = r
 noteFinish r w f Ended = r
 noteFinish r w f NoneReady = r
@@ -133,6 +138,7 @@ noteGet r w (Handed h) = decided r (Call.get w) (handed h)
 noteGet r w NoneReady = decided r (Call.get w) noneReady
 noteGet r w (Refused n i) = decidedIf (endsCall n) r (Call.get w) (refused n i)
 noteGet r w Laid = r
+noteGet r w Loaded = r
 noteGet r w Posted = r
 noteGet r w Going = r
 noteGet r w Ended = r
@@ -142,6 +148,33 @@ note r (postAdd s w a) x = noteAdd r w a x
 note r (postFinish s w f) x = noteFinish r w f x
 note r (step s w) x = noteStep r w (r .pending w) x
 note r (get s w) x = noteGet r w x
+note r (load s m) x = r
+
+-- ---- "Loads may stand in demand 3's list, and the book is not fed them": what is read of them is the minutes, which
+-- are those of the last load that was accepted, and the fixed ones before any
+abbrev pub orLoaded : List ℕ → Answer → List ℕ → List ℕ
+orLoaded m Loaded before = m
+orLoaded m Laid before = before
+orLoaded m Posted before = before
+orLoaded m Going before = before
+orLoaded m Ended before = before
+orLoaded m NoneReady before = before
+orLoaded m (Handed h) before = before
+orLoaded m (Refused n i) before = before
+
+abbrev pub noteMinutes : List ℕ → Item → Answer → List ℕ
+noteMinutes before (load s m) x = orLoaded m x before
+noteMinutes before (postAdd s w a) x = before
+noteMinutes before (postFinish s w f) x = before
+noteMinutes before (step s w) x = before
+noteMinutes before (get s w) x = before
+
+unfoldable pub minutesOn : List ℕ → List Event → List ℕ
+minutesOn m [] = m
+minutesOn m (e ∷ es) = minutesOn (noteMinutes m (e .item) (e .answer)) es
+
+abbrev pub minutesLoaded : List Event → List ℕ
+minutesLoaded es = minutesOn fixedMinutes es
 
 -- ---- the reading of a history
 unfoldable pub readOn : Reading → List Event → Reading

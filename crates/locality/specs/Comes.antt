@@ -8,9 +8,9 @@ use mathlib.Core.List.{List}
 use Prim.Native.Nat.{ℕ, _≤_}
 use lib.Dec.{leb}
 use borrow.Author.Tests.{leb-true, le-leb, eqb-true, eq-eqb, ne-eqb}
-use Rattle.basics.specs.Laws.{never}
+use Rattle.basics.specs.Laws.{never, fails}
 use Rattle.terms.specs.Terms.{Arguments, Finish, argumentsWrong}
-use Rattle.terms.specs.Runs.{Item, postAdd, postFinish, step, get, sizesOf, workerOf, outcome}
+use Rattle.terms.specs.Runs.{Item, postAdd, postFinish, step, get, load, sizesOf, workerOf, isLoad, outcome}
 use Rattle.terms.specs.declared.Sizes.{Sizes}
 use Rattle.terms.specs.declared.Answer.the-variants.{Posted, Refused}
 use Rattle.words.specs.Layout.{none, NAME, PHASE, HELD, IDLE, MARKING, Tables, tables, View, view, bareWorker}
@@ -19,21 +19,22 @@ use Rattle.words.specs.Words.{planPhase, refusal, holdsName, addingWorker, putW
 use Rattle.words.specs.declared.Plan.the-variants.{Refuse}
 use Rattle.locality.specs.Parts.{parts}
 use Rattle.locality.specs.Compared.{early, empty, index, reach}
-use Rattle.locality.specs.Judged.{Counters, counters-mean, Admitted, TurnedAway, by-1, by-2, by-9, fails, admits}
+use Rattle.locality.specs.Judged.{Counters, counters-mean, Admitted, TurnedAway, by-1, by-2, by-9, admits}
 use Rattle.locality.specs.Judged.{turns-away}
 
--- ---- "Order: 1, 2, 9 for the worker's own words": whatever the call, and nothing is changed
-pub first-of-all : (t : Tables) (i : Item) (n : ℕ) → TurnedAway (sizesOf i) t (workerOf i) n
+-- ---- "Order: 1, 2, 9 for the worker's own words": whatever the call with a worker, and nothing is changed
+pub first-of-all : (t : Tables) (i : Item) (n : ℕ) → isLoad i ≡ false → TurnedAway (sizesOf i) t (workerOf i) n
     → perform t i ≡ outcome (Refused n 0) t
 unfolding perform addWords finishWords stepWords getWords posted applied appliedGet
-first-of-all t (postAdd s w a) n (by-1 f) = rw (turns-away s t w _ _ 1 (by-1 f))
-first-of-all t (postAdd s w a) n (by-2 h o) = rw (turns-away s t w _ _ 2 (by-2 h o))
-first-of-all t (postAdd s w a) n (by-9 h o f) = rw (turns-away s t w _ _ 9 (by-9 h o f))
-first-of-all t (postFinish s w a) n (by-1 f) = rw (turns-away s t w _ _ 1 (by-1 f))
-first-of-all t (postFinish s w a) n (by-2 h o) = rw (turns-away s t w _ _ 2 (by-2 h o))
-first-of-all t (postFinish s w a) n (by-9 h o f) = rw (turns-away s t w _ _ 9 (by-9 h o f))
-first-of-all t (step s w) n r = rw (turns-away s t w _ _ n r)
-first-of-all t (get s w) n r = rw (turns-away s t w _ _ n r)
+first-of-all t (postAdd s w a) n l (by-1 f) = rw (turns-away s t w _ _ 1 (by-1 f))
+first-of-all t (postAdd s w a) n l (by-2 h o) = rw (turns-away s t w _ _ 2 (by-2 h o))
+first-of-all t (postAdd s w a) n l (by-9 h o f) = rw (turns-away s t w _ _ 9 (by-9 h o f))
+first-of-all t (postFinish s w a) n l (by-1 f) = rw (turns-away s t w _ _ 1 (by-1 f))
+first-of-all t (postFinish s w a) n l (by-2 h o) = rw (turns-away s t w _ _ 2 (by-2 h o))
+first-of-all t (postFinish s w a) n l (by-9 h o f) = rw (turns-away s t w _ _ 9 (by-9 h o f))
+first-of-all t (step s w) n l r = rw (turns-away s t w _ _ n r)
+first-of-all t (get s w) n l r = rw (turns-away s t w _ _ n r)
+first-of-all t (load s m) n l r = never cc
 
 -- ---- a step or a post that is admitted
 -- its first test that is met, in the order of "Turned-away calls"

@@ -1,5 +1,5 @@
--- For ALL tables: a post, and a step that neither settles nor goes along an arc, reads no word of the queue's table and
--- changes none. Follows docs/TABLES.md, "What each step reads and writes". Assumes nothing.
+-- For ALL tables: a post, a load, and a step that neither settles nor goes along an arc, reads no word of the queue's
+-- table and changes none. Follows docs/TABLES.md, "What each step reads and writes". Assumes nothing.
 use mathlib.Core.Path.{_≡_, refl}
 use mathlib.Core.Bool.{Bool, true, false, _&&_, _||_}
 use mathlib.Core.List.{List}
@@ -8,7 +8,7 @@ use lib.Dec.{leb, ltb, eqb}
 use lib.ListN.{length}
 use borrow.Author.Tests.{lt-ltb}
 use Rattle.basics.specs.Base.{pick}
-use Rattle.terms.specs.Runs.{Outcome, outcome, Item, postAdd, postFinish, step, get}
+use Rattle.terms.specs.Runs.{Outcome, outcome, Item, postAdd, postFinish, step, get, load}
 use Rattle.terms.specs.declared.Sizes.{Sizes}
 use Rattle.words.specs.Layout.{none, LABEL, FIRST, LAST, OWN-NAME, OWN-JOB, OWN-ARC, HELD, PHASE, PLACE, LIST-COUNT}
 use Rattle.words.specs.Layout.{IDLE, LOOKING, LINKING, MARKING, Tables, tables, View, view, longEnough, sizesFit}
@@ -16,7 +16,7 @@ use Rattle.words.specs.Layout.{bareWorker}
 use Rattle.words.specs.Words.{isPlace, placeOk, countersOk, ownOk, findOf, nameAt, planLookUp, planEnter, planAppend}
 use Rattle.words.specs.Words.{planLink, planMark, planAdd, planLinks, planCall, planPhase, admitted, answerOf}
 use Rattle.words.specs.Words.{applied, stepWords, posted, refusal, judgedAdd, judgedFinish, addingWorker, addWords}
-use Rattle.words.specs.Words.{finishWords, perform}
+use Rattle.words.specs.Words.{finishWords, judgedLoad, loading, loadWords, perform}
 use Rattle.words.specs.declared.Found.{Found}
 use Rattle.words.specs.declared.Found.the-variants.{At, Missing, Damaged}
 use Rattle.words.specs.declared.Plan.{Plan}
@@ -33,12 +33,13 @@ pub data Quiet (t : Tables) (w : ℕ) : Type 0 where
   linking : view t .worker PHASE w ≡ LINKING → view t .worker PLACE w < view t .worker LIST-COUNT w → Quiet t w
   marking : view t .worker PHASE w ≡ MARKING → Quiet t w
 
--- a post, or such a step
+-- a post, a load, or such a step
 abbrev pub Elsewhere : Tables → Item → Type 0
 Elsewhere t (postAdd s w a) = Unit {0}
 Elsewhere t (postFinish s w f) = Unit {0}
 Elsewhere t (step s w) = Quiet t w
 Elsewhere t (get s w) = ⊥
+Elsewhere t (load s m) = Unit {0}
 
 module _ (t : Tables) (q : List ℕ) (same : length q ≡ length (t .queue)) where
   abbrev v : View
@@ -120,12 +121,18 @@ module _ (t : Tables) (q : List ℕ) (same : length q ≡ length (t .queue)) whe
   posts w zero r = refl
   posts w (suc n) r = refl
 
+  loads : (n : ℕ) (m : List ℕ) → Did (loading n (withQueue t q) m) (loading n t m)
+  unfolding loading
+  loads zero m = refl
+  loads (suc n) m = refl
+
   -- "`taken` and `put` are read only where the table below names them"
   pub elsewhere : (i : Item) → Elsewhere t i → Did (perform (withQueue t q) i) (perform t i)
-  unfolding perform addWords finishWords stepWords admitted longEnough ownOk
+  unfolding perform addWords finishWords stepWords loadWords admitted longEnough ownOk
   elsewhere (postAdd s w a) e =
       rw same (posts w (admitted s t w refusal (judgedAdd s v w a)) (addingWorker (v .worker HELD w) a))
   elsewhere (postFinish s w f) e =
       rw same (posts w (admitted s t w refusal (judgedFinish s v w (f .name))) (bareWorker MARKING (v .worker HELD w)))
   elsewhere (step s w) e = admits-alike s w (planPhase s v′ w) (planPhase s v w) (phases s w e)
   elsewhere (get s w) e = absurd e
+  elsewhere (load s m) e = rw same (loads (judgedLoad s t m) m)

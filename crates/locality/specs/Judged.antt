@@ -9,67 +9,53 @@ use native.Mathlib.Omega.{arith}
 use lib.Dec.{eqb}
 use lib.ListN.{length}
 use borrow.Author.Tests.{ltb-true, leb-true, eqb-true, eqb-false, lt-ltb, le-ltb, le-leb, eq-eqb, ne-eqb}
-use Rattle.terms.specs.Terms.{withinLimits}
+use Rattle.basics.specs.Laws.{fails}
 use Rattle.terms.specs.declared.Sizes.{Sizes}
-use Rattle.words.specs.Columns.{header}
-use Rattle.words.specs.Layout.{none, JOBS, ARCS, BITS, WORKERS, PHASE, HELD, LIST-COUNT, OWN-CLASS, OWN-GROWER, TALLY}
-use Rattle.words.specs.Layout.{PLACE, OWN-JOB, OWN-ARC, Tables, View, view, longEnough, sizesKept, sizesFit}
+use Rattle.words.specs.Layout.{none, PHASE, HELD, LIST-COUNT, OWN-CLASS, OWN-GROWER, TALLY}
+use Rattle.words.specs.Layout.{PLACE, OWN-JOB, OWN-ARC, Tables, View, view, longEnough, roomFor, sizesFit}
 use Rattle.words.specs.Words.{placeOk, countersOk, ownOk, admitted}
+use Rattle.words.specs.Sized.{Limited, limited-means, Kept, kept-means}
 use Rattle.locality.specs.Parts.{test, parts}
 
--- ---- "R jobs 1 to 4,096; A arcs 0 to 32,768; b bucket bits 1 to 8; P workers 1 to 16", each table as long as its
--- counters and records need, and "a later call must bring the same" sizes that laying out kept
-pub record Sized (s : Sizes) (t : Tables) : Type 0 where
-  pub jobs : (1 ≤ s .jobs) × (s .jobs ≤ 4096)
-  pub arcs : s .arcs ≤ 32768
-  pub bits : (1 ≤ s .bits) × (s .bits ≤ 8)
-  pub workers : (1 ≤ s .workers) × (s .workers ≤ 16)
-  pub jobs-long : 5 + 8 * s .jobs ≤ length (t .jobs)
+-- ---- what laying out asks for: sizes in their limits, and each table as long as its counters and records need
+pub record Roomy (s : Sizes) (t : Tables) : Type 0 where
+  pub limits : Limited s
+  pub jobs-long : 21 + 8 * s .jobs ≤ length (t .jobs)
   pub arcs-long : 1 + 2 * s .arcs ≤ length (t .arcs)
   pub buckets-long : 2 ^ s .bits ≤ length (t .buckets)
   pub queue-long : 2 + 3 * s .jobs ≤ length (t .queue)
   pub workers-long : 42 * s .workers ≤ length (t .workers)
-  pub jobs-kept : header (t .jobs) JOBS ≡ s .jobs
-  pub arcs-kept : header (t .jobs) ARCS ≡ s .arcs
-  pub bits-kept : header (t .jobs) BITS ≡ s .bits
-  pub workers-kept : header (t .jobs) WORKERS ≡ s .workers
 
-pub sized-means : (s : Sizes) (t : Tables) → (sizesFit s t ≡ true) ↔ Sized s t
-unfolding withinLimits longEnough sizesKept
-sized-means s t = (
+pub room-means : (s : Sizes) (t : Tables) → (roomFor s t ≡ true) ↔ Roomy s t
+unfolding longEnough
+room-means s t = (
   λ e. record {
-    jobs = (leb-true 1 (s .jobs) (search parts), leb-true (s .jobs) 4096 (search parts));
-    arcs = leb-true (s .arcs) 32768 (search parts);
-    bits = (leb-true 1 (s .bits) (search parts), leb-true (s .bits) 8 (search parts));
-    workers = (leb-true 1 (s .workers) (search parts), leb-true (s .workers) 16 (search parts));
-    jobs-long = leb-true (5 + 8 * s .jobs) (length (t .jobs)) (search parts);
+    limits = limited-means s .0 (search parts);
+    jobs-long = leb-true (21 + 8 * s .jobs) (length (t .jobs)) (search parts);
     arcs-long = leb-true (1 + 2 * s .arcs) (length (t .arcs)) (search parts);
     buckets-long = omega (arith, leb-true (0 + 1 * 2 ^ s .bits) (length (t .buckets)) (search parts));
     queue-long = leb-true (2 + 3 * s .jobs) (length (t .queue)) (search parts);
     workers-long = omega (arith, leb-true (0 + 42 * s .workers) (length (t .workers)) (search parts));
-    jobs-kept = eqb-true (header (t .jobs) JOBS) (s .jobs) (search parts);
-    arcs-kept = eqb-true (header (t .jobs) ARCS) (s .arcs) (search parts);
-    bits-kept = eqb-true (header (t .jobs) BITS) (s .bits) (search parts);
-    workers-kept = eqb-true (header (t .jobs) WORKERS) (s .workers) (search parts);
   },
   λ h. rw (
-    le-leb 1 (s .jobs) (h .jobs .0),
-    le-leb (s .jobs) 4096 (h .jobs .1),
-    le-leb (s .arcs) 32768 (h .arcs),
-    le-leb 1 (s .bits) (h .bits .0),
-    le-leb (s .bits) 8 (h .bits .1),
-    le-leb 1 (s .workers) (h .workers .0),
-    le-leb (s .workers) 16 (h .workers .1),
-    le-leb (5 + 8 * s .jobs) (length (t .jobs)) (h .jobs-long),
+    limited-means s .1 (h .limits),
+    le-leb (21 + 8 * s .jobs) (length (t .jobs)) (h .jobs-long),
     le-leb (1 + 2 * s .arcs) (length (t .arcs)) (h .arcs-long),
     le-leb (0 + 1 * 2 ^ s .bits) (length (t .buckets)) (omega (arith, h .buckets-long)),
     le-leb (2 + 3 * s .jobs) (length (t .queue)) (h .queue-long),
     le-leb (0 + 42 * s .workers) (length (t .workers)) (omega (arith, h .workers-long)),
-    eq-eqb (header (t .jobs) JOBS) (s .jobs) (h .jobs-kept),
-    eq-eqb (header (t .jobs) ARCS) (s .arcs) (h .arcs-kept),
-    eq-eqb (header (t .jobs) BITS) (s .bits) (h .bits-kept),
-    eq-eqb (header (t .jobs) WORKERS) (s .workers) (h .workers-kept),
   ),
+)
+
+-- every other call also asks for the sizes that laying out kept
+pub record Sized (s : Sizes) (t : Tables) : Type 0 where
+  pub room : Roomy s t
+  pub kept : Kept s (t .jobs)
+
+pub sized-means : (s : Sizes) (t : Tables) → (sizesFit s t ≡ true) ↔ Sized s t
+sized-means s t = (
+  λ e. record { room = room-means s t .0 (search parts); kept = kept-means s (t .jobs) .0 (search parts) },
+  λ h. rw (room-means s t .1 (h .room), kept-means s (t .jobs) .1 (h .kept)),
 )
 
 -- ---- "a place is none, or in use: below its counter and below R or A"
@@ -148,9 +134,6 @@ pub data TurnedAway (s : Sizes) (t : Tables) (w : ℕ) : ℕ → Type 0 where
   by-1 : (Sized s t → ⊥) → TurnedAway s t w 1
   by-2 : Sized s t → s .workers ≤ w → TurnedAway s t w 2
   by-9 : Sized s t → w < s .workers → (Own s (view t) w → ⊥) → TurnedAway s t w 9
-
-pub fails : {A : Type 0} (b : Bool) → (b ≡ true → A) → (A → ⊥) → b ≡ false
-fails b f g = test b (λ e. absurd (g (f e))) (λ e. e)
 
 module _ {A : Type 0} (s : Sizes) (t : Tables) (w : ℕ) (refuse : ℕ → A) (plan : A) where
   pub admits : Admitted s t w → admitted s t w refuse plan ≡ plan

@@ -4,16 +4,18 @@
 use mathlib.Core.Path.{_≡_, ap, _∙_}
 use mathlib.Core.Bool.{true}
 use mathlib.Core.List.{List, _++_}
-use Prim.Native.Nat.{ℕ, zero, suc, _*_, _^_}
+use Prim.Native.Nat.{ℕ, zero, suc, _+_, _*_, _^_, _<_}
 use native.Mathlib.Omega.{arith}
 use native.Mathlib.Nat.{mul-suc, zero-add}
 use lib.Dec.{leb}
-use lib.ListN.{length, drop, length-append, length-replicate}
-use lib.Seq.{sets, sets-eq}
+use lib.ListN.{length, getD, drop, length-append, length-replicate, List·getD-append}
+use lib.Seq.{sets, sets-eq, length-sets}
 use borrow.Author.Tests.{leb-true}
 use Rattle.basics.specs.Base.{pick}
+use Rattle.basics.specs.Laws.{fails}
+use Rattle.minutes.specs.Minutes.{fixedMinutes}
 use Rattle.terms.specs.Terms.{wrongSizes}
-use Rattle.terms.specs.Runs.{outcome}
+use Rattle.terms.specs.Runs.{Outcome, outcome}
 use Rattle.terms.specs.declared.Sizes.{Sizes}
 use Rattle.terms.specs.declared.Answer.the-variants.{Laid, Refused}
 use Rattle.words.specs.Columns.{rows}
@@ -22,9 +24,10 @@ use Rattle.words.specs.Layout.{need, bareWorker, repeated, freshJob, freshArc, 
 use Rattle.words.specs.Layout.{freshBuckets}
 use Rattle.words.specs.Layout.{freshQueue, freshWorkers, freshTables, longEnough, roomFor}
 use Rattle.words.specs.Words.{layOut}
-use Rattle.locality.specs.Parts.{test, rest, joined, parts, Long, long}
+use Rattle.locality.specs.Parts.{test, rest, joined, lengths, parts, Long, long}
+use Rattle.locality.specs.Judged.{Roomy, room-means}
 
--- "no jobs, all workers idle and holding nothing, unused words 0, every place none"
+-- "no jobs, all workers idle and holding nothing, the fixed minutes, unused words 0, every place none"
 abbrev pub fresh : Sizes → Tables
 fresh s = tables (freshJobs s) (freshArcs s) (freshBuckets s) (freshQueue s) (freshWorkers s)
 
@@ -38,7 +41,7 @@ lay-table x l n e h =
     sets-eq x l 0 (omega (arith, leb-true n (length l) h)) ∙ ap (λ k. x ++ drop k l) (zero-add (length x) ∙ e)
 
 lay-fresh : (s : Sizes) (t : Tables) → Long s t → freshTables s t ≡ joined (fresh s) (rest s t)
-unfolding freshTables rows
+unfolding freshTables rows fixedMinutes
 lay-fresh s t h i =
     let jobs = length-repeated (s .jobs) freshJob in
     let arcs = length-repeated (s .arcs) freshArc in
@@ -58,3 +61,45 @@ unfolding layOut
 laid-out s t = test (roomFor s t)
     (λ e. let h : longEnough s t ≡ true = search parts in rw (e, lay-fresh s t (long h)))
     (λ e. rw e)
+
+-- ---- the same of any laying-out, in two cases, by the words alone
+pub record LaysOut (lay : Sizes → Tables → Outcome Tables) (s : Sizes) (t : Tables) : Type 0 where
+  pub by-1 : (Roomy s t → ⊥) → lay s t ≡ outcome (Refused wrongSizes 0) t
+  pub lays : Roomy s t → lay s t ≡ outcome Laid (joined (fresh s) (rest s t))
+  pub lengths : lengths (lay s t .state) ≡ lengths t
+  pub minutes : Roomy s t → (c : ℕ) → c < 16 → getD (lay s t .state .jobs) (5 + c) 0 ≡ getD fixedMinutes c 0
+
+-- a run of stores keeps each table's length
+lay-lengths : (s : Sizes) (t : Tables) → lengths (freshTables s t) ≡ lengths t
+unfolding freshTables
+lay-lengths s t =
+    rw (
+      length-sets (t .jobs) 0 (freshJobs s),
+      length-sets (t .arcs) 0 (freshArcs s),
+      length-sets (t .buckets) 0 (freshBuckets s),
+      length-sets (t .queue) 0 (freshQueue s),
+      length-sets (t .workers) 0 (freshWorkers s),
+    )
+
+fresh-minutes : (s : Sizes) (l : List ℕ) (c : ℕ) → c < 16 → getD (freshJobs s ++ l) (5 + c) 0 ≡ getD fixedMinutes c 0
+unfolding fixedMinutes
+fresh-minutes s l c h =
+    ap (λ k. getD (freshJobs s ++ l) k 0) {x = 5 + c} {y = suc (suc (suc (suc (suc c))))} (omega arith)
+    ∙ List·getD-append (fixedMinutes ++ repeated (s .jobs) freshJob) l 0 c
+    (omega (arith, length-append fixedMinutes (repeated (s .jobs) freshJob)))
+    ∙ List·getD-append fixedMinutes (repeated (s .jobs) freshJob) 0 c h
+
+lay-kept : (s : Sizes) (t : Tables) → lengths (layOut s t .state) ≡ lengths t
+unfolding layOut
+lay-kept s t = test (roomFor s t) (λ e. rw e (lay-lengths s t)) (λ e. rw e)
+
+pub lays-out : (s : Sizes) (t : Tables) → LaysOut layOut s t
+lays-out s t =
+    let laid : Roomy s t → layOut s t ≡ outcome Laid (joined (fresh s) (rest s t)) =
+    λ h. rw (laid-out s t, room-means s t .1 h) in
+    record {
+      by-1 = λ f. rw (laid-out s t, fails (roomFor s t) (room-means s t .0) f);
+      lays = laid;
+      lengths = lay-kept s t;
+      minutes = λ h c o. rw (laid h) (fresh-minutes s (rest s t .jobs) c o);
+    }

@@ -5,6 +5,9 @@ pub mod Stores
 pub mod Within
 pub mod Refusals
 pub mod Laying
+pub mod Loads
+pub mod WrongLoads
+pub mod WrongLaying
 pub mod Numbers
 pub mod Compared
 pub mod Classes
@@ -15,6 +18,8 @@ pub mod Order
 pub mod Judged
 pub mod Comes
 pub mod Elsewhere
+pub mod MinutesElsewhere
+pub mod WrongMinutes
 pub mod EntryReads
 pub mod GetReads
 pub mod Slots

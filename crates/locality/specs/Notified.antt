@@ -160,7 +160,7 @@ module _ (s : Sizes) (t : Tables) (w : ℕ) (comes : Comes s t w NOTIFYING) wher
   pub notifies-rightly : NotifiesRightly s t w arc (stepWords s t w)
   notifies-rightly =
       rw (notify-here s t w comes)
-      (notify-exact s t w arc (queue-rows s t (comes .admitted .sizes)) (comes .admitted .sizes .jobs .1))
+      (notify-exact s t w arc (queue-rows s t (comes .admitted .sizes)) (comes .admitted .sizes .room .limits .jobs .1))
 
   pub notifying-is-9 : Unlowered s (view t) arc → stepWords s t w ≡ outcome (Refused damaged 0) t
   unfolding applied

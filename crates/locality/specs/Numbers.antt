@@ -11,19 +11,21 @@ use borrow.Author.Tests.{ltb-true, leb-true}
 use Rattle.basics.specs.Limits.{mostNames}
 use Rattle.basics.specs.Base.{pick, contains}
 use Rattle.terms.specs.Terms.{Arguments, wrongSizes, noSuchWorker, halfDone, nothingToStep, wrongArguments}
-use Rattle.terms.specs.Terms.{unknownName, namePresent, tablesFull, damaged, alreadyHolding, notHeld, Finish}
-use Rattle.terms.specs.Runs.{Item, postAdd, postFinish, step, get}
+use Rattle.terms.specs.Terms.{unknownName, namePresent, tablesFull, damaged, alreadyHolding, notHeld, wrongMinutes}
+use Rattle.terms.specs.Terms.{jobsEntered, Finish}
+use Rattle.terms.specs.Runs.{Item, postAdd, postFinish, step, get, load, isLoad}
 use Rattle.terms.specs.declared.Sizes.{Sizes}
 use Rattle.terms.specs.declared.HandOut.{HandOut}
 use Rattle.terms.specs.declared.Answer.{Answer}
-use Rattle.terms.specs.declared.Answer.the-variants.{Posted, Going, Ended, NoneReady, Handed, Refused}
+use Rattle.terms.specs.declared.Answer.the-variants.{Loaded, Posted, Going, Ended, NoneReady, Handed, Refused}
 use Rattle.words.specs.Layout.{HELD, LIST-COUNT, PLACE, MARKING, Tables, View, view, bareWorker}
 use Rattle.words.specs.Words.{ownOk, planLookUp, planEnter, planAppend, planLink, inSeat, withSeat, planSettle}
 use Rattle.words.specs.Words.{planMark}
 use Rattle.words.specs.Words.{planNotify, planAdd, planLinks, planCall, planPhase, admitted, planStep, goingUnless}
 use Rattle.words.specs.Words.{answerOf, stepWords, takeFrom, planTake, planQueue, planGet, answerGet, planGetOf}
 use Rattle.words.specs.Words.{getWords}
-use Rattle.words.specs.Words.{judgedAdd, judgedFinish, addingWorker, posted, refusal, addWords, finishWords, perform}
+use Rattle.words.specs.Words.{judgedAdd, judgedFinish, addingWorker, posted, refusal, addWords, finishWords}
+use Rattle.words.specs.Words.{judgedLoad, loading, loadWords, perform}
 use Rattle.words.specs.declared.Seat.{Seat}
 use Rattle.words.specs.declared.Seating.{Seating}
 use Rattle.words.specs.declared.Seating.the-variants.{Seated, Unseated}
@@ -34,16 +36,20 @@ use Rattle.locality.specs.Parts.{parts}
 
 -- ---- the answers of each kind of item
 -- the column "When": 3 "post or get while that worker's call is half done", 4 "step while the worker is idle", 5 "add
--- posted with", 7 and 8 "entering finds", 10 "get while holding a job", 11 "finish of a name"
+-- posted with", 7 and 8 "entering finds", 10 "get while holding a job", 11 "finish of a name", 17 "values that do not
+-- rise or leave the limits", 18 "loading after a job has entered"
 abbrev pub kindNumbers : Item → List ℕ
 kindNumbers (postAdd s w a) = halfDone ∷ wrongArguments ∷ []
 kindNumbers (postFinish s w f) = halfDone ∷ notHeld ∷ []
 kindNumbers (step s w) = nothingToStep ∷ namePresent ∷ tablesFull ∷ []
 kindNumbers (get s w) = halfDone ∷ alreadyHolding ∷ []
+kindNumbers (load s m) = wrongMinutes ∷ jobsEntered ∷ []
 
--- "Order: 1, 2, 9 for the worker's own words": those turn every kind away
+-- "Order: 1, 2, 9 for the worker's own words": those turn every kind away that has a worker; a load has
+-- none, and "the order is 1, 17, 9, 18"
 abbrev pub numbers : Item → List ℕ
-numbers i = wrongSizes ∷ noSuchWorker ∷ damaged ∷ kindNumbers i
+numbers i =
+    pick (isLoad i) (wrongSizes ∷ damaged ∷ kindNumbers i) (wrongSizes ∷ noSuchWorker ∷ damaged ∷ kindNumbers i)
 
 -- served, or turned away: the column "Returned" says that 6 alone, "a look-up finds no such name", comes with a "place
 -- in the list from 0", and a list has at most 32 names; every other number's place is 0
@@ -54,6 +60,7 @@ pub data Fits : Item → Answer → Type 0 where
   ended : {s : Sizes} {w : ℕ} → Fits (step s w) Ended
   none-ready : {s : Sizes} {w : ℕ} → Fits (get s w) NoneReady
   handed : {s : Sizes} {w : ℕ} {h : HandOut} → Fits (get s w) (Handed h)
+  loaded : {s : Sizes} {m : List ℕ} → Fits (load s m) Loaded
   turned-away : {i : Item} {n : ℕ} → contains n (numbers i) ≡ true → Fits i (Refused n 0)
   unknown : {s : Sizes} {w p : ℕ} → p < mostNames → Fits (step s w) (Refused unknownName p)
 
@@ -75,7 +82,7 @@ on true = ended
 on false = going
 
 -- for `search`
-ruleset answers = (either, says, on, going, ended, none-ready, handed, turned-away, posted-add, posted-finish)
+ruleset answers = (either, says, on, going, ended, none-ready, handed, turned-away, posted-add, posted-finish, loaded)
 
 -- ---- a step
 module _ (s : Sizes) (v : View) (w : ℕ) where
@@ -142,7 +149,7 @@ module _ (s : Sizes) (v : View) (w : ℕ) where
 -- ---- the theorems
 -- demand 1: "either served or turned away by a number from the paper's list"
 pub fits : (t : Tables) (i : Item) → Fits i (perform t i .answer)
-unfolding perform addWords finishWords stepWords getWords posted admitted contains
+unfolding perform addWords finishWords stepWords getWords loadWords posted loading admitted contains
 fits t (postAdd s w a) =
     said (λ n. posted n t w (addingWorker (view t .worker HELD w) a) .answer)
     (admitted s t w refusal (judgedAdd s (view t) w a))
@@ -153,6 +160,7 @@ fits t (postFinish s w f) =
     (search answers depth 9)
 fits t (step s w) = said answerOf (planStep s t w) (search (answers, stepping) depth 7)
 fits t (get s w) = said answerGet (planGetOf s t w) (search (answers, getting) depth 7)
+fits t (load s m) = said (λ n. loading n t m .answer) (judgedLoad s t m) (search answers depth 9)
 
 -- "Get is one step. It takes the job": a get alone hands a job out
 by-get : {i : Item} {h : HandOut} → Fits i (Handed h) → (q : Sizes) × (w : ℕ) × (i ≡ get q w)

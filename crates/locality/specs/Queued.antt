@@ -162,7 +162,7 @@ module _ (s : Sizes) (t : Tables) (w : ℕ) (comes : ComesToSettle s t w) where
   pub settles-rightly : SettlesRightly s t w job tallied listed (stepWords s t w)
   settles-rightly =
       rw (settle-here s t w comes) (settle-exact s t w job tallied listed (queue-rows s t (comes .0 .admitted .sizes))
-      (comes .0 .admitted .sizes .jobs .1))
+      (comes .0 .admitted .sizes .room .limits .jobs .1))
 
   pub settling-is-9 : Unsettled s (view t) job tallied listed → stepWords s t w ≡ outcome (Refused damaged 0) t
   unfolding applied

@@ -2,24 +2,27 @@
 -- in "Turned-away calls", "none ready" in "Steps", and "A call that ends puts the words of its call back" in "Tables
 -- and their measures". Assumes nothing.
 use mathlib.Core.Path.{_≡_, refl, ap, subst, _∙_}
+use mathlib.Core.Logic.{_≢_}
 use mathlib.Core.Bool.{Bool, true, false}
 use mathlib.Core.List.{List, _++_, append-assoc}
 use Prim.Native.Nat.{ℕ, zero, suc, _+_}
 use native.Mathlib.Omega.{arith}
-use lib.Dec.{ltb, eqb}
+use lib.Dec.{ltb, leb, eqb}
 use lib.ListN.{length, take, drop}
 use lib.Seq.{sets-eq, length-take-le, take-at, drop-at}
 use Rattle.basics.specs.Base.{pick}
-use Rattle.terms.specs.Runs.{Item, postAdd, postFinish, step, get, Outcome, outcome, workerOf}
+use Rattle.basics.specs.Laws.{never, pick-by}
+use Rattle.minutes.specs.Rising.{isRising}
+use Rattle.terms.specs.Runs.{Item, postAdd, postFinish, step, get, load, Outcome, outcome, workerOf}
 use Rattle.terms.specs.declared.Sizes.{Sizes}
 use Rattle.terms.specs.declared.Answer.{Answer}
-use Rattle.terms.specs.declared.Answer.the-variants.{Laid, Posted, Going, Ended, NoneReady, Handed, Refused}
+use Rattle.terms.specs.declared.Answer.the-variants.{Laid, Loaded, Posted, Going, Ended, NoneReady, Handed, Refused}
 use Rattle.words.specs.Columns.{place, Rows}
 use Rattle.words.specs.Layout.{none, workerShape, HELD, IDLE, MARKING, Tables, tables, View, view, bareWorker}
-use Rattle.words.specs.Layout.{longEnough}
+use Rattle.words.specs.Layout.{longEnough, sizesFit}
 use Rattle.words.specs.Words.{planPhase, answerOf, putWorker, idleWorker, applied, stepWords, planGet, answerGet}
 use Rattle.words.specs.Words.{appliedGet, getWords, judgedAdd, judgedFinish, addingWorker, refusal, posted, addWords}
-use Rattle.words.specs.Words.{finishWords, perform}
+use Rattle.words.specs.Words.{finishWords, judgedLoad, loading, loadWords, perform}
 use Rattle.words.specs.declared.Plan.{Plan}
 use Rattle.words.specs.declared.Plan.the-variants.{Refuse, Quit, Pass, Enter, Tally, LinkFirst, LinkAfter, Settle}
 use Rattle.words.specs.declared.Plan.the-variants.{SettleQueue, Mark, Notify, NotifyQueue}
@@ -36,6 +39,7 @@ idled t w = tables (t .jobs) (t .arcs) (t .buckets) (t .queue) (idleWorker (view
 -- an answer that ends an add or a finish: accepted, or 6, 7 or 8
 abbrev pub ends : Answer → Bool
 ends Laid = false
+ends Loaded = false
 ends Posted = false
 ends Going = false
 ends Ended = true
@@ -57,6 +61,7 @@ holdAfter v w = pick (marking v w) none (v .worker HELD w)
 -- ---- what an answer says of the tables u after
 abbrev Changed : Tables → ℕ → Tables → Answer → Type 0
 Changed t w u Laid = Unit {0}
+Changed t w u Loaded = Unit {0}
 Changed t w u Posted = Unit {0}
 Changed t w u Going = Unit {0}
 Changed t w u Ended = Unit {0}
@@ -116,8 +121,24 @@ unfolding posted
 post-left t w x zero e = (tt, tt)
 post-left t w x (suc n) e = (rw e, rw e tt)
 
+load-left : (t : Tables) (w : ℕ) (m : List ℕ) (n : ℕ) → quitsBy n ≡ false → Left t w (loading n t m)
+unfolding loading
+load-left t w m zero e = (tt, tt)
+load-left t w m (suc n) e = (rw e, rw e tt)
+
+-- no load is turned away by 6, 7 or 8
+load-keeps : (s : Sizes) (t : Tables) (m : List ℕ) → quitsBy (judgedLoad s t m) ≡ false
+load-keeps s t m =
+    pick-by (λ n. quitsBy n ≡ false) (sizesFit s t)
+    (λ _. pick-by (λ n. quitsBy n ≡ false) (isRising m)
+    (λ _. pick-by (λ n. quitsBy n ≡ false) (leb (view t .made) (s .jobs))
+    (λ _. pick-by (λ n. quitsBy n ≡ false) (eqb (view t .made) 0) (λ _. refl) (λ _. refl))
+    (λ _. refl))
+    (λ _. refl))
+    (λ _. refl)
+
 left-behind : (t : Tables) (i : Item) → Left t (workerOf i) (perform t i)
-unfolding perform addWords finishWords stepWords getWords applied appliedGet
+unfolding perform addWords finishWords stepWords getWords loadWords applied appliedGet
 left-behind t (postAdd s w a) =
     let x = addingWorker (view t .worker HELD w) a in
     admit (λ n. Left t w (posted n t w x)) s t w refusal (judgedAdd s (view t) w a) (λ n. post-left t w x (suc n))
@@ -136,6 +157,7 @@ left-behind t (get s w) =
     admit (λ p. Left t w (outcome (answerGet p) (appliedGet p t w))) s t w RefuseGet (planGet s (view t) w)
     (λ n e. (rw e, rw e tt))
     (λ _ k o. get-left s t w (planGet s (view t) w) (get-alike s (view t) w k o .1))
+left-behind t (load s m) = load-left t 0 m (judgedLoad s t m) (load-keeps s t m)
 
 -- ---- the theorems
 -- "nothing changed", but for 6, 7 and 8: "worker idle, nothing else changed"
@@ -154,3 +176,33 @@ pub ended : (t : Tables) (i : Item) → ends (perform t i .answer) ≡ true
     ≡ putWorker (t .workers) (workerOf i) (bareWorker IDLE (holdAfter (view t) (workerOf i))))
     × (wordsOf (workerOf i) (perform t i .state) ≡ bareWorker IDLE (holdAfter (view t) (workerOf i)))
 ended t i e = subst (λ b. pick b (Back t (workerOf i) (perform t i .state)) (Unit {0})) e (left-behind t i .1)
+
+-- ---- a load: it is loaded or refused, and ends no call
+module _ (s : Sizes) (t : Tables) (m : List ℕ) where
+  loading-refused : (k n p : ℕ) → loading k t m .answer ≡ Refused n p → loading k t m .state ≡ t
+  unfolding loading
+  loading-refused zero n p e = never cc
+  loading-refused (suc k) n p e = refl
+
+  loading-waits : (k : ℕ) → loading k t m .answer ≢ NoneReady
+  unfolding loading
+  loading-waits zero e = never cc
+  loading-waits (suc k) e = never cc
+
+  loading-ends : (k : ℕ) → quitsBy k ≡ false → ends (loading k t m .answer) ≡ false
+  unfolding loading
+  loading-ends zero e = refl
+  loading-ends (suc k) e = e
+
+  -- "with nothing changed"
+  pub refused-load : (n p : ℕ) → perform t (load s m) .answer ≡ Refused n p → perform t (load s m) .state ≡ t
+  unfolding perform loadWords
+  refused-load = loading-refused (judgedLoad s t m)
+
+  pub load-never-none-ready : perform t (load s m) .answer ≢ NoneReady
+  unfolding perform loadWords
+  load-never-none-ready = loading-waits (judgedLoad s t m)
+
+  pub load-ends-no-call : ends (perform t (load s m) .answer) ≡ false
+  unfolding perform loadWords
+  load-ends-no-call = loading-ends (judgedLoad s t m) (load-keeps s t m)

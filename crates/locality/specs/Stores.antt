@@ -14,16 +14,17 @@ use Rattle.basics.specs.Base.{pick, update}
 use Rattle.basics.specs.Laws.{pick-by}
 use Rattle.heap.specs.Sift.{above}
 use Rattle.heap.specs.Way.{WayUp, WayFirst, up-weaker, first-weaker}
+use Rattle.minutes.specs.Minutes.{classes}
 use Rattle.terms.specs.declared.Sizes.{Sizes}
 use Rattle.words.specs.Columns.{Shape, place, Rows, rows, columns, header, put, putHeader, inside, rows-put}
 use Rattle.words.specs.Columns.{columns-put}
 use Rattle.words.specs.Layout.{none, jobShape, JOBS, ARCS, BITS, WORKERS, MADE, LABEL, COUNT, FIRST, LAST, arcShape}
 use Rattle.words.specs.Layout.{RESERVED, DEPENDENT, AFTER, bucketShape, queueShape, TAKEN, PUT, CELL, SLOT, POSITION}
-use Rattle.words.specs.Layout.{workerShape, PHASE}
+use Rattle.words.specs.Layout.{MINUTES, workerShape, PHASE}
 use Rattle.words.specs.Layout.{HELD, OWN-NAME, LIST-COUNT, OWN-CLASS, OWN-GROWER, TALLY, PLACE, OWN-JOB, OWN-ARC, IDLE}
 use Rattle.words.specs.Layout.{LINKING, NOTIFYING, Tables, tables, view, bareWorker}
 use Rattle.words.specs.Words.{applied, appliedGet, idleWorker, putWorker, enteredJob, putField, nextPlace, arcsFrom}
-use Rattle.words.specs.Words.{markedWorker}
+use Rattle.words.specs.Words.{markedWorker, loaded}
 use Rattle.words.specs.Index.{levels, slotIn, putSlot, shiftedDown, shiftedUp, putSeat, takeSeat}
 use Rattle.words.specs.declared.Seat.{Seat}
 use Rattle.words.specs.declared.Plan.{Plan}
@@ -152,6 +153,13 @@ module _ (s : Sizes) (t r : Tables) (h : Long s t) where
 
   pub unchanged : Carried t (joined t r)
   unchanged = carried start start start start start
+
+  -- a load stores sixteen words of the header, past the sizes kept
+  pub load-carried : (m : List ℕ) → length m ≡ classes → Carried (loaded t m) (loaded (joined t r) m)
+  unfolding rows
+  load-carried m e =
+      let fits = leb-true (jobShape .head + jobShape .width * s .jobs) (length (t .jobs)) (h .jobs) in
+      carried (words start MINUTES m (omega arith) (lit≤ tt)) start start start start
 
   -- ---- the queue and its index: slots are read within the table, and stored in from a slot up
   read : {x y : List ℕ} → Stored Q x y → (i : ℕ) → i < s .jobs → slotIn y i ≡ slotIn x i

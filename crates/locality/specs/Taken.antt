@@ -87,7 +87,7 @@ module _ (s : Sizes) (t : Tables) (w : ℕ) (here : reach s t w ≡ index) where
             (columns-put workerShape (s .workers) (t .workers) w HELD (nextJob v) refl (rows .workers) known)
             ∙ update-same (columns workerShape (t .workers) HELD) w (nextJob v);
         queue = rw (← (seat .place), ← (seat .last))
-            (seat-emptied (s .jobs) t e (rows .queue) (at .fits) (sized-means s t .0 fit .jobs .1) (at .some) seat);
+            (seat-emptied (s .jobs) t e (rows .queue) (at .fits) (sized-means s t .0 fit .room .limits .jobs .1) (at .some) seat);
       }
 
   pub first-got : takesFirst v ≡ true → GetsFirst t w (getWords s t w)

@@ -11,24 +11,28 @@ use borrow.Author.Tests.{eqb-true}
 use Rattle.basics.specs.Limits.{mostNames}
 use Rattle.basics.specs.Base.{pick}
 use Rattle.basics.specs.Laws.{length-prefix}
+use Rattle.minutes.specs.Rising.{isRising, SixteenRising, rising-means}
 use Rattle.terms.specs.Terms.{Arguments, listed, withinLimits, wrongSizes}
-use Rattle.terms.specs.Runs.{Item, postAdd, postFinish, step, get, Outcome, outcome, Event, after, events, sizesOf}
+use Rattle.terms.specs.Runs.{Item, postAdd, postFinish, step, get, load, Outcome, outcome, Event, after, events}
+use Rattle.terms.specs.Runs.{sizesOf}
 use Rattle.terms.specs.declared.Sizes.{Sizes}
 use Rattle.terms.specs.declared.Answer.{Answer}
-use Rattle.terms.specs.declared.Answer.the-variants.{Posted, Refused}
-use Rattle.words.specs.Layout.{workerShape, HELD, MARKING, Tables, View, view, bareWorker, longEnough, sizesKept}
-use Rattle.words.specs.Layout.{roomFor, sizesFit}
+use Rattle.terms.specs.declared.Answer.the-variants.{Posted, Loaded, Refused}
+use Rattle.words.specs.Layout.{jobShape, MADE, workerShape, HELD, MARKING, Tables, View, view, bareWorker, longEnough}
+use Rattle.words.specs.Layout.{sizesKept, roomFor, sizesFit}
 use Rattle.words.specs.Words.{ownOk, planPhase, admitted, answerOf, answerGet, applied, stepWords, planGet, appliedGet}
 use Rattle.words.specs.Words.{getWords, judgedAdd, judgedFinish, addingWorker, refusal, posted, addWords, finishWords}
-use Rattle.words.specs.Words.{perform}
+use Rattle.words.specs.Words.{judgedLoad, loading, loadWords, perform}
 use Rattle.words.specs.declared.Plan.{Plan}
 use Rattle.words.specs.declared.Plan.the-variants.{Refuse}
 use Rattle.words.specs.declared.GetPlan.{GetPlan}
 use Rattle.words.specs.declared.GetPlan.the-variants.{RefuseGet}
 use Rattle.locality.specs.Parts.{test, needed, rest, joined, lengths, laidOut, parts, long, clip, clip-joined}
+use Rattle.locality.specs.Parts.{header-joined}
 use Rattle.locality.specs.Parts.{whole, needed-again, long-needed, kept-needed, long-joined, kept-joined}
 use Rattle.locality.specs.Plans.{own-alike, phase-alike, get-alike, add-alike, finish-alike, admit}
 use Rattle.locality.specs.Stores.{Kept, Carried, unchanged, own, post-carried, step-carried, get-carried}
+use Rattle.locality.specs.Stores.{load-carried}
 
 length-adding : (held : ℕ) (a : Arguments) → length (addingWorker held a) ≡ workerShape .width
 length-adding held a = rw (length-prefix mostNames (listed a))
@@ -107,6 +111,29 @@ module _ (s : Sizes) (t r : Tables) (e : longEnough s t ≡ true) where
       before : List ℕ
       before = x (view (joined t r) .worker HELD w)
 
+  -- a load reads the sizes and how many jobs were made
+  load-joined : (m : List ℕ) → judgedLoad s (joined t r) m ≡ judgedLoad s t m
+  load-joined m =
+      rw (
+        long-joined s t r e,
+        e,
+        kept-joined s t r (long e),
+        header-joined jobShape (s .jobs) (t .jobs) (r .jobs) (long e .jobs) MADE refl,
+      )
+
+  loading-framed : (m : List ℕ) → SixteenRising m → (n : ℕ) → Framed (loading n (joined t r) m) (loading n t m)
+  unfolding loading
+  loading-framed m x zero = framed Loaded (load-carried s t r (long e) m (x .sixteen))
+  loading-framed m x (suc n) = framed _ (unchanged s t r (long e))
+
+  load-framed : (m : List ℕ) → Framed (loadWords s (joined t r) m) (loadWords s t m)
+  unfolding loadWords loading
+  load-framed m =
+      rw (load-joined m)
+      (test (isRising m) (λ x. loading-framed m (rising-means m .0 x) (judgedLoad s t m))
+      (λ x. rw x (test (sizesFit s t) (λ f. rw f (framed _ (unchanged s t r (long e))))
+      (λ f. rw f (framed _ (unchanged s t r (long e)))))))
+
 frame : (t r : Tables) (i : Item) (e : longEnough (sizesOf i) t ≡ true)
     → Framed (sizesOf i) t r e (perform (joined t r) i) (perform t i)
 unfolding perform addWords finishWords
@@ -118,15 +145,17 @@ frame t r (postFinish s w f) e =
     (λ v k o. finish-alike s v w k o (f .name) .0)
 frame t r (step s w) e = step-framed s t r e w
 frame t r (get s w) e = get-framed s t r e w
+frame t r (load s m) e = load-framed s t r e m
 
 -- ---- number 1, for items: other sizes than those laid out, sizes off their limits, a table too short
 pub turned-away : (t : Tables) (i : Item) → sizesFit (sizesOf i) t ≡ false
     → perform t i ≡ outcome (Refused wrongSizes 0) t
-unfolding perform addWords finishWords stepWords getWords admitted posted applied appliedGet
+unfolding perform addWords finishWords stepWords getWords loadWords admitted posted applied appliedGet loading
 turned-away t (postAdd s w a) e = rw e
 turned-away t (postFinish s w f) e = rw e
 turned-away t (step s w) e = rw e
 turned-away t (get s w) e = rw e
+turned-away t (load s m) e = rw e
 
 pub too-short : (s : Sizes) (t : Tables) → longEnough s t ≡ false → sizesFit s t ≡ false
 too-short s t e = rw (e, and-false (withinLimits s))

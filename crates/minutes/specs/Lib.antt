@@ -1,2 +1,3 @@
 pub mod Minutes
 pub mod Rising
+pub mod Judged

@@ -1,5 +1,5 @@
 -- The minutes of a job by its class: a table of one entry for each class, and the fixed table. Follows docs/RULES.md,
--- "Tables and their measures": "Minutes by class, 0 to 15, are fixed". Assumes nothing.
+-- "Tables and their measures": "Minutes by class". Assumes nothing.
 use mathlib.Core.List.{List, [], _∷_}
 use Prim.Native.Nat.{ℕ}
 use lib.ListN.{getD}

@@ -3,11 +3,12 @@
 -- carried to each entry". Assumes nothing.
 use mathlib.Core.Bool.{Bool, true, _&&_, and-eq-true-iff}
 use mathlib.Core.List.{List, [], _∷_}
+use mathlib.Core.Logic.{_↔_}
 use mathlib.Core.Path.{_≡_, refl}
 use native.Mathlib.Omega.{arith}
 use native.Mathlib.Nat.{le-of-suc-le-suc, not-suc-le-zero}
 use Prim.Native.Nat.{ℕ, zero, suc, _≤_, _<_}
-use borrow.Author.Tests.{ltb-true, leb-true, eqb-true}
+use borrow.Author.Tests.{ltb-true, leb-true, eqb-true, lt-ltb, le-leb, eq-eqb}
 use lib.Dec.{eqb, leb, ltb}
 use lib.ListN.{length, getD, List·getD-eq-default}
 use Rattle.minutes.specs.Minutes.{classes, minutesIn, fixedMinutes}
@@ -93,3 +94,45 @@ rising table passes =
 pub fixed-rising : Rising fixedMinutes
 unfolding isRising risesAbove fixedMinutes
 fixed-rising = rising fixedMinutes refl
+
+-- ---- the test, as a reader would say it: "sixteen minute values", which "must rise strictly from class to class, each
+-- from 1 to 1,440"
+pub record SixteenRising (m : List ℕ) : Type 0 where
+  pub sixteen : length m ≡ 16
+  pub least : (i : ℕ) → i < 16 → 1 ≤ getD m i 0
+  pub most : (i : ℕ) → i < 16 → getD m i 0 ≤ 1440
+  pub rises : (i : ℕ) → suc i < 16 → getD m i 0 < getD m (suc i) 0
+
+-- entries within the limit that rise from one to the next, the first from above `before`, pass the test
+climbs : (before : ℕ) (table : List ℕ) → (0 < length table → before < getD table 0 0)
+    → ((i : ℕ) → i < length table → getD table i 0 ≤ mostMinutes)
+    → ((i : ℕ) → suc i < length table → getD table i 0 < getD table (suc i) 0)
+    → risesAbove before table ≡ true
+unfolding risesAbove
+climbs before [] f g h = refl
+climbs before (entry ∷ rest) f g h =
+    rw (
+      lt-ltb before entry (f (omega arith)),
+      le-leb entry mostMinutes (g 0 (omega arith)),
+      climbs entry rest (λ z. h 0 (omega arith)) (λ i z. g (suc i) (omega arith)) (λ i z. h (suc i) (omega arith)),
+    )
+
+pub rising-means : (m : List ℕ) → (isRising m ≡ true) ↔ SixteenRising m
+unfolding isRising
+rising-means m = (
+  λ passes.
+      let both : (eqb (length m) classes ≡ true) × (risesAbove 0 m ≡ true) = and-eq-true-iff _ _ .0 passes in
+      let size : length m ≡ classes = eqb-true (length m) classes (both .0) in
+      record {
+        sixteen = size;
+        least = λ i h. above 0 m (both .1) i (omega arith);
+        most = λ i h. limit 0 m (both .1) i (omega arith);
+        rises = λ i h. rises 0 m (both .1) i (suc i) (omega arith) (omega arith);
+      },
+  λ r.
+      let size = r .sixteen in
+      rw (
+        eq-eqb (length m) classes size,
+        climbs 0 m (λ z. r .least 0 (omega arith)) (λ i z. r .most i (omega arith)) (λ i z. r .rises i (omega arith)),
+      ),
+)

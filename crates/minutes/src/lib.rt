@@ -1,9 +1,22 @@
-// The minutes of a job by its class. Follows docs/RULES.md, "Tables and their measures": "Minutes by class, 0 to 15,
-// are fixed". Assumes nothing.
+// The minutes of a job by its class, and whether a table of minutes may stand in place of the fixed ones. Follows
+// docs/RULES.md, "Tables and their measures" ("Minutes by class") and "A district's minutes". Assumes nothing.
 ghost use mathlib.Core.Path.{_≡_};
+ghost use lib.ListN.{length};
 ghost use Rattle.minutes.specs.Minutes.{minutesIn, fixedMinutes};
+ghost use Rattle.minutes.specs.Rising.{isRising};
+ghost use Rattle.minutes.specs.Judged.{allMinutes, noMinutes, judgedMinutes};
+
+// The minutes of all classes. The number is 0 where they are served. Else it is the refusal's, and all minutes are 0.
+#[repr(C)]
+pub struct GraphMinutes {
+    pub number: u32,
+    pub minutes: [u32; 16],
+}
 
 const CLASSES: usize = 16;
+
+// A day's minutes: no class has more.
+const MOST_MINUTES: u32 = 1440;
 
 const MINUTES: [u32; CLASSES] = [
     1,
@@ -30,4 +43,82 @@ pub fn minutes(class: u32) -> u32
 {
     let place = class as usize;
     if place < CLASSES { MINUTES[place] } else { 0 }
+}
+
+// The fixed minutes of all classes.
+pub fn fixed() -> [u32; 16]
+    ensures { λ r. ⌜ r ≡ fixedMinutes ⌝ }
+{
+    MINUTES
+}
+
+// Whether there is an entry for each class, and they rise strictly, each from 1 to a day's minutes.
+pub fn is_rising(table: &[u32]) -> bool
+    ensures { λ r. ⌜ r ≡ isRising (now (table .entry)) ⌝ }
+{
+    if table.len() != CLASSES {
+        return false;
+    }
+    let mut before = 0;
+    let mut i = 0;
+    while i < CLASSES {
+        let entry = table[i];
+        let rises = (before < entry) & (entry <= MOST_MINUTES);
+        if rises {} else {
+            return false;
+        }
+        before = entry;
+        i += 1;
+    }
+    true
+}
+
+// The fixed minutes, served.
+pub fn fixed_minutes() -> GraphMinutes
+    ensures { λ r. ⌜ r ≡ allMinutes fixedMinutes ⌝ }
+{
+    GraphMinutes {
+        number: 0,
+        minutes: fixed(),
+    }
+}
+
+// A refusal hands out its number alone.
+pub fn none(number: u32) -> GraphMinutes
+    ensures { λ r. ⌜ r ≡ noMinutes number ⌝ }
+{
+    GraphMinutes {
+        number,
+        minutes: [0; 16],
+    }
+}
+
+// The words of a table that has an entry for each class.
+fn copied(table: &[u32]) -> [u32; 16]
+    ensures { λ r. ⌜ (length (now (table .entry)) ≡ 16 → r ≡ now (table .entry)) ⌝ }
+{
+    let mut minutes = [0; 16];
+    if table.len() == CLASSES {
+        let mut i = 0;
+        while i < CLASSES {
+            minutes[i] = table[i];
+            i += 1;
+        }
+    }
+    minutes
+}
+
+// The minutes of a table, if they rise; else the refusal of this number.
+pub fn judged(refusal: u32, table: &[u32]) -> GraphMinutes
+    ensures { λ r. ⌜ r ≡ judgedMinutes refusal (now (table .entry)) ⌝ }
+{
+    let rises = is_rising(table);
+    if rises {
+        GraphMinutes {
+            number: 0,
+            minutes: copied(table),
+        }
+    } else {
+        none(refusal)
+    }
 }

@@ -10,7 +10,10 @@
 --   demand 3                  linearizability: specs/Demand.antt           (of any machine; wrong ones in Wrong*.antt)
 --   how calls end             linearizability: specs/Ends.antt
 --   long jobs first           linearizability: specs/LongFirst.antt; words: specs/Index.antt; heap: specs/Sift.antt
---   the board                 graph_board: specs/Board.antt, specs/Accounted.antt
+--   loads of minutes          minutes: specs/Minutes.antt, specs/Rising.antt, specs/Judged.antt; locality: specs/Loads.antt
+--   the board                 graph_board: specs/Board.antt, specs/Accounted.antt, specs/Exactly.antt
+--   the board on a row        totals: specs/Board.antt, specs/Exactly.antt
+--   laying out                locality: specs/Laying.antt
 --   held and drained          worker_state: specs/Held.antt, specs/Drained.antt; state_history: specs/Told.antt
 --   words needed, and rest    locality: specs/Parts.antt, specs/Refusals.antt, specs/Numbers.antt
 --   what a get compares       locality: specs/Compared.antt, specs/Classes.antt
@@ -20,25 +23,29 @@
 --   how a job enters          locality: specs/EntryReads.antt, specs/Moved.antt, specs/Queued.antt, specs/Notified.antt
 --   what the index writes     heap: specs/Shifted.antt
 --   the index is exact        words_history: specs/IndexExact.antt
--- An item is a post, a step or a get, by any worker, with any sizes and arguments, right or wrong; `events` are the
--- items with their answers, and `after` is the state that they leave. "Laid out" means: `layOut s t` answered so,
--- whatever the tables t held before. Assumes nothing.
+-- An item is a post, a step or a get, by any worker, or a load, with any sizes and arguments, right or wrong; `events`
+-- are the items with their answers, and `after` is the state that they leave. "Laid out" means: `layOut s t` answered
+-- so, whatever the tables t held before. Assumes nothing.
 use mathlib.Core.Path.{_≡_, refl}
 use mathlib.Core.Logic.{_↔_, _≢_}
 use mathlib.Core.Bool.{true, false, _&&_}
 use mathlib.Core.List.{List, [], _∷_, _++_}
 use mathlib.Core.Option.{none}
-use Prim.Native.Nat.{ℕ, suc, _+_, _*_, _-_, _^_, _≤_, _<_}
+use Prim.Native.Nat.{ℕ, suc, _+_, _*_, _-_, _^_, _%_, _≤_, _<_}
 use native.Mathlib.Omega.{arith}
-use lib.ListN.{length, getD}
+use lib.ListN.{length, getD, replicate}
 use lib.Seq.{sets}
 use Rattle.basics.specs.Limits.{mostNames}
 use Rattle.basics.specs.Base.{pick, contains, occurrences}
 use Rattle.bucket.specs.Bucket.{bucketOf}
+use Rattle.minutes.specs.Minutes.{classes, minutesIn, fixedMinutes}
+use Rattle.minutes.specs.Judged.{allMinutes, noMinutes}
+use Rattle.minutes.specs.Rising.{isRising, SixteenRising, rising-means}
 use Rattle.terms.specs.Terms.{Arguments, withinLimits, sameSizes, wrongSizes, noSuchWorker, damaged}
 use Rattle.terms.specs.Terms.{argumentsWrong, settles, halfDone, nothingToStep, mostJobs, mostWorkers, Finish}
 use Rattle.terms.specs.Order.{First}
-use Rattle.terms.specs.Runs.{Item, postAdd, postFinish, step, get, sizesOf, workerOf, outcome, after, events}
+use Rattle.terms.specs.Runs.{Item, postAdd, postFinish, step, get, load, sizesOf, workerOf, isLoad}
+use Rattle.terms.specs.Runs.{outcome, after, events}
 use Rattle.terms.specs.Seen.{Same, idle, handOut}
 use Rattle.terms.specs.declared.Sizes.{Sizes}
 use Rattle.terms.specs.declared.HandOut.{HandOut}
@@ -46,19 +53,24 @@ use Rattle.terms.specs.declared.Answer.{Answer}
 use Rattle.terms.specs.declared.Answer.the-variants.{Laid, Posted, Ended, NoneReady, Handed, Refused}
 use Rattle.heap.specs.Compared.{Alike}
 use Rattle.words.specs.Layout.{Tables, View, view, workerShape, NAME, LABEL, CLASS, DEPENDENT, AFTER, HELD, LIST-COUNT}
-use Rattle.words.specs.Layout.{CELL, SLOT, TALLY, OWN-JOB, OWN-ARC, NAMES, IDLE, NOTIFYING, bareWorker, roomFor}
+use Rattle.words.specs.Layout.{CELL, SLOT, TALLY, OWN-JOB, OWN-ARC, NAMES, IDLE, NOTIFYING, bareWorker}
+use Rattle.words.specs.Layout.{jobShape, storedMinutes}
 use Rattle.words.specs.Layout as words
+use Rattle.words.specs.Columns.{columns, header}
+use Rattle.words.specs.Stored.{minutes-by-words, job-by-words}
 use Rattle.words.specs.Index.{levels, rankIn, rankOf, placeIn, waits, filled, firstPlace, lastSlot, firstSeat, seatFor}
 use Rattle.words.specs.Index.{putSeat}
 use Rattle.words.specs.Words as by-words
-use Rattle.words.specs.Words.{nextJob, putWorker, finishWords, stepWords, getWords, perform, layOut}
+use Rattle.words.specs.Words.{nextJob, putWorker, finishWords, stepWords, getWords, loaded, perform}
+use Rattle.words.specs.Words.{layOut}
 use Rattle.words.specs.Observed.{waiting, bucketFrom, newestFirst, seen}
 use Rattle.rules.specs.Rules.{empty}
 use Rattle.rules.specs.Rules as rules
 use Rattle.rules.specs.Observed as rules-seen
 use Rattle.linearization.specs.Calls.{adding, finishing, Reading, reading, Quiet, acceptedAdds, acceptedFinishes}
+use Rattle.linearization.specs.Calls.{minutesLoaded}
 use Rattle.linearization.specs.Calls as reading
-use Rattle.linearizability.specs.Demand.{Demand, addOf, HandedRightly, JobFinished, gives, handedOut}
+use Rattle.linearizability.specs.Demand.{Demand, addOf, HandedRightly, JobFinished, gives, handedOut, loadEnd}
 use Rattle.linearizability.specs.Ends.{AddStep, FinishOf}
 use Rattle.linearizability.specs.LongFirst.{longFirst, TakesLongest, ByCount}
 use Rattle.words_history.specs.Theorem as shown
@@ -77,6 +89,8 @@ use Rattle.locality.specs.Comes.{first-of-all, StepRefused, AddRefused, FinishR
 use Rattle.locality.specs.Comes.{finish-is-refused, withWorker, Holds, add-is-posted, finish-is-posted, MayGet}
 use Rattle.locality.specs.Comes.{GetRefused, at-empty, at-index, comes-early}
 use Rattle.locality.specs.Elsewhere.{withQueue, Elsewhere, elsewhere}
+use Rattle.locality.specs.Loads.{Stored, loaded-stores, LoadsExactly, item-loads-exactly}
+use Rattle.locality.specs.MinutesElsewhere.{minutes-apart, minutes-stay}
 use Rattle.locality.specs.Classes.{ButClasses, Classed, withJobs, SameGet, get-by-classes}
 use Rattle.locality.specs.IndexFirst.{FirstTaken, first-taken, none-ready-empty}
 use Rattle.locality.specs.Looked.{eachWaits, isSeated, lookedByGet, takesFirst, lookedByEntry, mayEnter}
@@ -93,7 +107,7 @@ use Rattle.locality.specs.Notified.{Lowers, Unlowered, Onward, NotifiesRightly,
 use Rattle.locality.specs.Notified.{notifies-seated}
 use Rattle.words.specs.declared.Seat.{Seat}
 use Rattle.words.specs.declared.Seating.the-variants.{Seated}
-use Rattle.locality.specs.Laying.{fresh}
+use Rattle.locality.specs.Laying.{LaysOut}
 use Rattle.locality.specs.Laying as laying
 use Rattle.sheet_format.specs.Job.{Job}
 use Rattle.sheet_format.specs.NumberLaws.{Bytes}
@@ -105,15 +119,20 @@ use Rattle.day_format.specs.Day.{linesBefore, dayLines, dayText, dayList, print
 use Rattle.day_format.specs.declared.DayAnswer.the-variants.{Printed}
 use Rattle.day_history.specs.Theorem.{Begins, afterAdds, afterRounds, mostPrinted}
 use Rattle.day_history.specs.Theorem as ends-of-day
-use Rattle.graph_board.specs.Board.{graphTotals}
+use Rattle.totals.specs.Board.{refused, totalsOf, totalsBy, totalsOfWords}
+use Rattle.totals.specs.Exactly.{RowsExactly, rows-exactly, fixed-rows, recordWords, words-exactly, odd-words}
+use Rattle.totals.specs.declared.JobRecord.{JobRecord}
+use Rattle.graph_board.specs.Board.{graphMinutes, graphTotals}
 use Rattle.graph_board.specs.Accounted.{Accounted}
-use Rattle.board_history.specs.Minutes.{accounted}
+use Rattle.graph_board.specs.Exactly.{BoardsExactly, boards-exactly, MinutesExactly, minutes-exactly}
+use Rattle.board_history.specs.Minutes.{accounted, minutes-told, board-number}
 use Rattle.worker_state.specs.Held.{heldWords}
 use Rattle.worker_state.specs.Drained.{drainedWords}
 use Rattle.state_history.specs.Told.{heldRead, turnedAway, told}
 use Rattle.state_history.specs.Numbers as state-numbers
 use Rattle.state_history.specs.Need as state-need
 use Rattle.state_history.specs.Agrees as state-agrees
+use Rattle.state_history.specs.MinutesApart.{held-apart, drained-apart}
 use Rattle.state_history.specs.Theorem as state
 use Rattle.starred_cases.specs.StarredCases.{Starred, every-row}
 use Rattle.whole_words.specs.CallEnds.{AddAnswer}
@@ -249,12 +268,42 @@ module _ (s : Sizes) (t : Tables) (laid : layOut s t .answer ≡ Laid) (items : 
       ≡ newestFirst (λ j. bucketOf (view at-end .job NAME j) (s .bits)) k (view at-end .made)
   a-bucket-holds-its-jobs = lifted.newest-first s t laid items
 
+  -- ---- a district's minutes. "A host may load sixteen minute values in place of the fixed ones, before the first job
+  -- enters": a load is accepted exactly then, with the sizes laid out and values that rise;
+  pub a-load-counts-until-a-job-enters : (q : Sizes) (m : List ℕ)
+      → perform at-end (load q m) .answer ≡ loadEnd s (acceptedAdds (read .calls)) q m
+  a-load-counts-until-a-job-enters = shown.demand s t laid items .loads
+
+  -- the minutes are those of the last load that was accepted, and the fixed ones before any, so that "laying out anew
+  -- brings the fixed ones back";
+  pub the-minutes-are-those-loaded :
+      storedMinutes (at-end .jobs) ≡ minutesLoaded (events perform (layOut s t .state) items)
+  the-minutes-are-those-loaded = shown.demand s t laid items .minutes
+
+  -- they always rise, each from 1 to 1,440. (The order of hand-outs goes by them: `long-jobs-go-first`, which also says
+  -- that the minutes of a job that was made stay.)
+  pub the-minutes-always-rise : SixteenRising (storedMinutes (at-end .jobs))
+  the-minutes-always-rise = lifted.minutes-rise s t laid items
+
   -- ---- the board: after any items it is served over the graph's own row, has the jobs and minutes of each label as
-  -- they stand there, and its three sums are together the minutes of all jobs that ever entered, by any table of
-  -- minutes. For the river ledger: no minute is invented, and none is lost.
-  pub the-board-accounts-for-every-job : (table : List ℕ)
-      → Accounted graphTotals table s (at-end .jobs) (acceptedAdds (read .calls))
-  the-board-accounts-for-every-job table = accounted table s t laid items
+  -- they stand there, and its three sums are together the minutes of all jobs that ever entered, by the minutes that
+  -- were loaded. For the river ledger: no minute is invented, and none is lost.
+  pub the-board-accounts-for-every-job :
+      Accounted graphTotals (minutesLoaded (events perform (layOut s t .state) items)) s (at-end .jobs)
+      (acceptedAdds (read .calls))
+  the-board-accounts-for-every-job = accounted s t laid items
+
+  -- Asked with other sizes the board is refused by 1, and else never; and whoever asks is told the minutes that were
+  -- loaded.
+  pub the-board-is-refused-for-other-sizes : (q : Sizes)
+      → graphTotals q (at-end .jobs) .number ≡ pick (sameSizes q s) 0 wrongSizes
+  the-board-is-refused-for-other-sizes = board-number s t laid items
+
+  pub the-minutes-are-told-as-loaded : (q : Sizes)
+      → graphMinutes q (at-end .jobs)
+      ≡ pick (sameSizes q s) (allMinutes (minutesLoaded (events perform (layOut s t .state) items)))
+      (noMinutes wrongSizes)
+  the-minutes-are-told-as-loaded = minutes-told s t laid items
 
   -- ---- a worker that restarts is told what items and answers alone say: the job that was handed out to it last, under
   -- the name of that job's add, unless a finish of it was accepted since, and then none; and its call half done, of an
@@ -334,7 +383,7 @@ a-list-keeps-to-the-need = within.list-within
 
 -- ---- what is judged first, on ALL tables: "1, 2, 9 for the worker's own words", whatever the post, step or get, and
 -- nothing is changed;
-pub every-call-is-turned-away-by-1-2-9-first : (t : Tables) (i : Item) (n : ℕ)
+pub every-call-is-turned-away-by-1-2-9-first : (t : Tables) (i : Item) (n : ℕ) → isLoad i ≡ false
     → TurnedAway (sizesOf i) t (workerOf i) n → perform t i ≡ outcome (Refused n 0) t
 every-call-is-turned-away-by-1-2-9-first = first-of-all
 
@@ -368,6 +417,87 @@ pub the-queue-is-left-alone-elsewhere : (t : Tables) (q : List ℕ) → length q
     → Elsewhere t i
     → perform (withQueue t q) i ≡ outcome (perform t i .answer) (withQueue (perform t i .state) q)
 the-queue-is-left-alone-elsewhere = elsewhere
+
+-- ---- a load, on ALL tables: "the order is 1, 17, 9, 18, with nothing changed"; it reads the sizes, the values and how
+-- many jobs were made; what it writes are the sixteen minutes, and nothing else.
+pub a-load-is-answered-exactly : (s : Sizes) (t : Tables) (m : List ℕ)
+    → LoadsExactly (λ q u n. perform u (load q n)) s t m
+a-load-is-answered-exactly = item-loads-exactly
+
+-- What the test of the values means, both ways: "they must rise strictly from class to class, each from 1 to 1,440".
+pub minutes-rise-exactly : (m : List ℕ) → (isRising m ≡ true) ↔ SixteenRising m
+minutes-rise-exactly = rising-means
+
+-- Which words they are: those of the jobs table from word 5 on, as many as there are classes; and tables with sixteen
+-- others in their place. The minutes of a class are the value at its number; the fixed ones are these.
+pub the-minutes-are-read-by-their-words : (jobs : List ℕ)
+    → (length (storedMinutes jobs) ≡ 16) × ((c : ℕ) → c < 16 → getD (storedMinutes jobs) c 0 ≡ getD jobs (5 + c) 0)
+the-minutes-are-read-by-their-words = minutes-by-words
+
+pub what-is-loaded-is-stored : (t : Tables) (m : List ℕ) → length m ≡ 16 → 21 ≤ length (t .jobs)
+    → Stored t m (loaded t m)
+what-is-loaded-is-stored = loaded-stores
+
+pub a-class-has-its-minutes : (table : List ℕ) (class : ℕ) → minutesIn table class ≡ getD table class 0
+unfolding minutesIn
+a-class-has-its-minutes table class = refl
+
+pub the-fixed-minutes-are :
+    fixedMinutes ≡ 1 ∷ 2 ∷ 3 ∷ 5 ∷ 8 ∷ 10 ∷ 15 ∷ 20 ∷ 30 ∷ 45 ∷ 60 ∷ 90 ∷ 120 ∷ 180 ∷ 240 ∷ 480 ∷ []
+unfolding fixedMinutes
+the-fixed-minutes-are = refl
+
+-- No post, step or get reads the minutes that are stored or changes them: with any sixteen in their place it answers
+-- the same, and leaves the same but for them. Nor do held and drained read them.
+pub minutes-are-left-alone-elsewhere : (t u : Tables) (m : List ℕ) → Stored t m u → 21 ≤ length (t .jobs)
+    → length m ≡ 16 → (i : Item) → isLoad i ≡ false
+    → (perform u i .answer ≡ perform t i .answer) × Stored (perform t i .state) m (perform u i .state)
+minutes-are-left-alone-elsewhere = minutes-apart
+
+pub minutes-change-by-loads-alone : (t : Tables) (i : Item) → isLoad i ≡ false
+    → storedMinutes (perform t i .state .jobs) ≡ storedMinutes (t .jobs)
+minutes-change-by-loads-alone = minutes-stay
+
+pub held-and-drained-read-no-minutes : (s : Sizes) (t : Tables) (m : List ℕ) → length m ≡ classes
+    → ((w : ℕ) → heldWords s (loaded t m) w ≡ heldWords s t w) × (drainedWords s (loaded t m) ≡ drainedWords s t)
+held-and-drained-read-no-minutes s t m e = (held-apart s t m e, drained-apart s t m e)
+
+-- The board over the graph, on ALL tables: 1, then 9 for a counter over R, for stored minutes that do not rise or leave
+-- their limits, and for a wrong label or class wherever it stands; else it is served, by the stored minutes. Who asks for
+-- the minutes alone is refused by 1, then by 9, and else told the words.
+pub the-board-is-answered-exactly : (s : Sizes) (jobs : List ℕ) → BoardsExactly graphTotals s jobs
+the-board-is-answered-exactly = boards-exactly
+
+pub the-minutes-are-told-exactly : (s : Sizes) (jobs : List ℕ) → MinutesExactly graphMinutes s jobs
+the-minutes-are-told-exactly = minutes-exactly
+
+-- The board on a lent row by lent minutes: 1 for more than 4,096 records, then 17 for the minutes, then 9 for a wrong
+-- label or class wherever it stands; else the counts and the sums by these minutes. By the fixed minutes it is the board
+-- that takes none.
+pub a-row-is-answered-exactly : (table : List ℕ) (rows : List JobRecord) → RowsExactly totalsBy table rows
+a-row-is-answered-exactly = rows-exactly
+
+pub a-row-by-the-fixed-minutes : (rows : List JobRecord) → totalsOf fixedMinutes rows ≡ totalsBy fixedMinutes rows
+a-row-by-the-fixed-minutes = fixed-rows
+
+-- A row as words is the label and the class of each record, one after another; an odd number of words is 1. A refusal
+-- of a board, or of who asks for minutes, has its number and else 0.
+pub words-are-a-row : (table : List ℕ) (rows : List JobRecord)
+    → totalsOfWords table (recordWords rows) ≡ totalsOf table rows
+words-are-a-row = words-exactly
+
+pub odd-words-are-1 : (table words : List ℕ) → length words % 2 ≡ 1 → totalsOfWords table words ≡ refused 1
+odd-words-are-1 = odd-words
+
+pub a-refusal-has-its-number : (n : ℕ)
+    → (refused n ≡ record { number = n; jobs = 0 ∷ 0 ∷ 0 ∷ []; minutes = 0 ∷ 0 ∷ 0 ∷ [] })
+    × (noMinutes n ≡ record { number = n; minutes = replicate 16 0 })
+a-refusal-has-its-number n = (refl, refl)
+
+-- Of a job and of the header the board reads these words.
+pub a-job-is-read-by-its-words : (jobs : List ℕ) (j k : ℕ) → k < 8
+    → (columns jobShape jobs k j ≡ getD jobs (21 + 8 * j + k) 0) × (header jobs k ≡ getD jobs k 0)
+a-job-is-read-by-its-words = job-by-words
 
 -- What these three tests mean, both ways: "the sizes: their limits, the tables' lengths, the four sizes in the jobs
 -- header"; "the worker's words 0, 1 and 3 to 9, its places against `made`, `reserved`, R and A"; "`made`, at most R,
@@ -608,11 +738,10 @@ module _ (s : Sizes) (t : Tables) where
   held-and-drained-read-within-the-need u = state-need.not-read s t u
 
 -- Laying out succeeds exactly if the sizes lie in their limits and each table is long enough; then the words needed are
--- a fresh graph, whatever they were, and the rest is as it was. Else it is refused by 1, and nothing is changed.
-pub laying-out-makes-a-fresh-graph : (s : Sizes) (t : Tables)
-    → layOut s t
-    ≡ pick (roomFor s t) (outcome Laid (joined (fresh s) (rest s t))) (outcome (Refused wrongSizes 0) t)
-laying-out-makes-a-fresh-graph = laying.laid-out
+-- a fresh graph, the fixed minutes in it, whatever they were, and the rest is as it was. Else it is refused by 1, and
+-- nothing is changed. No table's length is.
+pub laying-out-makes-a-fresh-graph : (s : Sizes) (t : Tables) → LaysOut layOut s t
+laying-out-makes-a-fresh-graph = laying.lays-out
 
 -- ---- the day list, of any entries, with 1 to 16 workers: no call that it runs whole is cut short by its budget of
 -- steps, and more rounds than it has would change nothing;

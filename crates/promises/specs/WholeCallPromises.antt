@@ -6,6 +6,7 @@
 --   demand 3 of lists of them host_calls: specs/CallsDemand.antt     (of any machine; wrong ones in Wrong*.antt)
 --   the words' machine        calls_history: specs/WordsCalls.antt
 --   numbers, what is left     whole_answers: specs/Numbers.antt, specs/Left.antt, specs/Worker.antt
+--   no minutes are read       whole_answers: specs/MinutesApart.antt
 -- Follows docs/RULES.md, "Whole calls". Assumes nothing.
 use mathlib.Core.Path.{_≡_, refl}
 use mathlib.Core.Logic.{_↔_, _≢_, _⊎_}
@@ -14,17 +15,20 @@ use mathlib.Core.List.{List, [], map}
 use Prim.Native.Nat.{ℕ, _*_, _%_, _≤_, _<_}
 use lib.ListN.{length, getD, take}
 use Rattle.basics.specs.Base.{contains, occurrences}
+use Rattle.minutes.specs.Minutes.{fixedMinutes}
 use Rattle.terms.specs.Terms.{Arguments, Finish, mostEntries, damaged, wrongSizes, noArguments, tooManyEntries}
 use Rattle.terms.specs.Runs.{Item, after, events}
 use Rattle.terms.specs.declared.Sizes.{Sizes}
 use Rattle.terms.specs.declared.Answer.{Answer}
 use Rattle.terms.specs.declared.Answer.the-variants.{Laid, Going, Ended, Refused}
-use Rattle.words.specs.Layout.{Tables, none}
+use Rattle.words.specs.Layout.{Tables, none, storedMinutes}
 use Rattle.words.specs.Words.{perform, addWords, layOut}
 use Rattle.words.specs.Observed.{waiting, indexed, seen}
-use Rattle.linearization.specs.Calls.{idle, reading, acceptedFinishes}
+use Rattle.linearization.specs.Calls.{idle, reading, acceptedAdds, acceptedFinishes}
 use Rattle.linearizability.specs.Demand.{handedOut}
 use Rattle.linearizability.specs.LongFirst.{TakesLongest, ByCount}
+use Rattle.graph_board.specs.Board.{graphTotals}
+use Rattle.graph_board.specs.Accounted.{Accounted}
 use Rattle.sheet_format.specs.Job.{Job}
 use Rattle.sheet_format.specs.NumberLaws.{Bytes}
 use Rattle.sheet_format.specs.Decode.{decodeSheet, jobs, rowWords, readSheet}
@@ -36,7 +40,7 @@ use Rattle.sheet_rows.specs.SheetRows.{addsOf, rowsWords, sheetAdded}
 use Rattle.fused_words.specs.FusedWorker.{Admitted, isIdle, holdOf, idledWith}
 use Rattle.host_calls.specs.HostCalls.{HostCall, sheet, one, each, replied, worth, replyWorth, afterCalls}
 use Rattle.host_calls.specs.HostCalls as host
-use Rattle.host_calls.specs.CallsDemand.{CallsDemand, items}
+use Rattle.host_calls.specs.CallsDemand.{CallsDemand, items, readMinutes}
 use Rattle.calls_history.specs.WordsCalls.{turnedWords, answerWords}
 use Rattle.calls_history.specs.Worth.{whole-is-worth}
 use Rattle.calls_history.specs.Theorem.{calls-demand}
@@ -54,6 +58,7 @@ use Rattle.whole_answers.specs.SheetTurned as turned
 use Rattle.whole_answers.specs.InC.{EntryTold}
 use Rattle.whole_answers.specs.InC as rows
 use Rattle.whole_answers.specs.ReadRows as read
+use Rattle.whole_answers.specs.MinutesApart.{CallApart, SheetApart, add-apart, finish-apart, sheet-apart}
 use Rattle.whole_answers.specs.Within.{CallWithin}
 use Rattle.whole_answers.specs.Within as within
 use Rattle.whole_answers.specs.SheetWithin.{SheetWithin}
@@ -99,6 +104,27 @@ module _ (s : Sizes) (t : Tables) (laid : layOut s t .answer ≡ Laid) (calls : 
   the-index-holds-the-waiting-jobs-after-calls =
       rw (calls-demand s t laid calls .leaves) (of-items.the-index-holds-the-waiting-jobs s t laid worthOf .jobs)
 
+  -- The minutes are those of the last load among the calls that was accepted, and the board's three sums are together
+  -- the minutes, by them, of all jobs that ever entered.
+  abbrev pub minutesByCalls : List ℕ
+  minutesByCalls =
+      readMinutes perform turnedWords answerWords seen s (layOut s t .state) fixedMinutes (layOut s t .state) calls
+
+  pub the-minutes-are-those-loaded-by-calls : storedMinutes (after-calls .jobs) ≡ minutesByCalls
+  the-minutes-are-those-loaded-by-calls =
+      rw (calls-demand s t laid calls .leaves, calls-demand s t laid calls .reads-minutes)
+      (of-items.the-minutes-are-those-loaded s t laid worthOf)
+
+  pub the-board-accounts-for-every-job-after-calls :
+      Accounted graphTotals minutesByCalls s (after-calls .jobs) (acceptedAdds (told s t laid calls .calls))
+  the-board-accounts-for-every-job-after-calls =
+      rw (
+        calls-demand s t laid calls .leaves,
+        calls-demand s t laid calls .reads-minutes,
+        calls-demand s t laid calls .reads .calls,
+      )
+      (of-items.the-board-accounts-for-every-job s t laid worthOf)
+
   -- No call is cut short: to an idle worker an add replies that it ended, or 5 to 8; a finish that it ended, or 11; a
   -- sheet of up to 64 entries has such an answer for each.
   module _ (w : ℕ) (there : w < s .workers) (free : told s t laid calls .pending w ≡ idle) where
@@ -122,6 +148,13 @@ module _ (s : Sizes) (t : Tables) (laid : layOut s t .answer ≡ Laid) (calls : 
 pub a-call-is-its-posts-and-steps : (t : Tables) (c : HostCall)
     → answerWords t c ≡ replied (replyWorth perform turnedWords t c) (after perform t (worth perform turnedWords t c))
 a-call-is-its-posts-and-steps = whole-is-worth
+
+-- No whole call reads or changes the minutes that are stored: with any sixteen in their place it answers the same, and
+-- leaves the same but for them.
+pub whole-calls-leave-the-minutes-alone : (s : Sizes) (w : ℕ)
+    → ((a : Arguments) → CallApart (λ t. wholeAdd s t w a)) × ((name : ℕ) → CallApart (λ t. wholeFinish s t w name))
+    × ((l : List Arguments) → SheetApart (λ t. sheetWords s t w l))
+whole-calls-leave-the-minutes-alone s w = (add-apart s w, finish-apart s w, sheet-apart s w)
 
 -- an add run whole ends, or is refused by a number of the list, of which 6 alone has a place, one of its list;
 module _ (s : Sizes) (t : Tables) (w : ℕ) (a : Arguments) where

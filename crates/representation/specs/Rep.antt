@@ -16,7 +16,7 @@ use Rattle.words.specs.Columns.{Rows}
 use Rattle.words.specs.Layout.{jobShape, NAME, LABEL, COUNT, CLASS, GROWER, FIRST, LAST, NEXT, arcShape, DEPENDENT}
 use Rattle.words.specs.Layout.{AFTER, bucketShape, queueShape, workerShape, PHASE, HELD, OWN-NAME, LIST-COUNT}
 use Rattle.words.specs.Layout.{OWN-CLASS, OWN-GROWER, TALLY, PLACE, OWN-JOB, OWN-ARC, NAMES, IDLE, LOOKING, LINKING}
-use Rattle.words.specs.Layout.{MARKING, NOTIFYING, CELL, SLOT, POSITION, view, sizesKept, Tables, View}
+use Rattle.words.specs.Layout.{MARKING, NOTIFYING, CELL, SLOT, POSITION, view, sizesKept, storedMinutes, Tables, View}
 use Rattle.words.specs.Layout as words
 use Rattle.words.specs.Index.{rankOf}
 use Rattle.words.specs.Words.{isPlace, firstArc}
@@ -169,6 +169,7 @@ pub record WorkerRep (f : ℕ → ℕ → ℕ) (G : Ghost) (w : ℕ) (x : Worker
 pub record Stands (s : Sizes) (t : Tables) (g : Graph) (G : Ghost) : Type 0 where
   pub limits : withinLimits s ≡ true
   pub kept : sizesKept s (t .jobs) ≡ true
+  pub minutes : storedMinutes (t .jobs) ≡ g .minutes
   pub jobs : Rows jobShape (s .jobs) (t .jobs)
   pub arcs : Rows arcShape (s .arcs) (t .arcs)
   pub buckets : Rows bucketShape (2 ^ s .bits) (t .buckets)

@@ -22,7 +22,7 @@ use Rattle.rules.specs.Rules.{Graph, job, linked}
 use Rattle.rules.specs.Sound.{Sound}
 use Rattle.representation.specs.Rep.{Ghost, linkGhost, TablesRep, Stands}
 use Rattle.representation_kept.specs.Stand.{TablesStand}
-use Rattle.representation_kept.specs.Change.{kept-put}
+use Rattle.representation_kept.specs.Change.{kept-put, minutes-put}
 use Rattle.representation_kept.specs.Arcs.{arc-below, arc-some, arc-ok}
 use Rattle.representation_kept.specs.Link.{first-rep, after-rep}
 
@@ -76,6 +76,7 @@ module _ (s : Sizes) (t : Tables) (g : Graph) (G : Ghost) (S : Stands s t g G) (
         let c = x-fits in
         record {
           kept = kept-put s _ p _ _ ∙ kept-put s (t .jobs) p _ _ ∙ S .kept;
+          minutes = minutes-put _ p _ _ ∙ minutes-put (t .jobs) p _ _ ∙ S .minutes;
           jobs = simp (stores, S .jobs);
           arcs = simp (stores, S .arcs);
           buckets = S .buckets;
@@ -95,6 +96,7 @@ module _ (s : Sizes) (t : Tables) (g : Graph) (G : Ghost) (S : Stands s t g G) (
         omega (arith, arc-below s t g G S O p (length (G .via p) - 1) (omega (arith, R .lengths p)), O .arcs) in
         record {
           kept = kept-put s (t .jobs) p LAST (next j) ∙ S .kept;
+          minutes = minutes-put (t .jobs) p LAST (next j) ∙ S .minutes;
           jobs = simp (stores, S .jobs);
           arcs = simp (stores, S .arcs);
           buckets = S .buckets;

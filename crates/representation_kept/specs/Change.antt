@@ -1,28 +1,36 @@
 -- One job changed, but not its name, its list and its dependents: the tables stand for the graph after, whatever
 -- happens to the queue. Also the number of jobs that were started, and the stores of the jobs table that keep the sizes
--- laid out. Follows docs/RULES.md, "Tables and their measures". Assumes nothing.
+-- laid out and the minutes. Follows docs/RULES.md, "Tables and their measures". Assumes nothing.
 use mathlib.Core.Path.{_≡_, refl, sym, ap, _∙_}
 use mathlib.Core.Logic.{_≢_}
 use mathlib.Core.List.{List, [], _∷_, _++_}
 use Prim.Native.Nat.{ℕ, zero, suc, _+_, _<_}
 use native.Mathlib.Omega.{arith}
 use native.Mathlib.Decide.{ℕ-discrete}
-use borrow.Author.Tests.{eq-eqb, ne-eqb}
+use borrow.Author.Tests.{eq-eqb, ne-eqb, lt-ltb}
 use lib.ListN.{length, getD, set, length-set}
 use Rattle.basics.specs.Laws.{set-all, update-other}
+use Rattle.minutes.specs.Minutes.{classes}
 use Rattle.terms.specs.declared.Sizes.{Sizes}
-use Rattle.words.specs.Columns.{put, store, Rows, rows-put, stores}
+use Rattle.words.specs.Columns.{put, store, Rows, rows-put, header, header-put, stores}
 use Rattle.words.specs.Layout.{jobShape, NAME, LABEL, COUNT, CLASS, GROWER, FIRST, LAST, NEXT, queueShape, CELL}
-use Rattle.words.specs.Layout.{sizesKept, Tables, tables, view, View}
+use Rattle.words.specs.Layout.{MINUTES, sizesKept, storedMinutes, Tables, tables, view, View}
 use Rattle.words.specs.Observed.{jobsIn}
 use Rattle.rules.specs.Rules.{Job, Worker, Graph, noJob, job, withJobs, withQueue, withWorkers}
 use Rattle.rules.specs.Sound.{started, startedBy}
 use Rattle.representation.specs.Rep.{Ghost, Row, Index, Unused, TablesRep, Stands}
+use Rattle.representation_kept.specs.Lists.{cells-same}
 use Rattle.representation_kept.specs.Stand.{TablesStand, viewOf}
 
 pub kept-put : (s : Sizes) (l : List ℕ) (i k x : ℕ) → sizesKept s (put jobShape l i k x) ≡ sizesKept s l
 unfolding sizesKept
 kept-put s l i k x = simp stores
+
+-- a store in a job's record leaves the minutes
+pub minutes-put : (l : List ℕ) (i k x : ℕ) → storedMinutes (put jobShape l i k x) ≡ storedMinutes l
+minutes-put l i k x =
+    cells-same (header l) (header (put jobShape l i k x)) MINUTES classes
+    (λ q a b. header-put jobShape l i k x q (lt-ltb q (jobShape .head) (omega arith)))
 
 -- ---- a store in one row
 pub store-off : (f : ℕ → ℕ → ℕ) (i k x q u : ℕ) → u ≢ i → store f i k x q u ≡ f q u
@@ -51,9 +59,11 @@ pub job-stands : (s : Sizes) (t : Tables) (g : Graph) (G : Ghost) → Stands s t
     → (j k x : ℕ) (q l : List ℕ) (h : Graph)
     → Rows queueShape (s .jobs) q
     → TablesRep s (view (tables (put jobShape (t .jobs) j k x) (t .arcs) (t .buckets) q l)) h G
+    → h .minutes ≡ g .minutes
     → TablesStand s (tables (put jobShape (t .jobs) j k x) (t .arcs) (t .buckets) q l) h G
-job-stands s t g G S j k x q l h queue rep = record {
+job-stands s t g G S j k x q l h queue rep same = record {
   kept = kept-put s (t .jobs) j k x ∙ S .kept;
+  minutes = minutes-put (t .jobs) j k x ∙ S .minutes ∙ sym same;
   jobs = rows-put jobShape (s .jobs) (t .jobs) j k x ∙ S .jobs;
   arcs = S .arcs;
   buckets = S .buckets;

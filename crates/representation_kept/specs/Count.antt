@@ -101,6 +101,7 @@ module _ (s : Sizes) (t : Tables) (g : Graph) (G : Ghost) (S : Stands s t g G) (
       job-stands s t g G S j COUNT c (t .queue) l _ (S .queue)
       (simp (stores, columns-put jobShape (s .jobs), S .jobs)
       (count-rep s (view t) g G R j hj c (columns workerShape l) h))
+      refl
 
   queue-stands : (j : ℕ) (hj : j < length (g .jobs)) (M : MayQueue g j) (c : ℕ) (l : List ℕ) (h : ℕ → Worker)
       → TablesStand s
@@ -122,6 +123,7 @@ module _ (s : Sizes) (t : Tables) (g : Graph) (G : Ghost) (S : Stands s t g G) (
       (length (g .queue)) (entering s t g G S O j hj M .at) levels j (R .unused) (omega (arith, R .put))
       (omega (arith, limits-of s (S .limits) .jobs)) (slot-has (view t) (length (g .queue)) (R .index)) (q .cells)
       (q .slots) (q .positions))))
+      refl
 
   pub settle-stands : (w j u d : ℕ) → j < length (g .jobs) → settles (job g j .count - u) u d ≡ false
       → TablesStand s (applied (Settle j (job g j .count - u)) t w) (settled g w j u d) G

@@ -11,23 +11,25 @@ use native.Mathlib.Decide.{ℕ-discrete}
 use lib.Dec.{eqb}
 use lib.ListN.{length, getD, length-append, List·getD-eq-default}
 use lib.Seq.{sets}
-use borrow.Author.Tests.{lt-ltb, le-ltb, eqb-true, eqb-false}
+use borrow.Author.Tests.{lt-ltb, le-ltb, ne-eqb, eqb-true, eqb-false}
 use Rattle.basics.specs.Base.{pick, occurrences}
 use Rattle.basics.specs.Laws.{update-same, update-at, update-other, length-prefix, snoc-all}
 use Rattle.bucket.specs.Bucket.{bucketOf}
 use Rattle.bucket.specs.Laws.{below}
+use Rattle.minutes.specs.Minutes.{classes}
 use Rattle.terms.specs.Terms.{Arguments}
 use Rattle.terms.specs.declared.Sizes.{Sizes}
 use Rattle.words.specs.Columns.{place, Rows, columns, columns-put, put, store}
-use Rattle.words.specs.Columns.{putHeader, header-putHeader, rows-putHeader, stores}
+use Rattle.words.specs.Columns.{header, putHeader, header-putHeader, header-other, rows-putHeader, stores}
 use Rattle.words.specs.Layout.{none, jobShape, JOBS, ARCS, BITS, WORKERS, MADE, NAME, LABEL, COUNT, CLASS, GROWER}
 use Rattle.words.specs.Layout.{FIRST, LAST, NEXT, arcShape, bucketShape, CELL, LIST-COUNT, view, sizesKept, Tables}
-use Rattle.words.specs.Layout.{View}
+use Rattle.words.specs.Layout.{MINUTES, storedMinutes, View}
 use Rattle.words.specs.Words.{applied, enteredJob}
 use Rattle.words.specs.declared.Plan.the-variants.{Enter}
 use Rattle.rules.specs.Rules.{Job, Graph, noJob, job, newJob, entered}
 use Rattle.rules.specs.Sound.{Sound}
 use Rattle.representation.specs.Rep.{Bucket, Ghost, enterGhost, Row, Linked, TablesRep, AddWords, Stands}
+use Rattle.representation_kept.specs.Lists.{cells-same}
 use Rattle.representation_kept.specs.Records.{rows-sets, record-at, record-off, header-record}
 use Rattle.representation_kept.specs.Stand.{TablesStand, viewOf}
 use Rattle.representation_kept.specs.Places.{index-kept}
@@ -195,7 +197,7 @@ module _ (s : Sizes) (v : View) (g : Graph) (G : Ghost) (R : TablesRep s v g G) 
     mine = λ j i b c. mine j i (omega (arith, more)) c;
   }
 
--- ---- over the words
+-- ---- over the words: the new record and the number of jobs leave the sizes laid out and the minutes
 kept-record : (s : Sizes) (l : List ℕ) (i x : ℕ) (r : List ℕ) → length r ≤ jobShape .width
     → sizesKept s (putHeader (sets l (place jobShape i 0) r) MADE x) ≡ sizesKept s l
 unfolding sizesKept
@@ -205,6 +207,13 @@ kept-record s l i x r h =
     let c = header-record jobShape 0 l i r h BITS (omega arith) in
     let d = header-record jobShape 0 l i r h WORKERS (omega arith) in
     simp (stores, a, b, c, d)
+
+minutes-record : (l : List ℕ) (i x : ℕ) (r : List ℕ) → length r ≤ jobShape .width
+    → storedMinutes (putHeader (sets l (place jobShape i 0) r) MADE x) ≡ storedMinutes l
+minutes-record l i x r h =
+    cells-same (header l) (header (putHeader (sets l (place jobShape i 0) r) MADE x)) MINUTES classes
+    (λ q a b. header-other (sets l (place jobShape i 0) r) MADE x q (ne-eqb q MADE (omega arith))
+    ∙ header-record jobShape 0 l i r h q (omega arith))
 
 module _ (s : Sizes) (t : Tables) (g : Graph) (G : Ghost) (S : Stands s t g G) (w : ℕ) (a : Arguments)
     (ph ta pl jo ar : ℕ)
@@ -246,6 +255,7 @@ module _ (s : Sizes) (t : Tables) (g : Graph) (G : Ghost) (S : Stands s t g G) (
       let k : bucketOf (a .name) (s .bits) < 2 ^ s .bits = below (a .name) (s .bits) in
       record {
         kept = kept-record s (t .jobs) N (N + 1) row (omega arith) ∙ S .kept;
+        minutes = minutes-record (t .jobs) N (N + 1) row (omega arith) ∙ S .minutes;
         jobs = rows-putHeader jobShape (s .jobs) jobs MADE (N + 1) ∙ rj;
         arcs = simp (stores, S .arcs);
         buckets = simp (stores, S .buckets);

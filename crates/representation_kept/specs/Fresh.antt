@@ -1,5 +1,6 @@
 -- Laying out: the fresh tables stand for the graph with no jobs, for every content that the tables had before. Follows
--- docs/RULES.md: "no jobs, all workers idle and holding nothing, unused words 0, every place none". Assumes nothing.
+-- docs/RULES.md: "no jobs, all workers idle and holding nothing, the fixed minutes, unused words 0, every place none".
+-- Assumes nothing.
 use mathlib.Core.Path.{_≡_, refl, _∙_}
 use mathlib.Core.Bool.{Bool, true, _&&_}
 use mathlib.Core.List.{List, [], _∷_}
@@ -10,9 +11,11 @@ use lib.ListN.{length, getD}
 use lib.Seq.{sets}
 use borrow.Author.Tests.{eq-eqb, le-ltb}
 use Rattle.basics.specs.Counting.{sum}
+use Rattle.basics.specs.Laws.{getD-past}
+use Rattle.minutes.specs.Minutes.{fixedMinutes}
 use Rattle.terms.specs.Terms.{withinLimits}
 use Rattle.terms.specs.declared.Sizes.{Sizes}
-use Rattle.words.specs.Columns.{rows, Rows, columns, header}
+use Rattle.words.specs.Columns.{rows, Rows, columns, header, cells-list}
 use mathlib.Core.Option.{none}
 use Rattle.words.specs.Layout as words
 use Rattle.words.specs.Layout.{jobShape, JOBS, ARCS, BITS, WORKERS, MADE, NAME, LABEL, COUNT, CLASS, GROWER, FIRST}
@@ -20,7 +23,7 @@ use Rattle.words.specs.Layout.{LAST, arcShape, RESERVED, bucketShape, queueShap
 use Rattle.words.specs.Layout.{OWN-NAME, LIST-COUNT, OWN-CLASS, OWN-GROWER, TALLY, PLACE, OWN-JOB, OWN-ARC, IDLE, need}
 use Rattle.words.specs.Layout.{longEnough, sizesKept, roomFor, freshJob, freshArc, freshPlace, bareWorker, freshJobs}
 use Rattle.words.specs.Layout.{freshArcs, freshBuckets, freshQueue, freshWorkers, freshTables, tables, view, Tables}
-use Rattle.words.specs.Layout.{NAMES, CELL, SLOT, POSITION}
+use Rattle.words.specs.Layout.{MINUTES, NAMES, CELL, SLOT, POSITION, storedMinutes}
 use Rattle.words.specs.Observed.{jobsIn}
 use Rattle.rules.specs.Rules.{idle, noJob, empty}
 use Rattle.rules.specs.Sound.{started}
@@ -90,13 +93,16 @@ module _ (s : Sizes) (t : Tables) (L : Long s t) where
   abbrev W : List ℕ
   W = sets (t .workers) 0 (freshWorkers s)
 
-  size : (q : ℕ) → q < 5 → header J q ≡ getD (s .jobs ∷ s .arcs ∷ s .bits ∷ s .workers ∷ 0 ∷ []) q 0
-  size q h = laid-header jobShape (s .jobs) (t .jobs)
-      (s .jobs ∷ s .arcs ∷ s .bits ∷ s .workers ∷ 0 ∷ []) freshJob refl refl (L .jobs) q h
+  abbrev jobHead : List ℕ
+  jobHead = s .jobs ∷ s .arcs ∷ s .bits ∷ s .workers ∷ 0 ∷ fixedMinutes
+
+  size : (q : ℕ) → q < jobShape .head → header J q ≡ getD jobHead q 0
+  unfolding fixedMinutes
+  size q h = laid-header jobShape (s .jobs) (t .jobs) jobHead freshJob refl refl (L .jobs) q h
 
   job-word : (j q : ℕ) → j < s .jobs → q < jobShape .width → columns jobShape J q j ≡ getD freshJob q 0
-  job-word j q = laid-at jobShape (s .jobs) (t .jobs)
-      (s .jobs ∷ s .arcs ∷ s .bits ∷ s .workers ∷ 0 ∷ []) freshJob refl refl (L .jobs) j q
+  unfolding fixedMinutes
+  job-word j q = laid-at jobShape (s .jobs) (t .jobs) jobHead freshJob refl refl (L .jobs) j q
 
   reserved : header A RESERVED ≡ 0
   reserved = laid-header arcShape (s .arcs) (t .arcs) (0 ∷ []) freshArc refl refl (L .arcs) RESERVED (omega arith)
@@ -131,6 +137,12 @@ module _ (s : Sizes) (t : Tables) (L : Long s t) where
         eq-eqb (s .bits) (s .bits) refl,
         eq-eqb (s .workers) (s .workers) refl,
       )
+
+  minutes : storedMinutes J ≡ fixedMinutes
+  unfolding fixedMinutes
+  minutes = cells-list (header J) MINUTES fixedMinutes
+      (λ k h. size (MINUTES + k) (omega arith)
+      ∙ getD-past (s .jobs ∷ s .arcs ∷ s .bits ∷ s .workers ∷ 0 ∷ []) fixedMinutes k)
 
   fresh-row : (j : ℕ) → j < s .jobs → Row (columns jobShape J) j [] noJob
   fresh-row j h = record {
@@ -191,6 +203,7 @@ module _ (s : Sizes) (t : Tables) (L : Long s t) where
   fresh-all e = record {
     limits = e;
     kept = kept;
+    minutes = minutes;
     jobs = rows-sets jobShape (s .jobs) (t .jobs) 0 (freshJobs s) ∙ L .jobs;
     arcs = rows-sets arcShape (s .arcs) (t .arcs) 0 (freshArcs s) ∙ L .arcs;
     buckets = rows-sets bucketShape (2 ^ s .bits) (t .buckets) 0 (freshBuckets s) ∙ L .buckets;

@@ -43,6 +43,7 @@ module _ (s : Sizes) (t : Tables) (g : Graph) (G : Ghost) (S : Stands s t g G) w
   tally-stands w j c = frame s t g (tallyGhost G j)
       (record {
         kept = T .kept;
+        minutes = T .minutes;
         jobs = T .jobs;
         arcs = T .arcs;
         buckets = T .buckets;

@@ -97,6 +97,7 @@ module _ (s : Sizes) (t : Tables) (g : Graph) (G : Ghost) (S : Stands s t g G) (
       job-stands s t g G S p LABEL 2 (t .queue) _ _ (S .queue)
       (simp (stores, columns-put jobShape (s .jobs), S .jobs)
       (label-rep s (view t) g G R p hp finished _ _ (ap startedBy e)))
+      refl
 
   pub get-stands : (w n : ℕ) (full : length (g .queue) ≡ suc n)
       → let j = view t .cell CELL (view t .cell SLOT 0) in
@@ -125,3 +126,4 @@ module _ (s : Sizes) (t : Tables) (g : Graph) (G : Ghost) (S : Stands s t g G) (
       (leaving s t g G S O n full .at) levels (view t .cell SLOT 0) (rw full at (R .unused))
       (leaving s t g G S O n full .within) (rw full at (slot-has (view t) (length (g .queue)) (R .index)))
       (q .cells) (q .slots) (q .positions)))))
+      refl

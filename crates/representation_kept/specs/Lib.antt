@@ -17,3 +17,4 @@ pub mod Append
 pub mod Count
 pub mod Labels
 pub mod Chains
+pub mod Load

@@ -1,27 +1,23 @@
 -- The cells of a queue, and lists repeated: what stands at each place. Follows docs/RULES.md, "Tables and their
 -- measures", for tables as lists of words. Assumes nothing.
-use mathlib.Core.Path.{_≡_, refl, sym, ap, _∙_}
+use mathlib.Core.Path.{_≡_, refl, ap, _∙_}
 use mathlib.Core.List.{List, [], _∷_, _++_}
-use Prim.Native.Nat.{ℕ, zero, suc, _+_, _*_, _<_}
+use Prim.Native.Nat.{ℕ, zero, suc, _+_, _*_, _≤_, _<_}
 use native.Mathlib.Omega.{arith}
-use native.Mathlib.Nat.{add-zero, mul-suc}
+use native.Mathlib.Nat.{mul-suc}
 use lib.ListN.{length, getD, replicate, length-append, List·getD-append}
 use lib.ListN.{getD-replicate, take}
 use Rattle.basics.specs.Limits.{mostNames}
 use Rattle.basics.specs.Laws.{getD-past}
 use Rattle.words.specs.Layout.{NAMES, bareWorker, repeated}
-use Rattle.words.specs.Observed.{cells}
+use Rattle.words.specs.Columns.{cells}
 
--- ---- the cells are the list that they hold
-pub cells-list : (f : ℕ → ℕ) (i : ℕ) (q : List ℕ) → ((k : ℕ) → k < length q → f (i + k) ≡ getD q k 0)
-    → cells f i (length q) ≡ q
+-- ---- cells: words that are the same
+pub cells-same : (f h : ℕ → ℕ) (i n : ℕ) → ((k : ℕ) → i ≤ k → k < i + n → h k ≡ f k) → cells h i n ≡ cells f i n
 unfolding cells
-cells-list f i [] h = refl
-cells-list f i (x ∷ q) h =
-    let here : f i ≡ x = ap f (sym (add-zero i)) ∙ h 0 (omega arith) in
-    let rest : cells f (suc i) (length q) ≡ q =
-    cells-list f (suc i) q (λ k l. let e : suc i + k ≡ i + suc k = omega arith in ap f e ∙ h (suc k) (omega arith)) in
-    rw (here, rest)
+cells-same f h i zero e = refl
+cells-same f h i (suc n) e =
+    rw (e i (omega arith) (omega arith), cells-same f h (suc i) n (λ k a b. e k (omega arith) (omega arith)))
 
 -- ---- a list repeated
 pub length-repeated : (n : ℕ) (r : List ℕ) → length (repeated n r) ≡ length r * n

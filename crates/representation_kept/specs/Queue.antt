@@ -5,7 +5,7 @@
 use mathlib.Core.Path.{_≡_, refl, sym, ap, _∙_}
 use mathlib.Core.Logic.{_≢_}
 use mathlib.Core.Bool.{Bool, true, false, _&&_}
-use mathlib.Core.List.{[], _∷_, _++_}
+use mathlib.Core.List.{List, [], _∷_, _++_}
 use mathlib.Core.Option.{some}
 use Prim.Native.Nat.{ℕ, suc, _+_, _^_, _≤_, _<_}
 use native.Mathlib.Omega.{arith}
@@ -18,8 +18,8 @@ use Rattle.basics.specs.Limits.{mostClass}
 use Rattle.basics.specs.Base.{pick, update, occurrences}
 use Rattle.basics.specs.Laws.{update-same, update-other}
 use Rattle.basics.specs.Counting.{hit, hit-same, hit-other, sum-same}
-use Rattle.minutes.specs.Minutes.{minutesIn, fixedMinutes}
-use Rattle.minutes.specs.Rising.{fixed-rising}
+use Rattle.minutes.specs.Minutes.{minutesIn}
+use Rattle.minutes.specs.Rising.{Rising, rising}
 use Rattle.heap.specs.Heap.{count, Enters, enters, Leaves, leaves, first-lowest, heap-same, held}
 use Rattle.heap.specs.Positions.{positions-enter, positions-leave}
 use Rattle.heap.specs.Sift.{siftUp, siftDown, shiftDown, shiftUp, positionsDown, positionsUp}
@@ -57,15 +57,16 @@ rank-by : (u : View) (class cells : ℕ → ℕ) → u .job CLASS ≡ class → 
     → rankOf u p ≡ rank (class (cells p)) p
 rank-by u class cells a b p = rw (a, b)
 
--- ---- minutes rise with the class
-rising : (a b : ℕ) → a < b → b ≤ mostClass → minutesIn fixedMinutes a < minutesIn fixedMinutes b
-rising a b h l = fixed-rising .rises a b h (omega arith)
+-- ---- minutes rise with the class, by every table that rises
+module _ (m : List ℕ) (r : Rising m) where
+  rises : (a b : ℕ) → a < b → b ≤ mostClass → minutesIn m a < minutesIn m b
+  rises a b h l = r .rises a b h (omega arith)
 
-not-falling : (a b : ℕ) → a ≤ b → b ≤ mostClass → minutesIn fixedMinutes a ≤ minutesIn fixedMinutes b
-not-falling a b h l = elim (decLt a b) [
-  | yes e ↦ omega (arith, rising a b e l)
-  | no e ↦ let same : a ≡ b = omega arith in rw same (omega arith)
-]
+  not-falling : (a b : ℕ) → a ≤ b → b ≤ mostClass → minutesIn m a ≤ minutesIn m b
+  not-falling a b h l = elim (decLt a b) [
+    | yes e ↦ omega (arith, rises a b e l)
+    | no e ↦ let same : a ≡ b = omega arith in rw same (omega arith)
+  ]
 
 -- ---- the tests on the queue
 module _ (s : Sizes) (t : Tables) (g : Graph) (G : Ghost) (S : Stands s t g G) (O : Sound s g) where
@@ -87,6 +88,9 @@ module _ (s : Sizes) (t : Tables) (g : Graph) (G : Ghost) (S : Stands s t g G) (
 
   abbrev position : ℕ → ℕ
   position = view t .cell POSITION
+
+  minutes-rise : Rising (g .minutes)
+  minutes-rise = rising (g .minutes) (O .minutes)
 
   pub put-there : view t .put ≡ started (g .jobs) + length (g .queue)
   put-there = R .put ∙ ap (λ z. z + length (g .queue)) (R .taken)
@@ -293,15 +297,15 @@ module _ (s : Sizes) (t : Tables) (g : Graph) (G : Ghost) (S : Stands s t g G) (
         rw (at .there) at (first-lowest (rankOf v) m slot (R .index .heap) (at .at) (at .within))
 
     minutes-of : (p : ℕ) → p < v .put → cells p ≢ words.none
-        → minutesOf g (cells p) ≡ minutesIn fixedMinutes (v .job CLASS (cells p))
-    minutes-of p h e = ap (minutesIn fixedMinutes) (sym (class-of p h e))
+        → minutesOf g (cells p) ≡ minutesIn (g .minutes) (v .job CLASS (cells p))
+    minutes-of p h e = ap (minutesIn (g .minutes)) (sym (class-of p h e))
 
     earlier : (p : ℕ) → p < first → cells p ≢ words.none → order g next (cells p) ≡ true
     earlier p h e =
         let b : p < v .put = omega (arith, first-below) in
         rw (minutes-of p b e, minutes-of first first-below first-has)
-        (lt-ltb (minutesIn fixedMinutes (v .job CLASS (cells p))) (minutesIn fixedMinutes (v .job CLASS next))
-        (rising (v .job CLASS (cells p)) (v .job CLASS next)
+        (lt-ltb (minutesIn (g .minutes) (v .job CLASS (cells p))) (minutesIn (g .minutes) (v .job CLASS next))
+        (rises (g .minutes) minutes-rise (v .job CLASS (cells p)) (v .job CLASS next)
         (omega (arith, lowest p b e, room, first-below, class-within p b e, class-within first first-below first-has))
         (class-within first first-below first-has)))
 
@@ -309,8 +313,8 @@ module _ (s : Sizes) (t : Tables) (g : Graph) (G : Ghost) (S : Stands s t g G) (
     behind p h b' e =
         let b : p < v .put = omega arith in
         rw (minutes-of p b e, minutes-of first first-below first-has)
-        (le-ltb (minutesIn fixedMinutes (v .job CLASS next)) (minutesIn fixedMinutes (v .job CLASS (cells p)))
-        (not-falling (v .job CLASS (cells p)) (v .job CLASS next)
+        (le-ltb (minutesIn (g .minutes) (v .job CLASS next)) (minutesIn (g .minutes) (v .job CLASS (cells p)))
+        (not-falling (g .minutes) minutes-rise (v .job CLASS (cells p)) (v .job CLASS next)
         (omega (arith, lowest p b e, room, class-within p b e, class-within first first-below first-has))
         (class-within first first-below first-has)))
 

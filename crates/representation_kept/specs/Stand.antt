@@ -12,12 +12,13 @@ use Rattle.terms.specs.Terms.{withinLimits, mostJobs, mostArcs, mostBits, mostW
 use Rattle.terms.specs.declared.Sizes.{Sizes}
 use Rattle.words.specs.Columns.{Rows}
 use Rattle.words.specs.Layout.{none, jobShape, arcShape, bucketShape, queueShape, workerShape, tables, view}
-use Rattle.words.specs.Layout.{sizesKept, Tables, View}
+use Rattle.words.specs.Layout.{sizesKept, storedMinutes, Tables, View}
 use Rattle.rules.specs.Rules.{Worker, Graph, withWorkers}
 use Rattle.representation.specs.Rep.{Ghost, TablesRep, WorkerRep, Stands}
 
 pub record TablesStand (s : Sizes) (t : Tables) (g : Graph) (G : Ghost) : Type 0 where
   pub kept : sizesKept s (t .jobs) ≡ true
+  pub minutes : storedMinutes (t .jobs) ≡ g .minutes
   pub jobs : Rows jobShape (s .jobs) (t .jobs)
   pub arcs : Rows arcShape (s .arcs) (t .arcs)
   pub buckets : Rows bucketShape (2 ^ s .bits) (t .buckets)
@@ -26,7 +27,15 @@ pub record TablesStand (s : Sizes) (t : Tables) (g : Graph) (G : Ghost) : Type 0
 
 pub tables-part : (s : Sizes) (t : Tables) (g : Graph) (G : Ghost) → Stands s t g G → TablesStand s t g G
 tables-part s t g G S =
-    record { kept = S .kept; jobs = S .jobs; arcs = S .arcs; buckets = S .buckets; queue = S .queue; rep = S .rep }
+    record {
+      kept = S .kept;
+      minutes = S .minutes;
+      jobs = S .jobs;
+      arcs = S .arcs;
+      buckets = S .buckets;
+      queue = S .queue;
+      rep = S .rep;
+    }
 
 pub stands-whole : (s : Sizes) (t : Tables) (g : Graph) (G : Ghost) → withinLimits s ≡ true → TablesStand s t g G
     → Rows workerShape (s .workers) (t .workers)
@@ -36,6 +45,7 @@ stands-whole s t g G e T r c =
     record {
       limits = e;
       kept = T .kept;
+      minutes = T .minutes;
       jobs = T .jobs;
       arcs = T .arcs;
       buckets = T .buckets;
@@ -103,6 +113,7 @@ pub frame : (s : Sizes) (t : Tables) (g : Graph) (G : Ghost) → TablesStand s t
 frame s t g G T l h =
     record {
       kept = T .kept;
+      minutes = T .minutes;
       jobs = T .jobs;
       arcs = T .arcs;
       buckets = T .buckets;

@@ -26,6 +26,7 @@ abbrev pub seen : Graph → Seen
 seen g = record {
   made = length (g .jobs);
   reserved = g .reserved;
+  minutes = g .minutes;
   job = λ j. jobSeen (job g j);
   waiting = g .queue;
   held = λ w. g .workers w .held;

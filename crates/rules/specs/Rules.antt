@@ -8,14 +8,16 @@ use lib.Dec.{ltb, leb, eqb}
 use lib.ListN.{length, getD, set}
 use Rattle.basics.specs.Base.{pick, update}
 use Rattle.minutes.specs.Minutes.{minutesIn, fixedMinutes}
+use Rattle.minutes.specs.Rising.{isRising}
 use Rattle.terms.specs.Terms.{settles, Label, unexecuted, executing, finished, Arguments, listed, argumentsWrong}
 use Rattle.terms.specs.Terms.{sameSizes, wrongSizes, noSuchWorker, halfDone, nothingToStep, wrongArguments, unknownName}
-use Rattle.terms.specs.Terms.{namePresent, tablesFull, damaged, alreadyHolding, notHeld, Finish}
+use Rattle.terms.specs.Terms.{namePresent, tablesFull, damaged, alreadyHolding, notHeld, wrongMinutes}
+use Rattle.terms.specs.Terms.{jobsEntered, Finish}
 use Rattle.terms.specs.Order.{Order, heavierFirst, firstBy, without}
-use Rattle.terms.specs.Runs.{Item, postAdd, postFinish, step, get, Outcome, outcome}
+use Rattle.terms.specs.Runs.{Item, postAdd, postFinish, step, get, load, Outcome, outcome}
 use Rattle.terms.specs.declared.Sizes.{Sizes}
 use Rattle.terms.specs.declared.HandOut.{HandOut}
-use Rattle.terms.specs.declared.Answer.the-variants.{Posted, Going, Ended, NoneReady, Handed, Refused}
+use Rattle.terms.specs.declared.Answer.the-variants.{Loaded, Posted, Going, Ended, NoneReady, Handed, Refused}
 
 -- ---- the graph
 -- a job; its dependents, by number, are the jobs that its finish notifies, oldest first
@@ -42,12 +44,13 @@ pub record Worker : Type 0 where
   pub held : Option ℕ
   pub call : Call
 
--- jobs in the order they entered, arcs reserved so far, the queue of ready jobs, the workers
+-- jobs in the order they entered, arcs reserved so far, the queue of ready jobs, the workers, the minutes by class
 pub record Graph : Type 0 where
   pub jobs : List Job
   pub reserved : ℕ
   pub queue : List ℕ
   pub workers : ℕ → Worker
+  pub minutes : List ℕ
 
 abbrev pub noJob : Job
 noJob = record { name = 0; label = unexecuted; count = 0; class = 0; grower = 0; list = []; dependents = [] }
@@ -55,9 +58,15 @@ noJob = record { name = 0; label = unexecuted; count = 0; class = 0; grower = 0;
 abbrev pub job : Graph → ℕ → Job
 job g j = getD (g .jobs) j noJob
 
--- "a fresh graph: no jobs, all workers idle and holding nothing"
+-- "a fresh graph: no jobs, all workers idle and holding nothing", with the fixed minutes
 unfoldable pub empty : Graph
-empty = record { jobs = []; reserved = 0; queue = []; workers = λ w. record { held = none; call = idle } }
+empty = record {
+  jobs = [];
+  reserved = 0;
+  queue = [];
+  workers = λ w. record { held = none; call = idle };
+  minutes = fixedMinutes;
+}
 
 -- ---- the job of a name
 pub data Found : Type 0 where
@@ -74,16 +83,49 @@ find g name = seek name (g .jobs) 0
 -- ---- changes
 -- a graph with one part changed
 abbrev pub withJobs : Graph → List Job → Graph
-withJobs g l = record { jobs = l; reserved = g .reserved; queue = g .queue; workers = g .workers }
+withJobs g l = record {
+  jobs = l;
+  reserved = g .reserved;
+  queue = g .queue;
+  workers = g .workers;
+  minutes = g .minutes;
+}
 
 abbrev pub withReserved : Graph → ℕ → Graph
-withReserved g n = record { jobs = g .jobs; reserved = n; queue = g .queue; workers = g .workers }
+withReserved g n = record {
+  jobs = g .jobs;
+  reserved = n;
+  queue = g .queue;
+  workers = g .workers;
+  minutes = g .minutes;
+}
 
 abbrev pub withQueue : Graph → List ℕ → Graph
-withQueue g q = record { jobs = g .jobs; reserved = g .reserved; queue = q; workers = g .workers }
+withQueue g q = record {
+  jobs = g .jobs;
+  reserved = g .reserved;
+  queue = q;
+  workers = g .workers;
+  minutes = g .minutes;
+}
 
 abbrev pub withWorkers : Graph → (ℕ → Worker) → Graph
-withWorkers g f = record { jobs = g .jobs; reserved = g .reserved; queue = g .queue; workers = f }
+withWorkers g f = record {
+  jobs = g .jobs;
+  reserved = g .reserved;
+  queue = g .queue;
+  workers = f;
+  minutes = g .minutes;
+}
+
+abbrev pub withMinutes : Graph → List ℕ → Graph
+withMinutes g m = record {
+  jobs = g .jobs;
+  reserved = g .reserved;
+  queue = g .queue;
+  workers = g .workers;
+  minutes = m;
+}
 
 abbrev pub withLabel : Job → Label → Job
 withLabel x l =
@@ -252,7 +294,7 @@ handOut g j = record { job = j; name = job g j .name }
 -- the order of hand-outs: "the waiting job with the most minutes, equal minutes by earlier entry into the queue"; and
 -- the job that is next by it
 abbrev pub minutesOf : Graph → ℕ → ℕ
-minutesOf g j = minutesIn fixedMinutes (job g j .class)
+minutesOf g j = minutesIn (g .minutes) (job g j .class)
 
 abbrev pub order : Graph → Order
 order g = heavierFirst (minutesOf g)
@@ -268,6 +310,14 @@ unfoldable pub getJob : Graph → ℕ → Option ℕ → Outcome Graph
 getJob g w none = takeNext g w (nextOut g)
 getJob g w (some j) = outcome (Refused alreadyHolding 0) g
 
+-- ---- a load: "sixteen minute values in place of the fixed ones, before the first job enters", which "must rise
+-- strictly from class to class, each from 1 to 1,440"
+unfoldable pub loadMinutes : Graph → List ℕ → Outcome Graph
+loadMinutes g m =
+    pick (isRising m)
+    (pick (eqb (length (g .jobs)) 0) (outcome Loaded (withMinutes g m)) (outcome (Refused jobsEntered 0) g))
+    (outcome (Refused wrongMinutes 0) g)
+
 -- ---- an item: number 1 for other sizes than those laid out, then 2, then the call's own rules
 unfoldable pub admitted : Sizes → Sizes → Graph → ℕ → Outcome Graph → Outcome Graph
 admitted laid s g w r =
@@ -281,3 +331,4 @@ perform laid g (postFinish s w f) =
     admitted laid s g w (whenIdle g (g .workers w .call) (finishPosted g w f (g .workers w .held)))
 perform laid g (step s w) = admitted laid s g w (stepCall laid g w (g .workers w .call))
 perform laid g (get s w) = admitted laid s g w (whenIdle g (g .workers w .call) (getJob g w (g .workers w .held)))
+perform laid g (load s m) = pick (sameSizes s laid) (loadMinutes g m) (outcome (Refused wrongSizes 0) g)

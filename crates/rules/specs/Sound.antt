@@ -8,6 +8,7 @@ use Prim.Native.Nat.{ℕ, _+_, _-_, _≤_, _<_}
 use lib.ListN.{length, getD}
 use Rattle.basics.specs.Limits.{mostNames, mostClass}
 use Rattle.basics.specs.Base.{occurrences}
+use Rattle.minutes.specs.Rising.{isRising}
 use Rattle.terms.specs.Terms.{settles, Label, unexecuted, executing, finished, Arguments, listed, argumentsWrong}
 use Rattle.terms.specs.declared.Sizes.{Sizes}
 use Rattle.rules.specs.Rules.{Job, Call, idle, looking, linking, marking, notifying, Graph, job, find, at}
@@ -72,6 +73,7 @@ pub record Finished (g : Graph) (name : ℕ) : Type 0 where
 pub record Sound (s : Sizes) (g : Graph) : Type 0 where
   pub jobs : length (g .jobs) ≤ s .jobs
   pub arcs : g .reserved ≤ s .arcs
+  pub minutes : isRising (g .minutes) ≡ true
   pub names : (i j : ℕ) → i < length (g .jobs) → j < length (g .jobs) → job g i .name ≡ job g j .name → i ≡ j
   pub counts : (j : ℕ) → job g j .count ≤ mostNames
   pub classes : (j : ℕ) → job g j .class ≤ mostClass

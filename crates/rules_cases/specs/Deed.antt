@@ -3,26 +3,28 @@
 use mathlib.Core.Path.{_≡_}
 use mathlib.Core.Logic.{_≢_}
 use mathlib.Core.Bool.{Bool, true, false, _||_}
-use mathlib.Core.List.{[]}
+use mathlib.Core.List.{List, []}
 use mathlib.Core.Option.{Option, none, some}
 use Prim.Native.Nat.{ℕ, suc, _+_, _≤_, _<_}
 use lib.Dec.{ltb, leb, eqb}
 use lib.ListN.{length, getD}
+use Rattle.minutes.specs.Rising.{isRising}
 use Rattle.terms.specs.Terms.{finished, Arguments, listed, argumentsWrong, sameSizes, wrongSizes, noSuchWorker}
 use Rattle.terms.specs.Terms.{halfDone, nothingToStep, wrongArguments, unknownName, namePresent, tablesFull, damaged}
-use Rattle.terms.specs.Terms.{alreadyHolding, notHeld, Finish}
+use Rattle.terms.specs.Terms.{alreadyHolding, notHeld, wrongMinutes, jobsEntered, Finish}
 use Rattle.terms.specs.Order.{without}
-use Rattle.terms.specs.Runs.{Item, postAdd, postFinish, step, get, sizesOf, workerOf}
+use Rattle.terms.specs.Runs.{Item, postAdd, postFinish, step, get, load, sizesOf, workerOf, isLoad}
 use Rattle.terms.specs.declared.Sizes.{Sizes}
 use Rattle.terms.specs.declared.Answer.{Answer}
-use Rattle.terms.specs.declared.Answer.the-variants.{Posted, Going, Ended, NoneReady, Handed, Refused}
+use Rattle.terms.specs.declared.Answer.the-variants.{Loaded, Posted, Going, Ended, NoneReady, Handed, Refused}
 use Rattle.rules.specs.Rules.{Call, idle, looking, linking, marking, notifying, Graph, job, find, at, missing, withCall}
-use Rattle.rules.specs.Rules.{entered, linked, settled, marked, notified, handedOut, handOut, nextOut}
+use Rattle.rules.specs.Rules.{entered, linked, settled, marked, notified, handedOut, handOut, nextOut, withMinutes}
 
 -- ---- the facts
--- the item came with the sizes laid out, from a worker that there is
+-- the item, which is no load, came with the sizes laid out, from a worker that there is
 pub record Admitted (s : Sizes) (i : Item) : Type 0 where
   pub sizes : sameSizes (sizesOf i) s ≡ true
+  pub no-load : isLoad i ≡ false
   pub worker : workerOf i < s .workers
 
 -- the item is a step, which alone may come from a worker that is half done
@@ -31,6 +33,7 @@ isStep (step s w) = true
 isStep (postAdd s w a) = false
 isStep (postFinish s w f) = false
 isStep (get s w) = false
+isStep (load s m) = false
 
 -- the worker holds no job of the name
 abbrev pub HoldsNot : Graph → ℕ → Option ℕ → Type 0
@@ -101,10 +104,16 @@ pub data Made (s : Sizes) (g : Graph) : Item → Answer → Graph → Type 0 whe
   getHanded : {t : Sizes} {w : ℕ} → g .workers w .held ≡ none → (j : ℕ) → nextOut g ≡ some j
       → Made s g (get t w) (Handed (handOut g j)) (handedOut g w j (without j (g .queue)))
 
--- ---- an item: turned away, or by the call that its worker is in
+-- ---- a load of the sizes laid out
+pub data Loading (g : Graph) (m : List ℕ) : Answer → Graph → Type 0 where
+  notRising : isRising m ≡ false → Loading g m (Refused wrongMinutes 0) g
+  tooLate : isRising m ≡ true → 0 < length (g .jobs) → Loading g m (Refused jobsEntered 0) g
+  minutesLoaded : isRising m ≡ true → length (g .jobs) ≡ 0 → Loading g m Loaded (withMinutes g m)
+
+-- ---- an item: turned away, or by the call that its worker is in; or a load
 pub data Deed (s : Sizes) (g : Graph) : Item → Answer → Graph → Type 0 where
   otherSizes : {i : Item} → sameSizes (sizesOf i) s ≡ false → Deed s g i (Refused wrongSizes 0) g
-  workerUnknown : {i : Item} → sameSizes (sizesOf i) s ≡ true → s .workers ≤ workerOf i
+  workerUnknown : {i : Item} → sameSizes (sizesOf i) s ≡ true → isLoad i ≡ false → s .workers ≤ workerOf i
       → Deed s g i (Refused noSuchWorker 0) g
   callHalfDone : {i : Item} → Admitted s i → isStep i ≡ false → g .workers (workerOf i) .call ≢ idle
       → Deed s g i (Refused halfDone 0) g
@@ -112,3 +121,5 @@ pub data Deed (s : Sizes) (g : Graph) : Item → Answer → Graph → Type 0 whe
       → Deed s g i x h
   stepped : {t : Sizes} {w : ℕ} {x : Answer} {h : Graph} → Admitted s (step t w)
       → {c : Call} → g .workers w .call ≡ c → Stepped s g w c x h → Deed s g (step t w) x h
+  loading : {t : Sizes} {m : List ℕ} {x : Answer} {h : Graph} → sameSizes t s ≡ true → Loading g m x h
+      → Deed s g (load t m) x h

@@ -7,19 +7,20 @@ use Prim.Native.Nat.{ℕ, suc, _≤_, _<_}
 use native.Mathlib.Omega.{arith}
 use lib.Dec.{ltb, eqb}
 use lib.ListN.{length, getD}
-use borrow.Author.Tests.{ltb-true, ltb-false, eqb-true}
+use borrow.Author.Tests.{ltb-true, ltb-false, eqb-true, eqb-false}
 use Rattle.basics.specs.Laws.{never, pick-by}
+use Rattle.minutes.specs.Rising.{isRising}
 use Rattle.terms.specs.Terms.{Label, unexecuted, executing, finished, Arguments, listed, argumentsWrong, sameSizes}
 use Rattle.terms.specs.Terms.{Finish}
 use Rattle.terms.specs.OrderLaws.{none-first}
-use Rattle.terms.specs.Runs.{Item, postAdd, postFinish, step, get, Outcome, sizesOf, workerOf}
+use Rattle.terms.specs.Runs.{Item, postAdd, postFinish, step, get, load, Outcome, sizesOf, workerOf, isLoad}
 use Rattle.terms.specs.declared.Sizes.{Sizes}
 use Rattle.rules.specs.Rules.{Found, at, missing, Call, idle, looking, linking, marking, notifying, Graph, job, find}
 use Rattle.rules.specs.Rules.{lookUp, enter, link, linkTo, markDependents, mark, notify, stepCall, whenIdle}
-use Rattle.rules.specs.Rules.{addPosted, finishPosted, takeNext, getJob, admitted, perform, nextOut, order}
+use Rattle.rules.specs.Rules.{addPosted, finishPosted, takeNext, getJob, admitted, perform, nextOut, order, loadMinutes}
 use Rattle.rules.specs.Sound.{CallSound}
 use Rattle.rules_cases.specs.Deed as to
-use Rattle.rules_cases.specs.Deed.{Admitted, isStep, noPlace, Broken, Stepped, Made, Deed}
+use Rattle.rules_cases.specs.Deed.{Admitted, isStep, noPlace, Broken, Stepped, Made, Loading, Deed}
 
 -- ---- a step
 module _ (s : Sizes) (g : Graph) (w : ℕ) where
@@ -108,14 +109,29 @@ module _ (s : Sizes) (g : Graph) where
   abbrev Does : Item → Outcome Graph → Type 0
   Does i o = Deed s g i (o .answer) (o .state)
 
-  admits : (i : Item) {o : Outcome Graph} → (Admitted s i → Does i o)
+  admits : (i : Item) {o : Outcome Graph} → isLoad i ≡ false → (Admitted s i → Does i o)
       → Does i (admitted s (sizesOf i) g (workerOf i) o)
   unfolding admitted
-  admits i {o} d = pick-by (Does i) (sameSizes (sizesOf i) s)
+  admits i {o} n d = pick-by (Does i) (sameSizes (sizesOf i) s)
       (λ e. pick-by (Does i) (ltb (workerOf i) (s .workers))
-      (λ h. d (record { sizes = e; worker = ltb-true (workerOf i) (s .workers) h }))
-      (λ h. to.workerUnknown e (ltb-false (workerOf i) (s .workers) h)))
+      (λ h. d (record { sizes = e; no-load = n; worker = ltb-true (workerOf i) (s .workers) h }))
+      (λ h. to.workerUnknown e n (ltb-false (workerOf i) (s .workers) h)))
       (λ e. to.otherSizes e)
+
+  -- a load
+  abbrev By-load : List ℕ → Outcome Graph → Type 0
+  By-load m o = Loading g m (o .answer) (o .state)
+
+  loads : (m : List ℕ) → Loading g m (loadMinutes g m .answer) (loadMinutes g m .state)
+  unfolding loadMinutes
+  loads m = pick-by (By-load m) (isRising m)
+      (λ r. pick-by (By-load m) (eqb (length (g .jobs)) 0)
+      (λ e. to.minutesLoaded r (eqb-true (length (g .jobs)) 0 e))
+      (λ e. to.tooLate r (above (length (g .jobs)) e)))
+      (λ r. to.notRising r)
+    where
+      above : (n : ℕ) → eqb n 0 ≡ false → 0 < n
+      above n e = let no = eqb-false n 0 e in omega (arith, no)
 
   when-idle : (i : Item) → isStep i ≡ false → Admitted s i → {o : Outcome Graph}
       → (c : Call) → g .workers (workerOf i) .call ≡ c → By-made i o → Does i (whenIdle g c o)
@@ -128,14 +144,15 @@ module _ (s : Sizes) (g : Graph) where
 
   pub deed : (i : Item) → Deed s g i (perform s g i .answer) (perform s g i .state)
   unfolding perform
-  deed (postAdd t w a) = admits (postAdd t w a)
+  deed (postAdd t w a) = admits (postAdd t w a) refl
       (λ A. when-idle (postAdd t w a) refl A (g .workers w .call) refl (posts-add t w a))
-  deed (postFinish t w f) = admits (postFinish t w f)
+  deed (postFinish t w f) = admits (postFinish t w f) refl
       (λ A. when-idle (postFinish t w f) refl A (g .workers w .call) refl
       (posts-finish t w f (g .workers w .held) refl))
-  deed (step t w) = admits (step t w) (λ A. to.stepped A refl (steps s g w (g .workers w .call)))
-  deed (get t w) = admits (get t w)
+  deed (step t w) = admits (step t w) refl (λ A. to.stepped A refl (steps s g w (g .workers w .call)))
+  deed (get t w) = admits (get t w) refl
       (λ A. when-idle (get t w) refl A (g .workers w .call) refl (gets t w (g .workers w .held) refl))
+  deed (load t m) = pick-by (Does (load t m)) (sameSizes t s) (λ e. to.loading e (loads m)) (λ e. to.otherSizes e)
 
 -- ---- a sound graph excludes number 9
 pub unbroken : (g : Graph) (h : Option ℕ) (c : Call) → CallSound g h c → Broken g h c → ⊥

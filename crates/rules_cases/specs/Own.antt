@@ -6,7 +6,7 @@ use Prim.Native.Nat.{ℕ, _<_}
 use native.Mathlib.Omega.{arith}
 use borrow.Author.Tests.{eq-eqb}
 use Rattle.terms.specs.Terms.{sameSizes}
-use Rattle.terms.specs.Runs.{Item, step, sizesOf, workerOf}
+use Rattle.terms.specs.Runs.{Item, step, sizesOf, workerOf, isLoad}
 use Rattle.terms.specs.declared.Sizes.{Sizes}
 use Rattle.terms.specs.declared.Answer.{Answer}
 use Rattle.rules.specs.Rules.{Call, idle, Graph, perform}
@@ -30,20 +30,21 @@ own-step s g {w} l {c} e = of (deed s g (step s w))
   where
     of : {x : Answer} {h : Graph} → Deed s g (step s w) x h → Stepped s g w c x h
     of (by.otherSizes z) = absurd (true≢false (sym (own-sizes s) ∙ z))
-    of (by.workerUnknown z m) = absurd (omega arith)
+    of (by.workerUnknown z n m) = absurd (omega arith)
     of (by.callHalfDone A n d) = absurd (true≢false n)
     of (by.stepped A d S) = rw (sym d ∙ e) at S
 
 -- a post or a get of an idle worker is one by its own rules
 pub own-made : (s : Sizes) (g : Graph) (i : Item) → sameSizes (sizesOf i) s ≡ true → workerOf i < s .workers
-    → isStep i ≡ false → g .workers (workerOf i) .call ≡ idle
+    → isStep i ≡ false → isLoad i ≡ false → g .workers (workerOf i) .call ≡ idle
     → Made s g i (perform s g i .answer) (perform s g i .state)
-own-made s g i same l n e = of (deed s g i) same n l e
+own-made s g i same l n no-load e = of (deed s g i) same n no-load l e
   where
     of : {i : Item} {x : Answer} {h : Graph} → Deed s g i x h → sameSizes (sizesOf i) s ≡ true → isStep i ≡ false
-        → workerOf i < s .workers → g .workers (workerOf i) .call ≡ idle → Made s g i x h
-    of (by.otherSizes z) same n l e = absurd (true≢false (sym same ∙ z))
-    of (by.workerUnknown z m) same n l e = absurd (omega arith)
-    of (by.callHalfDone A m d) same n l e = absurd (d e)
-    of (by.made A d M) same n l e = M
-    of (by.stepped A d S) same n l e = absurd (true≢false n)
+        → isLoad i ≡ false → workerOf i < s .workers → g .workers (workerOf i) .call ≡ idle → Made s g i x h
+    of (by.otherSizes z) same n o l e = absurd (true≢false (sym same ∙ z))
+    of (by.workerUnknown z u m) same n o l e = absurd (omega arith)
+    of (by.callHalfDone A m d) same n o l e = absurd (d e)
+    of (by.made A d M) same n o l e = M
+    of (by.stepped A d S) same n o l e = absurd (true≢false n)
+    of (by.loading z L) same n o l e = absurd (true≢false o)

@@ -158,7 +158,7 @@ module _ (s : Sizes) (g : Graph) (r : Reading) (S : Sound s g) (K : Kept s g r) 
   -- ---- each way in which an item can end
   kept-on : {i : Item} {x : Answer} {after : Graph} (d : Deed s g i x after) → Kept s after (reads r d)
   kept-on (by.otherSizes e) = K
-  kept-on (by.workerUnknown e l) = K
+  kept-on (by.workerUnknown e n l) = K
   kept-on (by.callHalfDone A n c) = K
   kept-on (by.made A c (by.addWrong {w} {a} e)) = refused-now (add w a) wrongArguments 0 (add-wrong s g a e)
   kept-on (by.made A c (by.addPosted e)) = unseen _ _ refl (turned _ _) refl refl
@@ -188,6 +188,9 @@ module _ (s : Sizes) (g : Graph) (r : Reading) (S : Sound s g) (K : Kept s g r) 
   kept-on (by.stepped {w} A c (by.markedGoing p e f)) = marks w p (notifying p 0) _ refl e
   kept-on (by.stepped A c (by.arcNotified l)) = unseen _ _ (entries-kept (g .jobs) _ _ refl) (turned _ _) refl refl
   kept-on (by.stepped A c (by.lastNotified l)) = unseen _ _ (entries-kept (g .jobs) _ _ refl) (turned _ _) refl refl
+  kept-on (by.loading e (by.notRising u)) = K
+  kept-on (by.loading e (by.tooLate u l)) = K
+  kept-on (by.loading e (by.minutesLoaded u l)) = unseen _ _ refl (λ v. refl) refl refl
 
 -- ---- the accepted adds are those of the jobs, in order
 adds-booked : {s : Sizes} (g : Graph) (r : Reading) → Follows s blank (r .calls) (bookOf g) → Booked s g r

@@ -16,6 +16,7 @@ use Rattle.terms.specs.Runs.{Item, workerOf}
 use Rattle.terms.specs.declared.Sizes.{Sizes}
 use Rattle.terms.specs.declared.Answer.{Answer}
 use Rattle.rules.specs.Rules.{Job, noJob, Call, idle, looking, linking, marking, notifying, Worker, Graph, empty, job}
+use Rattle.rules.specs.Rules.{withMinutes}
 use Rattle.rules.specs.Sound.{CallSound, Looking, Sound}
 use Rattle.rules_cases.specs.Deed as by
 use Rattle.rules_cases.specs.Deed.{Admitted, Deed}
@@ -84,7 +85,7 @@ module _ (s : Sizes) (g : Graph) (r : Reading) (S : Sound s g) (P : PacedOn s g 
   -- ---- each way in which an item can end
   paced-on : {i : Item} {x : Answer} {after : Graph} (d : Deed s g i x after) → PacedOn s after (reads r d)
   paced-on (by.otherSizes e) = same refl
-  paced-on (by.workerUnknown e l) = same refl
+  paced-on (by.workerUnknown e n l) = same refl
   paced-on (by.callHalfDone A n c) = same refl
   paced-on (by.made A c (by.addWrong e)) = same refl
   paced-on (by.made A c (by.addPosted e)) = moved A _ _ (λ j h. refl) refl refl refl
@@ -113,6 +114,13 @@ module _ (s : Sizes) (g : Graph) (r : Reading) (S : Sound s g) (P : PacedOn s g 
   paced-on (by.stepped A c (by.arcNotified {p} {k} l)) = moved A _ _ (λ j h. same-names _ _ refl j) refl refl
       (ap (λ n. finishing (finishOf n) (suc (suc k))) (sym (same-names _ _ refl p)))
   paced-on (by.stepped A c (by.lastNotified l)) = moved A _ _ (λ j h. same-names _ _ refl j) refl refl refl
+  paced-on (by.loading e (by.notRising u)) = same refl
+  paced-on (by.loading e (by.tooLate u l)) = same refl
+  paced-on (by.loading {m} e (by.minutesLoaded u l)) = record {
+    past = P .past;
+    calls = λ v. call-kept g (withMinutes g m) (λ j h. refl) (g .workers v .held) (g .workers v .call) (r .pending v)
+        (S .held-there v) (S .calls v) (P .calls v);
+  }
 
 -- what is read of an item of a sound and paced graph
 pub read : {s : Sizes} {g : Graph} (r : Reading) → Sound s g → Paced g r → {i : Item} {x : Answer} {h : Graph}

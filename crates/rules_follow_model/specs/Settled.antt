@@ -26,7 +26,7 @@ use Rattle.rules_follow_model.specs.Entries.{entry-at, entries-length}
 module _ (s : Sizes) (g : Graph) (w : ℕ) (l : w < s .workers) (c : g .workers w .call ≡ idle)
     (f : g .workers w .held ≡ none) where
   pub own-get : Made s g (get s w) (perform s g (get s w) .answer) (perform s g (get s w) .state)
-  own-get = own-made s g (get s w) (own-sizes s) l refl c
+  own-get = own-made s g (get s w) (own-sizes s) l refl refl c
 
   pub hands-next : (j : ℕ) → nextOut g ≡ some j → perform s g (get s w) .answer ≡ Handed (handOut g j)
   unfolding occurrences

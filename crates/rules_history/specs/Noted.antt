@@ -7,7 +7,7 @@ use native.Mathlib.Omega.{arith}
 use borrow.Author.Tests.{eq-eqb, ne-eqb, le-ltb, lt-leb}
 use Rattle.terms.specs.Terms.{Arguments, wrongSizes, noSuchWorker, halfDone, wrongArguments, unknownName}
 use Rattle.terms.specs.Terms.{namePresent, tablesFull, damaged, alreadyHolding, notHeld, finishOf}
-use Rattle.terms.specs.Runs.{Item, postAdd, postFinish, step, get, workerOf}
+use Rattle.terms.specs.Runs.{Item, postAdd, postFinish, step, get, load, workerOf}
 use Rattle.terms.specs.declared.Sizes.{Sizes}
 use Rattle.terms.specs.declared.Answer.{Answer}
 use Rattle.terms.specs.declared.Answer.the-variants.{Refused}
@@ -42,7 +42,7 @@ readsStep {g} {w} r (by.lastNotified {p} l) = becomes (finishEnded r (job g p .n
 
 abbrev pub reads : {s : Sizes} {g : Graph} {i : Item} {x : Answer} {h : Graph} → Reading → Deed s g i x h → Reading
 reads r (by.otherSizes e) = r
-reads r (by.workerUnknown e l) = r
+reads r (by.workerUnknown e n l) = r
 reads r (by.callHalfDone A n c) = r
 reads r (by.made A c (by.addWrong {w} {a} e)) = decided r (add w a) (refused wrongArguments 0)
 reads r (by.made A c (by.addPosted {w} {a} e)) = becomes r w (adding a 0)
@@ -52,6 +52,7 @@ reads r (by.made A c (by.getHolding {w} j e)) = decided r (book.get w) (refused 
 reads r (by.made A c (by.getNone {w} e f)) = decided r (book.get w) noneReady
 reads {g} r (by.made A c (by.getHanded {w} e j f)) = decided r (book.get w) (handed (handOut g j))
 reads r (by.stepped A c S) = readsStep r S
+reads r (by.loading e L) = r
 
 -- ---- a refusal by 1 to 4, or 9, is not noted
 unnoted-step : (r : Reading) (w : ℕ) (p : Pending) (n i : ℕ) → endsCall n ≡ false → noteStep r w p (Refused n i) ≡ r
@@ -66,6 +67,7 @@ unnoted r (postAdd s w a) n i e = rw e
 unnoted r (postFinish s w f) n i e = rw e
 unnoted r (step s w) n i e = unnoted-step r w (r .pending w) n i e
 unnoted r (get s w) n i e = rw e
+unnoted r (load s m) n i e = refl
 
 -- an add looks up no further than its list is long
 abbrev pub Within : Call → Type 0
@@ -102,7 +104,7 @@ module _ {s : Sizes} {g : Graph} (r : Reading) where
       → Within (g .workers w .call) → (d : Deed s g i x h) → note r i x ≡ reads r d
   unfolding note noteAdd noteFinish noteGet
   noted {i} P I (by.otherSizes e) = unnoted r i wrongSizes 0 refl
-  noted {i} P I (by.workerUnknown e l) = unnoted r i noSuchWorker 0 refl
+  noted {i} P I (by.workerUnknown e n l) = unnoted r i noSuchWorker 0 refl
   noted {i} P I (by.callHalfDone A n c) = unnoted r i halfDone 0 refl
   noted P I (by.made A c (by.addWrong e)) = refl
   noted P I (by.made A c (by.addPosted e)) = refl
@@ -112,3 +114,4 @@ module _ {s : Sizes} {g : Graph} (r : Reading) where
   noted P I (by.made A c (by.getNone e f)) = refl
   noted P I (by.made A c (by.getHanded e j f)) = refl
   noted P I (by.stepped A c S) = noted-step (rw c at P) (rw c at I) S
+  noted P I (by.loading e L) = refl

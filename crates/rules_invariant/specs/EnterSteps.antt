@@ -121,6 +121,7 @@ module _ (s : Sizes) (g : Graph) (r : Reading) (x : State) (K : Kept s g r x) (I
       kept = record {
         jobs-room = omega (arith, longer);
         arcs-room = arcs;
+        minutes = K .minutes;
         size = longer ∙ ap suc (K .size);
         queue = K .queue;
         jobs = snoc-all (λ k y. jobRel later (enter x w ps) k y) (g .jobs) (newJob a) noJob

@@ -108,6 +108,7 @@ module _ (s : Sizes) (g : Graph) (r : Reading) (x : State) (K : Kept s g r x) (I
             kept = record {
               jobs-room = omega (arith, longer, K .jobs-room);
               arcs-room = K .arcs-room;
+              minutes = K .minutes;
               size = longer ∙ K .size;
               queue = K .queue;
               jobs = set-all (λ k u. jobRel (set (g .jobs) p z) y k u) (g .jobs) p z noJob there
@@ -186,6 +187,7 @@ module _ (s : Sizes) (g : Graph) (r : Reading) (x : State) (K : Kept s g r x) (I
           kept = record {
             jobs-room = omega (arith, longer, K .jobs-room);
             arcs-room = K .arcs-room;
+            minutes = K .minutes;
             size = longer ∙ K .size;
             queue = ap (λ (l : List ℕ). enqueue b l j) (K .queue);
             jobs = set-all (λ k u. jobRel (set (g .jobs) j z) y k u) (g .jobs) j z noJob (own-link .there)

@@ -86,6 +86,7 @@ module _ (s : Sizes) (g : Graph) (r : Reading) (x : State) (K : Kept s g r x) (I
         kept = record {
           jobs-room = omega (arith, longer, K .jobs-room);
           arcs-room = K .arcs-room;
+          minutes = K .minutes;
           size = longer ∙ K .size;
           queue = refl;
           jobs = relabelled-jobs j there executing;
@@ -158,6 +159,7 @@ module _ (s : Sizes) (g : Graph) (r : Reading) (x : State) (K : Kept s g r x) (I
       kept = record {
         jobs-room = omega (arith, longer, K .jobs-room);
         arcs-room = K .arcs-room;
+        minutes = K .minutes;
         size = longer ∙ K .size;
         queue = K .queue;
         jobs = relabelled-jobs p marked-there finished;
@@ -229,6 +231,7 @@ module _ (s : Sizes) (g : Graph) (r : Reading) (x : State) (K : Kept s g r x) (I
       kept = record {
         jobs-room = omega (arith, longer, K .jobs-room);
         arcs-room = K .arcs-room;
+        minutes = K .minutes;
         size = longer ∙ K .size;
         queue = K .queue;
         jobs = relabelled-jobs p marked-there finished;

@@ -117,6 +117,7 @@ module _ (s : Sizes) (g : Graph) (r : Reading) (x : State) (K : Kept s g r x) (I
       kept = record {
         jobs-room = omega (arith, later-length, K .jobs-room);
         arcs-room = K .arcs-room;
+        minutes = K .minutes;
         size = later-length ∙ K .size;
         queue = ap (λ (l : List ℕ). enqueue test l j) (K .queue);
         jobs = later-jobs;
@@ -185,6 +186,7 @@ module _ (s : Sizes) (g : Graph) (r : Reading) (x : State) (K : Kept s g r x) (I
       kept = record {
         jobs-room = omega (arith, later-length, K .jobs-room);
         arcs-room = K .arcs-room;
+        minutes = K .minutes;
         size = later-length ∙ K .size;
         queue = ap (λ (l : List ℕ). enqueue test l j) (K .queue);
         jobs = later-jobs;

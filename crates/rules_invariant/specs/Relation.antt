@@ -9,6 +9,7 @@ use native.Mathlib.Omega.{arith}
 use lib.ListN.{length, getD}
 use Rattle.basics.specs.Limits.{mostNames, mostClass}
 use Rattle.basics.specs.Base.{contains}
+use Rattle.minutes.specs.Rising.{isRising}
 use Rattle.terms.specs.Terms.{Label, finished, Arguments, listed, argumentsWrong}
 use Rattle.terms.specs.declared.Sizes.{Sizes}
 use Rattle.rules.specs.Rules.{Job, Call, idle, looking, linking, marking, notifying, Worker, Graph, noJob, job, at}
@@ -155,6 +156,7 @@ finished-keeps x o =
 pub record Kept (s : Sizes) (g : Graph) (r : Reading) (x : State) : Type 0 where
   pub jobs-room : length (g .jobs) ≤ s .jobs
   pub arcs-room : g .reserved ≤ s .arcs
+  pub minutes : isRising (g .minutes) ≡ true
   pub size : length (g .jobs) ≡ x .size
   pub jobs : (k : ℕ) → jobRel (g .jobs) x k (job g k)
   pub queue : g .queue ≡ x .queue

@@ -129,6 +129,7 @@ module _ (s : Sizes) (g : Graph) (r : Reading) (x : State) (K : Kept s g r x) (I
   is-sound = record {
     jobs = K .jobs-room;
     arcs = K .arcs-room;
+    minutes = K .minutes;
     names = λ i j h l e. at-injective i j
         (sym (K .jobs i .known .named (omega (arith, K .size)))
         ∙ rw e (K .jobs j .known .named (omega (arith, K .size))));

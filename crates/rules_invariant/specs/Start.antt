@@ -7,6 +7,8 @@ use mathlib.Core.List.{[]}
 use Prim.Native.Nat.{ℕ}
 use native.Mathlib.Omega.{arith}
 use Rattle.basics.specs.Base.{contains}
+use Rattle.minutes.specs.Minutes.{fixedMinutes}
+use Rattle.minutes.specs.Rising.{risesAbove, isRising}
 use Rattle.terms.specs.Terms.{unexecuted, finished}
 use Rattle.terms.specs.declared.Sizes.{Sizes}
 use Rattle.rules.specs.Rules.{Graph, empty, at}
@@ -80,7 +82,7 @@ unfolding contains
 no-name name e = let z : _≡_ {A = ℕ} 0 1 = cc in omega arith
 
 pub reached : {s : Sizes} {g : Graph} {r : Reading} {e : ℕ → ℕ} → History s g r e → Reached s g r e
-unfolding empty unread
+unfolding empty unread isRising risesAbove fixedMinutes
 reached {s} start = record {
   state = blank;
   invariant = blank-invariant;
@@ -88,6 +90,7 @@ reached {s} start = record {
   kept = record {
     jobs-room = omega arith;
     arcs-room = omega arith;
+    minutes = refl;
     size = refl;
     queue = refl;
     jobs = λ k. record {

@@ -25,7 +25,7 @@ use Rattle.rules_invariant.specs.State.{State, apart}
 use Rattle.rules_invariant.specs.Invariant.{Invariant}
 use Rattle.rules_invariant.specs.Names.{extends-same, looking-keeps, numbers-of}
 use Rattle.rules_invariant.specs.Relation.{Kept}
-use Rattle.rules_invariant.specs.Turns.{Next, decided-too, stays, own-stage, own-call, turned}
+use Rattle.rules_invariant.specs.Turns.{Next, decided-too, stays, loads, own-stage, own-call, turned}
 use Rattle.rules_invariant.specs.EnterSteps.{entering}
 use Rattle.rules_invariant.specs.LinkSteps.{listed-found, linking-finished, linking-dependent, settling}
 use Rattle.rules_invariant.specs.MarkSteps.{handing, marking-on, marking-end}
@@ -97,7 +97,7 @@ module _ (s : Sizes) (g : Graph) (r : Reading) (x : State) (K : Kept s g r x) (I
 
   keeps : {i : Item} {y : Answer} {h : Graph} (d : Deed s g i y h) → Next s g x h (reads r d)
   keeps (by.otherSizes e) = stays s g r x K I
-  keeps (by.workerUnknown e l) = stays s g r x K I
+  keeps (by.workerUnknown e n l) = stays s g r x K I
   keeps (by.callHalfDone A n c) = stays s g r x K I
   keeps (by.made A c (by.addWrong e)) = decided-too _ (stays s g r x K I)
   keeps (by.made A c (by.addPosted {w} {a} e)) =
@@ -110,6 +110,9 @@ module _ (s : Sizes) (g : Graph) (r : Reading) (x : State) (K : Kept s g r x) (I
   keeps (by.made A c (by.getNone e f)) = decided-too _ (stays s g r x K I)
   keeps (by.made A c (by.getHanded {w} e j f)) = decided-too _ (handing s g r x K I w j c f)
   keeps (by.stepped A c S) = stepping c S
+  keeps (by.loading e (by.notRising u)) = stays s g r x K I
+  keeps (by.loading e (by.tooLate u l)) = stays s g r x K I
+  keeps (by.loading {m} e (by.minutesLoaded u l)) = loads s g r x K I m u
 
   pub performs : (i : Item) → Next s g x (perform s g i .state) (note r i (perform s g i .answer))
   performs i =

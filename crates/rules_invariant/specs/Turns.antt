@@ -2,6 +2,7 @@
 -- nothing.
 use mathlib.Core.Path.{_≡_, refl, sym, ap, _∙_}
 use mathlib.Core.Logic.{_≢_}
+use mathlib.Core.Bool.{true}
 use mathlib.Core.List.{List}
 use mathlib.Core.Option.{Option·some-injective}
 use Prim.Native.Nat.{ℕ, _+_, _-_, _≤_}
@@ -10,8 +11,9 @@ use native.Mathlib.Decide.{ℕ-discrete}
 use lib.ListN.{length}
 use Rattle.basics.specs.Base.{update, occurrences}
 use Rattle.basics.specs.Laws.{update-same, update-other}
+use Rattle.minutes.specs.Rising.{isRising}
 use Rattle.terms.specs.declared.Sizes.{Sizes}
-use Rattle.rules.specs.Rules.{Call, Worker, Graph, withCall}
+use Rattle.rules.specs.Rules.{Call, Worker, Graph, withCall, withMinutes}
 use Rattle.sequential_model.specs.Book.{Ended}
 use Rattle.linearization.specs.Calls.{Pending, Reading, becomes}
 use Rattle.rules_history.specs.History.{PacedCall}
@@ -39,6 +41,7 @@ decided-too l n =
       kept = record {
         jobs-room = k .jobs-room;
         arcs-room = k .arcs-room;
+        minutes = k .minutes;
         size = k .size;
         jobs = k .jobs;
         queue = k .queue;
@@ -62,6 +65,28 @@ module _ (s : Sizes) (g : Graph) (r : Reading) (x : State) (K : Kept s g r x) (I
   -- nothing changes
   pub stays : Next s g x g r
   stays = record { state = x; invariant = I; kept = K; grown = λ k. omega arith }
+
+  -- other minutes are loaded
+  pub loads : (m : List ℕ) → isRising m ≡ true → Next s g x (withMinutes g m) r
+  loads m rising = record {
+    state = x;
+    invariant = I;
+    grown = λ k. omega arith;
+    kept = record {
+      jobs-room = K .jobs-room;
+      arcs-room = K .arcs-room;
+      minutes = rising;
+      size = K .size;
+      jobs = K .jobs;
+      queue = K .queue;
+      added = K .added;
+      finished = K .finished;
+      workers = λ v.
+          worker-keeps g (withMinutes g m) x x (extends-same (g .jobs)) (omega arith) v (same-state x v) (r .pending v)
+          (g .workers v) (λ j u. omega (arith, K .size, held-there x I v j (sym (K .workers v .held) ∙ u)))
+          (K .workers v);
+    };
+  }
 
   module _ (w : ℕ) where
     pub own-stage : (c : Call) → g .workers w .call ≡ c → x .stage w ≡ stageOf c
@@ -119,6 +144,7 @@ module _ (s : Sizes) (g : Graph) (r : Reading) (x : State) (K : Kept s g r x) (I
       kept = record {
         jobs-room = K .jobs-room;
         arcs-room = K .arcs-room;
+        minutes = K .minutes;
         size = K .size;
         jobs = K .jobs;
         queue = K .queue;

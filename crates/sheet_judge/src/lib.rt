@@ -69,6 +69,7 @@ pub fn number_of(answer: Answer) -> u32
 {
     match answer {
         Answer::Laid => 0,
+        Answer::Loaded => 0,
         Answer::Posted => 0,
         Answer::Going => 0,
         Answer::Ended => 0,
@@ -84,6 +85,7 @@ pub fn place_of(answer: Answer) -> u32
 {
     match answer {
         Answer::Laid => 0,
+        Answer::Loaded => 0,
         Answer::Posted => 0,
         Answer::Going => 0,
         Answer::Ended => 0,

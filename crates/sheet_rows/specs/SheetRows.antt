@@ -10,7 +10,7 @@ use Rattle.basics.specs.Base.{pick}
 use Rattle.terms.specs.Terms.{Arguments, mostEntries, wrongSizes}
 use Rattle.terms.specs.declared.Sizes.{Sizes}
 use Rattle.terms.specs.declared.Answer.{Answer}
-use Rattle.terms.specs.declared.Answer.the-variants.{Laid, Posted, Going, Ended, NoneReady, Handed, Refused}
+use Rattle.terms.specs.declared.Answer.the-variants.{Laid, Loaded, Posted, Going, Ended, NoneReady, Handed, Refused}
 use Rattle.words.specs.Layout.{Tables}
 use Rattle.sheet_format.specs.Decode.{rowWords}
 use Rattle.sheet_format.specs.Write.{entriesOf}
@@ -31,6 +31,7 @@ rowsWords s t w rows =
 abbrev pub numberOf : Answer → ℕ
 numberOf (Refused n i) = n
 numberOf Laid = 0
+numberOf Loaded = 0
 numberOf Posted = 0
 numberOf Going = 0
 numberOf Ended = 0
@@ -40,6 +41,7 @@ numberOf (Handed h) = 0
 abbrev pub placeOf : Answer → ℕ
 placeOf (Refused n i) = i
 placeOf Laid = 0
+placeOf Loaded = 0
 placeOf Posted = 0
 placeOf Going = 0
 placeOf Ended = 0

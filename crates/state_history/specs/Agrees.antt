@@ -14,7 +14,7 @@ use Rattle.terms.specs.Terms.{wrongSizes, noSuchWorker, halfDone, nothingToStep
 use Rattle.terms.specs.declared.Sizes.{Sizes}
 use Rattle.terms.specs.declared.HandOut.{HandOut}
 use Rattle.terms.specs.declared.Answer.{Answer}
-use Rattle.terms.specs.declared.Answer.the-variants.{Laid, Posted, Going, Ended, NoneReady, Handed, Refused}
+use Rattle.terms.specs.declared.Answer.the-variants.{Laid, Loaded, Posted, Going, Ended, NoneReady, Handed, Refused}
 use Rattle.words.specs.Layout.{none, NAME, LABEL, PHASE, HELD, IDLE, LOOKING, LINKING, Tables, View, view}
 use Rattle.words.specs.Layout.{sizesFit}
 use Rattle.words.specs.Index.{seatFor, firstSeat}
@@ -40,6 +40,7 @@ use Rattle.state_history.specs.Theorem.{none-called, every-true, every-a
 abbrev by : ℕ → Answer → Bool
 by n (Refused m p) = eqb m n
 by n Laid = false
+by n Loaded = false
 by n Posted = false
 by n Going = false
 by n Ended = false

@@ -5,3 +5,4 @@ pub mod Need
 pub mod Theorem
 pub mod Agrees
 pub mod Wrong
+pub mod MinutesApart

@@ -5,6 +5,7 @@ use mathlib.Core.List.{List, []}
 use Prim.Native.Nat.{ℕ, _+_, _^_, _≤_}
 use native.Mathlib.Omega.{arith}
 use lib.ListN.{replicate}
+use Rattle.minutes.specs.Minutes.{fixedMinutes}
 use Rattle.terms.specs.Terms.{sameSizes, withinLimits}
 use Rattle.terms.specs.Runs.{Item, after}
 use Rattle.terms.specs.declared.Sizes.{Sizes}
@@ -54,5 +55,6 @@ answersTwo s t =
     record { number = drainedWords s t .number; drained = drainedWords s t .drained + drainedWords s t .drained }
 
 pub answers-two : AtMost1 answersTwo → ⊥
-unfolding withinLimits columns header longEnough sizesKept repeated freshTables layOut every ownOk drainedWords
+unfolding withinLimits fixedMinutes columns header longEnough sizesKept repeated freshTables layOut every ownOk
+    drainedWords
 answers-two f = let z : 2 ≤ 1 = f (small 1) (layOut (small 1) (old (small 1)) .state) in omega arith

@@ -33,6 +33,9 @@ kindNoneReady = 5
 abbrev pub kindHandedOut : ℕ
 kindHandedOut = 6
 
+abbrev pub kindLoaded : ℕ
+kindLoaded = 7
+
 -- an answer that has nothing but its kind
 abbrev pub plain : ℕ → GraphAnswer
 plain kind = record { kind = kind; number = accepted; place = 0; job = 0; name = 0 }
@@ -40,6 +43,7 @@ plain kind = record { kind = kind; number = accepted; place = 0; job = 0; name =
 -- a get hands out a job's place and name. A refusal has its number, and 6 also the "place in the list from 0"
 abbrev pub graphAnswer : Answer → GraphAnswer
 graphAnswer Answer.Laid = plain kindLaidOut
+graphAnswer Answer.Loaded = plain kindLoaded
 graphAnswer Answer.Posted = plain kindPosted
 graphAnswer Answer.Going = plain kindGoingOn
 graphAnswer Answer.Ended = plain kindEnded

@@ -19,6 +19,8 @@ const NONE_READY: u32 = 5;
 
 const HANDED_OUT: u32 = 6;
 
+const LOADED: u32 = 7;
+
 // What a call or a step answers. A refusal has its number, 6 also the place in the list; a job handed out has its place
 // and its name. What does not belong to a kind is 0.
 #[repr(C)]
@@ -49,6 +51,7 @@ pub fn answered(answer: Answer) -> GraphAnswer
 {
     match answer {
         Answer::Laid => plain(LAID_OUT),
+        Answer::Loaded => plain(LOADED),
         Answer::Posted => plain(POSTED),
         Answer::Going => plain(GOING_ON),
         Answer::Ended => plain(ENDED),

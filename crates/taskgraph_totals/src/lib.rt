@@ -3,9 +3,11 @@
 // list". Assumes nothing but that a pointer with a count points to that many elements.
 ghost use mathlib.Core.Path.{_≡_};
 ghost use Rattle.minutes.specs.Minutes.{fixedMinutes};
-ghost use Rattle.totals.specs.Board.{totalsOf, totalsOfWords};
+ghost use Rattle.totals.specs.Board.{totalsOf, totalsBy, totalsOfWords};
+use minutes::judged;
 use totals::JobRecord;
 use totals::Totals;
+use totals::WRONG_MINUTES;
 
 // The board on words: a label and a class for each record.
 #[no_mangle]
@@ -20,5 +22,13 @@ pub extern "C" fn tg_totals_of_words(words: &[u32]) -> Totals
 pub extern "C" fn tg_totals_of_records(records: &[JobRecord]) -> Totals
     ensures { λ r. ⌜ r ≡ totalsOf fixedMinutes (now (records .entry)) ⌝ }
 {
-    totals_of_records::of_records(records)
+    totals_of_records::of_records(records, minutes::fixed_minutes())
+}
+
+// The board on a lent row of records, by minutes that a host gives: one for each class.
+#[no_mangle]
+pub extern "C" fn tg_totals_by_minutes(records: &[JobRecord], minutes: &[u32]) -> Totals
+    ensures { λ r. ⌜ r ≡ totalsBy (now (minutes .entry)) (now (records .entry)) ⌝ }
+{
+    totals_of_records::of_records(records, judged(WRONG_MINUTES, minutes))
 }

@@ -1,4 +1,5 @@
 -- Items, and what a list of them does: one definition for every machine that answers items. Assumes nothing.
+use mathlib.Core.Bool.{Bool, true, false}
 use mathlib.Core.List.{List, [], _∷_}
 use Prim.Native.Nat.{ℕ, _+_, _-_}
 use Rattle.basics.specs.Base.{occurrences}
@@ -7,24 +8,35 @@ use Rattle.terms.specs.declared.Sizes.{Sizes}
 use Rattle.terms.specs.declared.Answer.{Answer}
 
 -- an item of demand 3's list: a post of an add or a finish, a step or a get, with the sizes and the worker that it
--- brings
+-- brings; or a load of minute values, with its sizes, which has no worker
 pub data Item : Type 0 where
   postAdd : Sizes → ℕ → Arguments → Item
   postFinish : Sizes → ℕ → Finish → Item
   step : Sizes → ℕ → Item
   get : Sizes → ℕ → Item
+  load : Sizes → List ℕ → Item
 
 abbrev pub sizesOf : Item → Sizes
 sizesOf (postAdd s w a) = s
 sizesOf (postFinish s w f) = s
 sizesOf (step s w) = s
 sizesOf (get s w) = s
+sizesOf (load s m) = s
 
+abbrev pub isLoad : Item → Bool
+isLoad (postAdd s w a) = false
+isLoad (postFinish s w f) = false
+isLoad (step s w) = false
+isLoad (get s w) = false
+isLoad (load s m) = true
+
+-- the worker of an item that is no load; of a load it says nothing
 abbrev pub workerOf : Item → ℕ
 workerOf (postAdd s w a) = w
 workerOf (postFinish s w f) = w
 workerOf (step s w) = w
 workerOf (get s w) = w
+workerOf (load s m) = 0
 
 -- what an item answers, and the state that it leaves
 pub record Outcome (S : Type 0) : Type 0 where

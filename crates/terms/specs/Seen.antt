@@ -38,11 +38,12 @@ pub record JobSeen : Type 0 where
   pub grower : ℕ
   pub arcs : List ℕ
 
--- how many jobs were made and arcs reserved, each job by its number, the queue in order, and of each worker its hold
--- and its call
+-- how many jobs were made and arcs reserved, the minutes by class, each job by its number, the queue in order, and of
+-- each worker its hold and its call
 pub record Seen : Type 0 where
   pub made : ℕ
   pub reserved : ℕ
+  pub minutes : List ℕ
   pub job : ℕ → JobSeen
   pub waiting : List ℕ
   pub held : ℕ → Option ℕ
@@ -56,6 +57,7 @@ handOut x j = record { job = j; name = x .job j .name }
 pub record Same (s : Sizes) (x y : Seen) : Type 0 where
   pub made : x .made ≡ y .made
   pub reserved : x .reserved ≡ y .reserved
+  pub minutes : x .minutes ≡ y .minutes
   pub jobs : (j : ℕ) → j < y .made → x .job j ≡ y .job j
   pub waiting : x .waiting ≡ y .waiting
   pub held : (w : ℕ) → w < s .workers → x .held w ≡ y .held w

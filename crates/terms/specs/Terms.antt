@@ -74,6 +74,12 @@ notHeld = 11
 abbrev pub tooManyEntries : ℕ
 tooManyEntries = 16
 
+abbrev pub wrongMinutes : ℕ
+wrongMinutes = 17
+
+abbrev pub jobsEntered : ℕ
+jobsEntered = 18
+
 -- ---- a job's label
 pub data Label : Type 0 where
   unexecuted executing finished : Label

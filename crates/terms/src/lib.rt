@@ -19,6 +19,8 @@ pub struct HandOut {
 pub enum Answer {
     // The tables were laid out.
     Laid,
+    // A district's minutes were loaded.
+    Loaded,
     // A call was posted, and runs by steps.
     Posted,
     // A step was made, and the call goes on.

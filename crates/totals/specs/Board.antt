@@ -1,14 +1,15 @@
 -- The board of totals: how many jobs stand under each label, and the sum of their minutes. docs/RULES.md, "The board
--- and the day list", with numbers 1 and 9 of "Turned-away calls". The minutes by class are a table that the definitions
--- take. Assumes nothing.
+-- and the day list", with numbers 1, 9 and 17 of "Turned-away calls". The minutes by class are a table that the
+-- definitions take. Assumes nothing.
 use mathlib.Core.Bool.{Bool, true, _&&_}
 use mathlib.Core.List.{List, [], _∷_}
 use Prim.Native.Nat.{ℕ, zero, suc, _+_, _*_, _%_}
 use lib.Dec.{eqb, leb, ltb}
 use lib.ListN.{length, getD}
-use Rattle.terms.specs.Terms.{wrongSizes, damaged}
+use Rattle.terms.specs.Terms.{wrongSizes, damaged, wrongMinutes}
 use Rattle.basics.specs.Base.{pick}
 use Rattle.minutes.specs.Minutes.{classes, minutesIn}
+use Rattle.minutes.specs.Rising.{isRising}
 use Rattle.totals.specs.declared.JobRecord.{JobRecord}
 use Rattle.totals.specs.declared.Totals.{Totals}
 
@@ -83,6 +84,12 @@ unfoldable pub totalsOf : List ℕ → List JobRecord → Totals
 totalsOf table rows =
     pick (ltb mostRecords (length rows)) (refused wrongSizes)
     (pick (allWellFormed rows) (counted table rows) (refused damaged))
+
+-- the board of a row by minutes that a host gives: the order is 1, 17, 9
+unfoldable pub totalsBy : List ℕ → List JobRecord → Totals
+totalsBy table rows =
+    pick (ltb mostRecords (length rows)) (refused wrongSizes)
+    (pick (isRising table) (totalsOf table rows) (refused wrongMinutes))
 
 -- the same row as words, a label and a class for each record
 unfoldable pub rowsOfWords : List ℕ → List JobRecord

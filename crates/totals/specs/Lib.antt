@@ -1,2 +1,4 @@
 pub mod Board
 pub mod AllJobs
+pub mod Exactly
+pub mod Wrong

@@ -10,6 +10,8 @@ pub const OFF_LIMITS: u32 = 1;
 
 pub const DAMAGED: u32 = 9;
 
+pub const WRONG_MINUTES: u32 = 17;
+
 // The most records of a row.
 pub const MOST_RECORDS: usize = 4096;
 

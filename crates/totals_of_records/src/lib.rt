@@ -1,28 +1,28 @@
 // The board over a lent row of records. docs/RULES.md, "The board and the day list"; specs/Board.antt of `totals` has
 // the definitions. Assumes nothing.
 ghost use mathlib.Core.Path.{_≡_};
-ghost use Rattle.minutes.specs.Minutes.{fixedMinutes};
-ghost use Rattle.totals.specs.Board.{totalsOf};
+ghost use Rattle.totals_of_records.specs.By.{Judged, totalsWith};
+use minutes::GraphMinutes;
 use totals::JobRecord;
 use totals::MOST_RECORDS;
 use totals::OFF_LIMITS;
-use totals::SERVED;
 use totals::Totals;
 use totals::blank;
 use totals_step::with_record;
 
-// The board on a lent row of records: each is taken apart, and the covered step adds it.
-pub fn of_records(records: &[JobRecord]) -> Totals
-    ensures { λ r. ⌜ r ≡ totalsOf fixedMinutes (now (records .entry)) ⌝ }
+// The board on a lent row of records, by minutes that were judged: each record is taken apart, and the covered step
+// adds it. Where the minutes are refused, so are the totals from the start.
+pub fn of_records(records: &[JobRecord], by: GraphMinutes) -> Totals
+    ensures { λ r. ⌜ (Judged by → r ≡ totalsWith by (now (records .entry))) ⌝ }
 {
     if MOST_RECORDS < records.len() {
         return blank(OFF_LIMITS);
     }
-    let mut t = blank(SERVED);
+    let mut t = blank(by.number);
     let mut i = 0;
     while i < records.len() {
         let record = records[i];
-        t = with_record(t, record.label, record.class);
+        t = with_record(by, t, record.label, record.class);
         i += 1;
     }
     t

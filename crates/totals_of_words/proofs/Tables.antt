@@ -10,16 +10,16 @@ use borrow.Author.Tests.{eq-eqb, ne-eqb, le-leb, lt-ltb, ltb-true, leb-true, leb
 use lib.Dec.{leb, ltb}
 use lib.ListN.{length, getD}
 use lib.Seq.{ext-getD}
-use Rattle.terms.specs.Terms.{wrongSizes}
+use Rattle.terms.specs.Terms.{wrongSizes, damaged}
 use Rattle.basics.specs.Base.{pick}
 use Rattle.minutes.specs.Rising.{Rising}
 use Rattle.totals.specs.declared.JobRecord.{JobRecord}
 use Rattle.totals.specs.declared.Totals.{Totals}
-use Rattle.totals.specs.Board.{served, mostRecords, refused, totalsOf, recordsFrom, recordAt}
+use Rattle.totals.specs.Board.{served, mostRecords, wellFormed, refused, totalsOf, recordsFrom, recordAt}
 use Rattle.totals.specs.Board.{rowsOfTable, standsInTable, totalsOfTable, rowsOfWords, totalsOfWords}
 use Rattle.totals_step.specs.Step.{withRecord}
 use Rattle.totals_of_words.specs.Standing.{standing}
-use Rattle.totals_step.proofs.Running.{Running, start, next, last, too-many}
+use Rattle.totals_step.proofs.Running.{Running, start, next, last, too-many, leaves}
 
 -- ---- a row of records made by their number
 pub from-length : (f : ℕ → JobRecord) (i n : ℕ) → length (recordsFrom f i n) ≡ n
@@ -117,6 +117,20 @@ module _ {table : List ℕ} {head width label class : ℕ} {words : List ℕ} {c
       let all = last (at .so-far) (rw (from-length (recordAt head width label class words) 0 count) h) in
       let long = le-leb (head + width * count) (length words) (at .row .long) in
       rw (lt-ltb label width (at .row .labelled), lt-ltb class width (at .row .classed), long) all
+
+-- a wrong record: number 9
+pub wrong-table : (table : List ℕ) (head width label class : ℕ) (words : List ℕ) (count i : ℕ) {t : Totals}
+    → Stands head width label class (length words) count → i < count
+    → wellFormed (recordAt head width label class words i) ≡ false → t ≡ refused damaged
+    → t ≡ totalsOfTable table head width label class words count
+unfolding totalsOfTable
+wrong-table table head width label class words count i row h wrong e =
+    let record-at = recordAt head width label class words in
+    let size = from-length record-at 0 count in
+    let all = leaves table (rowsOfTable head width label class words count) i zeros (rw size (row .few)) (rw size h)
+    (rw (from-at record-at 0 count i zeros h, zero-add i) wrong) e in
+    let long = le-leb (head + width * count) (length words) (row .long) in
+    rw (lt-ltb label width (row .labelled), lt-ltb class width (row .classed), long) all
 
 -- ---- a row of words
 rows-length : (words : List ℕ) → length words % 2 ≡ 0 → length words ≡ 2 * length (rowsOfWords words)

@@ -1,15 +1,20 @@
 // The board over a table of words. docs/RULES.md, "The board and the day list"; specs/Board.antt of `totals` has the
-// definitions. Assumes nothing.
+// definitions. Assumes nothing: the sums wrap at 32 bits, which those of a row of at most 4,096 records never reach.
 ghost use mathlib.Core.Path.{_≡_};
+ghost use mathlib.Core.Bool.{true};
 ghost use Rattle.minutes.specs.Minutes.{fixedMinutes};
+ghost use Rattle.minutes.specs.Rising.{isRising};
 ghost use Rattle.totals.specs.Board.{totalsOfWords, totalsOfTable};
 ghost use Rattle.totals_of_words.specs.Standing.{standing};
+use minutes::GraphMinutes;
+use totals::DAMAGED;
 use totals::MOST_RECORDS;
 use totals::OFF_LIMITS;
 use totals::SERVED;
 use totals::Totals;
 use totals::blank;
-use totals_step::with_record;
+use totals_step::FINISHED;
+use totals_step::HIGHEST_CLASS;
 
 // Whether `count` records of `width` words stand in a table of `length` words after its first `head`, and the places
 // `label` and `class` lie inside a record.
@@ -26,8 +31,10 @@ fn stands(length: usize, head: u32, width: u32, label: u32, class: u32, count: u
 }
 
 // The board on a table of words: `count` records of `width` words follow the first `head`, and words `label` and
-// `class` of a record are its label and class. A shorter table is refused, and so is a place outside the record.
+// `class` of a record are its label and class. A shorter table is refused, and so is a place outside the record. The
+// minutes have passed the rising rule.
 pub fn of_table(
+    by: GraphMinutes,
     words: &[u32],
     head: u32,
     width: u32,
@@ -35,7 +42,8 @@ pub fn of_table(
     class: u32,
     count: usize,
 ) -> Totals
-    ensures { λ r. ⌜ r ≡ totalsOfTable fixedMinutes head width label class (now (words .entry)) count ⌝ }
+    ensures { λ r. ⌜ (isRising (by .minutes) ≡ true
+        → r ≡ totalsOfTable (by .minutes) head width label class (now (words .entry)) count) ⌝ }
 {
     let stand = stands(words.len(), head, width, label, class, count);
     if stand {} else {
@@ -45,11 +53,18 @@ pub fn of_table(
     let mut i = 0;
     while i < count {
         let at = (head as usize) + (width as usize) * i;
-        t = with_record(
-            t,
-            words[at + (label as usize)],
-            words[at + (class as usize)],
-        );
+        let its_label = words[at + (label as usize)];
+        let its_class = words[at + (class as usize)];
+        if FINISHED < its_label {
+            return blank(DAMAGED);
+        }
+        if HIGHEST_CLASS < its_class {
+            return blank(DAMAGED);
+        }
+        let under = its_label as usize;
+        let minutes = by.minutes[its_class as usize];
+        t.jobs[under] = std::num::wrapping_add_u32(t.jobs[under], 1);
+        t.minutes[under] = std::num::wrapping_add_u32(t.minutes[under], minutes);
         i += 1;
     }
     t
@@ -62,5 +77,5 @@ pub fn of_words(words: &[u32]) -> Totals
     if words.len() % 2 != 0 {
         return blank(OFF_LIMITS);
     }
-    of_table(words, 0, 2, 0, 1, words.len() / 2)
+    of_table(minutes::fixed_minutes(), words, 0, 2, 0, 1, words.len() / 2)
 }

@@ -1,20 +1,23 @@
 -- The invariant of a loop over a row of records: its running totals are those of the records that it has passed.
 -- docs/RULES.md, "The board and the day list". Assumes nothing.
 use mathlib.Core.Path.{_≡_}
-use mathlib.Core.List.{List}
-use Prim.Native.Nat.{ℕ, _+_, _<_, _≤_, zero-le}
+use mathlib.Core.Bool.{false, and-false}
+use mathlib.Core.List.{List, [], _∷_}
+use Prim.Native.Nat.{ℕ, zero, suc, _+_, _<_, _≤_, zero-le}
 use native.Mathlib.Numerals.{add-one}
 use native.Mathlib.Omega.{arith}
-use borrow.Author.Tests.{lt-ltb}
+use borrow.Author.Tests.{eq-eqb, le-leb, lt-ltb}
 use lib.ListN.{length, getD, take}
 use lib.Seq.{take-suc, take-all, length-take-le}
-use Rattle.terms.specs.Terms.{wrongSizes}
+use Rattle.terms.specs.Terms.{wrongSizes, damaged}
+use Rattle.minutes.specs.Minutes.{classes, minutesIn}
 use Rattle.minutes.specs.Rising.{Rising}
 use Rattle.totals.specs.declared.JobRecord.{JobRecord}
 use Rattle.totals.specs.declared.Totals.{Totals}
-use Rattle.totals.specs.Board.{served, mostRecords, sumOver, allWellFormed, refused, counted, totalsOf}
-use Rattle.totals_step.specs.Step.{withRecord}
-use Rattle.totals_step.proofs.Sums.{with-record-totals}
+use Rattle.totals.specs.Board.{finished, served, mostRecords, sumOver, wellFormed, allWellFormed, refused, counted}
+use Rattle.totals.specs.Board.{totalsOf}
+use Rattle.totals_step.specs.Step.{raised, withRecord}
+use Rattle.totals_step.proofs.Sums.{few-totals, with-record-totals}
 
 pub record Running (table : List ℕ) (rows : List JobRecord) (t : Totals) (i : ℕ) : Type 0 where
   pub upto : i ≤ length rows
@@ -44,3 +47,26 @@ pub too-many : (table : List ℕ) (rows : List JobRecord) {t : Totals} → mostR
     → t ≡ refused wrongSizes → t ≡ totalsOf table rows
 unfolding totalsOf
 too-many table rows h e = rw (lt-ltb mostRecords (length rows) h) e
+
+-- ---- a loop that raises its sums in place, and leaves at the first wrong record
+pub raises : (table : List ℕ) (t : Totals) (label class : ℕ) {u : Totals} → t .number ≡ served → label ≤ finished
+    → class < classes
+    → u ≡ record {
+      number = t .number;
+      jobs = raised (t .jobs) label 1;
+      minutes = raised (t .minutes) label (minutesIn table class);
+    } → u ≡ withRecord table t label class
+unfolding withRecord
+raises table t label class still labelled classed e =
+    rw (eq-eqb (t .number) served still, le-leb label finished labelled, lt-ltb class classes classed) e
+
+one-wrong : (rows : List JobRecord) (i : ℕ) (d : JobRecord) → i < length rows → wellFormed (getD rows i d) ≡ false
+    → allWellFormed rows ≡ false
+unfolding allWellFormed
+one-wrong [] i d h wrong = absurd (omega arith)
+one-wrong (x ∷ rows) zero d h wrong = rw wrong
+one-wrong (x ∷ rows) (suc i) d h wrong = rw (one-wrong rows i d (omega arith) wrong) (and-false (wellFormed x))
+
+pub leaves : (table : List ℕ) (rows : List JobRecord) (i : ℕ) (d : JobRecord) {t : Totals} → length rows ≤ mostRecords
+    → i < length rows → wellFormed (getD rows i d) ≡ false → t ≡ refused damaged → t ≡ totalsOf table rows
+leaves table rows i d few h wrong e = rw (few-totals table rows few, one-wrong rows i d h wrong) e

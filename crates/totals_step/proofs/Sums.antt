@@ -18,7 +18,7 @@ use Rattle.totals.specs.Board.{finished, served, mostRecords, sumOver, under, o
 use Rattle.totals.specs.Board.{wellFormed, allWellFormed, refused, counted, totalsOf}
 use Rattle.totals_step.specs.Step.{raised, withRecord, Room}
 
-few-totals : (table : List ℕ) (rows : List JobRecord) → length rows ≤ mostRecords
+pub few-totals : (table : List ℕ) (rows : List JobRecord) → length rows ≤ mostRecords
     → totalsOf table rows ≡ pick (allWellFormed rows) (counted table rows) (refused damaged)
 unfolding totalsOf
 few-totals table rows few = rw (le-ltb mostRecords (length rows) few)

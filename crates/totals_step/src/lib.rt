@@ -1,21 +1,25 @@
 // One record more on running totals. docs/RULES.md, "The board and the day list"; specs/Step.antt has the definition.
 // Assumes nothing: the sums wrap at 32 bits, which those of a row of at most 4,096 records never reach.
 ghost use mathlib.Core.Path.{_≡_};
-ghost use Rattle.minutes.specs.Minutes.{fixedMinutes};
 ghost use Rattle.totals_step.specs.Step.{withRecord};
+use minutes::GraphMinutes;
 use totals::DAMAGED;
 use totals::SERVED;
 use totals::Totals;
 use totals::blank;
 
-// The last label and the last class.
-const FINISHED: u32 = 2;
+// The labels and the last class.
+const UNEXECUTED: u32 = 0;
 
-const HIGHEST_CLASS: u32 = 15;
+const EXECUTING: u32 = 1;
+
+pub const FINISHED: u32 = 2;
+
+pub const HIGHEST_CLASS: u32 = 15;
 
 // Running totals with one record more. Once a record is refused, so are the totals, whatever follows.
-pub fn with_record(t: Totals, label: u32, class: u32) -> Totals
-    ensures { λ r. ⌜ r ≡ withRecord fixedMinutes t label class ⌝ }
+pub fn with_record(by: GraphMinutes, t: Totals, label: u32, class: u32) -> Totals
+    ensures { λ r. ⌜ r ≡ withRecord (by .minutes) t label class ⌝ }
 {
     if t.number != SERVED {
         return t;
@@ -26,9 +30,20 @@ pub fn with_record(t: Totals, label: u32, class: u32) -> Totals
     if HIGHEST_CLASS < class {
         return blank(DAMAGED);
     }
-    let at = label as usize;
+    let minutes = by.minutes[class as usize];
     let mut next = t;
-    next.jobs[at] = std::num::wrapping_add_u32(next.jobs[at], 1);
-    next.minutes[at] = std::num::wrapping_add_u32(next.minutes[at], minutes::minutes(class));
+    // Constant places: the compiler keeps the sums in registers.
+    if label == UNEXECUTED {
+        next.jobs[0] = std::num::wrapping_add_u32(next.jobs[0], 1);
+        next.minutes[0] = std::num::wrapping_add_u32(next.minutes[0], minutes);
+        return next;
+    }
+    if label == EXECUTING {
+        next.jobs[1] = std::num::wrapping_add_u32(next.jobs[1], 1);
+        next.minutes[1] = std::num::wrapping_add_u32(next.minutes[1], minutes);
+        return next;
+    }
+    next.jobs[2] = std::num::wrapping_add_u32(next.jobs[2], 1);
+    next.minutes[2] = std::num::wrapping_add_u32(next.minutes[2], minutes);
     next
 }

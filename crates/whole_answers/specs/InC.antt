@@ -16,7 +16,7 @@ use Rattle.basics.specs.Stores.{sets-off}
 use Rattle.terms.specs.Terms.{Arguments, noArguments, mostEntries, wrongSizes}
 use Rattle.terms.specs.declared.Sizes.{Sizes}
 use Rattle.terms.specs.declared.Answer.{Answer}
-use Rattle.terms.specs.declared.Answer.the-variants.{Laid, Posted, Going, Ended, NoneReady, Handed, Refused}
+use Rattle.terms.specs.declared.Answer.the-variants.{Laid, Loaded, Posted, Going, Ended, NoneReady, Handed, Refused}
 use Rattle.words.specs.Layout.{Tables}
 use Rattle.sheet_format.specs.Decode.{rowWords}
 use Rattle.whole_words.specs.Whole.{wholeAdd}
@@ -30,6 +30,7 @@ use Rattle.whole_answers.specs.Sheets.{sheet-turned-away, sheet-fits, sh
 -- ---- one answer: the sheet's number and place are those of an add's answer in C
 number-in-c : (x : Answer) → numberOf x ≡ graphAnswer x .number
 number-in-c Laid = refl
+number-in-c Loaded = refl
 number-in-c Posted = refl
 number-in-c Going = refl
 number-in-c Ended = refl
@@ -39,6 +40,7 @@ number-in-c (Refused n i) = refl
 
 place-in-c : (x : Answer) → placeOf x ≡ graphAnswer x .place
 place-in-c Laid = refl
+place-in-c Loaded = refl
 place-in-c Posted = refl
 place-in-c Going = refl
 place-in-c Ended = refl

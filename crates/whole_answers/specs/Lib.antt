@@ -11,3 +11,4 @@ pub mod ReadRows
 pub mod Within
 pub mod SheetWithin
 pub mod SheetTurned
+pub mod MinutesApart

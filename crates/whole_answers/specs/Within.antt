@@ -7,7 +7,7 @@ use Rattle.terms.specs.Terms.{Arguments, finishOf}
 use Rattle.terms.specs.Runs.{Item, postAdd, postFinish, step, sizesOf, Outcome}
 use Rattle.terms.specs.declared.Sizes.{Sizes}
 use Rattle.terms.specs.declared.Answer.{Answer}
-use Rattle.terms.specs.declared.Answer.the-variants.{Laid, Posted, Going, Ended, NoneReady, Handed, Refused}
+use Rattle.terms.specs.declared.Answer.the-variants.{Laid, Loaded, Posted, Going, Ended, NoneReady, Handed, Refused}
 use Rattle.words.specs.Layout.{Tables}
 use Rattle.words.specs.Words.{stepWords, addWords, finishWords, perform}
 use Rattle.locality.specs.Parts.{needed, rest, lengths}
@@ -43,6 +43,7 @@ module _ (s : Sizes) (f g : Tables → Outcome Tables) (F : CallWithin s f) (G :
   on-answers Going t u e = G .answers t u e
   on-answers Posted t u e = G .answers t u e
   on-answers Laid t u e = refl
+  on-answers Loaded t u e = refl
   on-answers Ended t u e = refl
   on-answers NoneReady t u e = refl
   on-answers (Handed h) t u e = refl
@@ -53,6 +54,7 @@ module _ (s : Sizes) (f g : Tables → Outcome Tables) (F : CallWithin s f) (G :
   on-leaves Going t u e = G .leaves t u e
   on-leaves Posted t u e = G .leaves t u e
   on-leaves Laid t u e = e
+  on-leaves Loaded t u e = e
   on-leaves Ended t u e = e
   on-leaves NoneReady t u e = e
   on-leaves (Handed h) t u e = e
@@ -62,6 +64,7 @@ module _ (s : Sizes) (f g : Tables → Outcome Tables) (F : CallWithin s f) (G :
   on-past Going t = G .past t
   on-past Posted t = G .past t
   on-past Laid t = refl
+  on-past Loaded t = refl
   on-past Ended t = refl
   on-past NoneReady t = refl
   on-past (Handed h) t = refl
@@ -71,6 +74,7 @@ module _ (s : Sizes) (f g : Tables → Outcome Tables) (F : CallWithin s f) (G :
   on-long Going t = G .long t
   on-long Posted t = G .long t
   on-long Laid t = refl
+  on-long Loaded t = refl
   on-long Ended t = refl
   on-long NoneReady t = refl
   on-long (Handed h) t = refl

@@ -117,7 +117,7 @@ module _ (s : Sizes) {w : ℕ} (h : w < s .workers) (a : Arguments) where
 pub whole-add : {s : Sizes} {g : Graph} {r : Reading} {e : ℕ → ℕ} → History s g r e → (w : ℕ) → w < s .workers
     → g .workers w .call ≡ idle → (a : Arguments) → WholeAdd s g w a
 unfolding after events
-whole-add {s} {g} history w h c a = of (own-made s g (postAdd s w a) (own-sizes s) h refl c) refl
+whole-add {s} {g} history w h c a = of (own-made s g (postAdd s w a) (own-sizes s) h refl refl c) refl
   where
     of : {x : Answer} {k : Graph} → Made s g (postAdd s w a) x k → perform s g (postAdd s w a) ≡ outcome x k
         → WholeAdd s g w a

@@ -102,7 +102,8 @@ pub whole-finish : {s : Sizes} {g : Graph} {r : Reading} {e : ℕ → ℕ} → H
 unfolding after events
 whole-finish {s} {g} history w h c p e =
     let i = postFinish s w (finishOf (job g p .name)) in
-    let E : perform s g i ≡ outcome Posted (withCall g w marking) = posted (own-made s g i (own-sizes s) h refl c) in
+    let E : perform s g i ≡ outcome Posted (withCall g w marking) =
+    posted (own-made s g i (own-sizes s) h refl refl c) in
     let m = perform s g i .state in
     let called : m .workers w .call ≡ marking = rw E (call-turned g w marking) in
     let held : m .workers w .held ≡ some p = rw E (with-call g w marking .held ∙ e) in

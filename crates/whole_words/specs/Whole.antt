@@ -4,7 +4,7 @@ use Rattle.terms.specs.Terms.{Arguments}
 use Rattle.terms.specs.Runs.{Outcome, outcome}
 use Rattle.terms.specs.declared.Sizes.{Sizes}
 use Rattle.terms.specs.declared.Answer.{Answer}
-use Rattle.terms.specs.declared.Answer.the-variants.{Laid, Posted, Going, Ended, NoneReady, Handed, Refused}
+use Rattle.terms.specs.declared.Answer.the-variants.{Laid, Loaded, Posted, Going, Ended, NoneReady, Handed, Refused}
 use Rattle.words.specs.Layout.{Tables}
 use Rattle.words.specs.Words.{stepWords, addWords, finishWords}
 
@@ -13,6 +13,7 @@ abbrev pub andThen : Answer → Tables → (Tables → Outcome Tables) → Outco
 andThen Going t next = next t
 andThen Posted t next = next t
 andThen Laid t next = outcome Laid t
+andThen Loaded t next = outcome Loaded t
 andThen Ended t next = outcome Ended t
 andThen NoneReady t next = outcome NoneReady t
 andThen (Handed h) t next = outcome (Handed h) t

@@ -1,11 +1,11 @@
 -- Tables of words: a header, then records of one width. A table is read as its columns, and ONE law says what a store
 -- does to them. Assumes nothing.
-use mathlib.Core.Path.{_≡_, refl, ap, fun-ext}
+use mathlib.Core.Path.{_≡_, refl, sym, ap, fun-ext, _∙_}
 use mathlib.Core.Bool.{Bool, true, false}
-use mathlib.Core.List.{List}
-use Prim.Native.Nat.{ℕ, _+_, _*_, _≤_, _<_}
+use mathlib.Core.List.{List, [], _∷_}
+use Prim.Native.Nat.{ℕ, zero, suc, _+_, _*_, _≤_, _<_}
 use native.Mathlib.Omega.{arith}
-use native.Mathlib.Nat.{mul-suc, mul-le-mul-left}
+use native.Mathlib.Nat.{add-zero, mul-suc, mul-le-mul-left}
 use native.Mathlib.Decide.{ℕ-discrete, decLt}
 use lib.Dec.{ltb, leb, eqb}
 use lib.ListN.{length, getD, set, length-set}
@@ -46,6 +46,22 @@ header l k = getD l k 0
 
 unfoldable pub putHeader : List ℕ → ℕ → ℕ → List ℕ
 putHeader l k v = set l k v
+
+-- n words from the i-th on
+unfoldable pub cells : (ℕ → ℕ) → ℕ → ℕ → List ℕ
+cells f i zero = []
+cells f i (suc n) = f i ∷ cells f (suc i) n
+
+-- they are the list that they hold
+pub cells-list : (f : ℕ → ℕ) (i : ℕ) (q : List ℕ) → ((k : ℕ) → k < length q → f (i + k) ≡ getD q k 0)
+    → cells f i (length q) ≡ q
+unfolding cells
+cells-list f i [] h = refl
+cells-list f i (x ∷ q) h =
+    let here : f i ≡ x = ap f (sym (add-zero i)) ∙ h 0 (omega arith) in
+    let rest : cells f (suc i) (length q) ≡ q =
+    cells-list f (suc i) q (λ k l. let e : suc i + k ≡ i + suc k = omega arith in ap f e ∙ h (suc k) (omega arith)) in
+    rw (here, rest)
 
 -- ---- a record ends before the next begins
 pub before : (s : Shape) (i j : ℕ) → i < j → s .width * i + s .width ≤ s .width * j

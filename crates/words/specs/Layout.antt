@@ -9,17 +9,19 @@ use lib.Seq.{sets}
 use denote.Ref.{RefT, now}
 use denote.Triple.Both.{Both}
 use Rattle.basics.specs.Limits.{mostNames}
+use Rattle.minutes.specs.Minutes.{classes, fixedMinutes}
 use Rattle.terms.specs.Terms.{withinLimits}
 use Rattle.terms.specs.declared.Sizes.{Sizes}
-use Rattle.words.specs.Columns.{Shape, columns, header}
+use Rattle.words.specs.Columns.{Shape, columns, header, cells}
 
 -- "None as a place is 4294967295"
 abbrev pub none : ℕ
 none = 4294967295
 
--- ---- the jobs table: the sizes laid out, the number of jobs made; then a record for each job
+-- ---- the jobs table: the sizes laid out, the number of jobs made, the minutes of each class; then a record for each
+-- job
 abbrev pub jobShape : Shape
-jobShape = record { head = 5; width = 8 }
+jobShape = record { head = 21; width = 8 }
 
 abbrev pub JOBS : ℕ
 JOBS = 0
@@ -35,6 +37,10 @@ WORKERS = 3
 
 abbrev pub MADE : ℕ
 MADE = 4
+
+-- the minutes of class 0; those of the other classes follow
+abbrev pub MINUTES : ℕ
+MINUTES = 5
 
 abbrev pub NAME : ℕ
 NAME = 0
@@ -234,7 +240,14 @@ roomFor s t = withinLimits s && longEnough s t
 abbrev pub sizesFit : Sizes → Tables → Bool
 sizesFit s t = roomFor s t && sizesKept s (t .jobs)
 
--- ---- laying out: "no jobs, all workers idle and holding nothing, unused words 0, every place none"
+-- ---- the minutes of all classes, as they are stored, and a store of them
+abbrev pub storedMinutes : List ℕ → List ℕ
+storedMinutes jobs = cells (header jobs) MINUTES classes
+
+abbrev pub putMinutes : List ℕ → List ℕ → List ℕ
+putMinutes jobs m = sets jobs MINUTES m
+
+-- ---- laying out: "no jobs, all workers idle and holding nothing, the fixed minutes, unused words 0, every place none"
 unfoldable pub repeated : ℕ → List ℕ → List ℕ
 repeated zero r = []
 repeated (suc n) r = r ++ repeated n r
@@ -254,7 +267,8 @@ bareWorker phase held =
     phase ∷ held ∷ 0 ∷ 0 ∷ 0 ∷ 0 ∷ 0 ∷ 0 ∷ none ∷ none ∷ replicate mostNames 0
 
 abbrev pub freshJobs : Sizes → List ℕ
-freshJobs s = s .jobs ∷ s .arcs ∷ s .bits ∷ s .workers ∷ 0 ∷ repeated (s .jobs) freshJob
+freshJobs s =
+    s .jobs ∷ s .arcs ∷ s .bits ∷ s .workers ∷ 0 ∷ (fixedMinutes ++ repeated (s .jobs) freshJob)
 
 abbrev pub freshArcs : Sizes → List ℕ
 freshArcs s = 0 ∷ repeated (s .arcs) freshArc

@@ -7,15 +7,12 @@ use Prim.Native.Nat.{ℕ, zero, suc, _+_}
 use lib.Dec.{ltb, eqb}
 use Rattle.basics.specs.Base.{pick}
 use Rattle.terms.specs.Seen.{Request, CallSeen, idle, looking, linking, marking, notifying, JobSeen, Seen}
+use Rattle.words.specs.Columns.{cells}
 use Rattle.words.specs.Layout.{none, NAME, LABEL, COUNT, CLASS, GROWER, FIRST, NEXT, DEPENDENT, AFTER, PHASE}
 use Rattle.words.specs.Layout.{HELD, OWN-NAME, LIST-COUNT, OWN-CLASS, OWN-GROWER, TALLY, PLACE, OWN-JOB, OWN-ARC}
 use Rattle.words.specs.Layout.{NAMES, IDLE, LOOKING, LINKING, MARKING, CELL, SLOT, Tables, View, view}
+use Rattle.words.specs.Layout.{storedMinutes}
 use Rattle.words.specs.Index.{filled}
-
--- n cells from the i-th on
-unfoldable pub cells : (ℕ → ℕ) → ℕ → ℕ → List ℕ
-cells f i zero = []
-cells f i (suc n) = f i ∷ cells f (suc i) n
 
 -- the jobs in n cells from the i-th on; a job that was taken is there no more
 unfoldable pub jobsIn : (ℕ → ℕ) → ℕ → ℕ → List ℕ
@@ -92,6 +89,7 @@ abbrev pub seen : Tables → Seen
 seen t = record {
   made = view t .made;
   reserved = view t .reserved;
+  minutes = storedMinutes (t .jobs);
   job = jobSeen (view t);
   waiting = waiting t;
   held = λ w. placeSeen (view t .worker HELD w);

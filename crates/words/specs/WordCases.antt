@@ -7,6 +7,7 @@ use lib.ListN.{replicate}
 use Rattle.basics.specs.Base.{contains, repeats, occurrences, prefix}
 use Rattle.bucket.specs.Bucket.{productOf, bucketOf}
 use Rattle.heap.specs.Sift.{siftUp, siftDown}
+use Rattle.minutes.specs.Minutes.{fixedMinutes}
 use Rattle.terms.specs.Terms.{argumentsWrong, withinLimits}
 use Rattle.terms.specs.Runs.{after, events, entries}
 use Rattle.terms.specs.Starred.{Row, Told, telling, answersOf, steps, before, orders, rowsOf, starred, oneOfTwo}
@@ -33,17 +34,19 @@ abbrev pub tells : Row → Told
 tells r = telling perform waiting (layOut (r .sizes) (old (r .sizes)) .state) (r .items)
 
 pub starred-rows : map tells starred ≡ map (λ r. r .tells) starred
-unfolding contains repeats occurrences prefix argumentsWrong withinLimits after events entries answersOf steps before
-    orders rowsOf starred productOf bucketOf columns header put putHeader longEnough sizesKept repeated freshTables
-    perform ownOk walk findOf planLookUp planEnter planAppend planLink withSeat planSettle planMark planNotify planAdd
-    planLinks planCall planPhase admitted applied stepWords planTake planQueue planGet appliedGet getWords posted
-    addWords finishWords layOut jobsIn siftUp siftDown waits seatFor firstSeatBy shiftedDown shiftedUp putSeat takeSeat
+unfolding contains repeats occurrences prefix argumentsWrong withinLimits after events entries answersOf steps
+    before orders rowsOf starred fixedMinutes productOf bucketOf columns header put putHeader longEnough sizesKept
+    repeated freshTables perform ownOk walk findOf planLookUp planEnter planAppend planLink withSeat planSettle
+    planMark planNotify planAdd planLinks planCall planPhase admitted applied stepWords planTake planQueue planGet
+    appliedGet getWords posted addWords finishWords layOut jobsIn siftUp siftDown waits seatFor firstSeatBy
+    shiftedDown shiftedUp putSeat takeSeat
 starred-rows = refl
 
 pub one-of-two-rows : map tells oneOfTwo ≡ map (λ r. r .tells) oneOfTwo
-unfolding contains repeats occurrences prefix argumentsWrong withinLimits after events entries answersOf steps oneOfTwo
-    productOf bucketOf columns header put putHeader longEnough sizesKept repeated freshTables perform ownOk walk findOf
-    planLookUp planEnter planAppend planLink withSeat planSettle planMark planNotify planAdd planLinks planCall
-    planPhase admitted applied stepWords planTake planQueue planGet appliedGet getWords posted addWords finishWords
-    layOut jobsIn siftUp siftDown waits seatFor firstSeatBy shiftedDown shiftedUp putSeat takeSeat
+unfolding contains repeats occurrences prefix argumentsWrong withinLimits after events entries answersOf steps
+    oneOfTwo productOf bucketOf fixedMinutes columns header put putHeader longEnough sizesKept repeated freshTables
+    perform ownOk walk findOf planLookUp planEnter planAppend planLink withSeat planSettle planMark planNotify
+    planAdd planLinks planCall planPhase admitted applied stepWords planTake planQueue planGet appliedGet getWords
+    posted addWords finishWords layOut jobsIn siftUp siftDown waits seatFor firstSeatBy shiftedDown shiftedUp
+    putSeat takeSeat
 one-of-two-rows = refl

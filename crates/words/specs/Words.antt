@@ -9,20 +9,22 @@ use lib.Seq.{sets}
 use Rattle.basics.specs.Limits.{mostNames, mostClass, mostGrower}
 use Rattle.basics.specs.Base.{pick, prefix}
 use Rattle.bucket.specs.Bucket.{bucketOf}
+use Rattle.minutes.specs.Rising.{isRising}
 use Rattle.terms.specs.Terms.{settles, Arguments, listed, argumentsWrong, wrongSizes, noSuchWorker, halfDone}
 use Rattle.terms.specs.Terms.{nothingToStep, wrongArguments, unknownName, namePresent, tablesFull, damaged}
-use Rattle.terms.specs.Terms.{alreadyHolding, notHeld}
-use Rattle.terms.specs.Runs.{Item, postAdd, postFinish, step, get, Outcome, outcome}
+use Rattle.terms.specs.Terms.{alreadyHolding, notHeld, wrongMinutes, jobsEntered}
+use Rattle.terms.specs.Runs.{Item, postAdd, postFinish, step, get, load, Outcome, outcome}
 use Rattle.terms.specs.declared.Sizes.{Sizes}
 use Rattle.terms.specs.declared.HandOut.{HandOut}
 use Rattle.terms.specs.declared.Answer.{Answer}
-use Rattle.terms.specs.declared.Answer.the-variants.{Laid, Posted, Going, Ended, NoneReady, Handed, Refused}
+use Rattle.terms.specs.declared.Answer.the-variants.{Laid, Loaded, Posted, Going, Ended, NoneReady, Handed}
+use Rattle.terms.specs.declared.Answer.the-variants.{Refused}
 use Rattle.words.specs.Columns.{place, put, putHeader}
 use Rattle.words.specs.Layout.{none, jobShape, MADE, NAME, LABEL, COUNT, FIRST, LAST, NEXT, arcShape, RESERVED}
 use Rattle.words.specs.Layout.{DEPENDENT, AFTER, bucketShape, CELL, workerShape, PHASE, HELD}
 use Rattle.words.specs.Layout.{OWN-NAME, LIST-COUNT, OWN-CLASS, OWN-GROWER, TALLY, PLACE, OWN-JOB, OWN-ARC, NAMES}
 use Rattle.words.specs.Layout.{IDLE, LOOKING, LINKING, MARKING, NOTIFYING, tables, view, roomFor, sizesFit}
-use Rattle.words.specs.Layout.{bareWorker, freshTables, Tables, View}
+use Rattle.words.specs.Layout.{bareWorker, freshTables, putMinutes, Tables, View}
 use Rattle.words.specs.Index.{seatFor, firstPlace, firstSeat, putSeat, takeSeat}
 use Rattle.words.specs.declared.Seat.{Seat}
 use Rattle.words.specs.declared.Seating.{Seating}
@@ -361,9 +363,29 @@ finishWords s t w name =
 unfoldable pub layOut : Sizes → Tables → Outcome Tables
 layOut s t = pick (roomFor s t) (outcome Laid (freshTables s t)) (outcome (Refused wrongSizes 0) t)
 
+-- ---- a load: "the order is 1, 17, 9, 18". It reads how many jobs were made, and none of the minutes that it replaces
+abbrev pub loaded : Tables → List ℕ → Tables
+loaded t m = tables (putMinutes (t .jobs) m) (t .arcs) (t .buckets) (t .queue) (t .workers)
+
+abbrev pub judgedLoad : Sizes → Tables → List ℕ → ℕ
+judgedLoad s t m =
+    pick (sizesFit s t)
+    (pick (isRising m)
+    (pick (leb (view t .made) (s .jobs)) (pick (eqb (view t .made) 0) 0 jobsEntered) damaged)
+    wrongMinutes)
+    wrongSizes
+
+unfoldable pub loading : ℕ → Tables → List ℕ → Outcome Tables
+loading zero t m = outcome Loaded (loaded t m)
+loading (suc n) t m = outcome (Refused (suc n) 0) t
+
+unfoldable pub loadWords : Sizes → Tables → List ℕ → Outcome Tables
+loadWords s t m = loading (judgedLoad s t m) t m
+
 -- ---- an item of demand 3's list
 unfoldable pub perform : Tables → Item → Outcome Tables
 perform t (postAdd s w a) = addWords s t w a
 perform t (postFinish s w f) = finishWords s t w (f .name)
 perform t (step s w) = stepWords s t w
 perform t (get s w) = getWords s t w
+perform t (load s m) = loadWords s t m

@@ -8,7 +8,7 @@ use native.Mathlib.Omega.{arith}
 use lib.ListN.{length}
 use Rattle.terms.specs.Terms.{Arguments, labelNumber}
 use Rattle.terms.specs.Seen.{Same, JobSeen}
-use Rattle.terms.specs.Runs.{Item, get, after, events, entries}
+use Rattle.terms.specs.Runs.{Item, get, load, after, events, entries}
 use Rattle.terms.specs.declared.Sizes.{Sizes}
 use Rattle.terms.specs.declared.Answer.the-variants.{NoneReady}
 use Rattle.words.specs.Layout.{Tables}
@@ -19,7 +19,7 @@ use Rattle.rules.specs.Rules as rules
 use Rattle.rules.specs.Observed as rules-seen
 use Rattle.rules.specs.Sound.{Sound, Finished}
 use Rattle.sequential_model.specs.Book.{Ready}
-use Rattle.linearization.specs.Calls.{Reading, unread, reading, Quiet, acceptedAdds}
+use Rattle.linearization.specs.Calls.{Reading, unread, reading, Quiet, acceptedAdds, minutesLoaded}
 use Rattle.rules_history.specs.History.{History, start, Counted, Booked, Balanced, AllIdle}
 use Rattle.linearizability.specs.Demand.{entriesInto, addOf, MarkedFinished, Shows, Demand}
 use Rattle.representation.specs.Rep.{Ghost, Stands}
@@ -28,6 +28,7 @@ use Rattle.representation_kept.specs.Queue.{waiting-queue}
 use Rattle.words_refine_rules.specs.Items.{item}
 use Rattle.words_refine_rules.specs.Seen.{shown}
 use Rattle.audit.specs.TurnedAway.{turned-away}
+use Rattle.audit.specs.Loads.{load-answered, minutes-are-loaded}
 use Rattle.rules_follow_model.specs.Entries.{entries-length, listed-length}
 use Rattle.rules_follow_model.specs.Settled.{same-entry, counts, waiting-ready, none-ready}
 use Rattle.rules_history.specs.Onward.{entriesBy, onward}
@@ -167,4 +168,8 @@ module _ (s : Sizes)
       shows = rw told shows;
       none-ready = rw told none-ready-shown;
       turns-away = λ i. rw (told, item s T g (walk .ghost) (walk .stands) O i .answer) (turned-away history i);
+      loads = λ q m.
+          rw (told, item s T g (walk .ghost) (walk .stands) O (load q m) .answer)
+          (load-answered s g adds (K .adds) q m);
+      minutes = walk .stands .minutes ∙ minutes-are-loaded s items ∙ ap minutesLoaded (sym (walk .told));
     }

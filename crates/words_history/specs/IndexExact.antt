@@ -10,12 +10,13 @@ use Rattle.basics.specs.Base.{contains, repeats, occurrences, prefix}
 use Rattle.basics.specs.Laws.{never}
 use Rattle.bucket.specs.Bucket.{productOf, bucketOf}
 use Rattle.heap.specs.Sift.{above, siftUp, siftDown}
+use Rattle.minutes.specs.Minutes.{fixedMinutes}
 use Rattle.terms.specs.Terms.{argumentsWrong, withinLimits}
-use Rattle.terms.specs.Runs.{Item, postAdd, postFinish, step, get, Outcome, outcome, after}
+use Rattle.terms.specs.Runs.{Item, postAdd, postFinish, step, get, load, Outcome, outcome, after}
 use Rattle.terms.specs.Starred.{S, add, steps}
 use Rattle.terms.specs.declared.Sizes.{Sizes}
 use Rattle.terms.specs.declared.Answer.the-variants.{Laid}
-use Rattle.words.specs.Columns.{columns, header, put, putHeader}
+use Rattle.words.specs.Columns.{columns, header, put, putHeader, cells}
 use Rattle.words.specs.Layout.{none, queueShape, TAKEN, PUT, CELL, SLOT, POSITION, jobShape, Tables, tables, View, view}
 use Rattle.words.specs.Layout.{need, arcShape, bucketShape, workerShape, longEnough, sizesKept, repeated, freshTables}
 use Rattle.words.specs.Index.{levels, rankOf, placeIn, waits, filled, seatFor, firstSeatBy, slotIn, shiftedDown}
@@ -23,7 +24,7 @@ use Rattle.words.specs.Index.{shiftedUp, putSeat, takeSeat, emptied}
 use Rattle.words.specs.Words.{perform, ownOk, walk, findOf, planLookUp, planEnter, planSettle, planAdd, planLinks}
 use Rattle.words.specs.Words.{planCall, planPhase, planStep, admitted, applied, stepWords, planTake, planQueue, planGet}
 use Rattle.words.specs.Words.{planGetOf, answerGet, appliedGet, getWords, posted, addWords, layOut, withSeat, answerOf}
-use Rattle.words.specs.Observed.{jobsIn, waiting, cells, indexed}
+use Rattle.words.specs.Observed.{jobsIn, waiting, indexed}
 use Rattle.words.specs.declared.Seat.{Seat}
 use Rattle.words.specs.declared.Plan.{Plan}
 use Rattle.words.specs.declared.Plan.the-variants.{Refuse, Quit, Pass, Enter, Tally, LinkFirst, LinkAfter, Settle}
@@ -95,6 +96,7 @@ module _ (entering : List ℕ → Seat → ℕ → List ℕ) (taking : List ℕ 
   machine t (postFinish s w f) = perform t (postFinish s w f)
   machine t (step s w) = withQueue (perform t (step s w)) (queueEntered (planStep s t w) (t .queue))
   machine t (get s w) = withQueue (perform t (get s w)) (queueTaken (planGetOf s t w) (t .queue))
+  machine t (load s m) = perform t (load s m)
 
 -- with the right stores it is the words' own machine
 pub own-stores : (t : Tables) (i : Item) → machine putSeat takeSeat t i ≡ perform t i
@@ -124,6 +126,7 @@ own-stores t (get s w) = go (planGetOf s t w)
     go (RefuseGet n) = refl
     go Wait = refl
     go (Take h e) = refl
+own-stores t (load s m) = refl
 
 -- its step puts the place of a job that enters in no slot
 abbrev skipping : List ℕ → Seat → ℕ → List ℕ
@@ -162,10 +165,10 @@ Wrong m = IndexExact m S fresh items → ⊥
 
 pub each-is-refuted : Wrong (machine skipping takeSeat) × Wrong (machine putSeat dropping)
     × Wrong (machine putSeat leaving) × Wrong (machine putSeat keeping)
-unfolding contains repeats occurrences prefix argumentsWrong withinLimits after steps productOf bucketOf columns header
-    put putHeader longEnough sizesKept repeated freshTables perform ownOk walk findOf planLookUp planEnter withSeat
-    planSettle planAdd planLinks planCall planPhase admitted applied stepWords planTake planQueue planGet posted
-    addWords layOut jobsIn cells siftUp siftDown waits seatFor firstSeatBy shiftedDown shiftedUp putSeat takeSeat
-    appliedGet getWords
+unfolding contains repeats occurrences prefix argumentsWrong withinLimits after steps productOf bucketOf fixedMinutes
+    columns header put putHeader longEnough sizesKept repeated freshTables perform ownOk walk findOf planLookUp
+    planEnter withSeat planSettle planAdd planLinks planCall planPhase admitted applied stepWords planTake planQueue
+    planGet posted addWords layOut jobsIn cells siftUp siftDown waits seatFor firstSeatBy shiftedDown shiftedUp putSeat
+    takeSeat appliedGet getWords
 each-is-refuted =
     ((λ e. never (e .jobs 0)), (λ e. never (e .jobs 2)), (λ e. never (e .jobs 2)), (λ e. never (e .jobs 0)))

@@ -22,7 +22,9 @@ use Rattle.terms.specs.declared.Answer.the-variants.{Laid}
 use Rattle.words.specs.Layout.{none, CELL, SLOT, Tables, View, view}
 use Rattle.words.specs.Index.{rankOf, placeIn, waits, filled}
 use Rattle.words.specs.Words.{perform, layOut}
-use Rattle.words.specs.Observed.{cells, jobsIn, jobAt, waiting, indexed}
+use Rattle.words.specs.Columns.{cells}
+use Rattle.words.specs.Stored.{length-cells}
+use Rattle.words.specs.Observed.{jobsIn, jobAt, waiting, indexed}
 use Rattle.rules.specs.Rules.{Graph, empty}
 use Rattle.rules.specs.Rules as rules
 use Rattle.representation.specs.Rep.{Index, Unused}
@@ -32,11 +34,6 @@ use Rattle.representation_kept.specs.Queue.{waiting-queue, room, fill, slot-wai
 use Rattle.words_history.specs.Theorem.{Reached, after-items}
 
 -- ---- cells, as a list
-cells-length : (f : ℕ → ℕ) (i n : ℕ) → length (cells f i n) ≡ n
-unfolding cells
-cells-length f i zero = refl
-cells-length f i (suc n) = ap suc (cells-length f (suc i) n)
-
 cells-occur : (f : ℕ → ℕ) (j i n : ℕ) → occurrences j (cells f i n) ≡ sum n (λ k. hit j (f (i + k)))
 unfolding cells sum
 cells-occur f j i zero = occurrences-nil j
@@ -149,7 +146,7 @@ module _ (s : Sizes) (t : Tables) (laid : layOut s t .answer ≡ Laid) (items : 
 
   pub same-length : length (indexed T) ≡ length (waiting T)
   same-length =
-      cells-length (λ k. jobAt (view T) (view T .cell SLOT k)) 0 (filled (view T)) ∙ filling
+      length-cells (λ k. jobAt (view T) (view T .cell SLOT k)) 0 (filled (view T)) ∙ filling
       ∙ sym (ap length (waiting-queue (R .stands)))
 
   abbrev v : View

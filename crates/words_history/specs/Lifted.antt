@@ -11,6 +11,7 @@ use lib.ListN.{length, getD, length-append}
 use Rattle.basics.specs.Limits.{mostNames}
 use Rattle.basics.specs.Base.{contains, occurrences}
 use Rattle.bucket.specs.Bucket.{bucketOf}
+use Rattle.minutes.specs.Rising.{SixteenRising, rising-means}
 use Rattle.terms.specs.Terms.{Arguments, sameSizes, labelNumber, unexecuted, finished, Finish}
 use Rattle.terms.specs.Runs.{Item, step, get, after, events}
 use Rattle.terms.specs.Seen.{JobSeen, Same}
@@ -21,6 +22,7 @@ use Rattle.terms.specs.declared.Sizes.{Sizes}
 use Rattle.terms.specs.declared.HandOut.{HandOut}
 use Rattle.terms.specs.declared.Answer.the-variants.{Laid, NoneReady, Handed}
 use Rattle.words.specs.Layout.{Tables, view, workerShape, NAME, HELD, LIST-COUNT, NAMES, IDLE, bareWorker}
+use Rattle.words.specs.Layout.{storedMinutes}
 use Rattle.words.specs.Layout as words
 use Rattle.words.specs.Words.{perform, layOut}
 use Rattle.words.specs.Observed.{bucketFrom, newestFirst, seen}
@@ -170,6 +172,9 @@ module _ (s : Sizes) (t : Tables) (laid : layOut s t .answer ≡ Laid) (items : 
   pub by-count : ByCount perform seen s T
   by-count = longest.hands-out-by-count perform seen s (layOut s t .state) (λ is. demand s t laid is .answers)
       (λ is. demand s t laid is .does) items
+
+  pub minutes-rise : SixteenRising (storedMinutes (T .jobs))
+  minutes-rise = rw (R .stands .minutes) (rising-means (g .minutes) .0 (R .sound .minutes))
 
   -- a worker that is idle and jobless is handed the waiting job with the most minutes, and of those with as many the
   -- earliest in the queue

@@ -1,26 +1,34 @@
 -- The words do what the rules do, in one item: the answers are the same, and the tables left stand for the graph left.
 -- Follows docs/RULES.md, "Steps" and "Turned-away calls". Assumes of the graph what the rules keep (`Sound`).
-use mathlib.Core.Path.{_≡_, refl}
+use mathlib.Core.Path.{_≡_, refl, _∙_}
+use mathlib.Core.Bool.{Bool, true, false}
+use mathlib.Core.List.{List}
 use Prim.Native.Nat.{ℕ, _<_}
-use lib.Dec.{eqb}
+use lib.Dec.{leb, eqb}
+use lib.ListN.{length}
+use borrow.Author.Tests.{le-leb}
 use Rattle.basics.specs.Base.{pick}
+use Rattle.minutes.specs.Rising.{isRising}
 use Rattle.terms.specs.Terms.{Arguments, argumentsWrong, nothingToStep, halfDone, wrongArguments, alreadyHolding}
-use Rattle.terms.specs.Terms.{notHeld, Finish}
-use Rattle.terms.specs.Runs.{Item, postAdd, postFinish, step, get}
+use Rattle.terms.specs.Terms.{notHeld, sameSizes, wrongSizes, damaged, wrongMinutes, jobsEntered, Finish}
+use Rattle.terms.specs.Runs.{Item, postAdd, postFinish, step, get, load, outcome}
 use Rattle.terms.specs.declared.Sizes.{Sizes}
+use Rattle.terms.specs.declared.Answer.the-variants.{Loaded, Refused}
 use Rattle.words.specs.Layout.{HELD, MARKING, bareWorker, view, Tables}
 use Rattle.words.specs.Layout as layout
 use Rattle.words.specs.Words.{planPhase, applied, planGet, planQueue, appliedGet, judgedAdd, judgedFinish, holdsName}
 use Rattle.words.specs.Words.{addingWorker, refusal, posted, stepWords, getWords, addWords, finishWords}
-use Rattle.words.specs.Words.{judgedCounters}
+use Rattle.words.specs.Words.{judgedCounters, loading, loadWords}
 use Rattle.words.specs.Words as words
 use Rattle.words.specs.declared.Plan.the-variants.{Refuse}
 use Rattle.words.specs.declared.GetPlan.the-variants.{RefuseGet}
 use Rattle.rules.specs.Rules.{Call, idle, looking, linking, marking, notifying, Graph, addPosted, finishPosted, getJob}
-use Rattle.rules.specs.Rules.{whenIdle, stepCall}
+use Rattle.rules.specs.Rules.{whenIdle, stepCall, loadMinutes, withMinutes}
 use Rattle.rules.specs.Rules as rules
 use Rattle.rules.specs.Sound.{Sound, CallSound}
 use Rattle.representation.specs.Rep.{Ghost, CallRep, Stands}
+use Rattle.representation_kept.specs.Load.{load-stands}
+use Rattle.words_refine_rules.specs.Own.{same-sizes, sizes-decide}
 use Rattle.words_refine_rules.specs.Agree.{Agrees, refused, admit, when-idle}
 use Rattle.words_refine_rules.specs.Step.{done}
 use Rattle.words_refine_rules.specs.Look.{looking-agrees}
@@ -80,6 +88,32 @@ module _ (s : Sizes) (t : Tables) (g : Graph) (G : Ghost) (S : Stands s t g G) (
         refl
         (λ e B. finish-agrees s t g G S O w hw B f)
 
+  -- ---- a load
+  load-judged : (m : List ℕ)
+      → Agrees s
+      (loading (pick (isRising m) (pick (leb (view t .made) (s .jobs)) (pick (eqb (view t .made) 0) 0 jobsEntered)
+      damaged) wrongMinutes) t m)
+      (loadMinutes g m)
+  unfolding loading loadMinutes
+  load-judged m = rw (S .rep .made, le-leb (length (g .jobs)) (s .jobs) (O .jobs))
+      (go (isRising m) refl (eqb (length (g .jobs)) 0))
+    where
+      go : (b : Bool) → isRising m ≡ b → (c : Bool)
+          → Agrees s (loading (pick b (pick c 0 jobsEntered) wrongMinutes) t m)
+          (pick b (pick c (outcome Loaded (withMinutes g m)) (outcome (Refused jobsEntered 0) g))
+          (outcome (Refused wrongMinutes 0) g))
+      go true e true = record { answer = refl; ghost = G; stands = load-stands m e S }
+      go true e false = refused s t g G S O jobsEntered
+      go false e c = refused s t g G S O wrongMinutes
+
+  load-agrees : (r : Sizes) (m : List ℕ) → Agrees s (loadWords r t m) (rules.perform s g (load r m))
+  unfolding loadWords loading rules.perform
+  load-agrees r m = go (sameSizes r s) refl
+    where
+      go : (b : Bool) → sameSizes r s ≡ b → Agrees s (loadWords r t m) (rules.perform s g (load r m))
+      go true e = rw (e, sizes-decide s t g G S r ∙ e, same-sizes r s e) (load-judged m)
+      go false e = rw (e, sizes-decide s t g G S r ∙ e) (refused s t g G S O wrongSizes)
+
   -- ---- an item
   pub item : (i : Item) → Agrees s (words.perform t i) (rules.perform s g i)
   unfolding words.perform rules.perform stepWords getWords addWords finishWords applied appliedGet posted
@@ -103,3 +137,4 @@ module _ (s : Sizes) (t : Tables) (g : Graph) (G : Ghost) (S : Stands s t g G) (
       (step-agrees w) r
   item (get r w) = admit s t g G S O w RefuseGet (λ z. planGet z (view t) w) (λ p. doneGet p t w) _ refl refl
       (getting-agrees w) r
+  item (load r m) = load-agrees r m

@@ -9,7 +9,7 @@ use Rattle.terms.specs.Terms.{damaged}
 use Rattle.terms.specs.Runs.{Item, Outcome, after, events}
 use Rattle.terms.specs.declared.Sizes.{Sizes}
 use Rattle.terms.specs.declared.Answer.{Answer}
-use Rattle.terms.specs.declared.Answer.the-variants.{Laid, Posted, Going, Ended, NoneReady, Handed, Refused}
+use Rattle.terms.specs.declared.Answer.the-variants.{Laid, Loaded, Posted, Going, Ended, NoneReady, Handed, Refused}
 use Rattle.words.specs.Layout.{roomFor, Tables}
 use Rattle.words.specs.Words.{layOut}
 use Rattle.words.specs.Words as words
@@ -34,6 +34,7 @@ not-damaged {g} O (by.stepped {w} A {c} e (by.broken b)) =
 deed-fine : {s : Sizes} {g : Graph} {i : Item} (x : Answer) {h : Graph} → Sound s g → Deed s g i x h
     → isNumber damaged x ≡ false
 deed-fine Laid O d = refl
+deed-fine Loaded O d = refl
 deed-fine Posted O d = refl
 deed-fine Going O d = refl
 deed-fine Ended O d = refl

@@ -13,13 +13,13 @@ use Rattle.terms.specs.Terms.{Arguments, listed, argumentsWrong}
 use Rattle.terms.specs.Seen.{request, Same}
 use Rattle.terms.specs.declared.Sizes.{Sizes}
 use Rattle.words.specs.Layout.{LIST-COUNT, HELD, NAMES, view, Tables}
-use Rattle.words.specs.Observed.{cells, placeSeen, requestSeen}
+use Rattle.words.specs.Columns.{cells, cells-list}
+use Rattle.words.specs.Observed.{placeSeen, requestSeen}
 use Rattle.words.specs.Observed as words
 use Rattle.rules.specs.Rules.{Call, idle, looking, linking, marking, notifying, Graph, job}
 use Rattle.rules.specs.Observed as rules
 use Rattle.rules.specs.Sound.{Sound, CallSound}
 use Rattle.representation.specs.Rep.{Ghost, holdWord, AddWords, CallRep, Stands}
-use Rattle.representation_kept.specs.Lists.{cells-list}
 use Rattle.representation_kept.specs.Queue.{waiting-queue}
 use Rattle.representation_kept.specs.Arcs.{arcs-seen}
 use Rattle.words_refine_rules.specs.Own.{fitting, job-place}
@@ -72,6 +72,7 @@ pub shown : {s : Sizes} {t : Tables} {g : Graph} {G : Ghost} → Stands s t g G 
 shown {s} {t} {g} {G} S O = record {
   made = S .rep .made;
   reserved = S .rep .reserved;
+  minutes = S .minutes;
   jobs = job-seen s t g G S O;
   waiting = waiting-queue S;
   held = held-seen s t g G S O;

@@ -8,6 +8,7 @@ pub trait Calls {
     const NAME: &'static str;
 
     fn lay_out(sizes: Sizes, tables: &mut Tables) -> Answer;
+    fn load_minutes(sizes: Sizes, tables: &mut Tables, minutes: &[u32]) -> Answer;
     fn post_add(sizes: Sizes, tables: &mut Tables, worker: u32, entry: Entry) -> Answer;
     fn post_finish(sizes: Sizes, tables: &mut Tables, worker: u32, name: u32) -> Answer;
     fn step(sizes: Sizes, tables: &mut Tables, worker: u32) -> Answer;
@@ -27,6 +28,10 @@ macro_rules! calls {
 
             fn lay_out(sizes: Sizes, tables: &mut Tables) -> Answer {
                 $($module::)+lay_out$(::<$indexed>)?(sizes, tables)
+            }
+
+            fn load_minutes(sizes: Sizes, tables: &mut Tables, minutes: &[u32]) -> Answer {
+                $($module::)+load_minutes$(::<$indexed>)?(sizes, tables, minutes)
             }
 
             fn post_add(sizes: Sizes, tables: &mut Tables, worker: u32, entry: Entry) -> Answer {

@@ -9,9 +9,9 @@ mod inlined;
 mod whole;
 
 use compare_graph::layout::{
-    job, phase, worker, ARCS_HEADER, ARC_WORDS, JOBS_HEADER, JOB_WORDS, NONE, QUEUE_HEADER, WORKER_WORDS,
+    job, phase, worker, ARCS_HEADER, ARC_WORDS, JOBS_HEADER, JOB_WORDS, MINUTES, NONE, QUEUE_HEADER, WORKER_WORDS,
 };
-use taskgraph::raw::{kind, Answer, Entry, Sizes, Tables};
+use taskgraph::raw::{kind, Answer, Entry, Sizes, Tables, CLASSES, MAX_MINUTES};
 
 pub use whole::{add, add_sheet, finish};
 
@@ -20,6 +20,7 @@ const FACTOR: u32 = 2_654_435_769;
 const MAX_NAMES: u32 = 32;
 const MAX_CLASS: u32 = 15;
 const MAX_GROWER: u32 = 65_535;
+const FIXED_MINUTES: [u32; CLASSES] = [1, 2, 3, 5, 8, 10, 15, 20, 30, 45, 60, 90, 120, 180, 240, 480];
 
 const UNEXECUTED: u32 = 0;
 const EXECUTING: u32 = 1;
@@ -83,13 +84,20 @@ impl<'a, const INDEXED: bool> Graph<'a, INDEXED> {
         })
     }
 
-    /// Numbers 1, 2 and 9 for the worker's own words: the graph, and where the worker's record starts.
+    /// Number 1: the graph of the sizes that were laid out.
     #[inline(always)]
-    fn admitted(sizes: Sizes, tables: &'a mut Tables, worker: u32) -> Outcome<(Self, usize)> {
+    fn sized(sizes: Sizes, tables: &'a mut Tables) -> Outcome<Self> {
         let graph = Self::lent(sizes, tables)?;
         if graph.jobs[..4] != [sizes.jobs, sizes.arcs, sizes.bits, sizes.workers] {
             return Err((1, 0));
         }
+        Ok(graph)
+    }
+
+    /// Numbers 1, 2 and 9 for the worker's own words: the graph, and where the worker's record starts.
+    #[inline(always)]
+    fn admitted(sizes: Sizes, tables: &'a mut Tables, worker: u32) -> Outcome<(Self, usize)> {
+        let graph = Self::sized(sizes, tables)?;
         if worker >= sizes.workers {
             return Err((2, 0));
         }
@@ -350,7 +358,8 @@ impl<'a, const INDEXED: bool> Graph<'a, INDEXED> {
 #[inline(never)]
 pub fn lay_out<const INDEXED: bool>(sizes: Sizes, tables: &mut Tables) -> Answer {
     answered(Graph::<INDEXED>::lent(sizes, tables).map(|mut graph| {
-        graph.jobs[..JOBS_HEADER].copy_from_slice(&[sizes.jobs, sizes.arcs, sizes.bits, sizes.workers, 0]);
+        graph.jobs[..MINUTES].copy_from_slice(&[sizes.jobs, sizes.arcs, sizes.bits, sizes.workers, 0]);
+        graph.jobs[MINUTES..JOBS_HEADER].copy_from_slice(&FIXED_MINUTES);
         for job in graph.jobs[JOBS_HEADER..].chunks_exact_mut(JOB_WORDS) {
             job.copy_from_slice(&[0, 0, 0, 0, 0, NONE, NONE, NONE]);
         }
@@ -364,6 +373,28 @@ pub fn lay_out<const INDEXED: bool>(sizes: Sizes, tables: &mut Tables) -> Answer
             graph.workers[WORKER_WORDS * number + worker::HELD] = NONE;
         }
         answer(kind::LAID_OUT)
+    }))
+}
+
+fn minutes_rise(minutes: &[u32]) -> bool {
+    let ends_fit = minutes.len() == CLASSES && minutes[0] >= 1 && minutes[CLASSES - 1] <= MAX_MINUTES;
+    ends_fit && minutes.windows(2).all(|pair| pair[0] < pair[1])
+}
+
+#[inline(never)]
+pub fn load_minutes<const INDEXED: bool>(sizes: Sizes, tables: &mut Tables, minutes: &[u32]) -> Answer {
+    answered(Graph::<INDEXED>::sized(sizes, tables).and_then(|graph| {
+        if !minutes_rise(minutes) {
+            return Err((17, 0));
+        }
+        match graph.made() {
+            0 => {
+                graph.jobs[MINUTES..JOBS_HEADER].copy_from_slice(minutes);
+                Ok(answer(kind::LOADED))
+            }
+            made if made > sizes.jobs => Err(DAMAGED),
+            _ => Err((18, 0)),
+        }
     }))
 }
 

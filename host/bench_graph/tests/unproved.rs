@@ -48,6 +48,7 @@ fn call_item<C: Calls>(item: &Item, sizes: Sizes, tables: &mut raw::Tables) -> L
             let added = C::add_sheet(sizes, tables, *worker, &rows_of(entries, *stray));
             return LibraryTold::Each(Box::new(added));
         }
+        Item::Load { minutes } => C::load_minutes(sizes, tables, minutes),
     })
 }
 

@@ -12,21 +12,23 @@ use second_implementation::{
     history::Item,
     refusal,
     sheet::MAX_NAMES,
-    totals,
 };
 use taskgraph::raw::{self as proved, kind};
 
 use crate::{
-    event::{is_whole, worker_of, Call, Event, History},
+    event::{is_whole, Call, Event, History},
     expected_words,
     index::Index,
-    layout::{self, job, worker},
+    layout::{self, worker},
     tables::{Tables, JOBS, WORKERS},
     whole::{told_by_single_calls, SingleCalls},
-    world::{call_library, to_library, LibraryTold},
+    world::{call_library, minutes_to_library, to_library, LibraryTold},
 };
 
-use answer::{expected, expected_drained, expected_holding, of_kind, refused};
+use answer::{
+    expected, expected_drained, expected_holding, expected_load, expected_minutes, expected_totals, of_kind, refused,
+    worker_asked,
+};
 
 pub use make::{history, numbered};
 pub use met::{Met, Use, Way};
@@ -74,8 +76,8 @@ impl Lent<'_> {
                 None
             }
             Event::LayOut(sizes) => self.lay_out(*sizes),
-            Event::Call(call) if is_whole(&call.item) => self.whole(call).or_else(|| self.wrong_totals()),
-            Event::Call(call) => self.single(call).1.or_else(|| self.wrong_totals()),
+            Event::Call(call) if is_whole(&call.item) => self.whole(call).or_else(|| self.wrong_totals(call)),
+            Event::Call(call) => self.single(call).1.or_else(|| self.wrong_totals(call)),
         }
     }
 
@@ -112,7 +114,10 @@ impl Lent<'_> {
     /// The answer of a single call, and its fault.
     fn single(&mut self, call: &Call) -> (proved::Answer, Option<String>) {
         let sizes = call.sizes.unwrap_or(self.sizes);
-        let expected = expected(&self.tables, sizes, call);
+        let expected = match &call.item {
+            Item::Load { minutes } => expected_load(&self.tables, sizes, call.short, minutes),
+            _ => expected(&self.tables, sizes, call),
+        };
         self.met.note(&self.tables, matches!(call.item, Item::Get { .. }), &expected);
         let answer = expected.answer;
         if let Some(fault) = self.wrong_state(sizes, call) {
@@ -144,7 +149,7 @@ impl Lent<'_> {
         let holding = expected_holding(&self.tables, sizes, call);
         let drained = expected_drained(&self.tables, sizes, call.short);
         let tables = self.tables.read(call.short);
-        differ("tg_held", proved::held(to_library(sizes), tables, worker_of(&call.item)), holding)
+        differ("tg_held", proved::held(to_library(sizes), tables, worker_asked(call)), holding)
             .or_else(|| differ("tg_drained", proved::drained(to_library(sizes), tables), drained))
     }
 
@@ -157,23 +162,17 @@ impl Lent<'_> {
             .or_else(|| self.tables.broken_guard())
     }
 
-    /// The totals: 9 for a wrong label or class among the jobs made, or a counter over R.
-    fn wrong_totals(&self) -> Option<String> {
-        let words = self.tables.words(JOBS);
-        let made = words[layout::MADE] as usize;
-        let sizes_stand =
-            words[..layout::MADE] == [self.sizes.jobs, self.sizes.arcs, self.sizes.bits, self.sizes.workers];
-        let expected = if !sizes_stand {
-            Err(totals::TotalsError::Size)
-        } else if made > self.sizes.jobs as usize {
-            Err(totals::TotalsError::Damaged)
-        } else {
-            let record = |number: usize| &words[layout::job_at(number)..layout::job_at(number + 1)];
-            let pairs = (0..made).flat_map(|number| [record(number)[job::LABEL], record(number)[job::CLASS]]);
-            totals::of_words(&pairs.collect::<Vec<u32>>())
-        };
-        let answer = proved::totals_of_graph(to_library(self.sizes), words);
-        differ("tg_totals_of_graph", answer, compare_sheets::totals::expected(expected))
+    /// The board and the minutes of the graph, with the sizes laid out and with those and the jobs table of a call.
+    fn wrong_totals(&self, call: &Call) -> Option<String> {
+        let brought = call.sizes.unwrap_or(self.sizes);
+        let cut = self.tables.read(call.short)[JOBS];
+        [(self.sizes, self.tables.words(JOBS)), (brought, cut)].into_iter().find_map(|(sizes, jobs)| {
+            let totals = compare_sheets::totals::expected(expected_totals(jobs, sizes));
+            let minutes = minutes_to_library(expected_minutes(jobs, sizes));
+            self.met.note_board(&totals, &minutes);
+            differ("tg_totals_of_graph", proved::totals_of_graph(to_library(sizes), jobs), totals)
+                .or_else(|| differ("tg_minutes_of_graph", proved::minutes_of_graph(to_library(sizes), jobs), minutes))
+        })
     }
 
     /// Every call half done ends, or is refused, after a bounded number of steps: an add has at most

@@ -4,6 +4,7 @@ use compare_sheets::shrink;
 use second_implementation::{
     graph::Sizes,
     history::Item,
+    minutes::Minutes,
     sheet::{Entry, MAX_NAMES, ROW_WORDS},
 };
 
@@ -69,17 +70,20 @@ impl History {
 
     /// Without all items of one worker.
     fn without_a_worker(&self) -> impl Iterator<Item = History> + '_ {
-        let workers = self.used(|item| vec![worker_of(item)]);
-        workers.into_iter().map(move |worker| self.kept(|_, item| worker_of(item) != worker))
+        let workers = self.used(|item| worker_of(item).into_iter().collect());
+        workers.into_iter().map(move |worker| self.kept(|_, item| worker_of(item) != Some(worker)))
     }
 
-    /// Without one post or get and the steps that follow it.
+    /// Without one post or get and the steps that follow it, or without one load.
     fn without_a_call(&self) -> impl Iterator<Item = History> + '_ {
         let starts = self.events.iter().enumerate().filter_map(|(start, event)| match event {
             Event::Call(call) if !is_step(event) => Some((start, worker_of(&call.item))),
             _ => None,
         });
         starts.map(move |(start, worker)| {
+            if worker.is_none() {
+                return self.kept(|place, _| place != start);
+            }
             let of_worker = |event: &Event| matches!(event, Event::Call(call) if worker_of(&call.item) == worker);
             let later = self.events[start + 1..].iter().position(|event| of_worker(event) && !is_step(event));
             let end = later.map_or(self.events.len(), |later| start + 1 + later);
@@ -126,12 +130,16 @@ impl History {
     /// With one name or one worker number replaced everywhere by a lower one that is not used.
     fn renamed(&self) -> impl Iterator<Item = History> + '_ {
         let names = self.used(names_of);
-        let workers = self.used(|item| vec![worker_of(item)]);
+        let workers = self.used(|item| worker_of(item).into_iter().collect());
         let renamed_names = lower_replacements(&names)
             .into_iter()
             .map(move |(old, new)| self.mapped(|item| map_names(item, |name| if name == old { new } else { name })));
         let renamed_workers = lower_replacements(&workers).into_iter().map(move |(old, new)| {
-            self.mapped(|item| *worker_mut(item) = if worker_of(item) == old { new } else { worker_of(item) })
+            self.mapped(|item| {
+                if let Some(worker) = worker_mut(item).filter(|worker| **worker == old) {
+                    *worker = new;
+                }
+            })
         });
         renamed_names.chain(renamed_workers)
     }
@@ -195,6 +203,10 @@ fn simpler_items(item: &Item) -> Vec<Item> {
             simpler_entries(entry).into_iter().map(|entry| Item::Add { worker: *worker, entry }).collect()
         }
         Item::AddSheet { worker, entries, stray } => simpler_sheets(*worker, entries, *stray),
+        Item::Load { minutes } => {
+            let shorter = shrink::shorter(minutes, 1).chain([Minutes::FIXED.values().to_vec()]);
+            shorter.chain(shrink::lower_words(minutes)).map(|minutes| Item::Load { minutes }).collect()
+        }
         _ => Vec::new(),
     }
 }
@@ -246,7 +258,7 @@ fn map_names(item: &mut Item, mut change: impl FnMut(u32) -> u32) {
         Item::PostAdd { entry, .. } | Item::Add { entry, .. } => map_entry(entry, &mut change),
         Item::AddSheet { entries, .. } => entries.iter_mut().for_each(|entry| map_entry(entry, &mut change)),
         Item::PostFinish { name, .. } | Item::Finish { name, .. } => *name = change(*name),
-        Item::Step { .. } | Item::Get { .. } => {}
+        Item::Step { .. } | Item::Get { .. } | Item::Load { .. } => {}
     }
 }
 
@@ -268,8 +280,8 @@ pub fn is_whole(item: &Item) -> bool {
     matches!(item, Item::Add { .. } | Item::Finish { .. } | Item::AddSheet { .. })
 }
 
-/// The worker of an item.
-pub fn worker_of(item: &Item) -> u32 {
+/// The worker of an item; a load has none.
+pub fn worker_of(item: &Item) -> Option<u32> {
     match item {
         Item::PostAdd { worker, .. }
         | Item::PostFinish { worker, .. }
@@ -277,11 +289,12 @@ pub fn worker_of(item: &Item) -> u32 {
         | Item::Get { worker }
         | Item::Add { worker, .. }
         | Item::Finish { worker, .. }
-        | Item::AddSheet { worker, .. } => *worker,
+        | Item::AddSheet { worker, .. } => Some(*worker),
+        Item::Load { .. } => None,
     }
 }
 
-fn worker_mut(item: &mut Item) -> &mut u32 {
+fn worker_mut(item: &mut Item) -> Option<&mut u32> {
     match item {
         Item::PostAdd { worker, .. }
         | Item::PostFinish { worker, .. }
@@ -289,6 +302,7 @@ fn worker_mut(item: &mut Item) -> &mut u32 {
         | Item::Get { worker }
         | Item::Add { worker, .. }
         | Item::Finish { worker, .. }
-        | Item::AddSheet { worker, .. } => worker,
+        | Item::AddSheet { worker, .. } => Some(worker),
+        Item::Load { .. } => None,
     }
 }

@@ -34,7 +34,8 @@ fn wrong(what: &str, library: &[u32], expected: &[u32]) -> Option<String> {
 fn wrong_jobs(graph: &Graph, words: &[u32]) -> Option<String> {
     let Sizes { jobs, arcs, bits, workers } = graph.sizes();
     let made = graph.jobs().len();
-    let header = [jobs, arcs, bits, workers, made as u32];
+    let minutes = graph.minutes(graph.sizes()).expect("these are the sizes laid out");
+    let header = [&[jobs, arcs, bits, workers, made as u32], &minutes.values()[..]].concat();
     let mut next_in_bucket = vec![NONE; 1 << bits];
     let used = graph.jobs().iter().enumerate().find_map(|(number, job)| {
         let head = &mut next_in_bucket[bucket(job.name, bits) as usize];
@@ -59,7 +60,7 @@ fn wrong_jobs(graph: &Graph, words: &[u32]) -> Option<String> {
     });
     let unused = words[job_at(made)..job_at(jobs as usize)].chunks_exact(JOB_WORDS);
     let fresh = [0, 0, 0, 0, 0, NONE, NONE, NONE];
-    wrong("the counters of the jobs", &words[..JOBS_HEADER], &header)
+    wrong("the sizes, the jobs made and the minutes", &words[..JOBS_HEADER], &header)
         .or(used)
         .or_else(|| unused.into_iter().find_map(|record| wrong("an unused job", record, &fresh)))
 }

@@ -1,7 +1,7 @@
-//! Random histories: posts, steps, gets, calls run whole and sheets by all workers in random orders, refused ones
-//! included. The second implementation runs along, so that most items are ones that a worker could sensibly try.
+//! Random histories: posts, steps, gets, calls run whole and sheets by all workers, and loads, in random orders, refused
+//! ones included. The second implementation runs along, so that most items are ones that a worker could sensibly try.
 
-use compare_sheets::{inputs, random::Random};
+use compare_sheets::{inputs, minute_values, random::Random};
 use second_implementation::{
     graph::{Call as Half, Graph, Sizes, MAX_ARCS, MAX_BITS, MAX_ENTRIES, MAX_JOBS, MAX_WORKERS},
     history::Item,
@@ -33,6 +33,8 @@ struct Manner {
     whole: usize,
     /// Whether adds come first, and gets later, so that many jobs wait at once.
     deep: bool,
+    /// Before the first job enters, of ten events how many are loads.
+    loading: usize,
 }
 
 /// A history over a graph of any size, mostly small.
@@ -141,6 +143,7 @@ impl Manner {
             adding: random.pick(&[5, 9]),
             whole: random.pick(&[0, 2, 5, 9]),
             deep: false,
+            loading: random.pick(&[0, 1, 5]),
         }
     }
 
@@ -152,6 +155,9 @@ impl Manner {
     fn event(&self, random: &mut Random, graph: &Graph, worker: u32) -> Event {
         if random.once_in(self.mischief) {
             return self.mischief(random, graph, worker);
+        }
+        if graph.jobs().is_empty() && random.below(10) < self.loading {
+            return load(random).into();
         }
         let state = &graph.workers()[worker as usize];
         let item = match (&state.call, state.held) {
@@ -264,19 +270,21 @@ impl Manner {
             }
             7..=8 => Item::PostAdd { worker, entry: self.wrong_entry(random, graph) }.into(),
             9..=10 => Item::Add { worker, entry: self.wrong_entry(random, graph) }.into(),
+            11..=12 => load(random).into(),
             _ => self.any_item(random, graph, worker).into(),
         }
     }
 
     /// Any item at all, whatever the worker is at.
     fn any_item(&self, random: &mut Random, graph: &Graph, worker: u32) -> Item {
-        match random.below(7) {
+        match random.below(8) {
             0 => Item::PostAdd { worker, entry: self.entry(random, graph) },
             1 => Item::PostFinish { worker, name: random.pick(&self.names) },
             2 => Item::Step { worker },
             3 => Item::Add { worker, entry: self.entry(random, graph) },
             4 => Item::Finish { worker, name: random.pick(&self.names) },
             5 => self.sheet(random, graph, worker),
+            6 => load(random),
             _ => Item::Get { worker },
         }
     }
@@ -297,6 +305,12 @@ impl Manner {
         }
         entry
     }
+}
+
+/// A load, a third of them of wrong values.
+pub fn load(random: &mut Random) -> Item {
+    let wrong = random.once_in(3);
+    Item::Load { minutes: if wrong { minute_values::wrong(random) } else { minute_values::right(random) } }
 }
 
 /// One name more at the end of a list, where it may stand there.

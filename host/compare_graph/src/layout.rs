@@ -1,12 +1,12 @@
 //! The layout of the tables as `include/taskgraph.h` documents it.
 
-use second_implementation::graph::Sizes;
+use second_implementation::{graph::Sizes, minutes::CLASSES};
 
 /// "None" as a place.
 pub const NONE: u32 = u32::MAX;
 
 /// Words before the first record of a table.
-pub const JOBS_HEADER: usize = 5;
+pub const JOBS_HEADER: usize = MINUTES + CLASSES;
 pub const ARCS_HEADER: usize = 1;
 pub const QUEUE_HEADER: usize = 2;
 
@@ -21,6 +21,9 @@ pub const MADE: usize = 4;
 pub const RESERVED: usize = 0;
 pub const TAKEN: usize = 0;
 pub const PUT: usize = 1;
+
+/// Where the minutes of class 0 stand among the jobs; those of the other classes follow.
+pub const MINUTES: usize = 5;
 
 /// The fields of a job.
 pub mod job {
@@ -70,6 +73,11 @@ pub fn words_needed(sizes: Sizes) -> [usize; 5] {
         QUEUE_HEADER + QUEUE_WORDS * sizes.jobs as usize,
         WORKER_WORDS * sizes.workers as usize,
     ]
+}
+
+/// The minutes of all classes that stand in a jobs table.
+pub fn stored_minutes(jobs: &[u32]) -> &[u32] {
+    &jobs[MINUTES..MINUTES + CLASSES]
 }
 
 /// Whether these lengths suffice for sizes within their limits.

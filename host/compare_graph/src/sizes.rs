@@ -1,4 +1,4 @@
-//! Cases of the sizes that calls bring: the words that the tables need, and the totals of a graph.
+//! Cases of the sizes that calls bring: the words that the tables need, the totals of a graph, and its minutes.
 
 use compare_sheets::{
     case::{differ, Case},
@@ -6,13 +6,15 @@ use compare_sheets::{
 };
 use second_implementation::{
     graph::Sizes,
-    totals::{self, TotalsError},
+    minutes::{Minutes, CLASSES},
+    refusal,
+    totals::{self, Record, TotalsError},
 };
 use taskgraph::raw::{self as proved, Need};
 
 use crate::{
     layout::{self, words_needed},
-    world::to_library,
+    world::{minutes_to_library, to_library},
 };
 
 /// Sizes, and the jobs table of a graph that was laid out with other sizes or the same.
@@ -21,6 +23,8 @@ pub struct SizesBrought {
     pub laid_out: Sizes,
     /// Labels and classes of the jobs made, fewer than the laid out sizes allow.
     pub jobs: Vec<[u32; 2]>,
+    /// The minutes that stand in the table, right or wrong.
+    pub minutes: [u32; CLASSES],
     pub jobs_len: usize,
 }
 
@@ -37,6 +41,7 @@ impl SizesBrought {
     fn table(&self) -> Vec<u32> {
         let Sizes { jobs, arcs, bits, workers } = self.laid_out;
         let mut words = vec![jobs, arcs, bits, workers, self.jobs.len() as u32];
+        words.extend(self.minutes);
         for [label, class] in &self.jobs {
             words.extend([7, *label, 0, *class, 0, layout::NONE, layout::NONE, layout::NONE]);
         }
@@ -44,15 +49,28 @@ impl SizesBrought {
         words
     }
 
+    fn fits(&self) -> bool {
+        let long_enough = self.sizes.within_limits() && self.jobs_len >= words_needed(self.sizes)[0];
+        long_enough && self.sizes == self.laid_out
+    }
+
     fn expected_totals(&self) -> Result<totals::Totals, TotalsError> {
-        let fits = self.sizes.within_limits() && self.jobs_len >= words_needed(self.sizes)[0];
-        if !fits || self.sizes != self.laid_out {
+        if !self.fits() {
             return Err(TotalsError::Size);
         }
-        if self.jobs.len() > self.sizes.jobs as usize {
+        if self.jobs.len() > self.sizes.jobs as usize || Minutes::of(&self.minutes).is_none() {
             return Err(TotalsError::Damaged);
         }
-        totals::of_words(&self.jobs.concat())
+        let records: Vec<Record> =
+            self.jobs.iter().map(|[label, class]| Record { label: *label, class: *class }).collect();
+        totals::by_minutes(&records, &self.minutes)
+    }
+
+    fn expected_minutes(&self) -> Result<Minutes, u32> {
+        if !self.fits() {
+            return Err(refusal::SIZE);
+        }
+        Minutes::of(&self.minutes).ok_or(refusal::DAMAGED)
     }
 }
 
@@ -61,7 +79,10 @@ impl Case for SizesBrought {
         let sizes = to_library(self.sizes);
         differ("tg_words_needed", proved::words_needed(sizes), self.expected_need()).or_else(|| {
             let expected = compare_sheets::totals::expected(self.expected_totals());
-            differ("tg_totals_of_graph", proved::totals_of_graph(sizes, &self.table()), expected)
+            let table = self.table();
+            let minutes = proved::minutes_of_graph(sizes, &table);
+            differ("tg_totals_of_graph", proved::totals_of_graph(sizes, &table), expected)
+                .or_else(|| differ("tg_minutes_of_graph", minutes, minutes_to_library(self.expected_minutes())))
         })
     }
 
@@ -72,11 +93,19 @@ impl Case for SizesBrought {
             jobs: self.jobs.clone(),
             ..*self
         });
-        Box::new(fewer.chain(shorter))
+        let fixed = (self.minutes != *Minutes::FIXED.values()).then(|| SizesBrought {
+            minutes: *Minutes::FIXED.values(),
+            jobs: self.jobs.clone(),
+            ..*self
+        });
+        Box::new(fewer.chain(shorter).chain(fixed))
     }
 
     fn show(&self) -> String {
-        let SizesBrought { sizes, laid_out, jobs, jobs_len } = self;
-        format!("{sizes:?}, laid out with {laid_out:?}, a jobs table of {jobs_len} words, labels and classes {jobs:?}")
+        let SizesBrought { sizes, laid_out, jobs, minutes, jobs_len } = self;
+        format!(
+            "{sizes:?}, laid out with {laid_out:?}, a jobs table of {jobs_len} words, minutes {minutes:?}, labels and \
+             classes {jobs:?}"
+        )
     }
 }

@@ -30,6 +30,11 @@ pub enum Call {
     WholeFinish,
     /// The adds of these names with their lists in one call.
     Sheet(&'static [(u32, &'static [u32])]),
+    /// A load of so many values from this on, one above another.
+    Load {
+        first: u32,
+        values: usize,
+    },
 }
 
 impl Call {
@@ -38,7 +43,7 @@ impl Call {
     pub fn turns(self) -> usize {
         match self {
             Call::Add { list, .. } => 3 + 2 * list.len(),
-            Call::Get | Call::WholeAdd { .. } | Call::WholeFinish | Call::Sheet(_) => 1,
+            Call::Get | Call::WholeAdd { .. } | Call::WholeFinish | Call::Sheet(_) | Call::Load { .. } => 1,
             Call::Finish => 3,
         }
     }
@@ -126,6 +131,7 @@ fn turn(world: &World, worker: u32, script: &mut &[Call]) -> Option<Item> {
         Call::Sheet(jobs) => {
             Item::AddSheet { worker, entries: jobs.iter().map(|(name, list)| entry(*name, list)).collect(), stray: 0 }
         }
+        Call::Load { first, values } => Item::Load { minutes: (first..).take(values).collect() },
     })
 }
 

@@ -7,6 +7,7 @@
 //!     get 1 short queue 5
 //!     whole-add 0 name 6 class 0 grower 0 count 1 names 5
 //!     whole-finish 0 6
+//!     load 1 2 3 5 8 10 15 20 30 45 60 90 120 180 240 1440
 //!     sheet 0 entry name 7 class 0 grower 0 count 0 names entry name 8 class 0 grower 0 count 1 names 7 stray 3
 //!     lay-out 4 2 2 2
 //!     set jobs 6 3
@@ -77,6 +78,7 @@ fn write_item(item: &Item, f: &mut fmt::Formatter<'_>) -> fmt::Result {
         Item::Get { worker } => write!(f, "get {worker}"),
         Item::Add { worker, entry } => write!(f, "whole-add {worker} {}", entry_text(entry)),
         Item::Finish { worker, name } => write!(f, "whole-finish {worker} {name}"),
+        Item::Load { minutes } => write!(f, "load{}", Numbers(minutes)),
         Item::AddSheet { worker, entries, stray } => {
             write!(f, "sheet {worker}")?;
             entries.iter().try_for_each(|entry| write!(f, " entry {}", entry_text(entry)))?;
@@ -171,6 +173,7 @@ impl<'a> Line<'a> {
             "whole-add" => Item::Add { worker: self.number()?, entry: self.entry()? },
             "whole-finish" => Item::Finish { worker: self.number()?, name: self.number()? },
             "sheet" => self.sheet()?,
+            "load" => Item::Load { minutes: self.numbers(usize::MAX)? },
             word => return Err(format!("no item is called {word}")),
         };
         let sizes = self.optional("sizes", |line| line.sizes())?;
@@ -182,13 +185,19 @@ impl<'a> Line<'a> {
         let (name, class, grower) = (self.field("name")?, self.field("class")?, self.field("grower")?);
         let mut prerequisites = Names { count: self.field("count")?, names: [0; MAX_NAMES] };
         self.expect("names")?;
-        for name in &mut prerequisites.names {
-            match self.words.peek() {
-                Some(word) if word.starts_with(|first: char| first.is_ascii_digit()) => *name = self.number()?,
-                _ => break,
-            }
-        }
+        let names = self.numbers(MAX_NAMES)?;
+        prerequisites.names[..names.len()].copy_from_slice(&names);
         Ok(Entry { name, prerequisites, class, grower })
+    }
+
+    /// As many numbers as come next, but no more than these.
+    fn numbers(&mut self, most: usize) -> Result<Vec<u32>, String> {
+        let mut numbers = Vec::new();
+        let is_number = |word: &&str| word.starts_with(|first: char| first.is_ascii_digit());
+        while numbers.len() < most && self.words.peek().map_or(false, is_number) {
+            numbers.push(self.number()?);
+        }
+        Ok(numbers)
     }
 
     fn sheet(&mut self) -> Result<Item, String> {

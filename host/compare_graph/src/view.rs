@@ -3,11 +3,10 @@
 use second_implementation::{
     book::{JobView, View},
     graph::Sizes,
-    minutes,
 };
 
 use crate::{
-    layout::{cell_at, job, job_at, slot_at, worker, worker_at, MADE, NONE, PUT, TAKEN},
+    layout::{cell_at, job, job_at, slot_at, stored_minutes, worker, worker_at, MADE, NONE, PUT, TAKEN},
     tables::{Tables, JOBS, QUEUE, WORKERS},
 };
 
@@ -23,7 +22,9 @@ pub fn label(tables: &Tables, number: usize) -> u32 {
 
 /// The minutes of a job, by the words.
 pub fn minutes(tables: &Tables, number: usize) -> u32 {
-    minutes::minutes(tables.words(JOBS)[job_at(number) + job::CLASS]).unwrap_or(0)
+    let jobs = tables.words(JOBS);
+    let class = jobs[job_at(number) + job::CLASS] as usize;
+    stored_minutes(jobs).get(class).copied().unwrap_or(0)
 }
 
 /// The jobs with a place in the queue, in the order of their entry, by the words.

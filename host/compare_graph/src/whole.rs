@@ -135,8 +135,8 @@ pub fn decided(item: &Item, told: &Told) -> usize {
     }
 }
 
-/// How a whole call was answered: what it is, and the number, where 0 is accepted and `HALF_LEFT` a finish that goes
-/// on. Of a sheet there is one for the sheet and one for each entry.
+/// How a whole call or a load was answered: what it is, and the number, where 0 is accepted and `HALF_LEFT` a finish
+/// that goes on. Of a sheet there is one for the sheet and one for each entry.
 pub fn ways(item: &Item, told: &LibraryTold) -> Vec<(&'static str, u32)> {
     match (item, told) {
         (Item::Add { .. }, LibraryTold::One(answer)) => vec![("add", answer.number)],
@@ -149,6 +149,7 @@ pub fn ways(item: &Item, told: &LibraryTold) -> Vec<(&'static str, u32)> {
             let entries = added.numbers.iter().take(served).map(|number| ("entry", *number));
             std::iter::once(("sheet", added.number)).chain(entries).collect()
         }
+        (Item::Load { .. }, LibraryTold::One(answer)) => vec![("load", answer.number)],
         _ => Vec::new(),
     }
 }

@@ -8,9 +8,10 @@ use second_implementation::{
     book::{Book, Ending},
     graph::{self, Answer, Graph, HalfDone, Holding, Refusal, Reply, SheetAnswer, Sizes},
     history::{Entries, History, Item, Told},
+    minutes::Minutes,
     refusal,
     sheet::Entry,
-    totals::{self, Label},
+    totals::Label,
 };
 use taskgraph::raw as proved;
 
@@ -67,6 +68,7 @@ pub fn answer_to_library(answer: &Answer) -> proved::Answer {
     let of_kind = |kind: u32| proved::Answer { kind, ..proved::Answer::default() };
     match *answer {
         Err(Refusal { number, place }) => proved::Answer { number, place: place as u32, ..of_kind(kind::REFUSED) },
+        Ok(Reply::Loaded) => of_kind(kind::LOADED),
         Ok(Reply::Posted) => of_kind(kind::POSTED),
         Ok(Reply::GoingOn) => of_kind(kind::GOING_ON),
         Ok(Reply::Ended) => of_kind(kind::ENDED),
@@ -146,6 +148,14 @@ pub fn drained_to_library(drained: Result<bool, Refusal>) -> proved::DrainedAnsw
     }
 }
 
+/// The minutes of a graph, in the shape of the C interface.
+pub fn minutes_to_library(minutes: Result<Minutes, u32>) -> proved::GraphMinutes {
+    match minutes {
+        Err(number) => proved::GraphMinutes { number, ..proved::GraphMinutes::default() },
+        Ok(minutes) => proved::GraphMinutes { number: 0, minutes: *minutes.values() },
+    }
+}
+
 /// The library's answer to an item.
 pub fn call_library(sizes: Sizes, tables: &mut proved::Tables, item: &Item) -> LibraryTold {
     let sizes = to_library(sizes);
@@ -160,6 +170,8 @@ pub fn call_library(sizes: Sizes, tables: &mut proved::Tables, item: &Item) -> L
             let added = proved::add_sheet(sizes, tables, *worker, &rows_of(entries, *stray));
             return LibraryTold::Each(Box::new(added));
         }
+        // In one piece of just this size, so that a memory checker sees its ends.
+        Item::Load { minutes } => proved::load_minutes(sizes, tables, &minutes.clone().into_boxed_slice()),
     })
 }
 
@@ -175,6 +187,7 @@ pub fn call_second(graph: &mut Graph, sizes: Sizes, item: &Item) -> Told {
         Item::AddSheet { worker, entries, stray } => {
             return Told::Each(graph.add_sheet(sizes, *worker, &rows_of(entries, *stray)));
         }
+        Item::Load { minutes } => graph.load_minutes(sizes, minutes),
     })
 }
 
@@ -297,19 +310,31 @@ impl World {
         self.check_history()
     }
 
-    /// What the worker of a call holds and whether the graph is drained, asked with the call's sizes and tables.
+    /// What the worker of a call holds, for a load worker 0, whether the graph is drained, and its minutes, asked with
+    /// the call's sizes and tables.
     fn check_state(&self, sizes: Sizes, call: &Call) -> Result<(), String> {
+        let worker = worker_of(&call.item).unwrap_or(0);
         let long_enough = layout::suffice(self.tables.cut_lens(call.short), self.graph.sizes());
         let (holding, drained) = if long_enough {
-            (self.graph.held(sizes, worker_of(&call.item)), self.graph.drained(sizes))
+            (self.graph.held(sizes, worker), self.graph.drained(sizes))
         } else {
             (graph::refused(refusal::SIZE), graph::refused(refusal::SIZE))
         };
         let tables = self.tables.read(call.short);
-        let answer = proved::held(to_library(sizes), tables, worker_of(&call.item));
+        self.check_minutes(sizes, tables[JOBS])?;
+        let answer = proved::held(to_library(sizes), tables, worker);
         none_or_err(differ("tg_held", answer, holding_to_library(holding)))?;
         let answer = proved::drained(to_library(sizes), tables);
         none_or_err(differ("tg_drained", answer, drained_to_library(drained)))
+    }
+
+    /// The minutes of the graph, which reads the jobs table alone.
+    fn check_minutes(&self, sizes: Sizes, jobs: &[u32]) -> Result<(), String> {
+        let long_enough = jobs.len() >= layout::words_needed(self.graph.sizes())[JOBS];
+        let minutes = self.graph.minutes(sizes).map_err(|refusal| refusal.number);
+        let expected = if long_enough { minutes } else { Err(refusal::SIZE) };
+        let answer = proved::minutes_of_graph(to_library(sizes), jobs);
+        none_or_err(differ("tg_minutes_of_graph", answer, minutes_to_library(expected)))
     }
 
     /// The graph is drained exactly if no call is half done and every job that entered is finished.
@@ -396,10 +421,15 @@ impl World {
         none_or_err(job.into_iter().next().or(holds).or(count))
     }
 
+    /// The board over the graph, and that over a row of its jobs by the minutes that stand in it.
     fn check_totals(&self) -> Result<(), String> {
-        let words: Vec<u32> = self.graph.jobs().iter().flat_map(|job| [job.label as u32, job.class]).collect();
-        let answer = proved::totals_of_graph(to_library(self.graph.sizes()), self.tables.words(JOBS));
-        let expected = compare_sheets::totals::expected(totals::of_words(&words));
-        none_or_err(differ("tg_totals_of_graph", answer, expected))
+        let sizes = self.graph.sizes();
+        let answer = proved::totals_of_graph(to_library(sizes), self.tables.words(JOBS));
+        let expected = compare_sheets::totals::expected(self.graph.totals(sizes));
+        none_or_err(differ("tg_totals_of_graph", answer, expected))?;
+        let record = |job: &graph::Job| proved::JobRecord { label: job.label as u32, class: job.class };
+        let records: Vec<proved::JobRecord> = self.graph.jobs().iter().map(record).collect();
+        let answer = proved::totals_by_minutes(&records, layout::stored_minutes(self.tables.words(JOBS)));
+        none_or_err(differ("tg_totals_by_minutes, beside the graph's board", answer, expected))
     }
 }

@@ -47,7 +47,22 @@ fn the_index_meets_damage() {
     println!("\nall ways of the index met in {number} damaged histories");
 }
 
-/// How the library answers the whole calls of a history.
+/// What the comparison must meet of the board: served and refused by 1; by 9 for wrong minutes, and for other words where
+/// the minutes are right.
+#[test]
+fn the_board_meets_damage() {
+    let mut due = vec![(0, 0), (1, 1), (9, 9), (9, 0)];
+    let (mut number, met) = (0, Met::default());
+    while !due.is_empty() && number < 4_000 {
+        assert_eq!(damaged::first_fault(&damaged::numbered(1993, number), &met), None, "in history {number}");
+        due.retain(|board| !met.has_board(board));
+        number += 1;
+    }
+    assert!(due.is_empty(), "never met in {number} histories: {due:?}");
+    println!("\nall answers of boards and minutes met in {number} damaged histories");
+}
+
+/// How the library answers the whole calls and the loads of a history.
 fn ways_of(history: History) -> BTreeSet<(&'static str, u32)> {
     let mut met = BTreeSet::new();
     let (mut tables, mut sizes) = (Tables::new(&history.setup), history.setup.sizes);
@@ -69,11 +84,12 @@ fn ways_of(history: History) -> BTreeSet<(&'static str, u32)> {
 }
 
 /// What the comparison must meet of whole calls: damage before and in the middle of each, entries after such a middle,
-/// which get 3, and a finish that uses up its steps.
+/// which get 3, and a finish that uses up its steps; and loads answered by each of their numbers.
 #[test]
 fn whole_calls_meet_damage() {
     let mut due =
         BTreeSet::from([("add", 9), ("finish", 9), ("finish", HALF_LEFT), ("sheet", 9), ("entry", 9), ("entry", 3)]);
+    due.extend([0, 1, 17, 9, 18].map(|number| ("load", number)));
     let mut number = 0;
     while !due.is_empty() && number < 4_000 {
         let met = ways_of(damaged::numbered(1993, number));

@@ -29,10 +29,10 @@ fn random_histories() {
     comparison.finish();
 }
 
-/// A comparison says nothing of what it never meets: whole calls and the entries of sheets are answered by each number
-/// that there is without damage.
+/// A comparison says nothing of what it never meets: whole calls, the entries of sheets and loads are answered by each
+/// number that there is without damage.
 #[test]
-fn whole_calls_are_answered_in_every_way() {
+fn whole_calls_and_loads_are_answered_in_every_way() {
     let mut met = BTreeSet::new();
     for number in 0..300 {
         let history = generate::history(&mut Random::nth(1993, "ways", number));
@@ -51,6 +51,7 @@ fn whole_calls_are_answered_in_every_way() {
         .chain(numbers("finish", &[0, 1, 2, 3, 11]))
         .chain(numbers("sheet", &[0, 1, 2, 3, 16]))
         .chain(numbers("entry", &[0, 5, 6, 7, 8]))
+        .chain(numbers("load", &[0, 1, 17, 18]))
         .collect();
     assert_eq!(met, expected);
 }

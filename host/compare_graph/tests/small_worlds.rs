@@ -34,6 +34,18 @@ const WHOLE_CALLS: [Call; 6] = [
     Call::Sheet(&[(4, &[5]), (5, &[1, 2]), (4, &[5])]),
 ];
 
+/// Right values, others as right, the least and the greatest, one too few and one over the limit.
+const LOAD_CALLS: [Call; 8] = [
+    Call::Load { first: 7, values: 16 },
+    Call::Load { first: 1_425, values: 16 },
+    Call::Load { first: 0, values: 16 },
+    Call::Load { first: 1_426, values: 16 },
+    Call::Load { first: 1, values: 15 },
+    Call::Get,
+    Call::WholeAdd { name: 4, list: &[] },
+    Call::Add { name: 5, list: &[] },
+];
+
 /// A whole add by worker 0, in steps.
 fn whole_add(name: u32, list: &[u32]) -> Vec<Event> {
     let steps = (0..2 * list.len() + 2).map(|_| Item::Step { worker: 0 });
@@ -76,6 +88,13 @@ fn every_order_of_two_scripts() {
 fn every_order_beside_whole_calls() {
     let test = "graph, every order of the turns of two scripts, one with whole calls";
     every_order(test, [&scripts(&CALLS, 2), &scripts(&WHOLE_CALLS, 3)], MOST_WHOLE_TURNS);
+}
+
+/// One worker takes single steps, and the other loads minutes among its calls: between a post and its steps too.
+#[test]
+fn every_order_beside_loads() {
+    let test = "graph, every order of the turns of two scripts, one with loads";
+    every_order(test, [&scripts(&CALLS, 2), &scripts(&LOAD_CALLS, 3)], MOST_WHOLE_TURNS);
 }
 
 /// Takes each pair of scripts that has not too many turns in every order of their turns.

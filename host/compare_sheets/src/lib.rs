@@ -7,6 +7,7 @@ pub mod case;
 pub mod guarded;
 pub mod inputs;
 pub mod measures;
+pub mod minute_values;
 pub mod random;
 pub mod reading;
 pub mod round_trip;

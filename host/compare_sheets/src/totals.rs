@@ -23,10 +23,7 @@ impl Case for Row {
         if words.is_some() || self.words.len() % 2 != 0 {
             return words;
         }
-        let pairs = || self.words.chunks_exact(2);
-        let lent: Vec<JobRecord> = pairs().map(|pair| JobRecord { label: pair[0], class: pair[1] }).collect();
-        let records: Vec<totals::Record> =
-            pairs().map(|pair| totals::Record { label: pair[0], class: pair[1] }).collect();
+        let (lent, records) = records_of(&self.words);
         differ("tg_totals_of_records", taskgraph::raw::totals_of_records(&lent), expected(totals::of_records(&records)))
     }
 
@@ -37,6 +34,46 @@ impl Case for Row {
 
     fn show(&self) -> String {
         format!("{} words, label and class in hexadecimal:{}", self.words.len(), shrink::hex_words(&self.words, 32))
+    }
+}
+
+/// The whole records of a row of words, as the library and as the second implementation take them.
+fn records_of(words: &[u32]) -> (Vec<JobRecord>, Vec<totals::Record>) {
+    let pairs = || words.chunks_exact(2);
+    let lent = pairs().map(|pair| JobRecord { label: pair[0], class: pair[1] }).collect();
+    (lent, pairs().map(|pair| totals::Record { label: pair[0], class: pair[1] }).collect())
+}
+
+/// A row of records as words, and minute values that may be a district's.
+pub struct ByMinutes {
+    pub words: Vec<u32>,
+    pub minutes: Vec<u32>,
+}
+
+impl Case for ByMinutes {
+    fn difference(&self) -> Option<String> {
+        let (lent, records) = records_of(&self.words);
+        differ(
+            "tg_totals_by_minutes",
+            taskgraph::raw::totals_by_minutes(&lent, &self.minutes),
+            expected(totals::by_minutes(&records, &self.minutes)),
+        )
+    }
+
+    fn smaller(&self) -> Box<dyn Iterator<Item = Self> + '_> {
+        let words = shrink::shorter(&self.words, 2).chain(shrink::lower_words(&self.words));
+        let minutes = shrink::shorter(&self.minutes, 1).chain(shrink::lower_words(&self.minutes));
+        Box::new(
+            words
+                .map(|words| ByMinutes { words, minutes: self.minutes.clone() })
+                .chain(minutes.map(|minutes| ByMinutes { words: self.words.clone(), minutes })),
+        )
+    }
+
+    fn show(&self) -> String {
+        let ByMinutes { words, minutes } = self;
+        let row = shrink::hex_words(words, 32);
+        format!("minutes {minutes:?}, {} words, label and class in hexadecimal:{row}", words.len())
     }
 }
 

@@ -1,6 +1,11 @@
 //! The board of totals: the library and the second implementation answer alike.
 
-use compare_sheets::{case::Comparison, inputs, random::Random, totals::Row};
+use compare_sheets::{
+    case::Comparison,
+    inputs, minute_values,
+    random::Random,
+    totals::{ByMinutes, Row},
+};
 use second_implementation::totals::MAX_RECORDS;
 
 /// `len` words of records with labels and classes on their limits.
@@ -62,6 +67,63 @@ fn rows_around_the_longest() {
             comparison.check(Row { words });
         }
         comparison.check(Row { words: [2, 15].iter().copied().cycle().take(len).collect() });
+    }
+    comparison.finish();
+}
+
+#[test]
+fn rows_by_minutes() {
+    let (mut comparison, mut random) = Comparison::new("totals, rows by a district's minutes");
+    for _ in 0..40_000 {
+        let len = 2 * random.below(40);
+        let mut words = row(&mut random, len);
+        if len > 0 && random.once_in(4) {
+            words[random.below(len)] = inputs::word(&mut random);
+        }
+        let minutes =
+            if random.once_in(3) { minute_values::wrong(&mut random) } else { minute_values::right(&mut random) };
+        comparison.check(ByMinutes { words, minutes });
+    }
+    comparison.finish();
+}
+
+/// Each value at each class, on and off its limits and those of its neighbours.
+#[test]
+fn minutes_of_every_class() {
+    let (mut comparison, mut random) = Comparison::new("totals, minute values of every class");
+    let words = row(&mut random, 64);
+    for _ in 0..20 {
+        let right = minute_values::right(&mut random);
+        for class in 0..right.len() {
+            let near = [right[class.saturating_sub(1)], right[class], right[(class + 1).min(right.len() - 1)]];
+            let around = near.iter().flat_map(|value| [value - 1, *value, value + 1]);
+            for value in around.chain([0, 1, 1_439, 1_440, 1_441, 1 << 16, 1 << 31, u32::MAX]) {
+                let mut minutes = right.clone();
+                minutes[class] = value;
+                comparison.check(ByMinutes { words: words.clone(), minutes });
+            }
+        }
+    }
+    comparison.finish();
+}
+
+/// The order of 1, 17 and 9.
+#[test]
+fn long_rows_by_minutes() {
+    let (mut comparison, mut random) = Comparison::new("totals, rows around 4,096 records by minutes");
+    for records in MAX_RECORDS - 2..=MAX_RECORDS + 2 {
+        for wrong in [false, false, true] {
+            for damaged in [false, false, true] {
+                let mut words = row(&mut random, 2 * records);
+                if damaged {
+                    words[random.below(2 * records)] = u32::MAX;
+                }
+                let minutes = if wrong { minute_values::wrong(&mut random) } else { minute_values::right(&mut random) };
+                comparison.check(ByMinutes { words, minutes });
+            }
+        }
+        let longest = [2, 15].iter().copied().cycle().take(2 * records).collect();
+        comparison.check(ByMinutes { words: longest, minutes: (1_425..=1_440).collect() });
     }
     comparison.finish();
 }

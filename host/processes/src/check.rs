@@ -3,7 +3,7 @@
 use std::{cmp::Reverse, collections::BTreeMap};
 
 use compare_graph::layout::{job, job_at, phase, worker, JOB_WORDS, MADE, PUT, RESERVED, TAKEN, WORKER_WORDS};
-use taskgraph::raw;
+use taskgraph::{Totals, CLASSES};
 
 use crate::{
     log::Line,
@@ -37,13 +37,15 @@ pub struct Check<'a> {
     queued: BTreeMap<usize, usize>,
     /// The job of each hand-out, and how many had been put in the queue before it.
     handed_out: BTreeMap<usize, (usize, usize)>,
+    /// The loads that were taken, and those that were refused since a job had entered.
+    loads: [usize; 2],
 }
 
 impl<'a> Check<'a> {
     /// Reads the logs; a job started twice is a fault.
     pub fn new(plan: &'a Plan, logs: &[String]) -> Result<Check<'a>, String> {
         let records = vec![Record::default(); JOBS];
-        let mut check = Check { plan, records, queued: BTreeMap::new(), handed_out: BTreeMap::new() };
+        let mut check = Check { plan, records, queued: BTreeMap::new(), handed_out: BTreeMap::new(), loads: [0; 2] };
         for line in logs.iter().flat_map(|log| log.lines()) {
             check.take(line.parse()?)?;
         }
@@ -77,6 +79,7 @@ impl<'a> Check<'a> {
             }
             Line::End { name, ticket } => self.record(name)?.end = Some(ticket),
             Line::Finished { name } => self.record(name)?.finished = true,
+            Line::Load { taken } => self.loads[usize::from(!taken)] += 1,
         }
         Ok(())
     }
@@ -97,9 +100,30 @@ impl<'a> Check<'a> {
         Ok(())
     }
 
+    /// The loads that workers tried: how many were taken, and how many refused since a job had entered. Some must be.
+    pub fn loads(&self) -> Result<[usize; 2], String> {
+        match self.loads {
+            [_, 0] => Err("no load was refused".into()),
+            loads => Ok(loads),
+        }
+    }
+
+    /// The board's sums are those of the jobs made, by the minutes that were loaded last.
+    pub fn totals(&self, totals: &Totals, words: &Words, minutes: &[u32; CLASSES]) -> Result<(), String> {
+        let made = words.jobs[MADE] as usize;
+        let class = |number: usize| words.jobs[job_at(number) + job::CLASS] as usize;
+        let expected = (made, (0..made).map(|number| minutes[class(number)]).sum::<u32>());
+        let sums = [totals.unexecuted, totals.executing, totals.finished];
+        let told = (sums.iter().map(|sum| sum.jobs as usize).sum(), sums.iter().map(|sum| sum.minutes).sum());
+        if told != expected {
+            return Err(format!("the board has {told:?} jobs and minutes, not {expected:?}"));
+        }
+        Ok(())
+    }
+
     /// Each hand-out is of the heaviest job that waits then, of equal ones of that which entered the queue first. Answers
     /// how many were of jobs that others had waited longer than.
-    pub fn hand_outs(&self) -> Result<usize, String> {
+    pub fn hand_outs(&self, minutes: &[u32; CLASSES]) -> Result<usize, String> {
         let complete = self.queued.keys().copied().eq(0..self.queued.len())
             && self.handed_out.keys().copied().eq(0..self.handed_out.len());
         if !complete {
@@ -111,7 +135,7 @@ impl<'a> Check<'a> {
             waiting.extend((seen..*put).filter_map(|place| Some((place, *self.queued.get(&place)?))));
             seen = *put;
             // Of equal keys the first is taken.
-            let due = waiting.iter().min_by_key(|(_, job)| Reverse(raw::minutes(self.plan.class(**job))));
+            let due = waiting.iter().min_by_key(|(_, job)| Reverse(minutes[self.plan.class(**job) as usize]));
             let place = match due {
                 Some((place, due)) if due == job => *place,
                 _ => return Err(format!("job {job} was handed out, and {due:?}, place and job, was due")),

@@ -16,6 +16,8 @@ pub enum Line {
     End { name: u32, ticket: u32 },
     /// Its finish ended.
     Finished { name: u32 },
+    /// Minutes were loaded, or refused since a job had entered.
+    Load { taken: bool },
 }
 
 impl fmt::Display for Line {
@@ -27,6 +29,7 @@ impl fmt::Display for Line {
             Line::Start { name, ticket } => write!(f, "start {name} {ticket}"),
             Line::End { name, ticket } => write!(f, "end {name} {ticket}"),
             Line::Finished { name } => write!(f, "finished {name}"),
+            Line::Load { taken } => f.write_str(if *taken { "loaded" } else { "not-loaded" }),
         }
     }
 }
@@ -47,6 +50,8 @@ impl FromStr for Line {
             ["start", name, ticket] => Ok(Line::Start { name: number(name)?, ticket: number(ticket)? }),
             ["end", name, ticket] => Ok(Line::End { name: number(name)?, ticket: number(ticket)? }),
             ["finished", name] => Ok(Line::Finished { name: number(name)? }),
+            ["loaded"] => Ok(Line::Load { taken: true }),
+            ["not-loaded"] => Ok(Line::Load { taken: false }),
             _ => Err(format!("not a line of a log: {text}")),
         }
     }

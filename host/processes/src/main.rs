@@ -1,7 +1,9 @@
 //! Sixteen worker processes over one graph in shared memory, with the lock round each call and each step: 4,096 jobs
 //! with 32,768 arcs, jobs of random length. Some workers take single steps, some run their calls whole, and some add by
-//! sheets. Afterwards the workers' logs say whether a job was taken before its prerequisites, twice, or before a heavier
-//! one. Then the same with a worker killed between two calls at a random moment, after which the others go on.
+//! sheets. A district's minutes are loaded at the start, and all workers try to load their own as they work, which is
+//! refused once a job has entered. Afterwards the workers' logs say whether a job was taken before its prerequisites,
+//! twice, or before a heavier one. Then the same with a worker killed between two calls at a random moment, after which
+//! the others go on.
 //!
 //! usage: processes [RUNS]      RUNS with a killed worker, 8 if it is not said
 
@@ -23,9 +25,9 @@ use std::{
 
 use check::{Check, Words};
 use compare_sheets::random::{seed, Random};
-use plan::Plan;
+use plan::{Plan, FIRST_LOADER};
 use shared::{Fallible, Shared, JOBS, WORKERS};
-use taskgraph::TaskGraph;
+use taskgraph::{TaskGraph, CLASSES};
 use worker::Worker;
 
 /// A run that takes so long hangs.
@@ -104,6 +106,7 @@ impl Run {
         let folder = env::temp_dir().join(format!("taskgraph-processes-{}-{seed}", process::id()));
         fs::create_dir(&folder)?;
         let shared = Shared::create(&folder)?;
+        shared.lock()?.load(FIRST_LOADER, &Plan::new(seed).minutes(FIRST_LOADER))?;
         Ok(Run { seed, folder, shared, workers: Vec::new() })
     }
 
@@ -123,16 +126,21 @@ impl Run {
         let logs: Result<Vec<String>, _> = (0..WORKERS).map(|worker| fs::read_to_string(self.log(worker))).collect();
         let check = Check::new(&plan, &logs?)?;
         check.order()?;
-        let overtaking = check.hand_outs()?;
+        let minutes = self.minutes(&plan)?;
+        let overtaking = check.hand_outs(&minutes)?;
         check.progress(killed)?;
-        check.tables(&self.words()?, killed)?;
+        let words = self.words()?;
+        check.tables(&words, killed)?;
+        check.totals(&self.shared.lock()?.graph.totals()?, &words, &minutes)?;
+        let [taken, refused] = check.loads()?;
         if !kill && !self.shared.lock()?.graph.drained()? {
             return Err("the graph is not drained".into());
         }
         Ok(format!(
             "{} of {JOBS} jobs finished by {WORKERS} processes, {overtaking} handed out before others that waited longer, \
-             in {:.1} s",
+             {} loads of minutes taken and {refused} refused, in {:.1} s",
             check.finished(),
+            1 + taken,
             took.as_secs_f64()
         ))
     }
@@ -188,6 +196,16 @@ impl Run {
             }
         }
         Ok(())
+    }
+
+    /// The minutes that stand in the graph, which are those loaded last.
+    fn minutes(&self, plan: &Plan) -> Fallible<[u32; CLASSES]> {
+        let held = self.shared.lock()?;
+        let (minutes, loaded) = (held.graph.minutes()?, plan.minutes(held.loader()?));
+        if minutes[..] != loaded {
+            return Err(format!("the graph has the minutes {minutes:?}, not {loaded:?}").into());
+        }
+        Ok(minutes)
     }
 
     fn words(&self) -> Fallible<Words> {

@@ -1,16 +1,21 @@
-//! The jobs that the workers add: 4,096 with 32,768 listed names, the same in each process by the seed.
+//! The jobs that the workers add: 4,096 with 32,768 listed names, the same in each process by the seed; and the minutes
+//! that each process loads.
 
 use std::collections::HashMap;
 
-use compare_sheets::random::Random;
+use compare_sheets::{minute_values, random::Random};
 use taskgraph::{raw::MAX_NAMES, Job};
 
-use crate::shared::{ARCS, JOBS};
+use crate::shared::{ARCS, JOBS, WORKERS};
+
+/// Who loads minutes before the workers start.
+pub const FIRST_LOADER: usize = WORKERS;
 
 /// Most prerequisites lie at most so many jobs back.
 const NEAR: usize = 200;
 
 pub struct Plan {
+    seed: u64,
     /// The prerequisites of each job, which have lower numbers.
     pub lists: Vec<Vec<usize>>,
     names: Vec<u32>,
@@ -37,7 +42,12 @@ impl Plan {
         let names: Vec<u32> = (0..JOBS as u32).map(|job| job.wrapping_mul(0x9e37_79b1).wrapping_add(start)).collect();
         let numbers = names.iter().copied().zip(0..).collect();
         let classes = (0..JOBS).map(|_| random.below(16) as u32).collect();
-        Plan { lists, names, classes, numbers }
+        Plan { seed, lists, names, classes, numbers }
+    }
+
+    /// The minutes that a worker, or `FIRST_LOADER`, loads.
+    pub fn minutes(&self, loader: usize) -> Vec<u32> {
+        minute_values::right(&mut Random::nth(self.seed, "the minutes of the processes", loader as u64))
     }
 
     /// The number of the job of a name, if it is one of the plan's.

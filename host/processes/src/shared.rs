@@ -8,8 +8,8 @@ use std::{
     path::Path,
 };
 
-use compare_graph::layout::{cell_at, job, job_at, PUT, TAKEN};
-use taskgraph::{Locked, SharedGraph, Sizes, TaskGraph};
+use compare_graph::layout::{cell_at, job, job_at, MADE, PUT, TAKEN};
+use taskgraph::{Locked, Refusal, SharedGraph, Sizes, TaskGraph};
 
 pub const WORKERS: usize = 16;
 pub const JOBS: usize = 4_096;
@@ -17,13 +17,15 @@ pub const ARCS: usize = 32_768;
 
 const SIZES: Sizes = Sizes { jobs: JOBS as u32, arcs: ARCS as u32, bits: 8, workers: WORKERS as u32 };
 
-/// The words: the next ticket, the next job to add, a bit for each dead worker, the next place of the queue to look at, a
-/// word for each worker that is busy, and a word for each job's add. A word not yet written is 0.
+/// The words: the next ticket, the next job to add, a bit for each dead worker, the next place of the queue to look at,
+/// who loaded minutes last, a word for each worker that is busy, and a word for each job's add. A word that is not yet
+/// written is 0.
 const TICKET: usize = 0;
 const NEXT: usize = 1;
 const DEAD: usize = 2;
 const SEEN: usize = 3;
-const BUSY: usize = 4;
+const LOADER: usize = 4;
+const BUSY: usize = 5;
 const ADDS: usize = BUSY + WORKERS;
 const WORDS: usize = ADDS + JOBS;
 
@@ -80,6 +82,32 @@ impl Held<'_> {
 
     fn set(&self, place: usize, value: u32) -> Fallible<()> {
         Ok(self.words.write_all_at(&value.to_le_bytes(), 4 * place as u64)?)
+    }
+
+    /// Loads minutes, and says whether they were taken: they must be exactly if no job has entered.
+    pub fn load(&mut self, loader: usize, minutes: &[u32]) -> Fallible<bool> {
+        let entered = self.graph.words()[0][MADE] > 0;
+        match self.graph.load_minutes(minutes) {
+            Ok(()) if !entered => {
+                self.set(LOADER, loader as u32)?;
+                Ok(true)
+            }
+            Err(Refusal::Entered) if entered => Ok(false),
+            answer => Err(format!("a load was answered {answer:?}, and that a job has entered is {entered}").into()),
+        }
+    }
+
+    /// Tries to load minutes that are none, which is refused whether a job has entered or not.
+    pub fn load_wrong(&mut self, minutes: &[u32]) -> Fallible<()> {
+        match self.graph.load_minutes(minutes) {
+            Err(Refusal::Minutes) => Ok(()),
+            answer => Err(format!("a load of {minutes:?} was answered {answer:?}").into()),
+        }
+    }
+
+    /// Who loaded the minutes that stand in the graph.
+    pub fn loader(&self) -> Fallible<usize> {
+        Ok(self.word(LOADER)? as usize)
     }
 
     /// How many tickets were given out.

@@ -9,7 +9,7 @@ use std::{
     time::{Duration, Instant},
 };
 
-use compare_sheets::random::Random;
+use compare_sheets::{minute_values, random::Random};
 use taskgraph::{raw::MAX_ENTRIES, Job, Progress, Refusal, TaskGraph};
 
 use crate::{
@@ -54,7 +54,11 @@ impl Worker {
     }
 
     pub fn run(mut self) -> Fallible<()> {
+        self.load()?;
         loop {
+            if self.random.once_in(32) {
+                self.load()?;
+            }
             // Mostly adding at first, so that many prerequisites are still unfinished when they are linked.
             if !self.random.once_in(8) {
                 self.claim()?;
@@ -82,6 +86,18 @@ impl Worker {
                 }
             }
         }
+    }
+
+    /// Tries to load minutes of its own, and now and then wrong ones.
+    fn load(&mut self) -> Fallible<()> {
+        if self.random.once_in(4) {
+            let wrong = minute_values::wrong(&mut self.random);
+            self.shared.lock()?.load_wrong(&wrong)?;
+        }
+        let number = self.number as usize;
+        let mut held = self.shared.lock()?;
+        let taken = held.load(number, &self.plan.minutes(number))?;
+        self.write(Line::Load { taken })
     }
 
     fn write(&self, line: Line) -> Fallible<()> {

@@ -10,10 +10,10 @@ use std::cmp::Reverse;
 
 use crate::{
     bucket::bucket,
-    minutes::minutes,
+    minutes::Minutes,
     refusal,
     sheet::{Entry, MAX_CLASS, MAX_GROWER},
-    totals::Label,
+    totals::{self, Label, Record, Totals, TotalsError},
 };
 
 /// The limits of the sizes.
@@ -55,6 +55,7 @@ pub fn refused<T>(number: u32) -> Result<T, Refusal> {
 /// What a call that is not turned away answers.
 #[derive(Clone, Copy, Debug, PartialEq, Eq)]
 pub enum Reply {
+    Loaded,
     Posted,
     GoingOn,
     Ended,
@@ -148,10 +149,11 @@ pub struct Graph {
     /// All jobs ever put in the queue, in order; those that are not handed out yet wait.
     queue: Vec<usize>,
     workers: Vec<Worker>,
+    minutes: Minutes,
 }
 
 impl Graph {
-    /// A fresh graph.
+    /// A fresh graph, with the fixed minutes.
     pub fn lay_out(sizes: Sizes) -> Result<Graph, Refusal> {
         if !sizes.within_limits() {
             return refused(refusal::SIZE);
@@ -163,6 +165,7 @@ impl Graph {
             buckets: vec![Vec::new(); 1 << sizes.bits],
             queue: Vec::new(),
             workers: vec![Worker::default(); sizes.workers as usize],
+            minutes: Minutes::FIXED,
         })
     }
 
@@ -201,6 +204,40 @@ impl Graph {
     /// The job of a name.
     pub fn find(&self, name: u32) -> Option<usize> {
         self.bucket(bucket(name, self.sizes.bits) as usize).find(|job| self.jobs[*job].name == name)
+    }
+
+    /// The minutes that stand in the graph.
+    pub fn minutes(&self, sizes: Sizes) -> Result<Minutes, Refusal> {
+        if sizes != self.sizes {
+            return refused(refusal::SIZE);
+        }
+        Ok(self.minutes)
+    }
+
+    /// The board over the jobs made, by the minutes that stand in the graph.
+    pub fn totals(&self, sizes: Sizes) -> Result<Totals, TotalsError> {
+        if sizes != self.sizes {
+            return Err(TotalsError::Size);
+        }
+        let record = |job: &Job| Record { label: job.label as u32, class: job.class };
+        let records: Vec<Record> = self.jobs.iter().map(record).collect();
+        totals::by_minutes(&records, self.minutes.values())
+    }
+
+    /// Loads a district's minutes, before the first job enters. It has no worker.
+    pub fn load_minutes(&mut self, sizes: Sizes, values: &[u32]) -> Answer {
+        if sizes != self.sizes {
+            return refused(refusal::SIZE);
+        }
+        let minutes = match Minutes::of(values) {
+            Some(minutes) => minutes,
+            None => return refused(refusal::MINUTES),
+        };
+        if !self.jobs.is_empty() {
+            return refused(refusal::ENTERED);
+        }
+        self.minutes = minutes;
+        Ok(Reply::Loaded)
     }
 
     pub fn post_add(&mut self, sizes: Sizes, worker: u32, entry: &Entry) -> Answer {
@@ -255,7 +292,7 @@ impl Graph {
     fn heaviest(&self) -> Option<usize> {
         let waiting = self.queue.iter().copied().filter(|job| self.waits(*job));
         // Of equal keys the first is taken.
-        waiting.min_by_key(|job| Reverse(minutes(self.jobs[*job].class)))
+        waiting.min_by_key(|job| Reverse(self.minutes.of_class(self.jobs[*job].class)))
     }
 
     pub fn held(&self, sizes: Sizes, worker: u32) -> Result<Holding, Refusal> {

@@ -44,6 +44,10 @@ pub enum Item {
         entries: Vec<Entry>,
         stray: usize,
     },
+    /// A load of minute values, which has no worker and is no call of the book.
+    Load {
+        minutes: Vec<u32>,
+    },
 }
 
 /// What an item is answered.
@@ -130,7 +134,7 @@ impl History {
                 let adds = entries.iter().zip(answers);
                 adds.for_each(|(entry, answer)| self.whole(*worker, Request::Add(*entry), answer));
             }
-            (Item::AddSheet { .. }, Told::Each(Err(_))) => {}
+            (Item::AddSheet { .. }, Told::Each(Err(_))) | (Item::Load { .. }, Told::One(_)) => {}
             _ => panic!("{item:?} is not answered by {told:?}"),
         }
     }

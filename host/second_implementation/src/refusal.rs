@@ -32,3 +32,7 @@ pub const VALUE: u32 = 14;
 pub const NO_ROOM: u32 = 15;
 /// A sheet of more entries than one call takes.
 pub const TOO_MANY_ENTRIES: u32 = 16;
+/// Minute values that do not rise strictly from class to class, or leave 1 to 1,440.
+pub const MINUTES: u32 = 17;
+/// A load after a job has entered.
+pub const ENTERED: u32 = 18;

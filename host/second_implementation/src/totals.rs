@@ -3,7 +3,7 @@
 
 use std::fmt;
 
-use crate::{minutes::minutes, refusal};
+use crate::{minutes::Minutes, refusal};
 
 /// The most records that the board takes.
 pub const MAX_RECORDS: usize = 4_096;
@@ -50,9 +50,9 @@ impl Totals {
         self.sums[label as usize]
     }
 
-    fn count(&mut self, record: Record) -> Result<(), TotalsError> {
+    fn count(&mut self, record: Record, minutes: &Minutes) -> Result<(), TotalsError> {
         let label = Label::from_word(record.label).ok_or(TotalsError::Damaged)?;
-        let minutes = minutes(record.class).ok_or(TotalsError::Damaged)?;
+        let minutes = minutes.of_class(record.class).ok_or(TotalsError::Damaged)?;
         let sum = &mut self.sums[label as usize];
         sum.jobs += 1;
         sum.minutes += minutes;
@@ -65,6 +65,8 @@ impl Totals {
 pub enum TotalsError {
     /// More than [`MAX_RECORDS`] records, or words that do not make whole records.
     Size,
+    /// Minutes that no district can load.
+    Minutes,
     /// A record with a wrong label or class.
     Damaged,
 }
@@ -73,6 +75,7 @@ impl TotalsError {
     pub fn number(self) -> u32 {
         match self {
             TotalsError::Size => refusal::SIZE,
+            TotalsError::Minutes => refusal::MINUTES,
             TotalsError::Damaged => refusal::DAMAGED,
         }
     }
@@ -82,6 +85,7 @@ impl fmt::Display for TotalsError {
     fn fmt(&self, f: &mut fmt::Formatter<'_>) -> fmt::Result {
         f.write_str(match self {
             TotalsError::Size => "the row has a wrong size",
+            TotalsError::Minutes => "the minutes do not rise or leave their limits",
             TotalsError::Damaged => "a record has a wrong label or class",
         })
     }
@@ -89,19 +93,25 @@ impl fmt::Display for TotalsError {
 
 impl std::error::Error for TotalsError {}
 
-/// The totals of a row of records.
+/// The totals of a row of records, by the fixed minutes.
 pub fn of_records(records: &[Record]) -> Result<Totals, TotalsError> {
+    by_minutes(records, Minutes::FIXED.values())
+}
+
+/// The totals of a row of records, by a district's minutes.
+pub fn by_minutes(records: &[Record], minutes: &[u32]) -> Result<Totals, TotalsError> {
     if records.len() > MAX_RECORDS {
         return Err(TotalsError::Size);
     }
+    let minutes = Minutes::of(minutes).ok_or(TotalsError::Minutes)?;
     let mut totals = Totals::default();
     for record in records {
-        totals.count(*record)?;
+        totals.count(*record, &minutes)?;
     }
     Ok(totals)
 }
 
-/// The totals of a row of records given as words: label, class, label, class and so on.
+/// The totals of a row of records given as words, by the fixed minutes: label, class, label, class and so on.
 pub fn of_words(words: &[u32]) -> Result<Totals, TotalsError> {
     let pairs = words.chunks_exact(2);
     if !pairs.remainder().is_empty() {
@@ -139,6 +149,21 @@ mod tests {
         assert_eq!(of_words(&[0, 16]), Err(TotalsError::Damaged));
         assert_eq!(of_words(&[0, 0, 1, 1, 2, u32::MAX]), Err(TotalsError::Damaged));
         assert_eq!(TotalsError::Damaged.number(), 9);
+    }
+
+    #[test]
+    fn a_districts_minutes() {
+        let district: Vec<u32> = (1..=16).map(|value| 10 * value).collect();
+        let records = [(0, 0), (2, 15), (1, 3), (2, 15)].map(|(label, class)| Record { label, class });
+        let totals = by_minutes(&records, &district).unwrap();
+        assert_eq!(totals.under(Label::Unexecuted), sum(1, 10));
+        assert_eq!(totals.under(Label::Executing), sum(1, 40));
+        assert_eq!(totals.under(Label::Finished), sum(2, 320));
+        let wrong = [Record { label: 3, class: 0 }];
+        assert_eq!(by_minutes(&wrong, &district), Err(TotalsError::Damaged));
+        assert_eq!(by_minutes(&wrong, &district[1..]), Err(TotalsError::Minutes));
+        assert_eq!(by_minutes(&[wrong[0]; 4_097], &district[1..]), Err(TotalsError::Size));
+        assert_eq!(TotalsError::Minutes.number(), 17);
     }
 
     #[test]

@@ -8,7 +8,7 @@ use borrow.Author.Needs.{needs}
 use denote.Enum.Declared.{tagOf}
 use Rattle.terms.specs.declared.Answer.{Answer}
 use Rattle.terms.proofs.Answer.{the-type}
-use Rattle.terms.specs.declared.Answer.the-variants.{Laid, Posted, Going, Ended, NoneReady, Handed, Refused}
+use Rattle.terms.specs.declared.Answer.the-variants.{Laid, Loaded, Posted, Going, Ended, NoneReady, Handed, Refused}
 use Rattle.day_told.specs.Told.{told, toldOf}
 use Rattle.day_told.proofs.tell.Statement.{statement}
 use Rattle.day_told.proofs.tell.Tie as tie
@@ -27,16 +27,17 @@ returns-2 c = rw (c .before .answer2 .given .1)
 
 -- the answers that are neither
 abbrev others : List ℕ
-others = 0 ∷ 1 ∷ 2 ∷ 3 ∷ 4 ∷ []
+others = 0 ∷ 1 ∷ 2 ∷ 3 ∷ 4 ∷ 5 ∷ []
 
 neither : (a : Answer) → OneOf others (tagOf the-type a) → told false false 0 ≡ toldOf a
 neither Laid h = refl
+neither Loaded h = refl
 neither Posted h = refl
 neither Going h = refl
 neither Ended h = refl
 neither NoneReady h = refl
-neither (Handed x) h = absurd (miss others 5 tt h)
-neither (Refused n p) h = absurd (miss others 6 tt h)
+neither (Handed x) h = absurd (miss others 6 tt h)
+neither (Refused n p) h = absurd (miss others 7 tt h)
 
 returns-3 : tie.Need-returns-3
 returns-3 c = neither (c .before .args .answer) (c .match .keys3)

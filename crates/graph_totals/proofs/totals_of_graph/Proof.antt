@@ -1,20 +1,20 @@
 -- `graph_totals::totals_of_graph` meets its contract: the code's tests are the definition's, and the graph's row stands
 -- in its table of jobs. Assumes nothing.
-use mathlib.Core.Path.{_≡_, refl, sym, _∙_}
-use mathlib.Core.Bool.{true, and-eq-true-iff}
+use mathlib.Core.Path.{_≡_, refl}
+use mathlib.Core.Bool.{true}
 use mathlib.Core.List.{List}
 use Prim.Native.Nat.{ℕ, zero, suc, _+_, _*_, _≤_}
 use native.Mathlib.Nat.{mul-le-mul-left}
 use native.Mathlib.Omega.{arith}
 use borrow.Author.Needs.{needs}
-use borrow.Author.Tests.{le-leb, lt-leb, leb-true}
+use borrow.Author.Tests.{le-leb, lt-leb}
 use lib.ListN.{length}
-use Rattle.terms.specs.Terms.{withinLimits}
 use Rattle.terms.specs.declared.Sizes.{Sizes}
 use Rattle.totals.specs.Board.{recordsFrom, recordAt, standsInTable, totalsOfTable}
 use Rattle.words.specs.Columns.{columns}
-use Rattle.words.specs.Layout.{jobShape, need, sizesKept, LABEL, CLASS}
+use Rattle.words.specs.Layout.{jobShape, LABEL, CLASS}
 use Rattle.graph_board.specs.Board.{rowsFrom, jobsFit, graphTotals}
+use Rattle.graph_totals.proofs.Stored.{fit-room, served, not-served}
 use Rattle.graph_totals.proofs.totals_of_graph.Statement.{statement}
 use Rattle.graph_totals.proofs.totals_of_graph.Tie as tie
 
@@ -29,16 +29,12 @@ graph-rows jobs j (suc n) = rw (graph-rows jobs (suc j) n)
 -- a table with room for all jobs has room for those that were made
 made-stand : (s : Sizes) (jobs : List ℕ) (made : ℕ) → jobsFit s jobs ≡ true → made ≤ s .jobs
     → standsInTable (jobShape .head) (jobShape .width) LABEL CLASS jobs made ≡ true
-unfolding jobsFit
 made-stand s jobs made fit few =
-    let before-kept = and-eq-true-iff _ (sizesKept s jobs) .0 fit .0 in
-    let fits = and-eq-true-iff (withinLimits s) _ .0 before-kept .1 in
-    let room = leb-true (need jobShape (s .jobs)) (length jobs) fits in
     le-leb (jobShape .head + jobShape .width * made) (length jobs)
-    (omega (arith, room, mul-le-mul-left (jobShape .width) few))
+    (omega (arith, fit-room s jobs fit, mul-le-mul-left (jobShape .width) few))
 
-jobs-fit-requires : tie.Need-jobs-fit-requires
-jobs-fit-requires c κs = search needs
+minutes-of-graph-requires : tie.Need-minutes-of-graph-requires
+minutes-of-graph-requires c κs = search needs
 
 header-requires : tie.Need-header-requires
 header-requires c κs = search needs
@@ -59,39 +55,42 @@ returns : tie.Need-returns
 unfolding graphTotals totalsOfTable
 returns c =
     let c4 = c .before .before .before .before in
+    let a = c4 .before .before .before .args in
     let made = c .before .before .before .header .result in
-    let s = c4 .before .before .before .args .sizes in
-    let taken = c4 .if1 .taken in
-    let fit = sym (c4 .before .jobs-fit .ensures) ∙ taken in
+    let by = c4 .before .minutes-of-graph in
+    let ok = served (a .sizes) (a .jobs .now) (by .result) (by .ensures) (c4 .if1 .taken) in
     rw (
-      ← c4 .before .jobs-fit .ensures,
-      c4 .if1 .taken,
+      ok .fit,
       ← c .before .before .before .header .ensures,
-      le-leb made (s .jobs) (omega arith),
+      le-leb made (a .sizes .jobs) (omega arith),
+      ok .passes,
       ← (graph-rows _ 0 _),
     )
-    (rw (made-stand s _ made fit (omega arith)) at (c .of-table .ensures))
+    (rw (made-stand (a .sizes) _ made (ok .fit) (omega arith), ok .stored) at
+    (c .of-table .ensures (rw (ok .stored) (ok .passes))))
 
 returns-2 : tie.Need-returns-2
 unfolding graphTotals
 returns-2 c =
     let c4 = c .before .before .before .before in
+    let a = c4 .before .before .before .args in
     let made = c .before .before .before .header .result in
-    let s = c4 .before .before .before .args .sizes in
+    let by = c4 .before .minutes-of-graph in
+    let ok = served (a .sizes) (a .jobs .now) (by .result) (by .ensures) (c4 .if1 .taken) in
     rw (
-      ← c4 .before .jobs-fit .ensures,
-      c4 .if1 .taken,
+      ok .fit,
       ← c .before .before .before .header .ensures,
-      lt-leb made (s .jobs) (omega arith),
+      lt-leb made (a .sizes .jobs) (omega arith),
     )
     (c .blank .ensures)
 
 returns-3 : tie.Need-returns-3
-unfolding graphTotals
-returns-3 c = rw (← c .before .before .jobs-fit .ensures, c .before .if1 .left) (c .blank2 .ensures)
+returns-3 c =
+    let by = c .before .before .minutes-of-graph in
+    not-served _ _ (by .result) (by .ensures) (c .before .if1 .left) (c .blank2 .ensures)
 
 pub totals-of-graph-spec : {M : Type 1} → statement M
 totals-of-graph-spec =
     tie.close
-    (tie.spec jobs-fit-requires header-requires cast-of-table of-table-requires blank-requires blank-requires-2
-    returns returns-2 returns-3)
+    (tie.spec minutes-of-graph-requires header-requires cast-of-table of-table-requires blank-requires
+    blank-requires-2 returns returns-2 returns-3)

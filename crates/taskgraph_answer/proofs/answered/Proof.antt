@@ -36,6 +36,12 @@ enum-told-5 c = search needs
 plain-requires-5 : tie.Need-plain-requires-5
 plain-requires-5 c κs = search needs
 
+enum-told-6 : tie.Need-enum-told-6
+enum-told-6 c = search needs
+
+plain-requires-6 : tie.Need-plain-requires-6
+plain-requires-6 c κs = search needs
+
 enum-known-answer : tie.Need-enum-known-answer
 enum-known-answer c = search needs
 
@@ -58,14 +64,17 @@ returns-5 : tie.Need-returns-5
 returns-5 c = c .plain5 .ensures ∙ ap graphAnswer (sym (c .before .enum-told5 .given .1))
 
 returns-6 : tie.Need-returns-6
-returns-6 c = ap graphAnswer (sym (c .before .answer .given .1))
+returns-6 c = c .plain6 .ensures ∙ ap graphAnswer (sym (c .before .enum-told6 .given .1))
 
 returns-7 : tie.Need-returns-7
-returns-7 c = ap graphAnswer (sym (c .before .answer2 .given .1))
+returns-7 c = ap graphAnswer (sym (c .before .answer .given .1))
+
+returns-8 : tie.Need-returns-8
+returns-8 c = ap graphAnswer (sym (c .before .answer2 .given .1))
 
 pub answered-spec : {M : Type 1} → statement M
 answered-spec =
     tie.close
     (tie.spec enum-told plain-requires enum-told-2 plain-requires-2 enum-told-3 plain-requires-3 enum-told-4
-    plain-requires-4 enum-told-5 plain-requires-5 enum-known-answer enum-known-answer-2 returns returns-2 returns-3
-    returns-4 returns-5 returns-6 returns-7)
+    plain-requires-4 enum-told-5 plain-requires-5 enum-told-6 plain-requires-6 enum-known-answer enum-known-answer-2
+    returns returns-2 returns-3 returns-4 returns-5 returns-6 returns-7 returns-8)

@@ -1,5 +1,5 @@
 -- `taskgraph_totals::tg_totals_of_records` meets its contract: a walk of its MIR, by hand. The slice is passed on to
--- `of_records`, of which the walk knows only its contract.
+-- `of_records` with the fixed minutes. Of `fixed_minutes` and `of_records` the walk knows only their contracts.
 -- A `&` is Copy: what the slice owns is had twice, one copy is kept whole for the exit, and the other goes to the
 -- callee, beside the lifetime's token, which comes back.
 -- Assumes nothing.
@@ -17,8 +17,8 @@ use prog.Wp.{Heap, WpFn, Tables}
 use ghost.Atoms.{Atoms, sem}
 use contract.Monad.{Fun, fact}
 use contract.Running.{givenOf, tables, tablesOf}
-use types.Kit.{Given, ‵, raw, _⊛_, ⋆, some, later, _$_, _∵_, !, qed, by, move, use1, use2, split, join, pick, fsplit}
-use types.Kit.{fjoin, suffices, frame, await, done}
+use types.Kit.{Given, ‵, raw, _⊛_, ⋆, some, later, _$_, _∵_, !, qed, by, move, use0, use1, use2, split, join, pick}
+use types.Kit.{fsplit, fjoin, drop as drops, suffices, frame, await, done}
 use types.Run.{look, init, forget, stop, from, load, and-then, no-more, land, returns, enter, alloc1, alloc0, params1}
 use types.Run.{pass1, pass0, free1, free0}
 use sound.WpLaws.{fmOf, WpFn-mono}
@@ -27,7 +27,7 @@ use denote.Laws.{Is, shows}
 use denote.Ref.{RefT, now}
 use denote.Signature.{plain}
 use denote.Slice.{sliceVal, ShrSlice, slice-vals, shr-slice-tells, shr-slice-lawful, shr-slice-copy}
-use denote.Steps.{peeks, heard, nothing}
+use denote.Steps.{peeks, facts, owned, heard, nothing}
 use denote.Struct.Laws as LL
 use denote.Triple.Statement.{Contract, Triple}
 use denote.Triple.Call.{calls-at}
@@ -38,12 +38,21 @@ use denote.Triple.Walked.{says, Stays, stay-none-slice, walkOf, goes-none-slice,
 use denote.Triple.Clauses.{ensured, lasts}
 use denote.Exit.{yes}
 use Rattle.minutes.specs.Minutes.{fixedMinutes}
+use Rattle.minutes.specs.Judged.{allMinutes}
+use Rattle.minutes.specs.declared.GraphMinutes.{GraphMinutes}
+use Rattle.minutes.proofs.GraphMinutes as B
+use Rattle.minutes.proofs.GraphMinutes.Laws as B′
+use Rattle.minutes.proofs.fixed_minutes as fixed-minutes
+use Rattle.minutes.proofs.fixed_minutes.Symbol as fixed-minutes-def
+use Rattle.minutes.proofs.fixed_minutes.Symbol.{name as #fixed-minutes}
+use Rattle.minutes.proofs.fixed_minutes.Met as fixed-minutes-thm
 use Rattle.totals.specs.Board.{totalsOf}
 use Rattle.totals.specs.declared.JobRecord.{JobRecord}
 use Rattle.totals.specs.declared.Totals.{Totals}
 use Rattle.totals.proofs.JobRecord as R
 use Rattle.totals.proofs.Totals as S
 use Rattle.totals.proofs.Totals.Laws as S′
+use Rattle.totals_of_records.specs.By.{Judged, totalsWith, with-fixed}
 use Rattle.totals_of_records.proofs.of_records as of-records
 use Rattle.totals_of_records.proofs.of_records.Symbol as of-records-def
 use Rattle.totals_of_records.proofs.of_records.Symbol.{name as #of-records}
@@ -57,7 +66,10 @@ abbrev stayed : Stays (board.ended .signature .params) (board.ended .kept)
 stayed = (stay-none-slice (0 ∷ []) tt (plain (λ _. R.the-row)) yes, tt)
 
 module _ {M : Type 1} (𝓤 : URA M) (H : Heap 𝓤) (A : Atoms 𝓤) (mem : Memory → SProp 𝓤) (run : Routine → Fun 𝓤) where
-  -- the contract that the proof cites
+  -- the contracts that the proof cites
+  abbrev Fixed : Contract 𝓤
+  Fixed = tripleOf 𝓤 H A fixed-minutes.signature (fixed-minutes.spec 𝓤 H A mem run)
+
   abbrev OfRecords : Contract 𝓤
   OfRecords = tripleOf 𝓤 H A of-records.signature (of-records.spec 𝓤 H A mem run)
 
@@ -77,23 +89,43 @@ module _ {M : Type 1} (𝓤 : URA M) (H : Heap 𝓤) (A : Atoms 𝓤) (W : Given
   abbrev Own : Fml
   Own = ShrSlice (named 0) κ R.the-row .own s (v ∷ [])
 
-  -- what the callee is passed, what it asks, and what is known of its result
-  abbrev to : OfRecords 𝓤 H A mem run .Ghost
-  to = (((κ, tt), (q, tt), tt, (s, tt), (v ∷ [], tt)), tt)
+  -- what the first callee is passed, what it asks, and what is known of its result
+  abbrev to-fixed : Fixed 𝓤 H A mem run .Ghost
+  to-fixed = ((tt, tt, tt, tt, tt), tt)
 
-  goes : ent 𝓤 (onEntry 𝓤 H A board.signature (κ, tt) (q, tt) (s, tt) (v ∷ [], tt))
-      (sep 𝓤 (OfRecords 𝓤 H A mem run .pre to) (sem 𝓤 H A Own))
-  goes =
+  goes-fixed : ent 𝓤 (emp 𝓤) (Fixed 𝓤 H A mem run .pre to-fixed)
+  goes-fixed = qed W [] ∵ nothing ! $ nothing ! $ join ! $ frame ! $ done !
+
+  said-fixed : (m : GraphMinutes)
+      → ent 𝓤 (ensured 𝓤 H A fixed-minutes.ended (fixed-minutes.clauses 𝓤 H A mem run) tt tt tt m)
+      (fact 𝓤 (m ≡ allMinutes fixedMinutes))
+  said-fixed m = exE 𝓤 _ (λ ws. snd∗ 𝓤 (sem 𝓤 H A (lasts fixed-minutes.ended tt tt ws))
+      (fact 𝓤 (m ≡ allMinutes fixedMinutes)))
+
+  -- the same of the second
+  abbrev to : GraphMinutes → Val → OfRecords 𝓤 H A mem run .Ghost
+  to m w = (((κ, tt), (q, tt), tt, (s, (m, tt)), (v ∷ [], (w ∷ [], tt))), tt)
+
+  goes : (m : GraphMinutes) (w : Val) → Is B.the-row m (w ∷ [])
+      → ent 𝓤 (onEntry 𝓤 H A board.signature (κ, tt) (q, tt) (s, tt) (v ∷ [], tt))
+      (sep 𝓤 (OfRecords 𝓤 H A mem run .pre (to m w)) (sem 𝓤 H A Own))
+  goes m w ok =
       qed W ((‵ (flft κ q) ⊛ ‵ ftrue) ∷ ‵ (owns (ShrSlice (named 0) κ R.the-row ∷ []) (s, tt) (v ∷ [], tt)) ∷ []) ∵
       move ! (1 ∷ []) $ fsplit ! $ use1 W (‵ Own ⊛ ‵ Own)
       (shr-slice-copy 𝓤 H A W (named 0) κ R.the-row .twice s (v ∷ [])) $ split ! $
-      move ! (0 ∷ 2 ∷ []) $ fjoin ! $ move ! (2 ∷ 0 ∷ []) $ use2 W (raw (OfRecords 𝓤 H A mem run .pre to))
-      (qed W ((‵ (flft κ q) ⊛ ‵ ftrue) ∷ ‵ (owns (ShrSlice (named 0) κ R.the-row ∷ []) (s, tt) (v ∷ [], tt))
-      ∷ []) ∵ join ! $ frame ! $ done !) $ frame ! $ done !
+      owned ! B.the-row (Is B.the-row) (LL.makes B.the-type B′.the-plain 𝓤 H A) m _ ok $
+      move ! (0 ∷ 3 ∷ []) $ fjoin ! $ move ! (1 ∷ 0 ∷ []) $ fjoin ! $ move ! (2 ∷ 0 ∷ []) $
+      use2 W (raw (OfRecords 𝓤 H A mem run .pre (to m w)))
+      (qed W ((‵ (flft κ q) ⊛ ‵ ftrue) ∷ ‵ (owns (ShrSlice (named 0) κ R.the-row ∷ B.the-row ∷ []) (s, (m, tt))
+      (v ∷ [], (w ∷ [], tt))) ∷ []) ∵ join ! $ frame ! $ done !) $ frame ! $ done !
 
-  said : (t : Totals) → ent 𝓤 (ensured 𝓤 H A of-records.ended (of-records.clauses 𝓤 H A mem run) (κ, tt) (s, tt) tt t)
-      (fact 𝓤 (t ≡ board-of))
-  said t = exE 𝓤 _ (λ ws. snd∗ 𝓤 (sem 𝓤 H A (lasts of-records.ended (κ, tt) (s, tt) ws)) (fact 𝓤 (t ≡ board-of)))
+  abbrev Told : GraphMinutes → Totals → Type 0
+  Told m t = Judged m → t ≡ totalsWith m (now s)
+
+  said : (m : GraphMinutes) (t : Totals)
+      → ent 𝓤 (ensured 𝓤 H A of-records.ended (of-records.clauses 𝓤 H A mem run) (κ, tt) (s, (m, tt)) tt t)
+      (fact 𝓤 (Told m t))
+  said m t = exE 𝓤 _ (λ ws. snd∗ 𝓤 (sem 𝓤 H A (lasts of-records.ended (κ, tt) (s, (m, tt)) ws)) (fact 𝓤 (Told m t)))
 
   exits : (t : Totals) (u : Val) → t ≡ board-of
       → ent 𝓤 (⋆ 𝓤 H A (‵ (S.the-row .own t (u ∷ [])) ∷ (‵ (flft κ q) ⊛ ‵ ftrue) ∷ ‵ Own ∷ [])) (Post u)
@@ -103,38 +135,52 @@ module _ {M : Type 1} (𝓤 : URA M) (H : Heap 𝓤) (A : Atoms 𝓤) (W : Given
       (((κ, tt), (q, tt), tt, (s, tt), (v ∷ [], tt)), tt) u t (tt, tt) (tt, tt)) $ says ! e $
       move ! (1 ∷ []) $ frame ! $ nothing ! $ move ! (2 ∷ 0 ∷ []) $ fjoin ! $ frame ! $ done !
 
-  walk : (𝓣 : Tables 𝓤 H) → Triple 𝓤 (𝓣 .C #of-records) (OfRecords 𝓤 H A mem run)
+  walk : (𝓣 : Tables 𝓤 H) → Triple 𝓤 (𝓣 .C #fixed-minutes) (Fixed 𝓤 H A mem run)
+      → Triple 𝓤 (𝓣 .C #of-records) (OfRecords 𝓤 H A mem run)
       → Is (ShrSlice (named 0) κ R.the-row) s (v ∷ [])
       → ent 𝓤 (onEntry 𝓤 H A board.signature (κ, tt) (q, tt) (s, tt) (v ∷ [], tt))
       (WpFn 𝓤 H (𝓣 .C) (𝓣 .Λ) code.function (v ∷ []) Post)
-  walk 𝓣 known p =
+  walk 𝓣 known-fixed known p =
       qed W (raw (onEntry 𝓤 H A board.signature (κ, tt) (q, tt) (s, tt) (v ∷ [], tt)) ∷ []) ∵ enter ! (𝓣 .C)
       (𝓣 .Λ) code.function (v ∷ []) _ $
-      alloc1 ! (λ l₀. alloc1 ! (λ l₁.
+      alloc1 ! (λ l₀. alloc1 ! (λ l₁. alloc1 ! (λ l₂.
       alloc0 ! $ params1 ! $ pass1 !
-      (init ! 0 refl (shr-slice-lawful 𝓤 H A W (named 0) κ R.the-row .typed s (v ∷ []) p .0)) $ pass0 ! $
-      move ! (4 ∷ []) $ use1 W (raw (OfRecords 𝓤 H A mem run .pre to) ⊛ ‵ Own) goes $ split ! $
-      calls-at ! (fmOf 𝓤 H (W .laws) 𝓣) (OfRecords 𝓤 H A mem run) known to
-      (and-then ! (load ! (from ! (stop !)) (look ! 2 refl)) (no-more !)) (λ u.
+      (init ! 2 refl (shr-slice-lawful 𝓤 H A W (named 0) κ R.the-row .typed s (v ∷ []) p .0)) $ pass0 ! $
+      use0 W (raw (Fixed 𝓤 H A mem run .pre to-fixed)) goes-fixed $
+      calls-at ! (fmOf 𝓤 H (W .laws) 𝓣) (Fixed 𝓤 H A mem run) known-fixed to-fixed (no-more !) (λ w.
+      use1 W (later (some (λ (m : GraphMinutes). (‵ ftrue ⊛ ‵ (B.the-row .own m (w ∷ []))) ⊛ raw
+      (ensured 𝓤 H A fixed-minutes.ended (fixed-minutes.clauses 𝓤 H A mem run) tt tt tt m))))
+      (id⊢ 𝓤 _) $ await ! tt $ pick ! (λ m.
+      split ! $ move ! (1 ∷ []) $ use1 W (raw (fact 𝓤 (m ≡ allMinutes fixedMinutes))) (said-fixed m) $ heard !
+      (m ≡ allMinutes fixedMinutes) (λ e₀. split ! $ drops ! $
+      facts ! B.the-row (Is B.the-row) (shows 𝓤 H A B.the-row) m (w ∷ []) (λ ok.
+      land ! (from ! (stop !)) (init ! 0 refl (LL.lawful B.the-type B′.the-laws 𝓤 H A W .typed m _ ok .0)) $
+      -- [_2; …; _1; …; room for _0; …; what the function was lent]
+      move ! (6 ∷ []) $ use1 W (raw (OfRecords 𝓤 H A mem run .pre (to m w)) ⊛ ‵ Own) (goes m w ok) $ split ! $
+      calls-at ! (fmOf 𝓤 H (W .laws) 𝓣) (OfRecords 𝓤 H A mem run) known (to m w)
+      (and-then ! (load ! (from ! (stop !)) (look ! 4 refl))
+      (and-then ! (load ! (from ! (stop !)) (look ! 2 refl)) (no-more !))) (λ u.
       use1 W (later (some (λ (t : Totals).
       ((‵ (flft κ q) ⊛ ‵ ftrue) ⊛ ‵ (S.the-row .own t (u ∷ []))) ⊛ raw
-      (ensured 𝓤 H A of-records.ended (of-records.clauses 𝓤 H A mem run) (κ, tt) (s, tt) tt t))))
+      (ensured 𝓤 H A of-records.ended (of-records.clauses 𝓤 H A mem run) (κ, tt) (s, (m, tt)) tt t))))
       (id⊢ 𝓤 _) $ await ! tt $ pick ! (λ t.
-      split ! $ move ! (1 ∷ []) $ use1 W (raw (fact 𝓤 (t ≡ board-of))) (said t) $ heard ! (t ≡ board-of)
+      split ! $ move ! (1 ∷ []) $ use1 W (raw (fact 𝓤 (Told m t))) (said m t) $ heard ! (Told m t)
       (λ e. split ! $ move ! (1 ∷ []) $
-      -- [the result; the token; what the slice owns; _1; …; room for _0; …]
+      -- [the result; the token; what the slice owns; _2; …; _1; …; room for _0; …]
       peeks ! S.the-row (Is S.the-row) (shows 𝓤 H A S.the-row) t (u ∷ []) (λ is.
-      land ! (from ! (stop !)) (init ! 5 refl (LL.lawful S.the-type S′.the-laws 𝓤 H A W .typed t _ is .0)) $
-      returns ! (look ! 5 refl) $ forget ! 3 refl $ forget ! 5 refl $ move ! (5 ∷ 6 ∷ []) $ free1 ! $ move !
-      (3 ∷ 4 ∷ []) $ free1 ! $ free0 ! $ by ! (exits t u e)))))))
+      land ! (from ! (stop !)) (init ! 7 refl (LL.lawful S.the-type S′.the-laws 𝓤 H A W .typed t _ is .0)) $
+      returns ! (look ! 7 refl) $ forget ! 3 refl $ forget ! 5 refl $ forget ! 7 refl $ move ! (7 ∷ 8 ∷ []) $
+      free1 ! $ move ! (5 ∷ 6 ∷ []) $ free1 ! $ move ! (3 ∷ 4 ∷ []) $ free1 ! $ free0 ! $
+      by ! (exits t u (with-fixed m (now s) e₀ e)))))))))))))
 
 module _ {M : Type 1} (𝓤 : URA M) (H : Heap 𝓤) (A : Atoms 𝓤) (W : Given 𝓤 H A) (mem : Memory → SProp 𝓤)
-    (run : Routine → Fun 𝓤) (𝓣 : Tables 𝓤 H) (known : Triple 𝓤 (𝓣 .C #of-records) (OfRecords 𝓤 H A mem run)) where
+    (run : Routine → Fun 𝓤) (𝓣 : Tables 𝓤 H) (known-fixed : Triple 𝓤 (𝓣 .C #fixed-minutes) (Fixed 𝓤 H A mem run))
+    (known : Triple 𝓤 (𝓣 .C #of-records) (OfRecords 𝓤 H A mem run)) where
   board-walks : Walks 𝓤 H A board.ended stayed (WpFn 𝓤 H (𝓣 .C) (𝓣 .Λ) code.function) (board.clauses 𝓤 H A mem run)
   board-walks = walked 𝓤 H A board.ended stayed (board.clauses 𝓤 H A mem run) (WpFn 𝓤 H (𝓣 .C) (𝓣 .Λ) code.function)
       (λ κs. (slice-vals, tt)) (λ κs. (shr-slice-tells (named 0) (κs .0) R.the-row, tt))
       (λ κs qs bounds a g are. via 𝓤 _ (fst∗ 𝓤 _ (emp 𝓤))
-      (walk 𝓤 H A W mem run (κs .0) (qs .0) (a .0) 𝓣 known (are .0)))
+      (walk 𝓤 H A W mem run (κs .0) (qs .0) (a .0) 𝓣 known-fixed known (are .0)))
 
   board-meets : Meets 𝓤 H A board.signature (WpFn 𝓤 H (𝓣 .C) (𝓣 .Λ) code.function) (board.spec 𝓤 H A mem run)
   board-meets = walk-meets 𝓤 H A board.ended stayed W
@@ -147,5 +193,7 @@ tg-totals-of-records-spec 𝓤 H 𝓜 𝓖 𝓡 =
     entered 𝓤 H (tripleOf 𝓤 H (𝓖 .A) board.signature (board.spec 𝓤 H (𝓖 .A) (𝓜 .mem) (𝓡 .run)))
     (tables 𝓤 H 𝓜 𝓡 code.env .C) (tables 𝓤 H 𝓜 𝓡 code.env .Λ) #board code.function (code.unfolded 𝓤 H 𝓜 𝓡)
     (board-meets 𝓤 H (𝓖 .A) (givenOf 𝓤 H 𝓜 𝓖) (𝓜 .mem) (𝓡 .run) (tablesOf 𝓤 H 𝓜 (tables 𝓤 H 𝓜 𝓡 code.env))
+    (cited 𝓤 H (Fixed 𝓤 H (𝓖 .A) (𝓜 .mem) (𝓡 .run)) 𝓜 𝓡 code.env #fixed-minutes fixed-minutes-def.routine
+    code.calls-minutes·fixed-minutes (fixed-minutes-thm.met 𝓤 H 𝓜 𝓖 𝓡))
     (cited 𝓤 H (OfRecords 𝓤 H (𝓖 .A) (𝓜 .mem) (𝓡 .run)) 𝓜 𝓡 code.env #of-records of-records-def.routine
     code.calls-totals-of-records·of-records (of-records-thm.met 𝓤 H 𝓜 𝓖 𝓡)))

@@ -2,6 +2,7 @@
 -- Assumes nothing.
 use native.Mathlib.Omega.{arith}
 use Rattle.minutes.specs.Minutes.{fixedMinutes}
+use Rattle.minutes.specs.Judged.{fixed-passes}
 use Rattle.totals_of_words.proofs.Tables.{even-words, odd-words}
 use borrow.Author.Needs.{needs}
 use Rattle.totals_of_words.proofs.of_words.Statement.{statement}
@@ -13,11 +14,17 @@ blank-requires c κs = search needs
 returns : tie.Need-returns
 returns c = odd-words fixedMinutes _ (c .before .if1 .taken) (c .blank .ensures)
 
+fixed-minutes-requires : tie.Need-fixed-minutes-requires
+fixed-minutes-requires c κs = search needs
+
 of-table-requires : tie.Need-of-table-requires
 of-table-requires c κs = search needs
 
 returns-2 : tie.Need-returns-2
-returns-2 c = even-words fixedMinutes _ _ (c .before .if1 .left) (omega arith) (c .of-table .ensures)
+returns-2 c =
+    let is = c .before .fixed-minutes .ensures in
+    even-words fixedMinutes _ _ (c .before .before .if1 .left) (omega arith)
+    (rw is at (c .of-table .ensures (rw is fixed-passes)))
 
 pub of-words-spec : {M : Type 1} → statement M
-of-words-spec = tie.close (tie.spec blank-requires returns of-table-requires returns-2)
+of-words-spec = tie.close (tie.spec blank-requires returns fixed-minutes-requires of-table-requires returns-2)

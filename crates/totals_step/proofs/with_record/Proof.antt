@@ -1,10 +1,13 @@
 -- `totals_step::with_record` meets its contract: each answer is the case of `withRecord` that the tests pick.
 -- Assumes nothing.
+use mathlib.Core.Path.{_≡_}
 use native.Mathlib.Omega.{arith}
 use borrow.Author.Needs.{needs}
-use borrow.Author.Tests.{eq-eqb, ne-eqb, lt-leb, le-leb, le-ltb, lt-ltb}
-use Rattle.minutes.specs.Minutes.{classes}
+use borrow.Author.Tests.{eq-eqb, ne-eqb, lt-leb, le-leb, le-ltb}
+use Rattle.minutes.specs.Minutes.{classes, minutesIn}
+use Rattle.totals.specs.Board.{finished}
 use Rattle.totals_step.specs.Step.{withRecord}
+use Rattle.totals_step.proofs.Running.{raises}
 use Rattle.totals_step.proofs.with_record.Statement.{statement}
 use Rattle.totals_step.proofs.with_record.Tie as tie
 
@@ -26,16 +29,18 @@ blank-requires-2 c κs = search needs
 returns-3 : tie.Need-returns-3
 unfolding withRecord
 returns-3 c =
-    let c4 = c .before .before .before .before in
     simp (
       eq-eqb _ _ (c .before .before .before .if1 .left),
       le-leb _ _ (c .before .before .if2 .left),
-      le-ltb (c4 .before .args .class) classes (omega arith),
+      le-ltb (c .before .before .before .before .before .args .class) classes (omega arith),
       c .blank2 .ensures,
     )
 
-mul-wrapping-add-u32 : tie.Need-mul-wrapping-add-u32
-mul-wrapping-add-u32 c = search needs
+mul-minutes : tie.Need-mul-minutes
+mul-minutes c = search needs
+
+element-copy-out-minutes : tie.Need-element-copy-out-minutes
+element-copy-out-minutes c = search needs
 
 element-copy-out-wrapping-add-u32 : tie.Need-element-copy-out-wrapping-add-u32
 element-copy-out-wrapping-add-u32 c = search needs
@@ -43,48 +48,111 @@ element-copy-out-wrapping-add-u32 c = search needs
 wrapping-add-u32-requires : tie.Need-wrapping-add-u32-requires
 wrapping-add-u32-requires c κs = search needs
 
-mul-next : tie.Need-mul-next
-mul-next c = search needs
-
 element-write-next : tie.Need-element-write-next
 element-write-next c = search needs
-
-mul-wrapping-add-u32-2 : tie.Need-mul-wrapping-add-u32-2
-mul-wrapping-add-u32-2 c = search needs
 
 element-copy-out-wrapping-add-u32-2 : tie.Need-element-copy-out-wrapping-add-u32-2
 element-copy-out-wrapping-add-u32-2 c = search needs
 
-minutes-requires : tie.Need-minutes-requires
-minutes-requires c κs = search needs
-
 wrapping-add-u32-requires-2 : tie.Need-wrapping-add-u32-requires-2
 wrapping-add-u32-requires-2 c κs = search needs
-
-mul-next-2 : tie.Need-mul-next-2
-mul-next-2 c = search needs
 
 element-write-next-2 : tie.Need-element-write-next-2
 element-write-next-2 c = search needs
 
 returns-4 : tie.Need-returns-4
-unfolding withRecord
+unfolding minutesIn
 returns-4 c =
-    let raise = c .before .before .before in
-    let third = raise .before .before in
-    simp (
-      eq-eqb _ _ (third .before .before .if1 .left),
-      le-leb _ _ (third .before .if2 .left),
-      lt-ltb (third .before .before .before .before .args .class) classes (omega arith),
-      raise .wrapping-add-u32 .ensures,
-      c .before .minutes .ensures,
-      c .wrapping-add-u322 .ensures,
-    )
+    let c4 = c .before .before .before .before in
+    let c8 = c4 .before .before .before .before in
+    let a = c8 .before .before .args in
+    raises _ (a .t) (a .label) (a .class) (c8 .if1 .left) (omega arith) (omega arith)
+    (rw (c4 .if4 .taken, c .before .before .wrapping-add-u32 .ensures, c .wrapping-add-u322 .ensures))
+
+element-copy-out-wrapping-add-u32-3 : tie.Need-element-copy-out-wrapping-add-u32-3
+element-copy-out-wrapping-add-u32-3 c = search needs
+
+wrapping-add-u32-requires-3 : tie.Need-wrapping-add-u32-requires-3
+wrapping-add-u32-requires-3 c κs = search needs
+
+element-write-next-3 : tie.Need-element-write-next-3
+element-write-next-3 c = search needs
+
+element-copy-out-wrapping-add-u32-4 : tie.Need-element-copy-out-wrapping-add-u32-4
+element-copy-out-wrapping-add-u32-4 c = search needs
+
+wrapping-add-u32-requires-4 : tie.Need-wrapping-add-u32-requires-4
+wrapping-add-u32-requires-4 c κs = search needs
+
+element-write-next-4 : tie.Need-element-write-next-4
+element-write-next-4 c = search needs
+
+returns-5 : tie.Need-returns-5
+unfolding minutesIn
+returns-5 c =
+    let c4 = c .before .before .before .before in
+    let c8 = c4 .before .before .before .before .before in
+    let a = c8 .before .before .args in
+    raises _ (a .t) (a .label) (a .class) (c8 .if1 .left) (omega arith) (omega arith)
+    (rw (c4 .if5 .taken, c .before .before .wrapping-add-u323 .ensures, c .wrapping-add-u324 .ensures))
+
+element-copy-out-wrapping-add-u32-5 : tie.Need-element-copy-out-wrapping-add-u32-5
+element-copy-out-wrapping-add-u32-5 c = search needs
+
+wrapping-add-u32-requires-5 : tie.Need-wrapping-add-u32-requires-5
+wrapping-add-u32-requires-5 c κs = search needs
+
+element-write-next-5 : tie.Need-element-write-next-5
+element-write-next-5 c = search needs
+
+element-copy-out-wrapping-add-u32-6 : tie.Need-element-copy-out-wrapping-add-u32-6
+element-copy-out-wrapping-add-u32-6 c = search needs
+
+wrapping-add-u32-requires-6 : tie.Need-wrapping-add-u32-requires-6
+wrapping-add-u32-requires-6 c κs = search needs
+
+element-write-next-6 : tie.Need-element-write-next-6
+element-write-next-6 c = search needs
+
+returns-6 : tie.Need-returns-6
+unfolding minutesIn
+returns-6 c =
+    let c4 = c .before .before .before .before in
+    let c8 = c4 .before .before .before .before .before in
+    let a = c8 .before .before .args in
+    let last : a .label ≡ 2 = omega (arith, c4 .if5 .left, c4 .before .if4 .left) in
+    raises _ (a .t) (a .label) (a .class) (c8 .if1 .left) (omega arith) (omega arith)
+    (rw (last, c .before .before .wrapping-add-u325 .ensures, c .wrapping-add-u326 .ensures))
 
 pub with-record-spec : {M : Type 1} → statement M
 with-record-spec =
     tie.close
-    (tie.spec returns blank-requires returns-2 blank-requires-2 returns-3 mul-wrapping-add-u32
-    element-copy-out-wrapping-add-u32 wrapping-add-u32-requires mul-next element-write-next mul-wrapping-add-u32-2
-    element-copy-out-wrapping-add-u32-2 minutes-requires wrapping-add-u32-requires-2 mul-next-2 element-write-next-2
-    returns-4)
+    (tie.spec
+    returns
+    blank-requires
+    returns-2
+    blank-requires-2
+    returns-3
+    mul-minutes
+    element-copy-out-minutes
+    element-copy-out-wrapping-add-u32
+    wrapping-add-u32-requires
+    element-write-next
+    element-copy-out-wrapping-add-u32-2
+    wrapping-add-u32-requires-2
+    element-write-next-2
+    returns-4
+    element-copy-out-wrapping-add-u32-3
+    wrapping-add-u32-requires-3
+    element-write-next-3
+    element-copy-out-wrapping-add-u32-4
+    wrapping-add-u32-requires-4
+    element-write-next-4
+    returns-5
+    element-copy-out-wrapping-add-u32-5
+    wrapping-add-u32-requires-5
+    element-write-next-5
+    element-copy-out-wrapping-add-u32-6
+    wrapping-add-u32-requires-6
+    element-write-next-6
+    returns-6)

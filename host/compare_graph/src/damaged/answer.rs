@@ -1,5 +1,5 @@
 //! What the list settles for each call, whatever the words: its answer and the words that it writes; what a worker
-//! holds, and whether the graph is drained.
+//! holds, whether the graph is drained, its board and its minutes.
 
 use std::ops;
 
@@ -7,8 +7,10 @@ use second_implementation::{
     bucket::bucket,
     graph::{judged_list, Sizes},
     history::Item,
+    minutes::Minutes,
     refusal,
     sheet::{Entry, MAX_CLASS, MAX_GROWER, MAX_NAMES},
+    totals::{self, Record, Totals, TotalsError},
 };
 use taskgraph::raw::{kind, Answer, DrainedAnswer, Holding, CALL_ADD, CALL_FINISH, CALL_NONE};
 
@@ -62,13 +64,18 @@ fn sized(tables: &Tables, sizes: Sizes, short: Option<(usize, usize)>) -> Result
     }
 }
 
+/// The worker of a call, and worker 0 for a load, which has none.
+pub fn worker_asked(call: &Call) -> u32 {
+    worker_of(&call.item).unwrap_or(0)
+}
+
 /// The words and the worker's own, unless 1, 2 or 9 for these comes first.
 fn admitted<'a>(tables: &'a Tables, sizes: Sizes, call: &Call) -> Result<(Words<'a>, Own<'a>), u32> {
     let words = sized(tables, sizes, call.short)?;
-    if worker_of(&call.item) >= sizes.workers {
+    if worker_asked(call) >= sizes.workers {
         return Err(refusal::WORKER);
     }
-    let own = words.worker(worker_of(&call.item));
+    let own = words.worker(worker_asked(call));
     if words.own_words_fit(own) {
         Ok((words, own))
     } else {
@@ -104,10 +111,61 @@ pub fn expected_drained(tables: &Tables, sizes: Sizes, short: Option<(usize, usi
     }
 }
 
-/// What the list settles for a single call, whatever the words.
+/// What the list settles for a load, whatever the words: 1, 17, 9 for the jobs made, 18. No other word is read.
+pub fn expected_load(tables: &Tables, sizes: Sizes, short: Option<(usize, usize)>, minutes: &[u32]) -> Expected {
+    let loaded = sized(tables, sizes, short).and_then(|words| {
+        let minutes = Minutes::of(minutes).ok_or(refusal::MINUTES)?;
+        match words.made() {
+            0 => Ok(minutes),
+            made if made > sizes.jobs => Err(refusal::DAMAGED),
+            _ => Err(refusal::ENTERED),
+        }
+    });
+    match loaded {
+        Err(number) => Expected::refused(number),
+        Ok(minutes) => {
+            let values = minutes.values().iter().enumerate();
+            let writes = values.map(|(class, value)| (JOBS, layout::MINUTES + class, *value)).collect();
+            Expected::new(of_kind(kind::LOADED), writes)
+        }
+    }
+}
+
+/// Whether a jobs table is one of a graph of these sizes.
+fn is_sized(jobs: &[u32], sizes: Sizes) -> bool {
+    sizes.within_limits()
+        && jobs.len() >= layout::words_needed(sizes)[JOBS]
+        && jobs[..layout::MADE] == [sizes.jobs, sizes.arcs, sizes.bits, sizes.workers]
+}
+
+/// The board over the graph, whatever the words: 9 for a counter over R, wrong minutes, and a wrong label or class.
+pub fn expected_totals(jobs: &[u32], sizes: Sizes) -> Result<Totals, TotalsError> {
+    if !is_sized(jobs, sizes) {
+        return Err(TotalsError::Size);
+    }
+    let (made, minutes) = (jobs[layout::MADE], layout::stored_minutes(jobs));
+    if made > sizes.jobs || Minutes::of(minutes).is_none() {
+        return Err(TotalsError::Damaged);
+    }
+    let record = |number: usize| {
+        let words = &jobs[layout::job_at(number)..layout::job_at(number + 1)];
+        Record { label: words[job::LABEL], class: words[job::CLASS] }
+    };
+    totals::by_minutes(&(0..made as usize).map(record).collect::<Vec<Record>>(), minutes)
+}
+
+/// The minutes of the graph, whatever the words.
+pub fn expected_minutes(jobs: &[u32], sizes: Sizes) -> Result<Minutes, u32> {
+    if !is_sized(jobs, sizes) {
+        return Err(refusal::SIZE);
+    }
+    Minutes::of(layout::stored_minutes(jobs)).ok_or(refusal::DAMAGED)
+}
+
+/// What the list settles for a single call of a worker, whatever the words.
 ///
 /// # Panics
-/// For a call run whole, which is made of single ones.
+/// For a call run whole, which is made of single ones, and for a load.
 pub fn expected(tables: &Tables, sizes: Sizes, call: &Call) -> Expected {
     let (words, own) = match admitted(tables, sizes, call) {
         Ok(found) => found,
@@ -124,7 +182,9 @@ pub fn expected(tables: &Tables, sizes: Sizes, call: &Call) -> Expected {
             (!holds).then_some(refusal::NOT_HELD)
         }
         Item::Get { .. } => (held != NONE).then_some(refusal::HOLDING),
-        Item::Add { .. } | Item::Finish { .. } | Item::AddSheet { .. } => panic!("{:?} is no single call", call.item),
+        Item::Add { .. } | Item::Finish { .. } | Item::AddSheet { .. } | Item::Load { .. } => {
+            panic!("{:?} is no single call of a worker", call.item)
+        }
     };
     if let Some(number) = before_the_words_read {
         return Expected::refused(number);

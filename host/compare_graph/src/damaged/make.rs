@@ -4,6 +4,7 @@ use compare_sheets::random::Random;
 use second_implementation::{
     graph::{Graph, Sizes},
     history::Item,
+    minutes::{CLASSES, MAX_MINUTES},
     sheet::MAX_NAMES,
 };
 
@@ -28,6 +29,9 @@ pub fn history(random: &mut Random) -> History {
     }
     if random.once_in(4) {
         history = with_arcs_in_a_circle(random, history);
+    }
+    if random.once_in(3) {
+        history = with_minutes_altered(random, history);
     }
     if random.once_in(2) {
         history = with_index_altered(random, history);
@@ -72,6 +76,44 @@ fn with_counters_altered(random: &mut Random, history: History) -> History {
         altered.push(event);
     }
     History { setup, events: altered }
+}
+
+/// Before some of the calls the minutes of a class are altered; mostly the call comes again once they are put back, and
+/// now and then a load comes, which does not read them.
+fn with_minutes_altered(random: &mut Random, history: History) -> History {
+    let History { setup, events } = history;
+    let mut graph = Graph::lay_out(setup.sizes).expect("the sizes are within their limits");
+    let mut altered = Vec::with_capacity(2 * events.len());
+    for event in events {
+        if matches!(event, Event::Call(_)) && random.once_in(8) {
+            let minutes = graph.minutes(graph.sizes()).expect("these are the sizes laid out");
+            let class = random.below(minutes.values().len());
+            let place = layout::MINUTES + class;
+            let value = damaged_minutes(random, minutes.values(), class);
+            altered.push(Event::Set { table: JOBS, place, value });
+            altered.push(event.clone());
+            if random.once_in(3) {
+                altered.push(generate::load(random).into());
+            }
+            // A load, where one was accepted, is undone so that the graph can be followed.
+            let right = minutes.values().iter().enumerate();
+            altered.extend(right.map(|(class, value)| Event::Set {
+                table: JOBS,
+                place: layout::MINUTES + class,
+                value: *value,
+            }));
+        }
+        generate::follow(&mut graph, &setup, &event);
+        altered.push(event);
+    }
+    History { setup, events: altered }
+}
+
+/// Minutes of a class that are on the edge of what its neighbours and the limits allow, or off it.
+fn damaged_minutes(random: &mut Random, values: &[u32], class: usize) -> u32 {
+    let below = if class == 0 { 0 } else { values[class - 1] };
+    let above = values.get(class + 1).copied().unwrap_or(MAX_MINUTES + 1);
+    random.pick(&[below, below + 1, above - 1, above, above + 1, 0, 1, MAX_MINUTES, MAX_MINUTES + 1, NONE])
 }
 
 /// Before some of the calls that use the index words that they may read are altered; then these are mostly put back,
@@ -277,6 +319,7 @@ fn damage(random: &mut Random, sizes: Sizes) -> Event {
     let table = random.pick(&[JOBS, JOBS, ARCS, BUCKETS, QUEUE, WORKERS, WORKERS]);
     let place = match table {
         JOBS if random.once_in(12) => random.below(layout::MADE),
+        JOBS if random.once_in(6) => layout::MINUTES + random.below(CLASSES),
         JOBS => layout::job_at(near(random, sizes.jobs)) + random.below(layout::JOB_WORDS),
         ARCS => layout::arc_at(near(random, sizes.arcs)) + random.below(layout::ARC_WORDS),
         BUCKETS => random.below(1 << sizes.bits),

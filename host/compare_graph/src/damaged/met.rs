@@ -3,6 +3,7 @@
 use std::{cell::RefCell, cmp::Reverse, collections::BTreeMap, fmt};
 
 use second_implementation::sheet::MAX_CLASS;
+use taskgraph::raw::{GraphMinutes, Totals};
 
 use super::answer::Expected;
 use crate::{
@@ -31,9 +32,12 @@ pub enum Way {
     OverRight,
 }
 
-/// How many calls met each way.
+/// How many calls met each way, and how many boards and minutes of graphs were answered by each number.
 #[derive(Debug, Default)]
-pub struct Met(RefCell<BTreeMap<(Use, Way), u64>>);
+pub struct Met(RefCell<BTreeMap<(Use, Way), u64>>, RefCell<BTreeMap<Board, u64>>);
+
+/// The numbers of the board over a graph and of its minutes.
+pub type Board = (u32, u32);
 
 impl Met {
     /// Notes what a call over these tables meets, by what is expected of it.
@@ -45,6 +49,15 @@ impl Met {
         };
         let key = (if is_get { Use::Get } else { Use::Entry }, way);
         *self.0.borrow_mut().entry(key).or_insert(0) += 1;
+    }
+
+    /// Notes what a board and the minutes of a graph answer.
+    pub(super) fn note_board(&self, totals: &Totals, minutes: &GraphMinutes) {
+        *self.1.borrow_mut().entry((totals.number, minutes.number)).or_insert(0) += 1;
+    }
+
+    pub fn has_board(&self, board: &Board) -> bool {
+        self.1.borrow().contains_key(board)
     }
 
     pub fn has(&self, way: &(Use, Way)) -> bool {
@@ -68,7 +81,7 @@ impl fmt::Display for Met {
                 count(Way::OverRight),
             )?;
         }
-        Ok(())
+        writeln!(f, "boards of graphs, by their number and that of the minutes: {:?}", self.1.borrow())
     }
 }
 

@@ -350,3 +350,42 @@ fn what_a_worker_holds_and_when_all_is_done() {
     let other = Sizes { workers: 1, ..sizes };
     assert_eq!((graph.0.held(other, 2).is_err(), graph.0.drained(other)), (true, refused(1)));
 }
+
+/// A district's minutes, of which class 0 has as many as the fixed ones give class 7.
+fn district() -> Vec<u32> {
+    (20..36).collect()
+}
+
+#[test]
+fn a_district_loads_its_minutes_before_the_first_job_enters() {
+    let mut graph = Small::new(2, 0);
+    let sizes = graph.0.sizes();
+    let values = |graph: &Small| graph.0.minutes(sizes).map(|minutes| minutes.values().to_vec());
+    assert_eq!(values(&graph), Ok(Minutes::FIXED.values().to_vec()));
+    assert_eq!(graph.post_add(0, 1, &[]), POSTED);
+    assert_eq!(graph.0.load_minutes(sizes, &district()), Ok(Reply::Loaded), "posted, and not entered");
+    assert_eq!(values(&graph), Ok(district()));
+    let later: Vec<u32> = (1..17).collect();
+    assert_eq!(graph.0.load_minutes(sizes, &later), Ok(Reply::Loaded), "again");
+    assert_eq!(graph.0.load_minutes(sizes, &district()), Ok(Reply::Loaded), "and again");
+    assert_eq!(graph.step(0), GOING_ON);
+    assert_eq!(graph.0.load_minutes(sizes, &later), refused(refusal::ENTERED));
+    assert_eq!(graph.run(0), (1, ENDED));
+    assert_eq!(values(&graph), Ok(district()));
+    let unexecuted = |graph: &Small| graph.0.totals(sizes).unwrap().under(Label::Unexecuted);
+    assert_eq!((unexecuted(&graph).jobs, unexecuted(&graph).minutes), (1, 20));
+    graph = Small::new(2, 0);
+    assert_eq!(values(&graph), Ok(Minutes::FIXED.values().to_vec()), "laid out anew");
+}
+
+#[test]
+fn the_order_of_what_turns_a_load_away() {
+    let mut graph = Small::new(1, 0);
+    let (sizes, other) = (graph.0.sizes(), Sizes { workers: 3, ..graph.0.sizes() });
+    assert_eq!(graph.add(0, 1, &[]), ENDED);
+    assert_eq!(graph.0.load_minutes(other, &[]), refused(refusal::SIZE));
+    assert_eq!(graph.0.load_minutes(sizes, &[]), refused(refusal::MINUTES));
+    assert_eq!(graph.0.load_minutes(sizes, &district()), refused(refusal::ENTERED));
+    assert_eq!(graph.0.minutes(other), refused(refusal::SIZE));
+    assert_eq!(graph.0.totals(other), Err(TotalsError::Size));
+}

@@ -1,0 +1,13 @@
+-- What a load does where a number refuses it. Assumes nothing.
+use mathlib.Core.Path.{_≡_, refl}
+use mathlib.Core.List.{List}
+use Prim.Native.Nat.{ℕ, zero, suc}
+use Rattle.terms.specs.Runs.{outcome}
+use Rattle.terms.specs.declared.Answer.the-variants.{Refused}
+use Rattle.words.specs.Layout.{Tables}
+use Rattle.words.specs.Words.{loading}
+
+pub loading-not : (n : ℕ) (t : Tables) (m : List ℕ) → (n ≡ 0 → ⊥) → loading n t m ≡ outcome (Refused n 0) t
+unfolding loading
+loading-not zero t m h = absurd (h refl)
+loading-not (suc n) t m h = refl
