@@ -82,7 +82,7 @@ int main(void) {
         if (!any) break;
         for (uint32_t w = 0; w < 2; w++)
             if (held[w].kind == TG_HANDED_OUT)
-                finished += tg_finish(sizes, TABLES, w, held[w].name).kind == TG_ENDED;
+                finished += tg_finish(sizes, TABLES, w, held[w].name, TG_GOOD).kind == TG_ENDED;
     }
     printf("left %u\n", added - finished);
     return 0;

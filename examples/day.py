@@ -7,7 +7,7 @@ import sys
 
 # where the package is not installed, the repository's is used
 sys.path.append(str(pathlib.Path(__file__).resolve().parent.parent / "python"))
-from taskgraph import Graph, LibraryError, Refusal, Sizes, load, read_sheet
+from taskgraph import Graph, LibraryError, Outcome, Refusal, Sizes, load, read_sheet
 
 SHEET = bytes.fromhex("0101000000" "0102000000" "0103000000" "0304000000020100000002000000")
 
@@ -33,7 +33,7 @@ def work(graph):
             print(handed, job.name, worker)
             handed += 1
         for worker, job in held:
-            graph.finish(worker, job.name)
+            graph.finish(worker, job.name, Outcome.GOOD)
 
 
 def main(arguments):

@@ -80,8 +80,12 @@ static struct district read_district(const char *file) {
         fprintf(stderr, "%s: %s\n", file, strerror(errno));
         exit(1);
     }
-    for (unsigned long line = 1; getline(&text, &room, lines) > 0; line++)
+    ssize_t length;
+    for (unsigned long line = 1; (length = getline(&text, &room, lines)) > 0; line++) {
+        /* A NUL byte does not end a line; it is a byte that no number has. */
+        for (char *nul; (nul = memchr(text, '\0', (size_t)length));) *nul = '?';
         take_line(&district, file, line, text);
+    }
     if (ferror(lines)) {
         fprintf(stderr, "%s: %s\n", file, strerror(errno));
         exit(1);
@@ -142,7 +146,7 @@ int main(int argc, char **argv) {
         accept("a get", held.number);
         if (held.kind != TG_HANDED_OUT) break;
         printf("%u %" PRIu32 " %" PRIu32 "\n", handed, held.name, district.minutes[entries[held.job].class_]);
-        accept("a finish", tg_finish(sizes, TABLES, 0, held.name).number);
+        accept("a finish", tg_finish(sizes, TABLES, 0, held.name, TG_GOOD).number);
     }
     print_board();
     return 0;

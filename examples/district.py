@@ -10,7 +10,7 @@ import sys
 
 # where the package is not installed, the repository's is used
 sys.path.append(str(pathlib.Path(__file__).resolve().parent.parent / "python"))
-from taskgraph import Entry, Graph, LibraryError, Refusal, Sizes, load
+from taskgraph import Entry, Graph, LibraryError, Outcome, Refusal, Sizes, load
 
 CLASSES, MAX_MINUTES = 16, 1440
 LINE = re.compile(r"[ \t]*([0-9]+)[ \t]+([0-9]+)[ \t]*")
@@ -71,7 +71,7 @@ def work(graph, minutes):
     handed = 0
     while job := graph.get(0):
         print(handed, job.name, minutes[ENTRIES[job.number].class_])
-        graph.finish(0, job.name)
+        graph.finish(0, job.name, Outcome.GOOD)
         handed += 1
     print_board(graph)
 

@@ -22,8 +22,8 @@ static const tg_sizes sizes = {JOBS, ARCS, BITS, WORKERS};
 struct shared {
     pthread_mutex_t lock;
     atomic_uint in_call;
-    uint32_t jobs[5 + TG_CLASSES + 8 * JOBS], arcs[1 + 2 * ARCS], buckets[1 << BITS], queue[2 + 3 * JOBS];
-    uint32_t workers[42 * WORKERS];
+    uint32_t jobs[5 + TG_CLASSES + 10 * JOBS], arcs[1 + 2 * ARCS], buckets[1 << BITS], queue[2 + 3 * JOBS];
+    uint32_t workers[43 * WORKERS];
 };
 #define LENT(table) (table), sizeof(table) / sizeof *(table)
 #define TABLES(s) LENT((s)->jobs), LENT((s)->arcs), LENT((s)->buckets), LENT((s)->queue), LENT((s)->workers)

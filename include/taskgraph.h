@@ -17,33 +17,34 @@
 extern "C" {
 #endif
 
-#define TG_VERSION_MAJOR 3
+#define TG_VERSION_MAJOR 4
 #define TG_VERSION_MINOR 0
 #define TG_VERSION_PATCH 0
-#define TG_VERSION "3.0.0"
+#define TG_VERSION "4.0.0"
 
 /* The numbers of the refusals (docs/RULES.md, "Turned-away calls"), as they stand in a `number`. docs/NUMBERS.md
  * says what a host does about each. */
 enum {
-    TG_ACCEPTED = 0,      /* not refused */
-    TG_SIZE = 1,          /* a size off its limits or not the one laid out, or a table too short */
-    TG_WORKER = 2,        /* no such worker */
-    TG_HALF_DONE = 3,     /* a post or get while the worker's call is half done */
-    TG_IDLE = 4,          /* a step while the worker is idle */
-    TG_ARGUMENTS = 5,     /* an add with wrong arguments */
-    TG_UNKNOWN_NAME = 6,  /* a look-up finds no such name */
-    TG_NAME_PRESENT = 7,  /* entering finds the name present */
-    TG_FULL = 8,          /* entering finds no room for the job or its arcs */
-    TG_DAMAGED = 9,       /* damaged words */
-    TG_HOLDING = 10,      /* a get while holding a job */
-    TG_NOT_HELD = 11,     /* a finish of a name that the worker does not hold */
-    TG_CUT = 12,          /* the sheet ends inside an entry */
-    TG_MAP = 13,          /* a wrong map byte */
-    TG_VALUE = 14,        /* a field's value off its limits */
-    TG_NO_ROOM = 15,      /* the output lacks room */
-    TG_ENTRIES = 16,      /* more entries than one call takes */
-    TG_MINUTES = 17,      /* minute values that do not rise strictly or leave 1 to 1,440 */
-    TG_ENTERED = 18       /* a load after a job has entered */
+    TG_ACCEPTED = 0,          /* not refused */
+    TG_SIZE = 1,              /* a size off its limits or not the one laid out, or a table too short */
+    TG_WORKER = 2,            /* no such worker */
+    TG_HALF_DONE = 3,         /* a post, get, whole call or sheet while the worker's call is half done */
+    TG_IDLE = 4,              /* a step while the worker is idle */
+    TG_ARGUMENTS = 5,         /* an add with wrong arguments */
+    TG_UNKNOWN_NAME = 6,      /* a look-up finds no such name */
+    TG_NAME_PRESENT = 7,      /* entering finds the name present */
+    TG_FULL = 8,              /* entering finds no room for the job or its arcs */
+    TG_DAMAGED = 9,           /* damaged words */
+    TG_HOLDING = 10,          /* a get while holding a job */
+    TG_NOT_HELD = 11,         /* a finish of a name that the worker does not hold */
+    TG_CUT = 12,              /* the sheet ends inside an entry */
+    TG_MAP = 13,              /* a wrong map byte */
+    TG_VALUE = 14,            /* a field's value off its limits */
+    TG_NO_ROOM = 15,          /* the output lacks room */
+    TG_ENTRIES = 16,          /* more entries than one call takes */
+    TG_MINUTES = 17,          /* minute values that do not rise strictly or leave 1 to 1,440 */
+    TG_ENTERED = 18,          /* a load after a job has entered */
+    TG_GOOD_FOR_SPOILED = 19  /* a finish as good of a job with a prerequisite that failed */
 };
 
 /* The limits. */
@@ -200,25 +201,32 @@ enum {
     TG_GOING_ON = 3,
     TG_ENDED = 4,
     TG_NONE_READY = 5,
-    TG_HANDED_OUT = 6,  /* `job` and `name` */
+    TG_HANDED_OUT = 6,  /* `job` and `name`, and in `spoiled` 1 where a prerequisite of the job failed, else 0 */
     TG_LOADED = 7
 };
 
 /* The kind of an answer, and the fields that belong to it; all others are 0. */
 typedef struct {
-    uint32_t kind, number, place, job, name;
+    uint32_t kind, number, place, job, name, spoiled;
 } tg_answer;
+
+/* The outcome that a finish brings. Any number but TG_GOOD counts as failed. */
+enum {
+    TG_GOOD = 0,
+    TG_FAILED = 1
+};
 
 /* The five lent tables, which hold no addresses and may lie in memory that several processes map. They
  * may be longer than needed; words past the need are never touched. "None" as a place is 4294967295.
- *   jobs     the sizes jobs, arcs, bits, workers; the jobs made; the minutes of each class, 16 words; then 8 words a
- *            job: name, label, count, class, grower, first arc, last arc, next job in its bucket
+ *   jobs     the sizes jobs, arcs, bits, workers; the jobs made; the minutes of each class, 16 words; then 10 words a
+ *            job: name, label, count, class, grower, first arc, last arc, next job in its bucket, outcome (1 where it
+ *            failed, else 0), mark (1 where it is spoiled, else 0)
  *   arcs     the arcs reserved; then 2 words an arc: dependent, next arc
  *   buckets  2 to the power b heads
  *   queue    taken, put; then 3 words for each of R places: its cell, which has the job that waits there; a slot
  *            of the index, which has the place of a waiting job; its position, which is the slot that has it
- *   workers  42 words a worker: phase, held job, name, list count, class, grower, tally, list place, job,
- *            arc, 32 names */
+ *   workers  43 words a worker: phase, held job, name, list count, class, grower, tally, list place, job,
+ *            arc, note (1 where an add has linked to a failed job or a finish brings failed, else 0), 32 names */
 #define TG_TABLES                                                                                       \
     uint32_t *jobs, size_t jobs_len, uint32_t *arcs, size_t arcs_len, uint32_t *buckets,                \
         size_t buckets_len, uint32_t *queue, size_t queue_len, uint32_t *workers, size_t workers_len
@@ -245,24 +253,27 @@ tg_answer tg_load_minutes(tg_sizes sizes, TG_TABLES, const uint32_t *minutes, si
 /* Posts an add: posted, or refused with 1, 2, 9, 3 or 5. Names past the count are ignored. */
 tg_answer tg_post_add(tg_sizes sizes, TG_TABLES, uint32_t worker, tg_entry entry);
 
-/* Posts a finish of the held job: posted, or refused with 1, 2, 9, 3 or 11. */
-tg_answer tg_post_finish(tg_sizes sizes, TG_TABLES, uint32_t worker, uint32_t name);
+/* Posts a finish of the held job with its outcome, TG_GOOD or TG_FAILED: posted, or refused with 1, 2, 9, 3, 11, or 19
+ * for TG_GOOD where the job is spoiled. */
+tg_answer tg_post_finish(tg_sizes sizes, TG_TABLES, uint32_t worker, uint32_t name, uint32_t outcome);
 
 /* One step of the worker's call: going on, ended, or refused with 1, 2, 9, 4, 6, 7 or 8. */
 tg_answer tg_step(tg_sizes sizes, TG_TABLES, uint32_t worker);
 
 /* Takes the waiting job with the most minutes, of equal minutes the one that entered the queue first: handed out,
- * none ready, or refused with 1, 2, 9, 3 or 10. */
+ * none ready, or refused with 1, 2, 9, 3 or 10. A spoiled job, one with a prerequisite that failed, is handed out like
+ * the others, and told by `spoiled`; its finish must bring TG_FAILED. */
 tg_answer tg_get(tg_sizes sizes, TG_TABLES, uint32_t worker);
 
 /* An add run whole: posted, and stepped to its end with no other call between. Ended, or refused with 1, 2, 9,
  * 3, 5, 6, 7 or 8. Only damaged tables give 9 in its middle: then the steps before it stay made, and the call is
- * half done, which tg_held tells. */
+ * half done, which tg_held tells where no damaged word refuses that too. */
 tg_answer tg_add(tg_sizes sizes, TG_TABLES, uint32_t worker, tg_entry entry);
 
-/* A finish run whole: ended, or refused with 1, 2, 9, 3 or 11. Only damaged tables give 9 in its middle, as with
- * tg_add, or, where a list of arcs runs in a circle, going on after arcs + 1 steps; tg_step goes on with it. */
-tg_answer tg_finish(tg_sizes sizes, TG_TABLES, uint32_t worker, uint32_t name);
+/* A finish run whole, with its outcome as for tg_post_finish: ended, or refused with 1, 2, 9, 3, 11 or 19. Only
+ * damaged tables give 9 in its middle, as with tg_add, or, where a list of arcs runs in a circle, going on after
+ * arcs + 1 steps; tg_step goes on with it. */
+tg_answer tg_finish(tg_sizes sizes, TG_TABLES, uint32_t worker, uint32_t name, uint32_t outcome);
 
 /* number 0: `numbers` and `places` have for each entry what tg_add would answer: 0 and 0 where it was accepted, else
  * its number, and for number 6 the place in the list. Past the last entry they are 0.
@@ -293,14 +304,14 @@ enum {
     TG_CALL_FINISH = 2
 };
 
-/* number 0, holds 1: the worker holds `job`, whose name is `name`.
- * number 0, holds 0: it holds none; job and name are 0.
+/* number 0, holds 1: the worker holds `job`, whose name is `name`; `spoiled` is 1 where it is spoiled, else 0.
+ * number 0, holds 0: it holds none; job, name and spoiled are 0.
  * With number 0 `call` says which call is half done; tg_step goes on with it. Of an add half done `adds` is
  * the name of the job that it adds, else 0. A finish frees the hold with its first step, its mark: from then
  * on the job and its name are not told.
  * number 1, 2 or 9: all else is 0. */
 typedef struct {
-    uint32_t number, holds, job, name, call, adds;
+    uint32_t number, holds, job, name, call, adds, spoiled;
 } tg_holding;
 
 /* What a worker holds, and whether its call is half done: for a worker that restarts. */

@@ -22,6 +22,7 @@ static const char *const texts[] = {
     [TG_ENTRIES] = "more entries than one call takes",
     [TG_MINUTES] = "minutes that do not rise or leave their limits",
     [TG_ENTERED] = "a job has entered",
+    [TG_GOOD_FOR_SPOILED] = "a job that rests on a failed one cannot end as good",
 };
 
 const char *tg_message(uint32_t number)

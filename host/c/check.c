@@ -30,11 +30,13 @@ _Static_assert(offsetof(tg_totals, jobs) == 4, "tg_totals.jobs");
 _Static_assert(offsetof(tg_totals, minutes) == 16, "tg_totals.minutes");
 
 _Static_assert(sizeof(tg_sizes) == 16, "tg_sizes");
-_Static_assert(sizeof(tg_answer) == 20, "tg_answer");
+_Static_assert(sizeof(tg_answer) == 24, "tg_answer");
 _Static_assert(offsetof(tg_answer, number) == 4, "tg_answer.number");
 _Static_assert(offsetof(tg_answer, place) == 8, "tg_answer.place");
 _Static_assert(offsetof(tg_answer, job) == 12, "tg_answer.job");
 _Static_assert(offsetof(tg_answer, name) == 16, "tg_answer.name");
+_Static_assert(offsetof(tg_answer, spoiled) == 20, "tg_answer.spoiled");
+_Static_assert(TG_GOOD == 0 && TG_FAILED == 1, "the outcomes");
 _Static_assert(sizeof(tg_graph_minutes) == 4 * (1 + TG_CLASSES), "tg_graph_minutes");
 _Static_assert(offsetof(tg_graph_minutes, minutes) == 4, "tg_graph_minutes.minutes");
 _Static_assert(TG_CLASSES == TG_MAX_CLASS + 1, "a minute value for each class");
@@ -43,12 +45,13 @@ _Static_assert(sizeof(tg_sheet_added) == 4 * (1 + 2 * TG_MAX_ENTRIES), "tg_sheet
 _Static_assert(offsetof(tg_sheet_added, numbers) == 4, "tg_sheet_added.numbers");
 _Static_assert(offsetof(tg_sheet_added, places) == 4 + 4 * TG_MAX_ENTRIES, "tg_sheet_added.places");
 _Static_assert(TG_MAX_ENTRIES == 64, "64 entries in one call");
-_Static_assert(sizeof(tg_holding) == 24, "tg_holding");
+_Static_assert(sizeof(tg_holding) == 28, "tg_holding");
 _Static_assert(offsetof(tg_holding, holds) == 4, "tg_holding.holds");
 _Static_assert(offsetof(tg_holding, job) == 8, "tg_holding.job");
 _Static_assert(offsetof(tg_holding, name) == 12, "tg_holding.name");
 _Static_assert(offsetof(tg_holding, call) == 16, "tg_holding.call");
 _Static_assert(offsetof(tg_holding, adds) == 20, "tg_holding.adds");
+_Static_assert(offsetof(tg_holding, spoiled) == 24, "tg_holding.spoiled");
 _Static_assert(sizeof(tg_drained_answer) == 8, "tg_drained_answer");
 _Static_assert(offsetof(tg_drained_answer, drained) == 4, "tg_drained_answer.drained");
 _Static_assert(sizeof(tg_day) == 16, "tg_day");
@@ -310,11 +313,25 @@ static void check_totals_by_minutes(void)
 
 /* ---- the task graph ---- */
 
-/* The minutes of the classes, and the first job, among the words of the jobs table. */
-enum { MINUTES_AT = 5, JOBS_AT = MINUTES_AT + TG_CLASSES };
+/* The minutes of the classes, and the first job, among the words of the jobs table; the words of a job and a worker. */
+enum { MINUTES_AT = 5, JOBS_AT = MINUTES_AT + TG_CLASSES, JOB_WORDS = 10, WORKER_WORDS = 43 };
+
+/* Fields of a job, and of a worker. */
+enum { NAME = 0, LABEL = 1, COUNT = 2, CLASS = 3, NEXT = 7, OUTCOME = 8, MARK = 9 };
+enum { PHASE = 0, HELD = 1, NOTE = 10 };
 
 /* Tables for up to 8 jobs, 8 arcs, 4 buckets and 2 workers. */
-static uint32_t jobs[JOBS_AT + 8 * 8], arcs[1 + 2 * 8], buckets[4], queue[2 + 3 * 8], workers[2 * 42];
+static uint32_t jobs[JOBS_AT + JOB_WORDS * 8], arcs[1 + 2 * 8], buckets[4], queue[2 + 3 * 8], workers[WORKER_WORDS * 2];
+
+static uint32_t *of_job(uint32_t job, uint32_t field)
+{
+    return jobs + JOBS_AT + JOB_WORDS * job + field;
+}
+
+static uint32_t *of_worker(uint32_t worker, uint32_t field)
+{
+    return workers + WORKER_WORDS * worker + field;
+}
 
 #define LEN(table) (sizeof table / sizeof *table)
 #define LENT jobs, LEN(jobs), arcs, LEN(arcs), buckets, LEN(buckets), queue, LEN(queue), workers, LEN(workers)
@@ -329,6 +346,7 @@ static void answers(const char *what, tg_answer answer, tg_answer wanted)
     same(what, answer.place, wanted.place);
     same(what, answer.job, wanted.job);
     same(what, answer.name, wanted.name);
+    same(what, answer.spoiled, wanted.spoiled);
 }
 
 static const tg_answer laid_out = {.kind = TG_LAID_OUT}, posted = {.kind = TG_POSTED}, going_on = {.kind = TG_GOING_ON},
@@ -342,6 +360,11 @@ static tg_answer refused(uint32_t number, uint32_t place)
 static tg_answer handed_out(uint32_t job, uint32_t name)
 {
     return (tg_answer){.kind = TG_HANDED_OUT, .job = job, .name = name};
+}
+
+static tg_answer handed_out_spoiled(uint32_t job, uint32_t name)
+{
+    return (tg_answer){.kind = TG_HANDED_OUT, .job = job, .name = name, .spoiled = 1};
 }
 
 /* Steps to the answer that ends the call; the number of steps must be as given. */
@@ -393,8 +416,9 @@ static void check_lay_out(void)
     same_bytes("tg_lay_out: the sizes", jobs, &sizes, sizeof sizes);
     same("tg_lay_out: jobs made", jobs[4], 0);
     same_bytes("tg_lay_out: the fixed minutes", jobs + MINUTES_AT, fixed_minutes, sizeof fixed_minutes);
-    same("tg_lay_out: first job, name", jobs[JOBS_AT], 0);
-    same("tg_lay_out: last job, next", jobs[LEN(jobs) - 1], UINT32_MAX);
+    const uint32_t none = UINT32_MAX, fresh_job[JOB_WORDS] = {0, 0, 0, 0, 0, none, none, none, 0, 0};
+    same_bytes("tg_lay_out: first job", of_job(0, NAME), fresh_job, sizeof fresh_job);
+    same_bytes("tg_lay_out: last job", of_job(7, NAME), fresh_job, sizeof fresh_job);
     same("tg_lay_out: arcs reserved", arcs[0], 0);
     same("tg_lay_out: last arc", arcs[LEN(arcs) - 1], UINT32_MAX);
     same("tg_lay_out: last bucket", buckets[3], UINT32_MAX);
@@ -402,8 +426,9 @@ static void check_lay_out(void)
     same("tg_lay_out: last cell", queue[LEN(queue) - 3], UINT32_MAX);
     same("tg_lay_out: last slot", queue[LEN(queue) - 2], UINT32_MAX);
     same("tg_lay_out: last position", queue[LEN(queue) - 1], UINT32_MAX);
-    same("tg_lay_out: worker 1, held", workers[42 + 1], UINT32_MAX);
-    same("tg_lay_out: worker 1, last name", workers[42 + 41], 0);
+    same("tg_lay_out: worker 1, held", *of_worker(1, HELD), UINT32_MAX);
+    same("tg_lay_out: worker 1, note", *of_worker(1, NOTE), 0);
+    same("tg_lay_out: worker 1, last name", *of_worker(1, WORKER_WORDS - 1), 0);
 }
 
 /* Jobs 1, 2, 3 and 4 needing 1 and 2, added by worker 0 and worked by both. */
@@ -419,17 +444,17 @@ static void check_graph(void)
     answers("tg_post_add, half done", tg_post_add(sizes, LENT, 0, fourth), refused(TG_HALF_DONE, 0));
     answers("tg_step, a look-up", tg_step(sizes, LENT, 0), going_on);
     answers("tg_step, job 4", run_whole("2d + 2 steps, one taken", 0, 5), ended);
-    const uint32_t words[8] = {4, 0, 2, 15, 9, UINT32_MAX, UINT32_MAX, UINT32_MAX};
-    same_bytes("the words of job 4", jobs + JOBS_AT + 8 * 3, words, sizeof words);
+    const uint32_t words[JOB_WORDS] = {4, 0, 2, 15, 9, UINT32_MAX, UINT32_MAX, UINT32_MAX, 0, 0};
+    same_bytes("the words of job 4", of_job(3, NAME), words, sizeof words);
 
     for (uint32_t name = 1; name <= 2; name++)
         answers("tg_get", tg_get(sizes, LENT, name - 1), handed_out(name - 1, name));
     answers("tg_get, holding", tg_get(sizes, LENT, 0), refused(TG_HOLDING, 0));
-    answers("tg_post_finish, not held", tg_post_finish(sizes, LENT, 0, 2), refused(TG_NOT_HELD, 0));
+    answers("tg_post_finish, not held", tg_post_finish(sizes, LENT, 0, 2, TG_GOOD), refused(TG_NOT_HELD, 0));
     const tg_totals totals = tg_totals_of_graph(sizes, jobs, LEN(jobs)), wanted = {0, {2, 2, 0}, {481, 2, 0}};
     same_bytes("tg_totals_of_graph", &totals, &wanted, sizeof totals);
     for (uint32_t name = 1; name <= 2; name++) {
-        answers("tg_post_finish", tg_post_finish(sizes, LENT, name - 1, name), posted);
+        answers("tg_post_finish", tg_post_finish(sizes, LENT, name - 1, name, TG_GOOD), posted);
         answers("tg_step, a finish", run_whole("a mark and an arc", name - 1, 2), ended);
     }
     answers("tg_get, the most minutes", tg_get(sizes, LENT, 1), handed_out(3, 4));
@@ -441,7 +466,7 @@ static void check_graph(void)
 static void works_on(const char *what, uint32_t job, uint32_t name)
 {
     answers(what, tg_get(sizes, LENT, 0), handed_out(job, name));
-    answers(what, tg_finish(sizes, LENT, 0, name), ended);
+    answers(what, tg_finish(sizes, LENT, 0, name, TG_GOOD), ended);
 }
 
 /* A place of the queue: its cell, the slot of its number, its position. */
@@ -508,7 +533,7 @@ static void check_graph_refusals(void)
     same("tg_totals_of_graph, too short", totals.number, TG_SIZE);
     totals = tg_totals_of_graph(other, jobs, LEN(jobs));
     same("tg_totals_of_graph, other sizes", totals.number, TG_SIZE);
-    jobs[JOBS_AT + 1] = 3;
+    *of_job(0, LABEL) = 3;
     totals = tg_totals_of_graph(sizes, jobs, LEN(jobs));
     same("tg_totals_of_graph, label 3", totals.number, TG_DAMAGED);
     answers("tg_get, label 3", tg_get(sizes, LENT, 0), refused(TG_DAMAGED, 0));
@@ -558,7 +583,7 @@ static void check_index_damaged(void)
         get_is_damaged("tg_get, the position of a place is another slot", of_place(slot, POSITION), 3 - slot);
         get_is_damaged("tg_get, the position of a place is none", of_place(slot, POSITION), UINT32_MAX);
         get_is_damaged("tg_get, a cell with a job that was not made", of_place(slot, CELL), 4);
-        get_is_damaged("tg_get, a job of class 16", jobs + JOBS_AT + 8 * slot + 3, 16);
+        get_is_damaged("tg_get, a job of class 16", of_job(slot, CLASS), 16);
     }
     *of_place(1, SLOT) = 7;
     answers("tg_add, a wrong slot on its way", tg_add(sizes, LENT, 0, (tg_entry){.name = 5}), refused(TG_DAMAGED, 0));
@@ -571,6 +596,19 @@ static void check_index_damaged(void)
     answers("tg_get, the index's first", tg_get(sizes, LENT, 0), handed_out(2, 3));
 }
 
+static void holds(const char *what, uint32_t worker, tg_holding wanted)
+{
+    const tg_holding holding = tg_held(sizes, LENT, worker);
+    same_bytes(what, &holding, &wanted, sizeof holding);
+}
+
+static void drained(const char *what, uint32_t number, uint32_t wanted)
+{
+    const tg_drained_answer answer = tg_drained(sizes, LENT);
+    same(what, answer.number, number);
+    same(what, answer.drained, wanted);
+}
+
 /* Jobs 1 and 2 needing 1: added, worked and finished by whole calls. */
 static void check_whole_calls(void)
 {
@@ -578,13 +616,13 @@ static void check_whole_calls(void)
     const tg_entry first = {.name = 1}, second = {.name = 2, .count = 1, .class_ = 3, .grower = 9, .names = {1}};
     answers("tg_add", tg_add(sizes, LENT, 0, first), ended);
     answers("tg_add, job 2", tg_add(sizes, LENT, 0, second), ended);
-    const uint32_t words[8] = {2, 0, 1, 3, 9, UINT32_MAX, UINT32_MAX, UINT32_MAX};
-    same_bytes("tg_add: the words of job 2", jobs + JOBS_AT + 8, words, sizeof words);
+    const uint32_t words[JOB_WORDS] = {2, 0, 1, 3, 9, UINT32_MAX, UINT32_MAX, UINT32_MAX, 0, 0};
+    same_bytes("tg_add: the words of job 2", of_job(1, NAME), words, sizeof words);
     answers("tg_get", tg_get(sizes, LENT, 1), handed_out(0, 1));
-    answers("tg_finish", tg_finish(sizes, LENT, 1, 1), ended);
+    answers("tg_finish", tg_finish(sizes, LENT, 1, 1, TG_GOOD), ended);
     answers("tg_get, the dependent", tg_get(sizes, LENT, 0), handed_out(1, 2));
     answers("tg_add, by a holder", tg_add(sizes, LENT, 0, (tg_entry){.name = 3}), ended);
-    answers("tg_finish, without an arc", tg_finish(sizes, LENT, 0, 2), ended);
+    answers("tg_finish, without an arc", tg_finish(sizes, LENT, 0, 2, TG_GOOD), ended);
     answers("tg_get, added by a holder", tg_get(sizes, LENT, 0), handed_out(2, 3));
 }
 
@@ -601,10 +639,10 @@ static void check_whole_refusals(void)
     answers("tg_add, 33 names", tg_add(sizes, LENT, 0, (tg_entry){.count = 33}), refused(TG_ARGUMENTS, 0));
     answers("tg_add, unknown name", tg_add(sizes, LENT, 0, unknown), refused(TG_UNKNOWN_NAME, 1));
     answers("tg_add, present name", tg_add(sizes, LENT, 0, first), refused(TG_NAME_PRESENT, 0));
-    answers("tg_finish, other sizes", tg_finish(other, LENT, 0, 1), refused(TG_SIZE, 0));
-    answers("tg_finish, worker 2", tg_finish(sizes, LENT, 2, 1), refused(TG_WORKER, 0));
-    answers("tg_finish, by another worker", tg_finish(sizes, LENT, 0, 1), refused(TG_NOT_HELD, 0));
-    answers("tg_finish, another name", tg_finish(sizes, LENT, 1, 2), refused(TG_NOT_HELD, 0));
+    answers("tg_finish, other sizes", tg_finish(other, LENT, 0, 1, TG_GOOD), refused(TG_SIZE, 0));
+    answers("tg_finish, worker 2", tg_finish(sizes, LENT, 2, 1, TG_GOOD), refused(TG_WORKER, 0));
+    answers("tg_finish, by another worker", tg_finish(sizes, LENT, 0, 1, TG_GOOD), refused(TG_NOT_HELD, 0));
+    answers("tg_finish, another name", tg_finish(sizes, LENT, 1, 2, TG_GOOD), refused(TG_NOT_HELD, 0));
     unchanged("tg_add and tg_finish, refused: the tables");
 
     arcs[0] = 8;
@@ -612,12 +650,13 @@ static void check_whole_refusals(void)
             refused(TG_FULL, 0));
     arcs[0] = 9;
     answers("tg_add, more arcs reserved than there are", tg_add(sizes, LENT, 0, first), refused(TG_DAMAGED, 0));
-    answers("tg_finish, more arcs reserved than there are", tg_finish(sizes, LENT, 1, 1), refused(TG_DAMAGED, 0));
+    answers("tg_finish, more arcs reserved than there are", tg_finish(sizes, LENT, 1, 1, TG_GOOD),
+            refused(TG_DAMAGED, 0));
     arcs[0] = 0;
     unchanged("tg_add and tg_finish, full or damaged: the tables");
-    answers("tg_post_finish", tg_post_finish(sizes, LENT, 1, 1), posted);
+    answers("tg_post_finish", tg_post_finish(sizes, LENT, 1, 1, TG_GOOD), posted);
     answers("tg_add, half done", tg_add(sizes, LENT, 1, first), refused(TG_HALF_DONE, 0));
-    answers("tg_finish, half done", tg_finish(sizes, LENT, 1, 1), refused(TG_HALF_DONE, 0));
+    answers("tg_finish, half done", tg_finish(sizes, LENT, 1, 1, TG_GOOD), refused(TG_HALF_DONE, 0));
     answers("tg_step, after these", tg_step(sizes, LENT, 1), ended);
 }
 
@@ -626,20 +665,31 @@ static void check_whole_damaged(void)
 {
     answers("tg_lay_out", tg_lay_out(sizes, LENT), laid_out);
     answers("tg_add", tg_add(sizes, LENT, 0, (tg_entry){.name = 1}), ended);
-    jobs[JOBS_AT + 1] = 3;
+    *of_job(0, LABEL) = 3;
     const tg_entry second = {.name = 2, .count = 1, .names = {1}};
     answers("tg_add, label 3 in its middle", tg_add(sizes, LENT, 0, second), refused(TG_DAMAGED, 0));
     answers("tg_add, after it", tg_add(sizes, LENT, 0, second), refused(TG_HALF_DONE, 0));
-    jobs[JOBS_AT + 1] = 0;
+    *of_job(0, LABEL) = 0;
     answers("tg_step, put right", run_whole("a link and settling", 0, 2), ended);
 
     arcs[1 + 1] = 0;
-    jobs[JOBS_AT + 8 + 2] = 32;
+    *of_job(1, COUNT) = 32;
     answers("tg_get", tg_get(sizes, LENT, 0), handed_out(0, 1));
-    answers("tg_finish, arcs in a circle", tg_finish(sizes, LENT, 0, 1), going_on);
-    same("tg_finish: a mark, and a step for each of 8 arcs", jobs[JOBS_AT + 8 + 2], 32 - 8);
+    *of_job(0, LABEL) = 0;
+    answers("tg_finish, failed, label 0", tg_finish(sizes, LENT, 0, 1, TG_FAILED), refused(TG_DAMAGED, 0));
+    same("tg_finish, failed, label 0: the note is kept", *of_worker(0, NOTE), 1);
+    holds("tg_held, a finish that has not marked", 0,
+          (tg_holding){.holds = 1, .job = 0, .name = 1, .call = TG_CALL_FINISH});
+    *of_job(0, LABEL) = 1;
+    *of_worker(0, PHASE) = 0;
+    answers("tg_finish, arcs in a circle", tg_finish(sizes, LENT, 0, 1, TG_FAILED), going_on);
+    same("tg_finish: a mark, and a step for each of 8 arcs", *of_job(1, COUNT), 32 - 8);
+    same("tg_finish, arcs in a circle: the note is kept", *of_worker(0, NOTE), 1);
+    same("tg_finish, arcs in a circle: the outcome", *of_job(0, OUTCOME), 1);
+    *of_job(1, MARK) = 0;
     arcs[1 + 1] = UINT32_MAX;
     answers("tg_step, put right", tg_step(sizes, LENT, 0), ended);
+    same("tg_step, put right: by the note", *of_job(1, MARK), 1);
 }
 
 /* What a sheet answers: its number, and each entry's number and place; all others are 0. */
@@ -713,14 +763,14 @@ static void check_sheet_damaged(void)
 {
     answers("tg_lay_out", tg_lay_out(sizes, LENT), laid_out);
     answers("tg_add", tg_add(sizes, LENT, 0, (tg_entry){.name = 1}), ended);
-    jobs[JOBS_AT + 1] = 3;
+    *of_job(0, LABEL) = 3;
     const tg_entry four[4] = {
         {.name = 2}, {.name = 3, .count = 1, .names = {1}}, {.name = 4}, {.name = 5, .class_ = 16}};
     const uint32_t wanted[4][2] = {{0, 0}, {9, 0}, {3, 0}, {3, 0}};
     memcpy(sheet, four, sizeof four);
     adds("tg_add_sheet, label 3 in its middle", tg_add_sheet(sizes, LENT, 0, ROWS(4)), 0, wanted, 4);
     same("tg_add_sheet, label 3 in its middle: made", jobs[4], 3);
-    jobs[JOBS_AT + 1] = 0;
+    *of_job(0, LABEL) = 0;
     answers("tg_step, put right", run_whole("a link and settling", 0, 2), ended);
 }
 
@@ -765,7 +815,7 @@ static void check_load(void)
     answers("tg_get, 25 minutes", tg_get(sizes, LENT, 1), handed_out(2, 3));
     const tg_totals totals = tg_totals_of_graph(sizes, jobs, LEN(jobs)), wanted = {0, {1, 1, 1}, {2, 25, 1440}};
     same_bytes("tg_totals_of_graph, by what was loaded", &totals, &wanted, sizeof totals);
-    answers("tg_finish", tg_finish(sizes, LENT, 1, 3), ended);
+    answers("tg_finish", tg_finish(sizes, LENT, 1, 3, TG_GOOD), ended);
     works_on("tg_get, 2 minutes", 0, 1);
     answers("tg_load_minutes, all finished", load(fixed_minutes, TG_CLASSES), refused(TG_ENTERED, 0));
     answers("tg_lay_out", tg_lay_out(sizes, LENT), laid_out);
@@ -822,19 +872,6 @@ static void check_minutes_damaged(void)
     }
 }
 
-static void holds(const char *what, uint32_t worker, tg_holding wanted)
-{
-    const tg_holding holding = tg_held(sizes, LENT, worker);
-    same_bytes(what, &holding, &wanted, sizeof holding);
-}
-
-static void drained(const char *what, uint32_t number, uint32_t wanted)
-{
-    const tg_drained_answer answer = tg_drained(sizes, LENT);
-    same(what, answer.number, number);
-    same(what, answer.drained, wanted);
-}
-
 /* Job 7 from its add to its finish, by worker 1: what it holds, its call, and whether anything is left. */
 static void check_state(void)
 {
@@ -852,7 +889,7 @@ static void check_state(void)
     answers("tg_get", tg_get(sizes, LENT, 1), handed_out(0, 7));
     holds("tg_held, a job", 1, (tg_holding){.holds = 1, .job = 0, .name = 7});
     drained("tg_drained, a job is held", 0, 0);
-    answers("tg_post_finish", tg_post_finish(sizes, LENT, 1, 7), posted);
+    answers("tg_post_finish", tg_post_finish(sizes, LENT, 1, 7, TG_GOOD), posted);
     holds("tg_held, a finish half done", 1, (tg_holding){.holds = 1, .job = 0, .name = 7, .call = TG_CALL_FINISH});
     answers("tg_step", tg_step(sizes, LENT, 1), ended);
     holds("tg_held, after the finish", 1, (tg_holding){0});
@@ -862,17 +899,204 @@ static void check_state(void)
     same("tg_held, other sizes", tg_held(other, LENT, 0).number, TG_SIZE);
     same("tg_drained, other sizes", tg_drained(other, LENT).number, TG_SIZE);
     holds("tg_held, worker 2", 2, (tg_holding){.number = TG_WORKER});
-    workers[42] = 5;
+    *of_worker(1, PHASE) = 5;
     holds("tg_held, phase 5", 1, (tg_holding){.number = TG_DAMAGED});
     holds("tg_held, phase 5 of the other worker", 0, (tg_holding){0});
     drained("tg_drained, phase 5", TG_DAMAGED, 0);
-    workers[42] = 0;
+    *of_worker(1, PHASE) = 0;
     arcs[0] = 9;
     holds("tg_held, more arcs reserved than there are", 1, (tg_holding){.number = TG_DAMAGED});
     arcs[0] = 0;
     queue[0] = 2;
     holds("tg_held, more taken than put", 1, (tg_holding){0});
     drained("tg_drained, more taken than put", TG_DAMAGED, 0);
+}
+
+/* Jobs 1 and 2, 3 needing both, 4 needing 3 and 5 needing 2: job 1 fails by steps, and what rests on it is spoiled. */
+static void check_outcomes(void)
+{
+    answers("tg_lay_out", tg_lay_out(sizes, LENT), laid_out);
+    const tg_entry five[5] = {{.name = 1}, {.name = 2}, {.name = 3, .count = 2, .names = {1, 2}},
+                              {.name = 4, .count = 1, .names = {3}}, {.name = 5, .count = 1, .names = {2}}};
+    for (size_t i = 0; i < LEN(five); i++)
+        answers("tg_add", tg_add(sizes, LENT, 0, five[i]), ended);
+    answers("tg_get", tg_get(sizes, LENT, 0), handed_out(0, 1));
+    answers("tg_post_finish, failed", tg_post_finish(sizes, LENT, 0, 1, TG_FAILED), posted);
+    same("tg_post_finish, failed: the note", *of_worker(0, NOTE), 1);
+    same("tg_post_finish, failed: no outcome yet", *of_job(0, OUTCOME), 0);
+    answers("tg_step, the mark", tg_step(sizes, LENT, 0), going_on);
+    same("tg_step, the mark: the outcome", *of_job(0, OUTCOME), 1);
+    same("tg_step, the mark: the dependent is not spoiled yet", *of_job(2, MARK), 0);
+    answers("tg_step, the arc", tg_step(sizes, LENT, 0), ended);
+    same("tg_step, the arc: the dependent is spoiled", *of_job(2, MARK), 1);
+    same("tg_step, the arc: the note", *of_worker(0, NOTE), 0);
+    answers("tg_get, a job that is not spoiled", tg_get(sizes, LENT, 0), handed_out(1, 2));
+    answers("tg_finish, good", tg_finish(sizes, LENT, 0, 2, TG_GOOD), ended);
+    same("tg_finish, good: the outcome", *of_job(1, OUTCOME), 0);
+
+    answers("tg_get, a spoiled job", tg_get(sizes, LENT, 1), handed_out_spoiled(2, 3));
+    holds("tg_held, a spoiled job", 1, (tg_holding){.holds = 1, .job = 2, .name = 3, .spoiled = 1});
+    copy_tables(kept);
+    answers("tg_post_finish, good for a spoiled job", tg_post_finish(sizes, LENT, 1, 3, TG_GOOD),
+            refused(TG_GOOD_FOR_SPOILED, 0));
+    answers("tg_finish, good for a spoiled job", tg_finish(sizes, LENT, 1, 3, TG_GOOD),
+            refused(TG_GOOD_FOR_SPOILED, 0));
+    unchanged("good for a spoiled job: the tables");
+    same("the dependent of a spoiled job that has not ended", *of_job(3, MARK), 0);
+    answers("tg_finish, any other number is failed", tg_finish(sizes, LENT, 1, 3, 2), ended);
+    same("tg_finish, any other number: the outcome", *of_job(2, OUTCOME), 1);
+    same("tg_finish, any other number: the dependent", *of_job(3, MARK), 1);
+    works_on("tg_get, what rests on a good job", 4, 5);
+    answers("tg_get, along the chain", tg_get(sizes, LENT, 0), handed_out_spoiled(3, 4));
+    answers("tg_finish, the greatest number", tg_finish(sizes, LENT, 0, 4, UINT32_MAX), ended);
+    const uint32_t last[JOB_WORDS] = {4, 2, 0, 0, 0, UINT32_MAX, UINT32_MAX, *of_job(3, NEXT), 1, 1};
+    same_bytes("the words of job 4, failed and spoiled", of_job(3, NAME), last, sizeof last);
+    drained("tg_drained, all finished", 0, 1);
+    const tg_totals totals = tg_totals_of_graph(sizes, jobs, LEN(jobs)), wanted = {0, {0, 0, 5}, {0, 0, 5}};
+    same_bytes("tg_totals_of_graph, failed jobs are finished", &totals, &wanted, sizeof totals);
+}
+
+/* Links to a failed job: noted beside the tally, and settling spoils; by steps, in an add run whole and in a sheet. */
+static void check_links_to_failed(void)
+{
+    answers("tg_lay_out", tg_lay_out(sizes, LENT), laid_out);
+    answers("tg_add", tg_add(sizes, LENT, 0, (tg_entry){.name = 1}), ended);
+    answers("tg_add", tg_add(sizes, LENT, 0, (tg_entry){.name = 2}), ended);
+    answers("tg_get", tg_get(sizes, LENT, 0), handed_out(0, 1));
+    answers("tg_finish, failed", tg_finish(sizes, LENT, 0, 1, TG_FAILED), ended);
+    answers("tg_get", tg_get(sizes, LENT, 0), handed_out(1, 2));
+    answers("tg_post_add", tg_post_add(sizes, LENT, 1, (tg_entry){.name = 3, .count = 2, .names = {1, 2}}), posted);
+    for (int step = 0; step < 3; step++)
+        answers("tg_step, look-ups and entering", tg_step(sizes, LENT, 1), going_on);
+    same("no note before the link", *of_worker(1, NOTE), 0);
+    answers("tg_step, a link to a failed job", tg_step(sizes, LENT, 1), going_on);
+    same("a link to a failed job: the note", *of_worker(1, NOTE), 1);
+    answers("tg_step, a link to another", tg_step(sizes, LENT, 1), going_on);
+    same("a link to another: the note stays", *of_worker(1, NOTE), 1);
+    same("linked: no mark yet", *of_job(2, MARK), 0);
+    answers("tg_finish, good", tg_finish(sizes, LENT, 0, 2, TG_GOOD), ended);
+    answers("tg_get, not settled", tg_get(sizes, LENT, 0), none_ready);
+    answers("tg_step, settling", tg_step(sizes, LENT, 1), ended);
+    same("settling: the mark", *of_job(2, MARK), 1);
+    same("settling: the note", *of_worker(1, NOTE), 0);
+    answers("tg_get, spoiled by a link", tg_get(sizes, LENT, 0), handed_out_spoiled(2, 3));
+
+    answers("tg_add, needing a failed job", tg_add(sizes, LENT, 1, (tg_entry){.name = 4, .count = 1, .names = {1}}),
+            ended);
+    sheet[0] = (tg_entry){.name = 5, .count = 2, .names = {2, 1}};
+    sheet[1] = (tg_entry){.name = 6, .count = 1, .names = {2}};
+    adds("tg_add_sheet, needing a failed job", tg_add_sheet(sizes, LENT, 1, ROWS(2)), 0, NULL, 0);
+    answers("tg_get, spoiled by an add run whole", tg_get(sizes, LENT, 1), handed_out_spoiled(3, 4));
+    answers("tg_finish", tg_finish(sizes, LENT, 1, 4, TG_FAILED), ended);
+    answers("tg_get, spoiled by a sheet", tg_get(sizes, LENT, 1), handed_out_spoiled(4, 5));
+    answers("tg_finish", tg_finish(sizes, LENT, 1, 5, TG_FAILED), ended);
+    answers("tg_get, needing a good job", tg_get(sizes, LENT, 1), handed_out(5, 6));
+    answers("tg_post_add", tg_post_add(sizes, LENT, 1, (tg_entry){.name = 7, .count = 2, .names = {1, 2}}), posted);
+    for (int step = 0; step < 5; step++)
+        answers("tg_step, look-ups, entering and links", tg_step(sizes, LENT, 1), going_on);
+    same("a link to a good job after a failed one: the note stays", *of_worker(1, NOTE), 1);
+    answers("tg_step, settling", tg_step(sizes, LENT, 1), ended);
+    same("settling, a failed and a good job: the mark", *of_job(6, MARK), 1);
+}
+
+/* Both ways to finish a job as good, refused alike with nothing changed. */
+static void good_is_refused(const char *what, tg_sizes brought, uint32_t worker, uint32_t name, uint32_t number)
+{
+    copy_tables(kept);
+    answers(what, tg_post_finish(brought, LENT, worker, name, TG_GOOD), refused(number, 0));
+    answers(what, tg_finish(brought, LENT, worker, name, TG_GOOD), refused(number, 0));
+    unchanged(what);
+}
+
+/* The order 1, 2, 9 for the worker's own words, 3, 11, 9 for the words that are read, 19. Worker 1 holds job 2, which
+ * is spoiled. */
+static void check_good_for_spoiled(void)
+{
+    answers("tg_lay_out", tg_lay_out(sizes, LENT), laid_out);
+    answers("tg_add", tg_add(sizes, LENT, 0, (tg_entry){.name = 1}), ended);
+    answers("tg_add", tg_add(sizes, LENT, 0, (tg_entry){.name = 2, .count = 1, .names = {1}}), ended);
+    answers("tg_get", tg_get(sizes, LENT, 0), handed_out(0, 1));
+    answers("tg_finish", tg_finish(sizes, LENT, 0, 1, TG_FAILED), ended);
+    answers("tg_get", tg_get(sizes, LENT, 1), handed_out_spoiled(1, 2));
+    const tg_sizes other = {.jobs = 8, .arcs = 8, .bits = 2, .workers = 1};
+    good_is_refused("good, other sizes", other, 1, 2, TG_SIZE);
+    good_is_refused("good, worker 2", sizes, 2, 2, TG_WORKER);
+    good_is_refused("good, another name", sizes, 1, 1, TG_NOT_HELD);
+    good_is_refused("good, by another worker", sizes, 0, 2, TG_NOT_HELD);
+    good_is_refused("good for a spoiled job", sizes, 1, 2, TG_GOOD_FOR_SPOILED);
+    *of_worker(1, NOTE) = 2;
+    good_is_refused("good, a wrong note", sizes, 1, 1, TG_DAMAGED);
+    *of_worker(1, NOTE) = 0;
+    arcs[0] = 9;
+    good_is_refused("good, more arcs reserved than there are", sizes, 1, 2, TG_DAMAGED);
+    good_is_refused("good, another name and more arcs reserved", sizes, 1, 1, TG_NOT_HELD);
+    arcs[0] = 1;
+    *of_job(1, MARK) = 2;
+    good_is_refused("good, a wrong mark", sizes, 1, 2, TG_DAMAGED);
+    good_is_refused("good, another name and a wrong mark", sizes, 1, 1, TG_NOT_HELD);
+    answers("tg_finish, failed, a wrong mark", tg_finish(sizes, LENT, 1, 2, TG_FAILED), refused(TG_DAMAGED, 0));
+    answers("tg_post_finish, failed, a wrong mark", tg_post_finish(sizes, LENT, 1, 2, TG_FAILED),
+            refused(TG_DAMAGED, 0));
+    holds("tg_held, a wrong mark", 1, (tg_holding){.number = TG_DAMAGED});
+    holds("tg_held, a wrong mark of a job that another worker holds", 0, (tg_holding){0});
+    *of_job(1, MARK) = 1;
+    answers("tg_post_add", tg_post_add(sizes, LENT, 1, (tg_entry){.name = 3}), posted);
+    good_is_refused("good, half done", sizes, 1, 2, TG_HALF_DONE);
+    answers("tg_step, after these", run_whole("two steps", 1, 2), ended);
+    answers("tg_post_finish, failed", tg_post_finish(sizes, LENT, 1, 2, TG_FAILED), posted);
+    answers("tg_step, the mark", tg_step(sizes, LENT, 1), ended);
+}
+
+/* Outcomes, marks and notes that are not 0 or 1 are damage to the calls that read them, and to no others. */
+static void check_flags_damaged(void)
+{
+    const uint32_t wrong[3] = {2, 3, UINT32_MAX};
+    answers("tg_lay_out", tg_lay_out(sizes, LENT), laid_out);
+    answers("tg_add", tg_add(sizes, LENT, 0, (tg_entry){.name = 1}), ended);
+    for (size_t i = 0; i < LEN(wrong); i++)
+        get_is_damaged("tg_get, a wrong mark", of_job(0, MARK), wrong[i]);
+    *of_job(0, OUTCOME) = 2;
+    answers("tg_add, a wrong outcome of a job that has not ended",
+            tg_add(sizes, LENT, 0, (tg_entry){.name = 2, .count = 1, .names = {1}}), ended);
+    answers("tg_post_add", tg_post_add(sizes, LENT, 0, (tg_entry){.name = 9, .count = 1, .names = {1}}), posted);
+    answers("tg_step, a wrong outcome of a job that has not ended", run_whole("four steps", 0, 4), ended);
+    answers("tg_get, a wrong outcome", tg_get(sizes, LENT, 0), handed_out(0, 1));
+    *of_job(1, MARK) = 7;
+    answers("tg_finish, failed: outcome and mark are stored unread", tg_finish(sizes, LENT, 0, 1, TG_FAILED), ended);
+    same("tg_finish, failed: the outcome", *of_job(0, OUTCOME), 1);
+    same("tg_finish, failed: the dependent's mark", *of_job(1, MARK), 1);
+
+    const tg_entry third = {.name = 3, .count = 1, .names = {1}};
+    for (size_t i = 0; i < LEN(wrong); i++) {
+        *of_job(0, OUTCOME) = wrong[i];
+        answers("tg_add, a link to a wrong outcome", i ? tg_step(sizes, LENT, 1) : tg_add(sizes, LENT, 1, third),
+                refused(TG_DAMAGED, 0));
+        same("tg_add, a link to a wrong outcome: the note", *of_worker(1, NOTE), 0);
+    }
+    *of_job(0, OUTCOME) = 0;
+    answers("tg_step, put right", tg_step(sizes, LENT, 1), going_on);
+    *of_job(3, MARK) = 7;
+    answers("tg_step, settling without a note", tg_step(sizes, LENT, 1), ended);
+    same("settling without a note: the mark", *of_job(3, MARK), 7);
+    *of_job(3, MARK) = 0;
+
+    for (size_t i = 0; i < LEN(wrong); i++) {
+        *of_worker(1, NOTE) = wrong[i];
+        copy_tables(kept);
+        answers("tg_get, a wrong note", tg_get(sizes, LENT, 1), refused(TG_DAMAGED, 0));
+        answers("tg_step, a wrong note", tg_step(sizes, LENT, 1), refused(TG_DAMAGED, 0));
+        answers("tg_post_add, a wrong note", tg_post_add(sizes, LENT, 1, third), refused(TG_DAMAGED, 0));
+        answers("tg_add, a wrong note", tg_add(sizes, LENT, 1, third), refused(TG_DAMAGED, 0));
+        adds("tg_add_sheet, a wrong note", tg_add_sheet(sizes, LENT, 1, ROWS(0)), TG_DAMAGED, NULL, 0);
+        holds("tg_held, a wrong note", 1, (tg_holding){.number = TG_DAMAGED});
+        holds("tg_held, a wrong note of another worker", 0, (tg_holding){0});
+        drained("tg_drained, a wrong note", TG_DAMAGED, 0);
+        unchanged("a wrong note: the tables");
+    }
+    *of_worker(1, NOTE) = 1;
+    answers("tg_get, an idle worker's note in its range", tg_get(sizes, LENT, 1), handed_out_spoiled(1, 2));
+    answers("tg_finish, by its outcome and not the note before", tg_finish(sizes, LENT, 1, 2, TG_FAILED), ended);
+    same("a call that ends puts the note back", *of_worker(1, NOTE), 0);
 }
 
 static void check_day_list(void)
@@ -911,7 +1135,8 @@ static void check_texts(void)
     same_text("tg_message, 16", tg_message(TG_ENTRIES), "more entries than one call takes");
     same_text("tg_message, 17", tg_message(TG_MINUTES), "minutes that do not rise or leave their limits");
     same_text("tg_message, 18", tg_message(TG_ENTERED), "a job has entered");
-    same_text("tg_message, 19", tg_message(TG_ENTERED + 1), "unknown number");
+    same_text("tg_message, 19", tg_message(TG_GOOD_FOR_SPOILED), "a job that rests on a failed one cannot end as good");
+    same_text("tg_message, 20", tg_message(TG_GOOD_FOR_SPOILED + 1), "unknown number");
     same_text("tg_message, the greatest", tg_message(UINT32_MAX), "unknown number");
 }
 
@@ -942,6 +1167,10 @@ int main(void)
     check_load_refusals();
     check_minutes_damaged();
     check_state();
+    check_outcomes();
+    check_links_to_failed();
+    check_good_for_spoiled();
+    check_flags_damaged();
     check_day_list();
     printf("%u passed, %u failed\n", passed, failed);
     return failed != 0;

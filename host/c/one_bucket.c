@@ -17,8 +17,8 @@
 enum { JOBS = TG_MAX_JOBS, BITS = TG_MAX_BITS, MOST_LIST = 8 };
 
 static const tg_sizes sizes = {JOBS, TG_MAX_ARCS, BITS, 1};
-static uint32_t jobs[5 + TG_CLASSES + 8 * JOBS], arcs[1 + 2 * TG_MAX_ARCS], buckets[1 << BITS], queue[2 + 3 * JOBS];
-static uint32_t workers[42];
+static uint32_t jobs[5 + TG_CLASSES + 10 * JOBS], arcs[1 + 2 * TG_MAX_ARCS], buckets[1 << BITS], queue[2 + 3 * JOBS];
+static uint32_t workers[43];
 #define LEN(table) (sizeof(table) / sizeof *(table))
 #define TABLES jobs, LEN(jobs), arcs, LEN(arcs), buckets, LEN(buckets), queue, LEN(queue), workers, LEN(workers)
 

@@ -46,7 +46,7 @@ class tg_sizes(c.Structure):
 
 
 class tg_answer(c.Structure):
-    _fields_ = _words("kind", "number", "place", "job", "name")
+    _fields_ = _words("kind", "number", "place", "job", "name", "spoiled")
 
 
 class tg_graph_minutes(c.Structure):
@@ -62,7 +62,7 @@ class tg_need(c.Structure):
 
 
 class tg_holding(c.Structure):
-    _fields_ = _words("number", "holds", "job", "name", "call", "adds")
+    _fields_ = _words("number", "holds", "job", "name", "call", "adds", "spoiled")
 
 
 class tg_drained_answer(c.Structure):
@@ -92,11 +92,11 @@ FUNCTIONS: dict[str, tuple[Any, list[Any]]] = {
     "tg_lay_out": (tg_answer, [*_GRAPH]),
     "tg_load_minutes": (tg_answer, [*_GRAPH, *_WORDS]),
     "tg_post_add": (tg_answer, [*_GRAPH, c.c_uint32, tg_entry]),
-    "tg_post_finish": (tg_answer, [*_GRAPH, c.c_uint32, c.c_uint32]),
+    "tg_post_finish": (tg_answer, [*_GRAPH, c.c_uint32, c.c_uint32, c.c_uint32]),
     "tg_step": (tg_answer, [*_GRAPH, c.c_uint32]),
     "tg_get": (tg_answer, [*_GRAPH, c.c_uint32]),
     "tg_add": (tg_answer, [*_GRAPH, c.c_uint32, tg_entry]),
-    "tg_finish": (tg_answer, [*_GRAPH, c.c_uint32, c.c_uint32]),
+    "tg_finish": (tg_answer, [*_GRAPH, c.c_uint32, c.c_uint32, c.c_uint32]),
     "tg_add_sheet": (tg_sheet_added, [*_GRAPH, c.c_uint32, *_ROWS]),
     "tg_held": (tg_holding, [*_GRAPH, c.c_uint32]),
     "tg_drained": (tg_drained_answer, [*_GRAPH]),

@@ -42,10 +42,21 @@ class Words(NamedTuple):
 
 
 class Job(NamedTuple):
-    """A job that was handed out: its number in the order of entry, and its name."""
+    """A job that was handed out: its number in the order of entry, its name, and whether a prerequisite of it failed.
+
+    A spoiled job may only end as failed.
+    """
 
     number: int
     name: int
+    spoiled: bool = False
+
+
+class Outcome(enum.IntEnum):
+    """How a job ends, which its finish brings."""
+
+    GOOD = 0
+    FAILED = 1
 
 
 class Call(enum.IntEnum):
@@ -132,9 +143,9 @@ class Graph:
         """Posts an add, which `step` then carries out. Refused by 1, 2, 9, 3 or 5."""
         self._answer("tg_post_add", _worker(worker), row(entry))
 
-    def post_finish(self, worker: int, name: int) -> None:
-        """Posts the finish of the held job, which `step` then carries out. Refused by 1, 2, 9, 3 or 11."""
-        self._answer("tg_post_finish", _worker(worker), word(name, "the name"))
+    def post_finish(self, worker: int, name: int, outcome: Outcome) -> None:
+        """Posts the finish of the held job, which `step` then carries out. Refused as `finish`."""
+        self._answer("tg_post_finish", _worker(worker), word(name, "the name"), word(outcome, "the outcome"))
 
     def step(self, worker: int) -> bool:
         """One step of the worker's call: whether it goes on. Refused by 1, 2, 9, 4, 6, 7 or 8."""
@@ -143,15 +154,15 @@ class Graph:
     def get(self, worker: int) -> Job | None:
         """Takes the waiting job with the most minutes, of equal minutes the one that has waited longest, or None.
 
-        Refused by 1, 2, 9, 3 or 10.
+        A spoiled job is taken like the others, and told. Refused by 1, 2, 9, 3 or 10.
         """
         answer = self._answer("tg_get", _worker(worker))
-        return Job(answer.job, answer.name) if answer.kind == HANDED_OUT else None
+        return Job(answer.job, answer.name, bool(answer.spoiled)) if answer.kind == HANDED_OUT else None
 
     def held(self, worker: int) -> Holding:
         """What a worker holds, for a process that takes its number over. Refused by 1, 2 or 9."""
         holding = self._read("tg_held", _worker(worker))
-        job = Job(holding.job, holding.name) if holding.holds else None
+        job = Job(holding.job, holding.name, bool(holding.spoiled)) if holding.holds else None
         return Holding(job, Call(holding.call), holding.adds if holding.call == Call.ADD else None)
 
     def drained(self) -> bool:
@@ -168,9 +179,13 @@ class Graph:
         """An add from its post to its end, in one call. Refused by 1, 2, 9, 3, 5, 6, 7 or 8."""
         self._answer("tg_add", _worker(worker), row(entry))
 
-    def finish(self, worker: int, name: int) -> None:
-        """The finish of the held job from its post to its end, in one call. Refused by 1, 2, 9, 3 or 11."""
-        answer = self._answer("tg_finish", _worker(worker), word(name, "the name"))
+    def finish(self, worker: int, name: int, outcome: Outcome) -> None:
+        """The finish of the held job from its post to its end, in one call.
+
+        A job that ends as failed spoils those that need it. Refused by 1, 2, 9, 3, 11, or 19 for GOOD where the job is
+        spoiled; any number but GOOD counts as FAILED.
+        """
+        answer = self._answer("tg_finish", _worker(worker), word(name, "the name"), word(outcome, "the outcome"))
         # only in damaged tables does a list of arcs run in a circle; the steps come to its end
         goes_on = answer.kind == GOING_ON
         while goes_on:

@@ -24,6 +24,7 @@ MESSAGES = {
     16: "more entries than one call takes",
     17: "minutes that do not rise or leave their limits",
     18: "a job has entered",
+    19: "a job that rests on a failed one cannot end as good",
 }
 
 
@@ -40,7 +41,7 @@ def message(number: int) -> str:
 class Refusal(Exception):
     """A call that the library turned away.
 
-    number   1 to 18
+    number   1 to 19
     message  what the number says
     place    for 6, the place in the list of prerequisites, from 0
     offset   for 12, 13 and 14, the field's byte: from the sheet's start on reading, from the entry's on writing

@@ -3,7 +3,7 @@ import unittest
 
 from support import FOUR, SMALL
 from taskgraph import (
-    Entry, Graph, Sizes, bucket, day_list, message, minutes, read_sheet, totals_by_minutes, write_sheet,
+    Entry, Graph, Outcome, Sizes, bucket, day_list, message, minutes, read_sheet, totals_by_minutes, write_sheet,
 )
 
 # calls with one number left open
@@ -23,12 +23,14 @@ NUMBERS = {
     "day_list": lambda n: day_list(FOUR, n),
     "write_sheet": lambda n: write_sheet([Entry(1)], most=n if n is not None else "none"),
     "post_add": lambda n: GRAPH.post_add(n, Entry(1)),
-    "post_finish": lambda n: GRAPH.post_finish(n, 1),
-    "post_finish's name": lambda n: GRAPH.post_finish(0, n),
+    "post_finish": lambda n: GRAPH.post_finish(n, 1, Outcome.GOOD),
+    "post_finish's name": lambda n: GRAPH.post_finish(0, n, Outcome.GOOD),
+    "post_finish's outcome": lambda n: GRAPH.post_finish(0, 1, n),
     "step": lambda n: GRAPH.step(n),
     "get": lambda n: GRAPH.get(n),
     "add": lambda n: GRAPH.add(n, Entry(1)),
-    "finish": lambda n: GRAPH.finish(n, 1),
+    "finish": lambda n: GRAPH.finish(n, 1, Outcome.GOOD),
+    "finish's outcome": lambda n: GRAPH.finish(0, 1, n),
     "held": lambda n: GRAPH.held(n),
     "load_minutes": lambda n: GRAPH.load_minutes([*range(1, 16), n]),
     "a label": lambda n: totals_by_minutes([(n, 0)], range(1, 17)),

@@ -6,7 +6,7 @@ import unittest
 from multiprocessing.shared_memory import SharedMemory
 
 from support import SMALL, put_word, random_entry, seeded, word_place
-from taskgraph import Call, Entry, Graph, Holding, Job, Refusal, Sizes, Words, minutes, totals_by_minutes
+from taskgraph import Call, Entry, Graph, Holding, Job, Outcome, Refusal, Sizes, Words, minutes, totals_by_minutes
 
 # The first job stands behind five words and the minutes of each class.
 JOBS_AT = 5 + 16
@@ -48,7 +48,7 @@ class Calls(unittest.TestCase):
         for entry in (Entry(5), Entry(6, (5,)), Entry(7, (5,))):
             graph.add(0, entry)
         self.assertEqual(graph.get(1), Job(0, 5))
-        graph.post_finish(1, 5)
+        graph.post_finish(1, 5, Outcome.GOOD)
         self.assertEqual(steps(graph, 1), 3)
 
     def test_a_job_waits_for_its_prerequisites(self):
@@ -57,7 +57,7 @@ class Calls(unittest.TestCase):
         graph.add(0, Entry(4294967295, (0,)))
         self.assertEqual(graph.get(0), Job(0, 0))
         self.assertIsNone(graph.get(1))
-        graph.finish(0, 0)
+        graph.finish(0, 0, Outcome.GOOD)
         self.assertEqual(graph.get(1), Job(1, 4294967295))
 
     def test_two_workers_that_need_each_other(self):
@@ -74,7 +74,7 @@ class Calls(unittest.TestCase):
         for name, class_ in enumerate([15, 1, 3, 0]):
             graph.add(0, Entry(name, class_=class_))
         self.assertEqual((graph.get(0), graph.get(1)), (Job(0, 0), Job(2, 2)))
-        graph.finish(0, 0)
+        graph.finish(0, 0, Outcome.GOOD)
         self.assertEqual(graph.totals(), ((2, 1, 1), (3, 5, 480)))
         self.assertEqual(graph.totals().minutes.finished, 480)
 
@@ -88,11 +88,11 @@ class Calls(unittest.TestCase):
             waiting.append((-class_, name))  # by minutes, which rise with the class, then by entry
             if source.random() < 0.4:
                 self.assertEqual(graph.get(0).name, min(waiting)[1])
-                graph.finish(0, min(waiting)[1])
+                graph.finish(0, min(waiting)[1], Outcome.GOOD)
                 waiting.remove(min(waiting))
         for _, name in sorted(waiting):
             self.assertEqual(graph.get(0).name, name)
-            graph.finish(0, name)
+            graph.finish(0, name, Outcome.GOOD)
         self.assertIsNone(graph.get(0))
 
     def test_held_and_drained(self):
@@ -107,7 +107,7 @@ class Calls(unittest.TestCase):
         graph.get(1)
         self.assertEqual(graph.held(1), Holding(Job(0, 7), Call.NONE, None))
         self.assertFalse(graph.drained())
-        graph.post_finish(1, 7)
+        graph.post_finish(1, 7, Outcome.GOOD)
         self.assertEqual(graph.held(1), Holding(Job(0, 7), Call.FINISH, None))
         steps(graph, 1)
         self.assertEqual(graph.held(1), Holding(None, Call.NONE, None))
@@ -186,11 +186,59 @@ class WholeSheets(unittest.TestCase):
         graph.add_sheet(0, [Entry(1), Entry(2, (1,))])
         graph.get(0)
         put_word(memory, word_place(SMALL, "arcs", 2), 0)  # the next arc of arc 0
-        put_word(memory, word_place(SMALL, "jobs", JOBS_AT + 8 + 2), 32)  # the remaining count of job 1
+        put_word(memory, word_place(SMALL, "jobs", JOBS_AT + 10 + 2), 32)  # the remaining count of job 1
         with self.assertRaises(Refusal) as caught:
-            graph.finish(0, 1)
+            graph.finish(0, 1, Outcome.GOOD)
         self.assertEqual(caught.exception.number, 9)
         self.assertEqual(graph.held(0), Holding(None, Call.FINISH, None))
+
+
+class Outcomes(unittest.TestCase):
+    def test_a_failed_job_spoils_those_that_need_it(self):
+        graph = Graph(SMALL)
+        graph.add_sheet(0, [Entry(1), Entry(2), Entry(3, (1,)), Entry(4, (3, 2))])
+        self.assertEqual(graph.get(0), Job(0, 1))
+        graph.finish(0, 1, Outcome.FAILED)
+        self.assertEqual(graph.get(0), Job(1, 2, spoiled=False))
+        graph.finish(0, 2, Outcome.GOOD)
+        self.assertEqual(graph.get(1), Job(2, 3, spoiled=True))
+        self.assertEqual(graph.held(1), Holding(Job(2, 3, spoiled=True), Call.NONE, None))
+        for call in (graph.finish, graph.post_finish):
+            with self.assertRaises(Refusal) as caught:
+                call(1, 3, Outcome.GOOD)
+            self.assertEqual(caught.exception.number, 19)
+        graph.post_finish(1, 3, Outcome.FAILED)
+        steps(graph, 1)
+        self.assertEqual(graph.get(0), Job(3, 4, spoiled=True))
+        graph.finish(0, 4, 2)  # any number but 0
+        self.assertEqual(graph.totals().jobs, (0, 0, 4))
+
+    def test_random_chains(self):
+        source = seeded("outcomes")
+        sizes = Sizes(jobs=60, arcs=240, bits=4, workers=1)
+        for _ in range(100):
+            graph = Graph(sizes)
+            lists, failed, spoiled, done = {}, set(), set(), set()
+            while len(done) < sizes.jobs:
+                if len(lists) < sizes.jobs and source.random() < 0.6:
+                    name = len(lists)
+                    lists[name] = source.sample(range(name), min(name, source.randrange(5)))
+                    graph.add(0, Entry(name, lists[name], class_=source.randrange(16)))
+                    continue
+                job = graph.get(0)
+                if job is None:
+                    continue
+                self.assertEqual(job.spoiled, any(name in failed for name in lists[job.name]))
+                fails = job.spoiled or source.random() < 0.05
+                graph.finish(0, job.name, Outcome.FAILED if fails else Outcome.GOOD)
+                done.add(job.name)
+                failed |= {job.name} if fails else set()
+                spoiled |= {job.name} if job.spoiled else set()
+            # a job is spoiled exactly if a chain leads to one that failed without being spoiled
+            led = set()
+            for name in lists:
+                led |= {name} if any(other in led or other in failed - spoiled for other in lists[name]) else set()
+            self.assertEqual(spoiled, led)
 
 
 class Minutes(unittest.TestCase):
@@ -204,7 +252,7 @@ class Minutes(unittest.TestCase):
         steps(graph, 1)
         graph.add_sheet(0, [Entry(1), Entry(2, class_=3)])
         self.assertEqual(graph.get(0), Job(0, 9))
-        graph.finish(0, 9)
+        graph.finish(0, 9, Outcome.GOOD)
         self.assertEqual(graph.get(1), Job(2, 2))
         self.assertEqual(graph.totals(), ((1, 1, 1), (5, 20, 1440)))
         self.assertEqual(totals_by_minutes([(2, 15), (0, 0), (1, 3)], DISTRICT), graph.totals())
@@ -244,7 +292,7 @@ class Minutes(unittest.TestCase):
 
 class Memory(unittest.TestCase):
     def test_room(self):
-        self.assertEqual(Graph.words(SMALL), Words(JOBS_AT + 8 * 4, 1 + 2 * 4, 4, 2 + 3 * 4, 42 * 2))
+        self.assertEqual(Graph.words(SMALL), Words(JOBS_AT + 10 * 4, 1 + 2 * 4, 4, 2 + 3 * 4, 43 * 2))
         self.assertEqual(Graph.room(SMALL), 4 * sum(Graph.words(SMALL)))
 
     def each(self):
@@ -317,7 +365,7 @@ class Locking(unittest.TestCase):
         graph.add(0, Entry(2, (1,)))
         graph.get(1)
         graph.totals()
-        graph.finish(1, 1)
+        graph.finish(1, 1, Outcome.GOOD)
         self.assertEqual(lock.taken, 8)
         graph.add_sheet(0, [Entry(3), Entry(4)])
         self.assertEqual(lock.taken, 9)
@@ -348,5 +396,5 @@ class GreatestSizes(unittest.TestCase):
         self.assertEqual(caught.exception.number, 8)
         for name in range(4096):
             self.assertEqual(graph.get(15), Job(name, name))
-            graph.finish(15, name)
+            graph.finish(15, name, Outcome.GOOD)
         self.assertEqual(graph.totals().jobs, (0, 0, 4096))

@@ -4,7 +4,7 @@ import re
 import unittest
 
 from support import TOP
-from taskgraph import Call, _interface
+from taskgraph import Call, Outcome, _interface
 
 KINDS = {"uint32_t": ctypes.c_uint32, "size_t": ctypes.c_size_t}
 # Of these a host in Python has no need: whole sheets are read and written, and the board by the fixed minutes is the
@@ -74,3 +74,5 @@ class Interface(unittest.TestCase):
         calls = {name: int(value) for name, value in constants.items() if name.startswith("TG_CALL_")}
         if calls:
             self.assertEqual(calls, {f"TG_CALL_{call.name}": call.value for call in Call})
+        for outcome in Outcome:
+            self.assertEqual(int(constants[f"TG_{outcome.name}"]), outcome.value)

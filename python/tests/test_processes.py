@@ -12,10 +12,10 @@ from concurrent.futures import ProcessPoolExecutor
 from multiprocessing.shared_memory import SharedMemory
 
 from support import SMALL, TOP, seeded
-from taskgraph import Entry, Graph, Refusal, Sizes
+from taskgraph import Entry, Graph, Job, Outcome, Refusal, Sizes
 
 SIZES = Sizes(jobs=500, arcs=1500, bits=4, workers=2)
-BASE, COMMON = range(50), range(5000, 5050)
+BASE, COMMON, FAILING = range(50), range(5000, 5050), (7, 1020, 2100, 5001)
 
 
 def set_up(*given):
@@ -42,10 +42,10 @@ def added(graph, worker, entry):
 
 
 def work(worker, entries):
-    """Adds entries, then takes jobs until all that entered are finished.
+    """Adds entries, then takes jobs until all that entered are finished. A job of FAILING fails, and so does a spoiled one.
 
-    Answers the entries that entered, and of each job its name, a moment after it was handed out and one before
-    its finish.
+    Answers the entries that entered, and of each job its name, a moment after it was handed out, one before its finish,
+    and whether it was told to be spoiled.
     """
     memory = SharedMemory(NAME)
     try:
@@ -56,8 +56,9 @@ def work(worker, entries):
             while sum(graph.totals().jobs[:2]):
                 job = graph.get(worker)
                 if job is not None:
-                    done.append((job.name, moment(), moment()))
-                    graph.finish(worker, job.name)
+                    done.append((job.name, moment(), moment(), job.spoiled))
+                    fails = job.spoiled or job.name in FAILING
+                    graph.finish(worker, job.name, Outcome.FAILED if fails else Outcome.GOOD)
             return entered, done
     finally:
         memory.close()
@@ -99,13 +100,17 @@ class TwoProcesses(unittest.TestCase):
         done = [row for _, rows in reports for row in rows]
         expected = sorted([*names[0], *names[1], *COMMON])
         self.assertEqual(sorted(entry.name for entry in entered), expected)
-        self.assertEqual(sorted(name for name, _, _ in done), sorted([*BASE, *expected]))
+        self.assertEqual(sorted(name for name, *_ in done), sorted([*BASE, *expected]))
         self.assertEqual(totals.jobs, (0, 0, len(done)))
-        handed = {name: after for name, after, _ in done}
-        finish = {name: before for name, _, before in done}
+        handed = {name: after for name, after, *_ in done}
+        finish = {name: before for name, _, before, _ in done}
+        spoiled = {name for name, *_, told in done if told}
         for entry in entered:
             for name in entry.prerequisites:
                 self.assertLess(finish[name], handed[entry.name])
+            failed = any(name in FAILING or name in spoiled for name in entry.prerequisites)
+            self.assertEqual(entry.name in spoiled, failed)
+        self.assertTrue(spoiled and len(spoiled) < len(done))
 
 
 class FileLock:
@@ -129,7 +134,7 @@ def mapped(file):
 def die_in_a_finish(path):
     """Takes a job as worker 1, marks it finished, and is killed before its dependents are told."""
     graph = mapped(open(path, "r+b"))
-    graph.post_finish(1, graph.get(1).name)
+    graph.post_finish(1, graph.get(1).name, Outcome.FAILED)
     graph.step(1)
     os.kill(os.getpid(), signal.SIGKILL)
 
@@ -149,5 +154,5 @@ class KilledProcess(unittest.TestCase):
         self.assertEqual(killed.returncode, -signal.SIGKILL)
         self.assertIsNone(graph.get(0))
         self.assertFalse(graph.step(1))
-        self.assertEqual(graph.get(0).name, 6)
+        self.assertEqual(graph.get(0), Job(1, 6, spoiled=True))
         self.assertEqual(graph.totals().jobs, (0, 1, 1))

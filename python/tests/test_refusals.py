@@ -3,7 +3,7 @@ import pickle
 import unittest
 
 from support import SMALL, put_word, word_place
-from taskgraph import Entry, Graph, Refusal, Sizes, message, read_sheet, write_sheet
+from taskgraph import Entry, Graph, Outcome, Refusal, Sizes, message, read_sheet, write_sheet
 from taskgraph import _library, day_list, refusal, totals_by_minutes
 
 
@@ -49,7 +49,46 @@ def while_holding():
 def of_another_job():
     graph = small(Entry(1))
     graph.get(0)
-    graph.finish(0, 2)
+    graph.finish(0, 2, Outcome.GOOD)
+
+
+def spoiled():
+    """A graph whose worker 0 holds job 2, which needs job 1, which failed; and its memory."""
+    memory = bytearray(Graph.room(SMALL))
+    graph = Graph(SMALL, memory)
+    graph.lay_out()
+    graph.add_sheet(0, [Entry(1), Entry(2, (1,))])
+    graph.get(0)
+    graph.finish(0, 1, Outcome.FAILED)
+    graph.get(0)
+    return graph, memory
+
+
+def good_for_a_spoiled_job(name, post):
+    graph, memory = spoiled()
+    before = bytes(memory)
+    try:
+        graph.post_finish(0, name, Outcome.GOOD) if post else graph.finish(0, name, Outcome.GOOD)
+    finally:
+        assert bytes(memory) == before
+
+
+def with_a_damaged_mark(call):
+    graph, memory = spoiled()
+    put_word(memory, word_place(SMALL, "jobs", 5 + 16 + 10 + 9), 2)  # the mark of job 1, whose name is 2
+    call(graph)
+
+
+def with_a_damaged_note():
+    graph, memory = spoiled()
+    put_word(memory, word_place(SMALL, "workers", 10), 2)
+    graph.finish(0, 3, Outcome.GOOD)
+
+
+def with_a_damaged_outcome():
+    graph, memory = spoiled()
+    put_word(memory, word_place(SMALL, "jobs", 5 + 16 + 8), 2)  # the outcome of job 0, whose name is 1
+    graph.add(1, Entry(3, (1,)))
 
 
 def with_damaged_minutes(minutes):
@@ -112,6 +151,14 @@ CASES = [
     (9, None, None, None, lambda: with_damaged_minutes(False)),
     (9, None, None, None, with_too_many_made),
     (3, None, None, None, sheet_while_half_done),
+    (19, None, None, None, lambda: good_for_a_spoiled_job(2, post=False)),
+    (19, None, None, None, lambda: good_for_a_spoiled_job(2, post=True)),
+    (11, None, None, None, lambda: good_for_a_spoiled_job(1, post=False)),
+    (9, None, None, None, lambda: with_a_damaged_mark(lambda graph: graph.finish(0, 2, Outcome.GOOD))),
+    (9, None, None, None, lambda: with_a_damaged_mark(lambda graph: graph.post_finish(0, 2, Outcome.FAILED))),
+    (9, None, None, None, lambda: with_a_damaged_mark(lambda graph: graph.held(0))),
+    (9, None, None, None, with_a_damaged_note),
+    (9, None, None, None, with_a_damaged_outcome),
 ]
 
 
@@ -126,7 +173,7 @@ class Refusals(unittest.TestCase):
             self.assertTrue(str(found).startswith(f"refused by {number}: {found.message}"), str(found))
 
     def test_none_is_left_out(self):
-        self.assertEqual({number for number, *_ in CASES}, set(range(1, 19)))
+        self.assertEqual({number for number, *_ in CASES}, set(range(1, 20)))
 
     def test_text(self):
         self.assertEqual(str(Refusal(6, place=2)), f"refused by 6: {message(6)} (place 2)")
@@ -141,8 +188,8 @@ class Refusals(unittest.TestCase):
 
 class Messages(unittest.TestCase):
     def test_one_for_each_number(self):
-        self.assertEqual(sorted(refusal.MESSAGES), list(range(1, 19)))
-        self.assertEqual(len(set(refusal.MESSAGES.values())), 18)
+        self.assertEqual(sorted(refusal.MESSAGES), list(range(1, 20)))
+        self.assertEqual(len(set(refusal.MESSAGES.values())), 19)
 
     def test_are_those_of_the_library(self):
         library = _library.library()
@@ -153,4 +200,4 @@ class Messages(unittest.TestCase):
                     self.assertEqual(library.tg_message(number).decode(), text)
 
     def test_another_number(self):
-        self.assertEqual(message(19), "unknown number")
+        self.assertEqual(message(20), "unknown number")

@@ -2,7 +2,7 @@
 import unittest
 
 from support import DAY, FOUR, random_entry, seeded, spelled
-from taskgraph import Entry, Graph, Refusal, Sizes, bucket, day_list, minutes, read_sheet, write_sheet
+from taskgraph import Entry, Graph, Outcome, Refusal, Sizes, bucket, day_list, minutes, read_sheet, write_sheet
 
 
 class Sheets(unittest.TestCase):
@@ -88,7 +88,7 @@ def day_by_calls(sheet, workers):
     while held := [(job, worker) for worker in range(workers) if (job := graph.get(worker))]:
         for job, worker in held:
             handed.append(f"{len(handed)} {job.name} {worker}\n")
-            graph.finish(worker, job.name)
+            graph.finish(worker, job.name, Outcome.GOOD)
     left = entered - graph.totals().jobs.finished
     return "".join([*refused, f"jobs {entered} workers {workers}\n", *handed, f"left {left}\n"])
 

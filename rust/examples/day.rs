@@ -1,7 +1,7 @@
 //! A host in Rust: reads the job sheet of `docs/RULES.md`, adds its jobs, up to 64 in one call, and lets two workers
 //! take and finish them in turn. It prints what the day list prints.
 
-use taskgraph::{read_sheet, Graph, Refusal, Sizes, TaskGraph};
+use taskgraph::{read_sheet, Graph, Outcome, Refusal, Sizes, TaskGraph};
 
 const SIZES: Sizes = Sizes { jobs: 256, arcs: 1024, bits: 4, workers: 2 };
 const SHEET: [u8; 29] = [1, 1, 0, 0, 0, 1, 2, 0, 0, 0, 1, 3, 0, 0, 0, 3, 4, 0, 0, 0, 2, 1, 0, 0, 0, 2, 0, 0, 0];
@@ -32,7 +32,7 @@ fn main() -> Result<(), Refusal> {
             break;
         }
         for (worker, name) in holders {
-            graph.finish(worker, name)?;
+            graph.finish(worker, name, Outcome::Good)?;
         }
     }
     assert!(graph.drained()?);

@@ -7,7 +7,7 @@
 
 use std::{env, error::Error, fs, process::ExitCode};
 
-use taskgraph::{raw::MAX_MINUTES, Graph, Job, Sizes, TaskGraph, Totals, CLASSES};
+use taskgraph::{raw::MAX_MINUTES, Graph, Job, Outcome, Sizes, TaskGraph, Totals, CLASSES};
 
 /// Minutes by class, and the line on which each stands.
 type District = [Option<(u32, usize)>; CLASSES];
@@ -80,7 +80,7 @@ fn run(file: &str) -> Result<(), Box<dyn Error>> {
     let mut handed = 0;
     while let Some(held) = graph.get(0)? {
         println!("{handed} {} {}", held.name, minutes[jobs[held.job as usize].class as usize]);
-        graph.finish(0, held.name)?;
+        graph.finish(0, held.name, Outcome::Good)?;
         handed += 1;
     }
     print_board(graph.totals()?);

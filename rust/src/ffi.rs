@@ -134,6 +134,8 @@ pub struct Answer {
     pub job: u32,
     /// Its name.
     pub name: u32,
+    /// 1 where it is spoiled, else 0.
+    pub spoiled: u32,
 }
 
 /// The minutes that stand in a graph.
@@ -198,6 +200,8 @@ pub struct Holding {
     pub call: u32,
     /// The name of the job that an add half done adds, else 0.
     pub adds: u32,
+    /// 1 where the job that it holds is spoiled, else 0.
+    pub spoiled: u32,
 }
 
 /// Whether the queue is empty and every worker idle and without a job.
@@ -228,11 +232,11 @@ const _: () = assert!(size_of::<SheetWritten>() == 24);
 const _: () = assert!(size_of::<JobRecord>() == 8);
 const _: () = assert!(size_of::<Totals>() == 28);
 const _: () = assert!(size_of::<Sizes>() == 16);
-const _: () = assert!(size_of::<Answer>() == 20);
+const _: () = assert!(size_of::<Answer>() == 24);
 const _: () = assert!(size_of::<GraphMinutes>() == 4 * (1 + CLASSES));
 const _: () = assert!(size_of::<Need>() == 48);
 const _: () = assert!(size_of::<SheetAdded>() == 4 + 8 * MAX_ENTRIES);
-const _: () = assert!(size_of::<Holding>() == 24);
+const _: () = assert!(size_of::<Holding>() == 28);
 const _: () = assert!(size_of::<DrainedAnswer>() == 8);
 const _: () = assert!(size_of::<Day>() == 16);
 
@@ -329,6 +333,7 @@ extern "C" {
         workers_len: usize,
         worker: u32,
         name: u32,
+        outcome: u32,
     ) -> Answer;
     /// One step of the worker's call.
     pub fn tg_step(
@@ -391,6 +396,7 @@ extern "C" {
         workers_len: usize,
         worker: u32,
         name: u32,
+        outcome: u32,
     ) -> Answer;
     /// Adds the entries of all rows, each run whole, in order.
     pub fn tg_add_sheet(

@@ -1,9 +1,28 @@
 //! The task graph: its calls over any memory, and a graph in memory of its own.
 
 use crate::{
-    raw::{self, kind, Answer, SheetAdded, Sizes, Tables, CALL_ADD, CALL_NONE, CLASSES, MAX_ENTRIES},
+    raw::{self, kind, Answer, SheetAdded, Sizes, Tables, CALL_ADD, CALL_NONE, CLASSES, FAILED, GOOD, MAX_ENTRIES},
     Job, Refusal, Totals,
 };
+
+/// How a job ends, which its finish brings.
+#[derive(Clone, Copy, Debug, PartialEq, Eq, Hash)]
+pub enum Outcome {
+    /// Its work was done.
+    Good,
+    /// It gave nothing that can be relied on.
+    Failed,
+}
+
+impl Outcome {
+    /// As the library takes it.
+    fn number(self) -> u32 {
+        match self {
+            Outcome::Good => GOOD,
+            Outcome::Failed => FAILED,
+        }
+    }
+}
 
 /// A job that a worker has taken.
 #[derive(Clone, Copy, Debug, PartialEq, Eq, Hash)]
@@ -12,6 +31,8 @@ pub struct HandedOut {
     pub job: u32,
     /// Its name, which the finish brings.
     pub name: u32,
+    /// Whether a prerequisite of it failed. It may then only end as [`Outcome::Failed`].
+    pub spoiled: bool,
 }
 
 /// A call that was posted and has not ended.
@@ -38,13 +59,13 @@ pub struct Holding {
 impl Holding {
     fn of(answer: raw::Holding) -> Result<Holding, Refusal> {
         Refusal::unless_accepted(answer.number, 0)?;
-        let job = (answer.holds == 1).then_some(HandedOut { job: answer.job, name: answer.name });
+        let job = HandedOut { job: answer.job, name: answer.name, spoiled: answer.spoiled == 1 };
         let call = match answer.call {
             CALL_NONE => None,
             CALL_ADD => Some(HalfDone::Add { name: answer.adds }),
             _ => Some(HalfDone::Finish),
         };
-        Ok(Holding { job, call })
+        Ok(Holding { job: (answer.holds == 1).then_some(job), call })
     }
 }
 
@@ -113,12 +134,26 @@ pub trait TaskGraph {
         accepted(raw::add(self.sizes(), &mut self.tables(), worker, job.to_entry())).map(drop)
     }
 
-    /// Finishes the job that the worker holds, run whole in one call.
+    /// Finishes the job that the worker holds, run whole in one call. A job that ends as [`Outcome::Failed`] spoils those
+    /// that need it: they are handed out all the same, told to be spoiled, and may only end as failed.
     ///
     /// # Errors
-    /// 11 where the worker holds no job of that name; 3 where its call is half done.
-    fn finish(&mut self, worker: u32, name: u32) -> Result<(), Refusal> {
-        let answer = accepted(raw::finish(self.sizes(), &mut self.tables(), worker, name))?;
+    /// 11 where the worker holds no job of that name; 19 for [`Outcome::Good`] where the job is spoiled; 3 where its call
+    /// is half done.
+    ///
+    /// ```
+    /// # use taskgraph::{Graph, Job, Outcome, Refusal, Sizes, TaskGraph};
+    /// let mut graph = Graph::create(Sizes { jobs: 16, arcs: 64, bits: 4, workers: 1 })?;
+    /// graph.add_all(0, &[Job::new(1, &[]), Job::new(2, &[1])])?;
+    /// graph.get(0)?;
+    /// graph.finish(0, 1, Outcome::Failed)?;
+    /// assert_eq!(graph.get(0)?.map(|job| (job.name, job.spoiled)), Some((2, true)));
+    /// assert_eq!(graph.finish(0, 2, Outcome::Good), Err(Refusal::GoodForSpoiled));
+    /// graph.finish(0, 2, Outcome::Failed)?;
+    /// # Ok::<(), Refusal>(())
+    /// ```
+    fn finish(&mut self, worker: u32, name: u32, outcome: Outcome) -> Result<(), Refusal> {
+        let answer = accepted(raw::finish(self.sizes(), &mut self.tables(), worker, name, outcome.number()))?;
         // Only in damaged words does a list of arcs run in a circle; the steps come to its end.
         if answer.kind == kind::GOING_ON {
             return self.run(worker);
@@ -156,24 +191,25 @@ pub trait TaskGraph {
     }
 
     /// Takes the waiting job with the most minutes, or none where no job waits. Of equal minutes it is the job that has
-    /// waited longest.
+    /// waited longest. A spoiled job is taken like the others, and told.
     ///
     /// # Errors
     /// 10 where the worker holds a job; 3 where its call is half done.
     ///
     /// ```
-    /// # use taskgraph::{Graph, Job, Refusal, Sizes, TaskGraph};
+    /// # use taskgraph::{Graph, Job, Outcome, Refusal, Sizes, TaskGraph};
     /// let mut graph = Graph::create(Sizes { jobs: 16, arcs: 64, bits: 4, workers: 1 })?;
     /// graph.add_all(0, &[Job::new(1, &[]), Job::new(2, &[]), Job { class: 15, ..Job::new(3, &[]) }])?;
     /// for name in [3, 1, 2] {
     ///     assert_eq!(graph.get(0)?.map(|job| job.name), Some(name));
-    ///     graph.finish(0, name)?;
+    ///     graph.finish(0, name, Outcome::Good)?;
     /// }
     /// # Ok::<(), Refusal>(())
     /// ```
     fn get(&mut self, worker: u32) -> Result<Option<HandedOut>, Refusal> {
         let answer = accepted(raw::get(self.sizes(), &mut self.tables(), worker))?;
-        Ok((answer.kind == kind::HANDED_OUT).then_some(HandedOut { job: answer.job, name: answer.name }))
+        let job = HandedOut { job: answer.job, name: answer.name, spoiled: answer.spoiled == 1 };
+        Ok((answer.kind == kind::HANDED_OUT).then_some(job))
     }
 
     /// Posts an add, which [`step`](TaskGraph::step) then takes to its end.
@@ -187,9 +223,9 @@ pub trait TaskGraph {
     /// Posts a finish, which [`step`](TaskGraph::step) then takes to its end.
     ///
     /// # Errors
-    /// 11 where the worker holds no job of that name; 3 where its call is half done.
-    fn post_finish(&mut self, worker: u32, name: u32) -> Result<(), Refusal> {
-        accepted(raw::post_finish(self.sizes(), &mut self.tables(), worker, name)).map(drop)
+    /// As [`finish`](TaskGraph::finish).
+    fn post_finish(&mut self, worker: u32, name: u32, outcome: Outcome) -> Result<(), Refusal> {
+        accepted(raw::post_finish(self.sizes(), &mut self.tables(), worker, name, outcome.number())).map(drop)
     }
 
     /// One step of the worker's call.

@@ -8,7 +8,7 @@
 //! thin layer of unproved Rust above them; [`raw`] has them one by one.
 //!
 //! ```
-//! use taskgraph::{read_sheet, Graph, Job, Refusal, Sizes, TaskGraph};
+//! use taskgraph::{read_sheet, Graph, Job, Outcome, Refusal, Sizes, TaskGraph};
 //!
 //! // Jobs 1 and 2, then 3 needing both, as a job sheet.
 //! let sheet = [1, 1, 0, 0, 0, 1, 2, 0, 0, 0, 3, 3, 0, 0, 0, 2, 1, 0, 0, 0, 2, 0, 0, 0];
@@ -20,12 +20,12 @@
 //! let first = graph.get(0)?.expect("a job waits");
 //! let second = graph.get(1)?.expect("a job waits");
 //! assert_eq!((first.name, second.name), (1, 2));
-//! graph.finish(0, first.name)?;
+//! graph.finish(0, first.name, Outcome::Good)?;
 //! assert_eq!(graph.get(0)?, None);
-//! graph.finish(1, second.name)?;
+//! graph.finish(1, second.name, Outcome::Good)?;
 //! let third = graph.get(0)?.expect("a job waits");
-//! assert_eq!(third.name, 3);
-//! graph.finish(0, third.name)?;
+//! assert_eq!((third.name, third.spoiled), (3, false));
+//! graph.finish(0, third.name, Outcome::Good)?;
 //! assert!(graph.drained()?);
 //! assert_eq!(graph.totals()?.finished.jobs, 3);
 //! # Ok::<(), Refusal>(())
@@ -50,7 +50,7 @@ mod sheet;
 mod totals;
 
 pub use day::day_list;
-pub use graph::{Graph, HalfDone, HandedOut, Holding, Progress, TaskGraph};
+pub use graph::{Graph, HalfDone, HandedOut, Holding, Outcome, Progress, TaskGraph};
 pub use job::Job;
 pub use raw::{bucket, minutes, version, Sizes, CLASSES};
 pub use refusal::Refusal;

@@ -25,11 +25,16 @@ pub mod kind {
     pub const ENDED: u32 = 4;
     /// No job waits.
     pub const NONE_READY: u32 = 5;
-    /// `job` was taken, whose name is `name`.
+    /// `job` was taken, whose name is `name`; `spoiled` is 1 where a prerequisite of it failed.
     pub const HANDED_OUT: u32 = 6;
     /// Minutes were loaded.
     pub const LOADED: u32 = 7;
 }
+
+/// A finish as good.
+pub const GOOD: u32 = 0;
+/// A finish as failed; so does any other number but [`GOOD`] count.
+pub const FAILED: u32 = 1;
 
 /// A worker has no call half done.
 pub const CALL_NONE: u32 = 0;
@@ -97,9 +102,9 @@ pub fn post_add(sizes: Sizes, tables: &mut Tables, worker: u32, entry: Entry) ->
     call!(tg_post_add, sizes, tables, worker, entry)
 }
 
-/// Posts a finish.
-pub fn post_finish(sizes: Sizes, tables: &mut Tables, worker: u32, name: u32) -> Answer {
-    call!(tg_post_finish, sizes, tables, worker, name)
+/// Posts a finish with an outcome, [`GOOD`] or [`FAILED`].
+pub fn post_finish(sizes: Sizes, tables: &mut Tables, worker: u32, name: u32, outcome: u32) -> Answer {
+    call!(tg_post_finish, sizes, tables, worker, name, outcome)
 }
 
 /// One step of the worker's call.
@@ -117,9 +122,9 @@ pub fn add(sizes: Sizes, tables: &mut Tables, worker: u32, entry: Entry) -> Answ
     call!(tg_add, sizes, tables, worker, entry)
 }
 
-/// Finishes the held job of a name, run whole.
-pub fn finish(sizes: Sizes, tables: &mut Tables, worker: u32, name: u32) -> Answer {
-    call!(tg_finish, sizes, tables, worker, name)
+/// Finishes the held job of a name with an outcome, [`GOOD`] or [`FAILED`], run whole.
+pub fn finish(sizes: Sizes, tables: &mut Tables, worker: u32, name: u32, outcome: u32) -> Answer {
+    call!(tg_finish, sizes, tables, worker, name, outcome)
 }
 
 /// Adds the entries of all rows, [`ENTRY_WORDS`] words each, run whole, in order.

@@ -59,6 +59,8 @@ pub enum Refusal {
     Minutes,
     /// 18: a load after a job has entered.
     Entered,
+    /// 19: a finish as good of a spoiled job.
+    GoodForSpoiled,
 }
 
 impl Refusal {
@@ -86,6 +88,7 @@ impl Refusal {
             16 => Refusal::Entries,
             17 => Refusal::Minutes,
             18 => Refusal::Entered,
+            19 => Refusal::GoodForSpoiled,
             _ => panic!("the library answered {number}, which is no number of the list"),
         }
     }
@@ -119,6 +122,7 @@ impl Refusal {
             Refusal::Entries => 16,
             Refusal::Minutes => 17,
             Refusal::Entered => 18,
+            Refusal::GoodForSpoiled => 19,
         }
     }
 }
@@ -142,7 +146,7 @@ mod tests {
 
     #[test]
     fn numbers_go_there_and_back() {
-        for number in 1..=18 {
+        for number in 1..=19 {
             assert_eq!(Refusal::of(number, 7).number(), number);
         }
         assert_eq!(Refusal::unless_accepted(0, 7), Ok(()));
@@ -156,5 +160,6 @@ mod tests {
         assert_eq!(Refusal::of(12, 20).to_string(), "the sheet ends inside an entry (byte 20)");
         assert_eq!(Refusal::of(17, 0).to_string(), "minutes that do not rise or leave their limits");
         assert_eq!(Refusal::of(18, 0).to_string(), "a job has entered");
+        assert_eq!(Refusal::of(19, 0).to_string(), "a job that rests on a failed one cannot end as good");
     }
 }

@@ -12,7 +12,7 @@ use file::{SharedFile, TORN, WHOLE, WRITING};
 use crate::{
     graph::{in_parts, TurnedAway},
     raw::{Sizes, Tables, CLASSES},
-    HandedOut, Holding, Job, Progress, Refusal, TaskGraph, Totals,
+    HandedOut, Holding, Job, Outcome, Progress, Refusal, TaskGraph, Totals,
 };
 
 pub use error::SharedError;
@@ -128,8 +128,8 @@ impl SharedGraph {
     ///
     /// # Errors
     /// As [`TaskGraph::finish`], and as [`lock`](SharedGraph::lock).
-    pub fn finish(&self, worker: u32, name: u32) -> Result<(), SharedError> {
-        self.call(|graph| graph.finish(worker, name))
+    pub fn finish(&self, worker: u32, name: u32, outcome: Outcome) -> Result<(), SharedError> {
+        self.call(|graph| graph.finish(worker, name, outcome))
     }
 
     /// Adds at most [`MAX_ENTRIES`](crate::raw::MAX_ENTRIES) jobs in one call, each run whole, all under one lock.

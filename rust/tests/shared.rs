@@ -10,12 +10,19 @@ use std::{
     process::{self, Child, Command, Stdio},
 };
 
-use taskgraph::{HalfDone, HandedOut, Holding, Job, Progress, Refusal, SharedError, SharedGraph, Sizes, TaskGraph};
+use taskgraph::{
+    HalfDone, HandedOut, Holding, Job, Outcome, Progress, Refusal, SharedError, SharedGraph, Sizes, TaskGraph,
+};
 
 const SIZES: Sizes = Sizes { jobs: 400, arcs: 2_000, bits: 4, workers: 4 };
 
 /// The signal by which a process ends that aborts.
 const ABORTED: i32 = 6;
+
+/// A job that is not spoiled.
+fn handed_out(job: u32, name: u32) -> HandedOut {
+    HandedOut { job, name, spoiled: false }
+}
 
 /// A file of its own, removed at the end.
 struct TestFile(PathBuf);
@@ -101,7 +108,7 @@ fn add_and_drain(graph: &SharedGraph, worker: u32) {
         _ => assert_eq!(graph.add_all(worker, &jobs).expect("the worker is idle"), vec![Ok(()); 100]),
     }
     while let Some(job) = graph.get(worker).expect("the worker holds no job") {
-        graph.finish(worker, job.name).expect("the worker holds the job");
+        graph.finish(worker, job.name, Outcome::Good).expect("the worker holds the job");
     }
 }
 
@@ -115,7 +122,7 @@ fn processes_share_a_graph() {
     }
     // The last jobs of a process may wait for one that another held, so what is left is drained here.
     while let Some(job) = graph.get(0).expect("the worker holds no job") {
-        graph.finish(0, job.name).expect("the worker holds the job");
+        graph.finish(0, job.name, Outcome::Good).expect("the worker holds the job");
     }
     assert!(graph.drained().expect("the graph is not damaged"));
     let totals = graph.totals().expect("the graph is not damaged");
@@ -143,12 +150,12 @@ fn a_call_left_half_done_is_stepped_on() {
     file.run_to_death("die between steps");
     let refused = graph.get(1).expect_err("the worker's call is half done");
     assert!(matches!(refused, SharedError::Refused(Refusal::HalfDone)));
-    assert_eq!(graph.get(0).expect("worker 0 is served"), Some(HandedOut { job: 0, name: 1 }));
+    assert_eq!(graph.get(0).expect("worker 0 is served"), Some(handed_out(0, 1)));
     let held = graph.held(1).expect("worker 1 is one of four");
     assert_eq!(held, Holding { job: None, call: Some(HalfDone::Add { name: 2 }) });
     graph.run(1).expect("the add goes on");
-    graph.finish(0, 1).expect("worker 0 holds job 1");
-    assert_eq!(graph.get(1).expect("worker 1 is idle"), Some(HandedOut { job: 1, name: 2 }));
+    graph.finish(0, 1, Outcome::Good).expect("worker 0 holds job 1");
+    assert_eq!(graph.get(1).expect("worker 1 is idle"), Some(handed_out(1, 2)));
 }
 
 #[test]
@@ -180,6 +187,23 @@ fn minutes_of_a_shared_graph() {
     assert_eq!(graph.totals().expect("the graph is whole").unexecuted.minutes, 115);
 }
 
+/// A process that acts for a worker anew learns that the job it holds is spoiled.
+#[test]
+fn a_spoiled_job_of_a_shared_graph() {
+    let file = TestFile::new("spoiled");
+    let graph = file.create();
+    graph.add_all(0, &[Job::new(1, &[]), Job::new(2, &[1])]).expect("worker 0 is idle");
+    assert_eq!(graph.get(0).expect("worker 0 is idle"), Some(handed_out(0, 1)));
+    graph.finish(0, 1, Outcome::Failed).expect("worker 0 holds job 1");
+    let spoiled = Some(HandedOut { job: 1, name: 2, spoiled: true });
+    assert_eq!(graph.get(1).expect("worker 1 is idle"), spoiled);
+    let other = SharedGraph::open(&file.0).expect("the file is a graph");
+    assert_eq!(other.held(1).expect("worker 1 is one of four").job, spoiled);
+    let refused = other.finish(1, 2, Outcome::Good).expect_err("the job is spoiled");
+    assert!(matches!(refused, SharedError::Refused(Refusal::GoodForSpoiled)));
+    other.finish(1, 2, Outcome::Failed).expect("worker 1 holds job 2");
+}
+
 #[test]
 fn a_lock_that_died_before_a_call_loses_nothing() {
     let file = TestFile::new("died-before");
@@ -188,7 +212,7 @@ fn a_lock_that_died_before_a_call_loses_nothing() {
     let before = graph.lock().expect("the lock").words().map(<[u32]>::to_vec);
     file.run_to_death("die with the lock");
     assert_eq!(graph.lock().expect("the lock is free").words().map(<[u32]>::to_vec), before);
-    assert_eq!(graph.get(0).expect("worker 0 is served"), Some(HandedOut { job: 0, name: 1 }));
+    assert_eq!(graph.get(0).expect("worker 0 is served"), Some(handed_out(0, 1)));
 }
 
 #[test]

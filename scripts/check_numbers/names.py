@@ -24,6 +24,7 @@ CALLED = [
     ("TG_ENTRIES", "", "TOO_MANY_ENTRIES"),
     ("TG_MINUTES", "", "WRONG_MINUTES"),
     ("TG_ENTERED", "", "JOBS_ENTERED"),
+    ("TG_GOOD_FOR_SPOILED", "", "GOOD_FOR_SPOILED"),
     ("TG_MAX_JOBS", "", "MOST_JOBS"),
     ("TG_MAX_ARCS", "", "MOST_ARCS"),
     ("TG_MAX_BITS", "", "MOST_BITS"),

@@ -2,6 +2,7 @@
 -- finishes: most leave all that alone, a job may enter, and a mark or a get labels one job. Assumes nothing.
 use mathlib.Core.Path.{_≡_, refl, sym, ap, _∙_}
 use mathlib.Core.Logic.{_≢_}
+use mathlib.Core.Bool.{Bool}
 use mathlib.Core.List.{List, [], _∷_, _++_, append-nil}
 use mathlib.Core.Option.{none, some}
 use Prim.Native.Nat.{ℕ, _≤_, _<_}
@@ -18,7 +19,7 @@ use Rattle.terms.specs.declared.Sizes.{Sizes}
 use Rattle.terms.specs.declared.Answer.{Answer}
 use Rattle.terms.specs.declared.Answer.the-variants.{Handed}
 use Rattle.rules.specs.Rules as rules
-use Rattle.rules.specs.Rules.{Job, noJob, idle, notifying, Worker, Graph, job, withLabel, newJob}
+use Rattle.rules.specs.Rules.{Job, noJob, idle, notifying, Worker, Graph, job, withLabel, ended, newJob}
 use Rattle.rules.specs.Rules.{marked, handedOut, entered, perform, nextOut, handOut, order}
 use Rattle.rules.specs.Sound.{Named, Looking, Sound}
 use Rattle.rules_cases.specs.Deed as by
@@ -117,13 +118,13 @@ module _ (s : Sizes) (g : Graph) (r : Reading) (S : Sound s g) where
       (λ j. rw e (kept-field (λ (x : Job). x .list) (g .jobs) p y noJob l j))
       (λ j. rw e (kept-field (λ (x : Job). x .class) (g .jobs) p y noJob c j))
 
-  labels-set : (h : Graph) (p : ℕ) (l : Label) → h .jobs ≡ set (g .jobs) p (withLabel (job g p) l)
-      → p < length (g .jobs) → Labels g h p l
-  labels-set h p l e there = record {
+  labels-set : (h : Graph) (p : ℕ) (y : Job) → h .jobs ≡ set (g .jobs) p y → p < length (g .jobs)
+      → Labels g h p (y .label)
+  labels-set h p y e there = record {
     there = there;
-    size = rw e (length-set (g .jobs) p (withLabel (job g p) l));
-    here = rw (e, getD-set-same (g .jobs) p (withLabel (job g p) l) noJob there) refl;
-    others = λ j z. rw (e, getD-set-other (g .jobs) p j (withLabel (job g p) l) noJob z) refl;
+    size = rw e (length-set (g .jobs) p y);
+    here = rw (e, getD-set-same (g .jobs) p y noJob there) refl;
+    others = λ j z. rw (e, getD-set-other (g .jobs) p j y noJob z) refl;
   }
 
   labels-kept : (h : Graph) (p : ℕ) (y : Job) → h .jobs ≡ set (g .jobs) p y → y .label ≡ job g p .label
@@ -163,7 +164,7 @@ module _ (s : Sizes) (g : Graph) (r : Reading) (S : Sound s g) where
       → acceptedFinishes (q .calls) ≡ acceptedFinishes (r .calls) → Did s g r w x h q
   alone {h = h} z e v f = plainly z (grown-same h (ap length e) (λ j. rw e) (λ j. rw e) (λ j. rw e)) (λ j. rw e) v f
 
-  -- one job's count or dependents change
+  -- one job's count, mark or dependents change
   changed : {w : ℕ} {x : Answer} {h : Graph} {q : Reading} (p : ℕ) (y : Job) → HandsNone x → h .jobs ≡ set (g .jobs) p y
       → entryOf y ≡ entryOf (job g p) → ((v : ℕ) → h .workers v .held ≡ g .workers v .held)
       → acceptedFinishes (q .calls) ≡ acceptedFinishes (r .calls) → Did s g r w x h q
@@ -172,14 +173,15 @@ module _ (s : Sizes) (g : Graph) (r : Reading) (S : Sound s g) where
       (ap (λ (m : Entry). m .class) k))
       (labels-kept h p y e (ap (λ (m : Entry). m .label) k)) v f
 
-  marking : {w : ℕ} {x : Answer} {q : Reading} (p : ℕ) (c : rules.Call) → HandsNone x → g .workers w .held ≡ some p
-      → q .calls ≡ r .calls ++ (record { call = finish w (finishOf (job g p .name)); end = accepted } ∷ [])
-      → Did s g r w x (marked g w p c) q
+  marking : {w : ℕ} {x : Answer} {q : Reading} (p : ℕ) (f : Bool) (c : rules.Call) → HandsNone x
+      → g .workers w .held ≡ some p
+      → q .calls ≡ r .calls ++ (record { call = finish w (finishOf (job g p .name) f); end = accepted } ∷ [])
+      → Did s g r w x (marked g w p f c) q
   unfolding acceptedFinishes
-  marking {w} p c z h e = record {
-    grown = grown-set (marked g w p c) p (withLabel (job g p) finished) refl refl refl refl;
-    effect = rw (e, finishes-then (r .calls) (record { call = finish w (finishOf (job g p .name)); end = accepted }))
-        (marks p z h (labels-set (marked g w p c) p finished refl (S .held-there w p h))
+  marking {w} p f c z h e = record {
+    grown = grown-set (marked g w p f c) p (ended (job g p) f) refl refl refl refl;
+    effect = rw (e, finishes-then (r .calls) (record { call = finish w (finishOf (job g p .name) f); end = accepted }))
+        (marks p z h (labels-set (marked g w p f c) p (ended (job g p) f) refl (S .held-there w p h))
         (λ v u. ap (λ (y : Worker). y .held) (update-other (g .workers) w _ v u)));
   }
 
@@ -193,7 +195,7 @@ module _ (s : Sizes) (g : Graph) (r : Reading) (S : Sound s g) where
       record {
         grown = grown-set after j (withLabel (job g j) executing) refl refl refl refl;
         effect = rw (no-finish (r .calls) (record { call = get w; end = handed (handOut g j) }) refl)
-            (hands j b queued h (labels-set after j executing refl (S .queue-there j queued))
+            (hands j b queued h (labels-set after j (withLabel (job g j) executing) refl (S .queue-there j queued))
             (ap (λ (y : Worker). y .held) (update-same (g .workers) w _))
             (λ v u. ap (λ (y : Worker). y .held) (update-other (g .workers) w _ v u)));
       }
@@ -207,7 +209,8 @@ module _ (s : Sizes) (g : Graph) (r : Reading) (S : Sound s g) where
   did (by.made A c (by.addWrong e)) = alone (λ l. refl) refl (λ v. refl) (no-finish (r .calls) _ refl)
   did (by.made A c (by.addPosted e)) = alone (λ l. refl) refl (held-still _ _) refl
   did (by.made A c (by.finishWrong e)) = alone (λ l. refl) refl (λ v. refl) (no-finish (r .calls) _ refl)
-  did (by.made A c (by.finishPosted p e n)) = alone (λ l. refl) refl (held-still _ _) refl
+  did (by.made A c (by.finishGood p e n u)) = alone (λ l. refl) refl (λ v. refl) (no-finish (r .calls) _ refl)
+  did (by.made A c (by.finishPosted p e n u)) = alone (λ l. refl) refl (held-still _ _) refl
   did (by.made A c (by.getHolding j e)) = alone (λ l. refl) refl (λ v. refl) (no-finish (r .calls) _ refl)
   did (by.made A c (by.getNone e f)) = alone (λ l. refl) refl (λ v. refl) (no-finish (r .calls) _ refl)
   did (by.made A c (by.getHanded e j f)) = handing j (A .worker) e f
@@ -226,8 +229,8 @@ module _ (s : Sizes) (g : Graph) (r : Reading) (S : Sound s g) where
   did (by.stepped A c (by.tallied p k e f)) = alone (λ l. refl) refl (held-still _ _) refl
   did (by.stepped A c (by.arcAppended p k e f)) = changed p _ (λ l. refl) refl refl (held-still _ _) refl
   did (by.stepped A c (by.jobSettled {j} k)) = changed j _ (λ l. refl) refl refl (held-still _ _) refl
-  did (by.stepped A c (by.markedLast p e f)) = marking p idle (λ l. refl) e refl
-  did (by.stepped A c (by.markedGoing p e f)) = marking p (notifying p 0) (λ l. refl) e refl
+  did (by.stepped A c (by.markedLast {f} p e d)) = marking p f idle (λ l. refl) e refl
+  did (by.stepped A c (by.markedGoing {f} p e d)) = marking p f (notifying p 0 f) (λ l. refl) e refl
   did (by.stepped A c (by.arcNotified k)) = changed _ _ (λ l. refl) refl refl (held-still _ _) refl
   did (by.stepped A c (by.lastNotified k)) = changed _ _ (λ l. refl) refl refl (held-still _ _) refl
   did (by.loading e (by.notRising u)) = alone (λ l. refl) refl (λ v. refl) refl

@@ -54,6 +54,7 @@ none-ready s q g w = (
 pub record HandedReady (g : Graph) (h : HandOut) : Type 0 where
   pub there : h .job < length (g .jobs)
   pub said : h ≡ handOut g (h .job)
+  pub waits : 0 < occurrences (h .job) (g .queue)
   pub unexecuted : job g (h .job) .label ≡ unexecuted
   pub prerequisites : (i : ℕ) → i < length (job g (h .job) .list) → Finished g (getD (job g (h .job) .list) i 0)
 
@@ -71,6 +72,7 @@ handed-ready {s} {g} history q w h z = of (rw z at (deed s g (get q w)))
         record {
           there = S .queue-there j queued;
           said = refl;
+          waits = queued;
           unexecuted = S .queue-unexecuted j queued;
           prerequisites = S .queue-ready j queued;
         }

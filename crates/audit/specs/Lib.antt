@@ -1,3 +1,4 @@
+pub mod Bits
 pub mod Gets
 pub mod Deeds
 pub mod Handed
@@ -8,3 +9,7 @@ pub mod Drained
 pub mod TurnedAway
 pub mod Loads
 pub mod LongFirst
+pub mod Carried
+pub mod Marks
+pub mod Chained
+pub mod Stays

@@ -76,7 +76,8 @@ module _ {s : Sizes} {g : Graph} where
   made-minutes (by.addWrong e) = refl
   made-minutes (by.addPosted e) = refl
   made-minutes (by.finishWrong e) = refl
-  made-minutes (by.finishPosted p e n) = refl
+  made-minutes (by.finishGood p e n u) = refl
+  made-minutes (by.finishPosted p e n u) = refl
   made-minutes (by.getHolding j e) = refl
   made-minutes (by.getNone e f) = refl
   made-minutes (by.getHanded e j f) = refl

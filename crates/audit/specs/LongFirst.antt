@@ -35,6 +35,7 @@ use Rattle.linearizability.specs.LongFirst.{Takes, Enters, TakesLongest, ByCoun
 use Rattle.linearizability.specs.ByCount.{hands-none, same-longest, by-count}
 use Rattle.rules_invariant.specs.Sound.{sound}
 use Rattle.rules_follow_model.specs.Settled.{hands-next}
+use Rattle.audit.specs.Bits.{bit-told}
 use Rattle.audit.specs.Deeds.{HandsNone, deeds}
 use Rattle.audit.specs.Loads.{minutes-stay}
 
@@ -61,7 +62,8 @@ module _ {g : Graph} where
   queued-step (by.jobEntered l e f) = kept (λ l. refl) refl
   queued-step (by.tallied p l e f) = kept (λ l. refl) refl
   queued-step (by.arcAppended p l e f) = kept (λ l. refl) refl
-  queued-step (by.jobSettled {a} {j} {i} {t} l) = put (settles (job g j .count - t) t (a .count)) j (λ l. refl) refl
+  queued-step (by.jobSettled {a} {j} {i} {t} l) =
+      put (settles (job g j .count - t .count) (t .count) (a .count)) j (λ l. refl) refl
   queued-step (by.markedLast p e f) = kept (λ l. refl) refl
   queued-step (by.markedGoing p e f) = kept (λ l. refl) refl
   queued-step (by.arcNotified {p} {k} l) =
@@ -76,7 +78,8 @@ module _ {g : Graph} where
   queued (by.made A c (by.addWrong e)) = kept (λ l. refl) refl
   queued (by.made A c (by.addPosted e)) = kept (λ l. refl) refl
   queued (by.made A c (by.finishWrong e)) = kept (λ l. refl) refl
-  queued (by.made A c (by.finishPosted p e n)) = kept (λ l. refl) refl
+  queued (by.made A c (by.finishGood p e n u)) = kept (λ l. refl) refl
+  queued (by.made A c (by.finishPosted p e n u)) = kept (λ l. refl) refl
   queued (by.made A c (by.getHolding j e)) = kept (λ l. refl) refl
   queued (by.made A c (by.getNone e f)) = kept (λ l. refl) refl
   queued (by.made A c (by.getHanded e j f)) = took j f refl
@@ -86,7 +89,12 @@ module _ {g : Graph} where
   queued (by.loading e (by.minutesLoaded u l)) = kept (λ l. refl) refl
 
   takes : {x : Answer} {h : Graph} → Queued g x h → (o : HandOut) → x ≡ Handed o → Takes (seen g) x (seen h)
-  takes (took j f q) o z = record { job = j; first = first-is (minutesOf g) (g .queue) j f; handed = refl; left = q }
+  takes (took j f q) o z = record {
+    job = j;
+    first = first-is (minutesOf g) (g .queue) j f;
+    handed = rw (bit-told (job g j .spoiled)) refl;
+    left = q;
+  }
   takes (grew quiet q) o z = absurd (hands-none _ quiet o z)
 
   enters : {x : Answer} {h : Graph} → Queued g x h → ((o : HandOut) → x ≢ Handed o) → Enters (seen g) (seen h)
@@ -98,8 +106,8 @@ pub seen-idle : (g : Graph) (c : Call) → callSeen g c ≡ seen-as.idle → c �
 seen-idle g idle e = refl
 seen-idle g (looking a i) e = cc
 seen-idle g (linking a j i t) e = cc
-seen-idle g marking e = cc
-seen-idle g (notifying p k) e = cc
+seen-idle g (marking f) e = cc
+seen-idle g (notifying p k f) e = cc
 
 -- ---- the rules, at every graph that a history reaches
 module _ {s : Sizes} {g : Graph} {r : Reading} {e : ℕ → ℕ} (history : History s g r e) where

@@ -27,9 +27,9 @@ half-done : (g : Graph) (h : Option ℕ) (c : Call) (p : Pending) → PacedCall 
 half-done g h idle p P n = absurd (n refl)
 half-done g h (looking a i) p P n = rw P
 half-done g h (linking a j i t) p P n = rw (P .0)
-half-done g none marking p P n = absurd P
-half-done g (some j) marking p P n = rw P
-half-done g h (notifying j k) p P n = rw P
+half-done g none (marking f) p P n = absurd P
+half-done g (some j) (marking f) p P n = rw P
+half-done g h (notifying j k f) p P n = rw P
 
 busy : (i : Item) → isStep i ≡ false → isLoad i ≡ false → halfDone ≡ byCall i false
 busy (postAdd t w a) e n = refl
@@ -44,7 +44,8 @@ passed-made : {s : Sizes} {g : Graph} {i : Item} {x : Answer} {h : Graph} → Ma
 passed-made (by.addWrong e) = refl
 passed-made (by.addPosted e) = refl
 passed-made (by.finishWrong e) = refl
-passed-made (by.finishPosted p e n) = refl
+passed-made (by.finishGood p e n u) = refl
+passed-made (by.finishPosted p e n u) = refl
 passed-made (by.getHolding j e) = refl
 passed-made (by.getNone e f) = refl
 passed-made (by.getHanded e j f) = refl

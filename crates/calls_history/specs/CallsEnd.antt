@@ -4,7 +4,7 @@ use mathlib.Core.Path.{_≡_, refl, ap, _∙_}
 use mathlib.Core.List.{List, [], _∷_}
 use Prim.Native.Nat.{ℕ, suc, _+_, _*_, _<_}
 use native.Mathlib.Omega.{arith}
-use Rattle.terms.specs.Terms.{Arguments, Finish, wrongArguments, notHeld}
+use Rattle.terms.specs.Terms.{Arguments, Finish, wrongArguments, notHeld, goodForSpoiled}
 use Rattle.terms.specs.Runs.{Item, postAdd, postFinish, after, events}
 use Rattle.terms.specs.declared.Sizes.{Sizes}
 use Rattle.terms.specs.declared.Answer.{Answer}
@@ -37,6 +37,7 @@ data AddPost : Answer → Type 0 where
 data FinishPost : Answer → Type 0 where
   taken : FinishPost Posted
   not-held : FinishPost (Refused notHeld 0)
+  good-for-spoiled : FinishPost (Refused goodForSpoiled 0)
 
 made-add : {s : Sizes} {g : Graph} {w : ℕ} {a : Arguments} {x : Answer} {h : Graph} → Made s g (postAdd s w a) x h
     → AddPost x
@@ -46,7 +47,8 @@ made-add (by.addPosted e) = taken
 made-finish : {s : Sizes} {g : Graph} {w : ℕ} {f : Finish} {x : Answer} {h : Graph} → Made s g (postFinish s w f) x h
     → FinishPost x
 made-finish (by.finishWrong e) = not-held
-made-finish (by.finishPosted p e n) = taken
+made-finish (by.finishGood p e n y) = good-for-spoiled
+made-finish (by.finishPosted p e n y) = taken
 
 module _ (s : Sizes) (t : Tables) (laid : layOut s t .answer ≡ Laid) where
   module _ {x : Tables} {r : Reading} (N : Now s t laid x r) where
@@ -98,6 +100,7 @@ module _ (s : Sizes) (t : Tables) (laid : layOut s t .answer ≡ Laid) where
               let fuel : s .arcs + 1 ≡ suc (s .arcs) = omega arith in
               rw (E, fuel, marked s t laid N w f E .answer) ends.FinishAnswer.accepted
           of not-held E = rw E ends.FinishAnswer.not-held
+          of good-for-spoiled E = rw E ends.FinishAnswer.good-for-spoiled
 
   -- ---- the adds of a sheet
   pub adds-end : (l : List Arguments) {x : Tables} {r : Reading} → Now s t laid x r → (w : ℕ) → w < s .workers

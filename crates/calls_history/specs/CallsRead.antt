@@ -3,7 +3,7 @@ use mathlib.Core.Path.{_≡_, refl, sym, ap, _∙_}
 use mathlib.Core.List.{List, [], _∷_}
 use Prim.Native.Nat.{ℕ, zero, suc, _+_, _*_}
 use native.Mathlib.Omega.{arith}
-use Rattle.terms.specs.Terms.{Arguments, Finish}
+use Rattle.terms.specs.Terms.{Arguments, Finish, bit}
 use Rattle.terms.specs.Runs.{Item, postAdd, postFinish, events}
 use Rattle.terms.specs.declared.Sizes.{Sizes}
 use Rattle.terms.specs.declared.Answer.{Answer}
@@ -39,7 +39,7 @@ add-posts x q w a = posted-or-not _ x w (addingWorker (view x .worker HELD w) a)
 
 finish-posts : (x : Tables) (q : Sizes) (w : ℕ) (f : Finish) → Post (perform x (postFinish q w f) .answer)
 unfolding perform finishWords
-finish-posts x q w f = posted-or-not _ x w (bareWorker MARKING (view x .worker HELD w))
+finish-posts x q w f = posted-or-not _ x w (bareWorker MARKING (view x .worker HELD w) (bit (f .failed)))
 
 -- ---- a call that came and went
 module _ (r : Reading) (w : ℕ) where

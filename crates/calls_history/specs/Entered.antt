@@ -60,7 +60,7 @@ module _ (v : ℕ) where
   step-grows (by.tallied p l e f) = omega arith
   step-grows (by.arcAppended p l e f) = omega arith
   step-grows {g} (by.jobSettled {a} {j} {i} {t} l) =
-      enqueued (settles (job g j .count - t) t (a .count)) (g .queue) j
+      enqueued (settles (job g j .count - t .count) (t .count) (a .count)) (g .queue) j
   step-grows (by.markedLast p e f) = omega arith
   step-grows (by.markedGoing p e f) = omega arith
   step-grows {g} (by.arcNotified {p} {k} l) = let i = getD (job g p .dependents) k 0 in
@@ -75,7 +75,8 @@ module _ (v : ℕ) where
   grows (by.made A c (by.addWrong e)) n = omega arith
   grows (by.made A c (by.addPosted e)) n = omega arith
   grows (by.made A c (by.finishWrong e)) n = omega arith
-  grows (by.made A c (by.finishPosted p e m)) n = omega arith
+  grows (by.made A c (by.finishGood p e m y)) n = omega arith
+  grows (by.made A c (by.finishPosted p e m y)) n = omega arith
   grows (by.made A c (by.getHolding k e)) n = absurd (true≢false n)
   grows (by.made A c (by.getNone e f)) n = absurd (true≢false n)
   grows (by.made A c (by.getHanded e k f)) n = absurd (true≢false n)

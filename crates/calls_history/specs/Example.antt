@@ -15,10 +15,10 @@ use Rattle.words.specs.Columns.{columns, header, put, putHeader}
 use Rattle.words.specs.Layout.{Tables, tables, need, jobShape, arcShape, bucketShape, queueShape, workerShape}
 use Rattle.words.specs.Layout.{longEnough, sizesKept, repeated, freshTables}
 use Rattle.words.specs.Index.{waits, seatFor, firstSeatBy, shiftedDown, shiftedUp, putSeat, takeSeat}
-use Rattle.words.specs.Words.{perform, ownOk, walk, findOf, planLookUp, planEnter, planAppend, planLink, withSeat}
-use Rattle.words.specs.Words.{planSettle, planMark, planNotify, planAdd, planLinks, planCall, planPhase, admitted}
-use Rattle.words.specs.Words.{applied, stepWords, planTake, planQueue, planGet, appliedGet, getWords, posted, addWords}
-use Rattle.words.specs.Words.{finishWords, layOut, loading, loadWords}
+use Rattle.words.specs.Words.{perform, ownOk, walk, findOf, planLookUp, planEnter, planAppend, planTally, planLink}
+use Rattle.words.specs.Words.{withSeat, planSettle, planMark, planNotify, planAdd, planLinks, planCall, planPhase}
+use Rattle.words.specs.Words.{admitted, applied, stepWords, planTake, planQueue, planGet, appliedGet, getWords}
+use Rattle.words.specs.Words.{posted, addWords, finishWords, layOut, loading, loadWords}
 use Rattle.words.specs.Observed.{seen}
 use Rattle.whole_words.specs.Whole.{stepsOf, wholeAdd, wholeFinish}
 use Rattle.whole_words.specs.Sheet.{addEach, served, sheetWords}
@@ -42,10 +42,10 @@ laid-out = refl
 pub replies-so : repliesTo answerWords (layOut S old .state) everyKind ≡ itsReplies
 unfolding contains repeats prefix argumentsWrong withinLimits productOf bucketOf columns header put putHeader longEnough
     sizesKept repeated freshTables siftUp siftDown waits seatFor firstSeatBy shiftedDown shiftedUp putSeat takeSeat
-    perform ownOk walk findOf planLookUp planEnter planAppend planLink withSeat planSettle planMark planNotify planAdd
-    planLinks planCall planPhase admitted applied stepWords planTake planQueue planGet appliedGet getWords posted
-    addWords finishWords layOut loading loadWords stepsOf wholeAdd wholeFinish addEach served sheetWords answerWords
-    repliesTo fixedMinutes risesAbove isRising
+    perform ownOk walk findOf planLookUp planEnter planAppend planTally planLink withSeat planSettle planMark planNotify
+    planAdd planLinks planCall planPhase admitted applied stepWords planTake planQueue planGet appliedGet getWords
+    posted addWords finishWords layOut loading loadWords stepsOf wholeAdd wholeFinish addEach served sheetWords
+    answerWords repliesTo fixedMinutes risesAbove isRising
 replies-so = refl
 
 pub example-holds : CallsDemand perform turnedWords answerWords seen S (layOut S old .state) everyKind

@@ -38,9 +38,9 @@ idle-phase : (f : ℕ → ℕ → ℕ) (G : Ghost) (w : ℕ) (g : Graph) (h : Op
 idle-phase f G w g h idle p R P = rw (R .phase, P)
 idle-phase f G w g h (looking a i) p R P = rw (R .phase, P)
 idle-phase f G w g h (linking a j i t) p R P = rw (R .0 .phase, P .0)
-idle-phase f G w g none marking p R P = absurd P
-idle-phase f G w g (some j) marking p R P = rw (R .phase, P)
-idle-phase f G w g h (notifying j k) p R P = rw (R .phase, P)
+idle-phase f G w g none (marking fa) p R P = absurd P
+idle-phase f G w g (some j) (marking fa) p R P = rw (R .phase, P)
+idle-phase f G w g h (notifying j k fa) p R P = rw (R .phase, P)
 
 module _ (s : Sizes) (x : Tables) (g : Graph) (G : Ghost) (S : Stands s x g G) (O : Sound s g) (r : Reading)
     (P : Paced g r) (w : ℕ) (l : List Arguments) where

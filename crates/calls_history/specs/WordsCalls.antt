@@ -25,5 +25,5 @@ repliedEach o = replied (each (o .number) (o .answers)) (o .state)
 unfoldable pub answerWords : Tables → HostCall → Replied Tables
 answerWords t (single i) = repliedOne (perform t i)
 answerWords t (wholeAdd s w a) = repliedOne (whole.wholeAdd s t w a)
-answerWords t (wholeFinish s w f) = repliedOne (whole.wholeFinish s t w (f .name))
+answerWords t (wholeFinish s w f) = repliedOne (whole.wholeFinish s t w f)
 answerWords t (sheet s w l) = repliedEach (sheetWords s t w l)

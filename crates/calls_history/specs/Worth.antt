@@ -37,7 +37,7 @@ step-not-posted (Refuse n) e = never (cc)
 step-not-posted (Quit n i) e = never (cc)
 step-not-posted Pass e = never (cc)
 step-not-posted (Enter j k h x) e = never (cc)
-step-not-posted Tally e = never (cc)
+step-not-posted (Tally o) e = never (cc)
 step-not-posted (LinkFirst p x j) e = never (cc)
 step-not-posted (LinkAfter p l x j) e = never (cc)
 step-not-posted (Settle j c) e = never (cc)
@@ -85,7 +85,7 @@ module _ (s : Sizes) (w : ℕ) where
   add-made a t = call-made (2 * a .count + 2) (postAdd s w a) t (omega arith)
 
   pub finish-made : (f : Finish) (t : Tables)
-      → whole.wholeFinish s t w (f .name) ≡ ran Laid t (finishMade perform s w f t)
+      → whole.wholeFinish s t w f ≡ ran Laid t (finishMade perform s w f t)
   unfolding whole.wholeFinish perform
   finish-made f t = call-made (s .arcs + 1) (postFinish s w f) t (omega arith)
 

@@ -1,8 +1,10 @@
 -- Finishes one after the other. Assumes nothing.
 use mathlib.Core.Path.{_≡_, refl}
+use mathlib.Core.Bool.{false}
 use mathlib.Core.List.{List, [], _∷_, _++_}
 use Prim.Native.Nat.{ℕ, suc}
 use lib.ListN.{getD}
+use Rattle.terms.specs.Terms.{finishOf}
 use Rattle.terms.specs.declared.Sizes.{Sizes}
 use Rattle.words.specs.Layout.{Tables}
 use Rattle.whole_words.specs.Whole.{wholeFinish}
@@ -10,14 +12,14 @@ use Rattle.day_rounds.specs.Rounds.{Holder, finishAll}
 use Rattle.day_rounds.specs.Rows.{holdersIn}
 
 finish-last : (s : Sizes) (hs : List Holder) (h : Holder) (t : Tables)
-    → finishAll s (hs ++ (h ∷ [])) t ≡ wholeFinish s (finishAll s hs t) (h .worker) (h .name) .state
+    → finishAll s (hs ++ (h ∷ [])) t ≡ wholeFinish s (finishAll s hs t) (h .worker) (finishOf (h .name) false) .state
 unfolding finishAll
 finish-last s [] h t = refl
-finish-last s (x ∷ hs) h t = finish-last s hs h (wholeFinish s t (x .worker) (x .name) .state)
+finish-last s (x ∷ hs) h t = finish-last s hs h (wholeFinish s t (x .worker) (finishOf (x .name) false) .state)
 
 pub finish-next : (s : Sizes) (i : ℕ) (ws ns : List ℕ) (t : Tables)
     → finishAll s (holdersIn (suc i) ws ns) t
-    ≡ wholeFinish s (finishAll s (holdersIn i ws ns) t) (getD ws i 0) (getD ns i 0) .state
+    ≡ wholeFinish s (finishAll s (holdersIn i ws ns) t) (getD ws i 0) (finishOf (getD ns i 0) false) .state
 unfolding holdersIn
 finish-next s i ws ns t = finish-last s (holdersIn i ws ns) _ t
 

@@ -9,7 +9,7 @@ use graph_words::word;
 use terms::Sizes;
 use whole_finish::finish_whole;
 
-// Each holder finishes.
+// Each holder finishes, and its job is good.
 pub fn finish_all(
     sizes: Sizes,
     jobs: &mut [u32],
@@ -29,7 +29,17 @@ pub fn finish_all(
     while 0 < left {
         let worker = word(&by, count - left);
         let name = word(&names, count - left);
-        finish_whole(sizes, jobs, arcs, buckets, queue, workers, worker, name);
+        finish_whole(
+            sizes,
+            jobs,
+            arcs,
+            buckets,
+            queue,
+            workers,
+            worker,
+            name,
+            false,
+        );
         left -= 1;
     }
 }

@@ -1,7 +1,7 @@
 -- "each run whole": an add and a finish end within the steps that the day list gives them, and a get is answered at
 -- once. Follows docs/RULES.md, "Steps" and "The board and the day list". Assumes nothing.
 use mathlib.Core.Path.{_≡_, refl, sym, ap, _∙_}
-use mathlib.Core.Bool.{true≢false}
+use mathlib.Core.Bool.{false, true≢false}
 use mathlib.Core.List.{[]}
 use mathlib.Core.Option.{Option, none, some, Option·some-injective}
 use Prim.Native.Nat.{ℕ, zero, suc, _+_, _*_, _-_, _≤_, _<_}
@@ -11,8 +11,8 @@ use lib.ListN.{length, getD}
 use borrow.Author.Tests.{eq-eqb}
 use Rattle.basics.specs.Base.{update, occurrences}
 use Rattle.basics.specs.Laws.{never}
-use Rattle.terms.specs.Terms.{executing, finished, Arguments, wrongArguments, unknownName, namePresent, tablesFull}
-use Rattle.terms.specs.Terms.{finishOf}
+use Rattle.terms.specs.Terms.{executing, Arguments, wrongArguments, unknownName, namePresent, tablesFull}
+use Rattle.terms.specs.Terms.{finishOf, Tally, noTally, tallyOne}
 use Rattle.terms.specs.Order.{without}
 use Rattle.terms.specs.OrderLaws.{first-occurs}
 use Rattle.terms.specs.Runs.{postAdd, postFinish, step, get, Outcome, outcome}
@@ -24,7 +24,7 @@ use Rattle.words.specs.Layout.{Tables}
 use Rattle.words.specs.Words.{getWords, stepWords}
 use Rattle.words.specs.Words as words
 use Rattle.rules.specs.Rules.{Job, noJob, Call, idle, looking, linking, marking, notifying, Graph, job}
-use Rattle.rules.specs.Rules.{withDependent, withCount, withLabel}
+use Rattle.rules.specs.Rules.{withDependent, lowered, withLabel}
 use Rattle.rules.specs.Rules as rules
 use Rattle.rules.specs.Sound.{startedBy, Linking, Notifying}
 use Rattle.rules_cases.specs.Deed as by
@@ -34,7 +34,7 @@ use Rattle.rules_cases.specs.Deeds.{unbroken}
 use Rattle.whole_words.specs.Whole.{andThen, stepsOf, wholeAdd, wholeFinish}
 use Rattle.whole_calls.specs.Arcs.{arcs-within}
 use Rattle.rules_cases.specs.Own.{own-sizes, own-step, own-made}
-use Rattle.day_history.specs.Jobs.{Jobs, All, changed, handed, withNew, entered, entered-all}
+use Rattle.day_history.specs.Jobs.{Jobs, All, lowered-good, changed, handed, withNew, entered, entered-all}
 use Rattle.day_history.specs.Team.{Team, replaced, turned, all-rest}
 use Rattle.day_history.specs.At.{At, sound-at, onward}
 
@@ -82,38 +82,45 @@ module _ (s : Sizes) (w : ℕ) (hw : w < s .workers) where
       abbrev Settled : Outcome Tables → Type 0
       Settled = AddEnds P Q
 
-      one-link : (k i u : ℕ) (t : Tables) (D : In n name (linking a j i u) t)
-          → (i < a .count → (x : ℕ) (v : Tables) → In n name (linking a j (suc i) x) v → Settled (stepsOf k s w v))
+      one-link : (k i : ℕ) (u : Tally) (t : Tables) (D : In n name (linking a j i u) t) → u .noted ≡ false
+          → (i < a .count → (x : Tally) (v : Tables) → x .noted ≡ false → In n name (linking a j (suc i) x) v
+          → Settled (stepsOf k s w v))
           → {x : Answer} {after : Graph} → Stepped s (D .graph) w (linking a j i u) x after → Next Settled k x after
-      one-link k i u t D rest (by.broken b) v A =
+      one-link k i u t D z rest (by.broken b) v A =
           let S : Linking (D .graph) a j i u = rw (D .team .own) at (sound-at (D .at) .calls w) in
           absurd (unbroken (D .graph) none (linking a j i u) S b)
-      one-link k i u t D rest (by.tallied p l e f) v A = rest l (suc u) v (record {
-        graph = rules.withCall (D .graph) w (linking a j (suc i) (suc u));
-        at = A;
-        jobs = D .jobs;
-        team = turned (D .graph .workers) hold w (linking a j i u) (D .team) (linking a j (suc i) (suc u));
-      })
-      one-link k i u t D rest (by.arcAppended p l e f) v A = rest l u v (record {
+      one-link k i u t D z rest (by.tallied p l e f) v A =
+          let one = tallyOne u (job (D .graph) p .failed) in
+          rest l one v (rw (z, D .jobs .good p .0)) (record {
+            graph = rules.withCall (D .graph) w (linking a j (suc i) one);
+            at = A;
+            jobs = D .jobs;
+            team = turned (D .graph .workers) hold w (linking a j i u) (D .team) (linking a j (suc i) one);
+          })
+      one-link k i u t D z rest (by.arcAppended p l e f) v A = rest l u v z (record {
         graph = rules.linked (D .graph) w a j i u p;
         at = A;
-        jobs = changed (D .graph .jobs) n h name (D .jobs) p (withDependent (job (D .graph) p) j) refl refl;
+        jobs = changed (D .graph .jobs) n h name (D .jobs) p (withDependent (job (D .graph) p) j) refl
+            (D .jobs .good p) refl;
         team = turned (D .graph .workers) hold w (linking a j i u) (D .team) (linking a j (suc i) u);
       })
-      one-link k i u t D rest (by.jobSettled l) v A =
+      one-link k i u t D z rest (by.jobSettled l) v A =
           let g = D .graph in
+          let c = job g j .count - u .count in
           accepted (ends v (record {
             graph = rules.settled g w j u (a .count);
             at = A;
-            jobs = changed (g .jobs) n h name (D .jobs) j (withCount (job g j) (job g j .count - u)) refl refl;
+            jobs = changed (g .jobs) n h name (D .jobs) j (lowered (job g j) c (u .noted)) refl
+                (lowered-good (job g j) c (u .noted) (D .jobs .good j) z) refl;
             team = turned (g .workers) hold w (linking a j i u) (D .team) idle;
           }))
 
-      links : (k i u : ℕ) (t : Tables) → In n name (linking a j i u) t → i ≤ a .count → a .count + 1 ≤ k + i
+      links : (k i : ℕ) (u : Tally) (t : Tables) → u .noted ≡ false → In n name (linking a j i u) t → i ≤ a .count
+          → a .count + 1 ≤ k + i
           → Settled (stepsOf k s w t)
-      links zero i u t D l e = absurd (omega arith)
-      links (suc k) i u t D l e = stepping (D .at) k Settled
-          (one-link k i u t D (λ m x v E. links k (suc i) x v E m (omega arith))
+      links zero i u t z D l e = absurd (omega arith)
+      links (suc k) i u t z D l e = stepping (D .at) k Settled
+          (one-link k i u t D z (λ m x v y E. links k (suc i) x v y E m (omega arith))
           (own-step s (D .graph) hw (D .team .own)))
 
     -- ---- the look-ups of an add, and its entering
@@ -152,12 +159,12 @@ module _ (s : Sizes) (w : ℕ) (hw : w < s .workers) where
           let names = withNew q n h name (D .jobs) a in
           links (suc n) names Grown (In n name idle)
           (λ u E. record { names = names; all = entered-all q n h name (D .jobs) a P; now = E })
-          a (length q) k 0 0 v
+          a (length q) k 0 noTally v refl
           (record {
             graph = rules.entered (D .graph) w a;
             at = A;
             jobs = entered q n h name (D .jobs) a;
-            team = turned (D .graph .workers) hold w (looking a i) (D .team) (linking a (length q) 0 0);
+            team = turned (D .graph .workers) hold w (looking a i) (D .team) (linking a (length q) 0 noTally);
           })
           (omega arith) (omega arith)
 
@@ -186,44 +193,47 @@ module _ (s : Sizes) (w : ℕ) (hw : w < s .workers) where
             team = turned (D .graph .workers) hold w idle (D .team) (looking a 0);
           }) (omega arith) (omega arith)
 
-    -- ---- the arcs of a finish
+    -- ---- the arcs of a finish, which brings good
     module _ (n : ℕ) (name : ℕ → ℕ) (p : ℕ) where
       abbrev Finished : Outcome Tables → Type 0
       Finished = FinishEnds (In n name idle)
 
-      one-arc : (k i : ℕ) (t : Tables) (D : In n name (notifying p i) t)
-          → ((v : Tables) (E : In n name (notifying p (suc i)) v)
+      one-arc : (k i : ℕ) (t : Tables) (D : In n name (notifying p i false) t)
+          → ((v : Tables) (E : In n name (notifying p (suc i) false) v)
           → length (job (E .graph) p .dependents) ≡ length (job (D .graph) p .dependents)
           → Finished (stepsOf k s w v))
-          → {x : Answer} {after : Graph} → Stepped s (D .graph) w (notifying p i) x after → Next Finished k x after
+          → {x : Answer} {after : Graph} → Stepped s (D .graph) w (notifying p i false) x after
+          → Next Finished k x after
       one-arc k i t D rest (by.broken b) v A = absurd b
       one-arc k i t D rest (by.arcNotified l) v A =
           let g = D .graph in
           let j = getD (job g p .dependents) i 0 in
-          let y : Job = withCount (job g j) (job g j .count - 1) in
+          let y : Job = lowered (job g j) (job g j .count - 1) false in
           rest v
           (record {
-            graph = rules.notified g w j (notifying p (suc i));
+            graph = rules.notified g w j false (notifying p (suc i) false);
             at = A;
-            jobs = changed (g .jobs) n h name (D .jobs) j y refl refl;
-            team = turned (g .workers) hold w (notifying p i) (D .team) (notifying p (suc i));
+            jobs = changed (g .jobs) n h name (D .jobs) j y refl
+                (lowered-good (job g j) (job g j .count - 1) false (D .jobs .good j) refl) refl;
+            team = turned (g .workers) hold w (notifying p i false) (D .team) (notifying p (suc i) false);
           })
           (kept-field (λ (x : Job). length (x .dependents)) (g .jobs) j y noJob refl p)
       one-arc k i t D rest (by.lastNotified l) v A =
           let g = D .graph in
           let j = getD (job g p .dependents) i 0 in
           ended (record {
-            graph = rules.notified g w j idle;
+            graph = rules.notified g w j false idle;
             at = A;
-            jobs = changed (g .jobs) n h name (D .jobs) j (withCount (job g j) (job g j .count - 1)) refl refl;
-            team = turned (g .workers) hold w (notifying p i) (D .team) idle;
+            jobs = changed (g .jobs) n h name (D .jobs) j (lowered (job g j) (job g j .count - 1) false) refl
+                (lowered-good (job g j) (job g j .count - 1) false (D .jobs .good j) refl) refl;
+            team = turned (g .workers) hold w (notifying p i false) (D .team) idle;
           })
 
-      notifies : (k i : ℕ) (t : Tables) (D : In n name (notifying p i) t)
+      notifies : (k i : ℕ) (t : Tables) (D : In n name (notifying p i false) t)
           → length (job (D .graph) p .dependents) ≤ k + i
           → Finished (stepsOf k s w t)
       notifies zero i t D l =
-          let S : Notifying (D .graph) p i = rw (D .team .own) at (sound-at (D .at) .calls w) in
+          let S : Notifying (D .graph) p i false = rw (D .team .own) at (sound-at (D .at) .calls w) in
           absurd (omega (arith, S .within))
       notifies (suc k) i t D l = stepping (D .at) k Finished
           (one-arc k i t D (λ v E same. notifies k (suc i) v E (omega arith)) (own-step s (D .graph) hw (D .team .own)))
@@ -233,7 +243,8 @@ module _ (s : Sizes) (w : ℕ) (hw : w < s .workers) where
     abbrev pub Freed : Outcome Tables → Type 0
     Freed = FinishEnds (During s n h (update hold w none) name w idle)
 
-    marks : (k : ℕ) (t : Tables) (D : During s n h hold name w marking t) → length (job (D .graph) p .dependents) ≤ k
+    marks : (k : ℕ) (t : Tables) (D : During s n h hold name w (marking false) t)
+        → length (job (D .graph) p .dependents) ≤ k
         → Freed (stepsOf (suc k) s w t)
     marks k t D l = stepping (D .at) k Freed (one-mark (own-step s (D .graph) hw (D .team .own)))
       where
@@ -242,29 +253,30 @@ module _ (s : Sizes) (w : ℕ) (hw : w < s .workers) where
 
         -- the graph after the mark, with the call that follows
         marked : (q : ℕ) (c : Call) (v : Tables) → D .graph .workers w .held ≡ some q
-            → At s v (rules.marked (D .graph) w q c) → During s n h (update hold w none) name w c v
+            → At s v (rules.marked (D .graph) w q false c) → During s n h (update hold w none) name w c v
         marked q c v e A = record {
-          graph = rules.marked (D .graph) w q c;
+          graph = rules.marked (D .graph) w q false c;
           at = A;
-          jobs = changed (D .graph .jobs) n h name (D .jobs) q (withLabel (job (D .graph) q) finished) refl
-              (ap startedBy (sym (sound-at (D .at) .held-executing w q e)));
-          team = replaced (D .graph .workers) hold w marking (D .team) (record { held = none; call = c });
+          jobs = changed (D .graph .jobs) n h name (D .jobs) q (rules.ended (job (D .graph) q) false) refl
+              (refl, D .jobs .good q .1) (ap startedBy (sym (sound-at (D .at) .held-executing w q e)));
+          team = replaced (D .graph .workers) hold w (marking false) (D .team) (record { held = none; call = c });
         }
 
-        one-mark : {x : Answer} {after : Graph} → Stepped s (D .graph) w marking x after → Next Freed k x after
+        one-mark : {x : Answer} {after : Graph} → Stepped s (D .graph) w (marking false) x after → Next Freed k x after
         one-mark (by.broken b) v A = never (cc (has, b))
         one-mark (by.markedLast q e f) v A = ended (marked q idle v e A)
         one-mark (by.markedGoing q e f) v A =
             let same : p ≡ q = Option·some-injective p q (sym has ∙ e) in
-            notifies h (update hold w none) n name q k 0 v (marked q (notifying q 0) v e A)
+            notifies h (update hold w none) n name q k 0 v (marked q (notifying q 0 false) v e A)
             (rw (kept-field (λ (x : Job). x .dependents) (D .graph .jobs) q
-            (withLabel (job (D .graph) q) finished) noJob refl q) (omega (arith, rw same at l)))
+            (rules.ended (job (D .graph) q) false) noJob refl q) (omega (arith, rw same at l)))
 
     -- "each holder in that order finishes, run whole": A + 1 steps suffice for every finish by the holder
-    pub whole-finish : (t : Tables) → During s n h hold name w idle t → Freed (wholeFinish s t w (name p))
+    pub whole-finish : (t : Tables) → During s n h hold name w idle t
+        → Freed (wholeFinish s t w (finishOf (name p) false))
     unfolding wholeFinish words.perform
     whole-finish t D =
-        let i = postFinish s w (finishOf (name p)) in
+        let i = postFinish s w (finishOf (name p) false) in
         let o = onward (D .at) i in
         rw (o .0) (rw (add-one (s .arcs))
         (posted (own-made s (D .graph) i (own-sizes s) hw refl refl (D .team .own)) _ (o .1)))
@@ -272,16 +284,17 @@ module _ (s : Sizes) (w : ℕ) (hw : w < s .workers) where
         has : D .graph .workers w .held ≡ some p
         has = D .team .held w ∙ holds
 
-        posted : {x : Answer} {after : Graph} → Made s (D .graph) (postFinish s w (finishOf (name p))) x after
+        posted : {x : Answer} {after : Graph} → Made s (D .graph) (postFinish s w (finishOf (name p) false)) x after
             → Next Freed (suc (s .arcs)) x after
         posted (by.finishWrong e) v A = absurd (true≢false
             (sym (eq-eqb (job (D .graph) p .name) (name p) (D .jobs .named p)) ∙ rw has at e))
-        posted (by.finishPosted q e f) v A = marks (s .arcs) v
+        posted (by.finishGood q e f y) v A = absurd (true≢false (sym y ∙ rw (D .jobs .good q .1)))
+        posted (by.finishPosted q e f y) v A = marks (s .arcs) v
             (record {
-              graph = rules.withCall (D .graph) w marking;
+              graph = rules.withCall (D .graph) w (marking false);
               at = A;
               jobs = D .jobs;
-              team = turned (D .graph .workers) hold w idle (D .team) marking;
+              team = turned (D .graph .workers) hold w idle (D .team) (marking false);
             })
             (arcs-within (D .at .history) w p has)
 
@@ -318,7 +331,7 @@ module _ (s : Sizes) (w : ℕ) (hw : w < s .workers) where
                 graph = rules.handedOut (D .graph) w j (without j (D .graph .queue));
                 at = A;
                 jobs = handed (D .graph .jobs) n h name (D .jobs) j (withLabel (job (D .graph) j) executing) refl
-                    (S .queue-there j first) (ap startedBy (S .queue-unexecuted j first)) refl;
+                    (D .jobs .good j) (S .queue-there j first) (ap startedBy (S .queue-unexecuted j first)) refl;
                 team = replaced (D .graph .workers) hold w idle (D .team) (record { held = some j; call = idle });
               };
             })

@@ -1,5 +1,5 @@
 -- A day's first tables and its last: it begins on a fresh graph, and where nobody holds a job and none waits every job
--- is finished ("The last gives jobs not finished"). Assumes nothing.
+-- is finished ("The last gives jobs not finished"), and none failed or is spoiled. Assumes nothing.
 use mathlib.Core.Path.{_≡_, refl, ap, _∙_}
 use mathlib.Core.Bool.{true}
 use mathlib.Core.List.{[]}
@@ -8,10 +8,10 @@ use native.Mathlib.Omega.{arith}
 use lib.Dec.{leb}
 use lib.ListN.{length, length-replicate, replicate}
 use borrow.Author.Tests.{le-leb, eq-eqb}
-use Rattle.terms.specs.Terms.{labelNumber, mostWorkers, withinLimits}
+use Rattle.terms.specs.Terms.{labelNumber, mostWorkers, withinLimits, bit}
 use Rattle.terms.specs.declared.Sizes.{Sizes}
 use Rattle.words.specs.Layout.{Tables, view, need, jobShape, arcShape, bucketShape, queueShape, workerShape, LABEL}
-use Rattle.words.specs.Layout.{longEnough, roomFor}
+use Rattle.words.specs.Layout.{OUTCOME, MARK, longEnough, roomFor}
 use Rattle.words.specs.Words.{layOut}
 use Rattle.rules.specs.Rules.{empty, idle}
 use Rattle.rules.specs.Sound.{started}
@@ -59,7 +59,7 @@ fresh-day s e = record {
     entries = λ j. 0;
     history = start;
   };
-  jobs = record { made = refl; given = refl; named = λ j. refl };
+  jobs = record { made = refl; given = refl; named = λ j. refl; good = λ j. (refl, refl) };
   team = record { held = λ v. refl; own = refl; others = λ v z. refl };
 }
 
@@ -81,3 +81,13 @@ all-finished {s} {t = t} D e =
     (none-unfinished (view t .job LABEL) (length (g .jobs)) λ j h.
     R .rows j (omega (arith, sound-at (D .at) .jobs)) .label
     ∙ ap labelNumber (drained (D .at .history) rest (λ w l. D .team .held w) e j h))
+
+-- ---- every finish brings good: no job failed, and none is spoiled
+pub all-good : {s : Sizes} {n h : ℕ} {name : ℕ → ℕ} {t : Tables} (D : During s n h nobody name 0 idle t)
+    → (j : ℕ) → j < view t .made
+    → (view t .job OUTCOME j ≡ 0) × (view t .job MARK j ≡ 0)
+all-good {s} D j h =
+    let R = D .at .stands .rep in
+    let row = R .rows j (omega (arith, sound-at (D .at) .jobs, R .made)) in
+    let good = D .jobs .good j in
+    (row .outcome ∙ ap bit (good .0), row .mark ∙ ap bit (good .1))

@@ -10,6 +10,7 @@ use native.Mathlib.Nat.{zero-add, add-zero, add-suc, suc-add}
 use lib.ListN.{length, length-append}
 use Rattle.basics.specs.Base.{pick, update}
 use Rattle.basics.specs.Laws.{update-other, pick-by}
+use Rattle.terms.specs.Terms.{finishOf}
 use Rattle.terms.specs.Runs.{Outcome}
 use Rattle.terms.specs.declared.Sizes.{Sizes}
 use Rattle.terms.specs.declared.Answer.the-variants.{Ended}
@@ -130,8 +131,9 @@ module _ (s : Sizes) (n : ℕ) (names : ℕ → ℕ) (P : ℕ → Type 0) (all :
     first-ends : {hold : ℕ → Option ℕ} (x : Holder) (hs : List Holder) (F : First (s .workers) names hold x hs)
         (t : Tables)
         → During s n h hold names 0 idle t
-        → (wholeFinish s t (x .worker) (x .name) .answer ≡ Ended)
-        × During s n h (update hold (x .worker) none) names 0 idle (wholeFinish s t (x .worker) (x .name) .state)
+        → (wholeFinish s t (x .worker) (finishOf (x .name) false) .answer ≡ Ended)
+        × During s n h (update hold (x .worker) none) names 0 idle
+        (wholeFinish s t (x .worker) (finishOf (x .name) false) .state)
     first-ends {hold} x hs F t D = rw (F .named)
         (let o = whole-finish s (x .worker) (F .below) n h hold names (F .job) (F .held) t (moved D (x .worker)) in
         let e = ends _ _ o in
@@ -160,7 +162,7 @@ module _ (s : Sizes) (n : ℕ) (names : ℕ → ℕ) (P : ℕ → Type 0) (all :
     finish-ends : (hs : List Holder) (x : Holder) (rest : List Holder) (hold : ℕ → Option ℕ) (t : Tables)
         → Hold (s .workers) names hold (hs ++ (x ∷ rest))
         → During s n h hold names 0 idle t
-        → wholeFinish s (finishAll s hs t) (x .worker) (x .name) .answer ≡ Ended
+        → wholeFinish s (finishAll s hs t) (x .worker) (finishOf (x .name) false) .answer ≡ Ended
     unfolding finishAll
     finish-ends [] x rest hold t H D = first-ends x rest (first (s .workers) names H) t D .0
     finish-ends (y ∷ hs) x rest hold t H D =
@@ -214,7 +216,7 @@ module _ (s : Sizes) (n : ℕ) (names : ℕ → ℕ) (P : ℕ → Type 0) (all :
       round-finished = finishes _ _ (round .holds) _ (round .now)
 
       pub round-ends : (hs : List Holder) (x : Holder) (rest : List Holder) → getRound s t .holders ≡ hs ++ (x ∷ rest)
-          → wholeFinish s (finishAll s hs (getRound s t .state)) (x .worker) (x .name) .answer ≡ Ended
+          → wholeFinish s (finishAll s hs (getRound s t .state)) (x .worker) (finishOf (x .name) false) .answer ≡ Ended
       round-ends hs x rest e = finish-ends _ hs x rest (round .hold) _ (rw e at (round .holds)) (round .now)
 
       round-more : anyHolder (getRound s t .holders) ≡ true → h < after

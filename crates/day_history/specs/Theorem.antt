@@ -2,7 +2,7 @@
 -- that the list gives them, nothing is left at its end, and what it prints is short. Of all sizes within the limits,
 -- and so of R 256, A 1,024, b 4 with 1 to 16 workers. Assumes nothing.
 use mathlib.Core.Path.{_≡_, refl, sym, _∙_}
-use mathlib.Core.Bool.{true}
+use mathlib.Core.Bool.{true, false}
 use mathlib.Core.List.{List, [], _∷_, _++_}
 use Prim.Native.Nat.{ℕ, _+_, _*_, _≤_, _<_}
 use native.Mathlib.Omega.{arith}
@@ -12,12 +12,11 @@ use lib.ListN.{length}
 use lib.Seq.{sets}
 use borrow.Author.Tests.{leb-true, le-leb}
 use Rattle.basics.specs.Laws.{pick-by}
-use Rattle.terms.specs.Terms.{mostWorkers, withinLimits}
+use Rattle.terms.specs.Terms.{mostWorkers, withinLimits, finishOf}
 use Rattle.terms.specs.Runs.{Outcome}
 use Rattle.terms.specs.declared.Sizes.{Sizes}
-use Rattle.terms.specs.declared.Answer.{Answer}
-use Rattle.terms.specs.declared.Answer.the-variants.{Ended, Refused}
-use Rattle.words.specs.Layout.{Tables, LABEL, view}
+use Rattle.terms.specs.declared.Answer.the-variants.{Ended}
+use Rattle.words.specs.Layout.{Tables, LABEL, OUTCOME, MARK, view}
 use Rattle.rules.specs.Rules.{idle}
 use Rattle.representation_kept.specs.Stand.{limits-of}
 use Rattle.sheet_format.specs.Job.{Job, Valid}
@@ -42,7 +41,7 @@ use Rattle.day_history.specs.Lines.{length-lines, refusals-bytes, hand-o
 use Rattle.day_history.specs.Calls.{During, AddEnds, accepted, refused, whole-add, few-jobs}
 use Rattle.day_history.specs.Adds.{nobody, Entered, Adds, adds}
 use Rattle.day_history.specs.Rounds.{Over, round-finished, round-ends, rounds-over, rounds-same}
-use Rattle.day_history.specs.Ends.{fresh-day, all-finished}
+use Rattle.day_history.specs.Ends.{fresh-day, all-finished, all-good}
 
 answer-of : (P Q : Tables → Type 0) (o : Outcome Tables) → AddEnds P Q o → AddAnswer (o .answer)
 answer-of P Q o (accepted D) = answers.accepted
@@ -109,7 +108,7 @@ module _ (s : Sizes) (limits : withinLimits s ≡ true) where
     finish-ended : {t : Tables} → Begins js t
         → (hs : List Holder) (x : Holder) (rest : List Holder)
         → getRound s t .holders ≡ hs ++ (x ∷ rest)
-        → wholeFinish s (finishAll s hs (getRound s t .state)) (x .worker) (x .name) .answer ≡ Ended
+        → wholeFinish s (finishAll s hs (getRound s t .state)) (x .worker) (finishOf (x .name) false) .answer ≡ Ended
     finish-ended {t} b =
         let k = begun b in
         round-ends s (entered .made) (entered .names) P (entered .all) some-worker (k .handed) t (k .now)
@@ -139,7 +138,7 @@ module _ (s : Sizes) (limits : withinLimits s ≡ true) where
     pub no-finish-is-cut-short : {t : Tables} → Begins js t
         → (hs : List Holder) (x : Holder) (rest : List Holder)
         → getRound s t .holders ≡ hs ++ (x ∷ rest)
-        → wholeFinish s (finishAll s hs (getRound s t .state)) (x .worker) (x .name) .answer ≡ Ended
+        → wholeFinish s (finishAll s hs (getRound s t .state)) (x .worker) (finishOf (x .name) false) .answer ≡ Ended
     no-finish-is-cut-short b = finish-ended Any tt js (any-names js) b
 
     -- "A round that hands out nothing ends it": more rounds than R + 1 change nothing
@@ -158,6 +157,11 @@ module _ (s : Sizes) (limits : withinLimits s ≡ true) where
     -- and every one is finished
     pub none-is-unfinished : unfinished (view (afterRounds js) .job LABEL) (view (afterRounds js) .made) ≡ 0
     none-is-unfinished = all-finished (O .now) (O .empty)
+
+    -- as good: no job failed, and none is spoiled
+    pub none-failed-or-is-spoiled : (j : ℕ) → j < view (afterRounds js) .made
+        → (view (afterRounds js) .job OUTCOME j ≡ 0) × (view (afterRounds js) .job MARK j ≡ 0)
+    none-failed-or-is-spoiled = all-good (O .now)
 
     -- at most R jobs are handed out
     pub hand-outs-within : length (handOuts (runDay s (afterAdds js) .rounds)) ≤ s .jobs

@@ -7,7 +7,7 @@ use Prim.Native.Nat.{ℕ, zero, suc, _+_, _^_}
 use lib.Dec.{eqb}
 use lib.ListN.{length, replicate}
 use Rattle.basics.specs.Base.{pick}
-use Rattle.terms.specs.Terms.{Arguments, mostWorkers}
+use Rattle.terms.specs.Terms.{Arguments, finishOf, mostWorkers}
 use Rattle.terms.specs.declared.Sizes.{Sizes}
 use Rattle.terms.specs.declared.Answer.{Answer}
 use Rattle.terms.specs.declared.Answer.the-variants.{Laid, Loaded, Posted, Going, Ended, NoneReady, Handed, Refused}
@@ -105,9 +105,10 @@ getAll s (suc n) w t =
     let rest = getAll s n (suc w) (o .state) in
     gets (rest .state) (handOut w (o .answer) ++ rest .holders)
 
+-- each finish brings good: "an outcome, good or failed (good in the day list)"
 unfoldable pub finishAll : Sizes → List Holder → Tables → Tables
 finishAll s [] t = t
-finishAll s (h ∷ hs) t = finishAll s hs (wholeFinish s t (h .worker) (h .name) .state)
+finishAll s (h ∷ hs) t = finishAll s hs (wholeFinish s t (h .worker) (finishOf (h .name) false) .state)
 
 -- the gets of a round, by every worker; the tables after a round with these gets
 abbrev pub getRound : Sizes → Tables → Gets

@@ -5,7 +5,7 @@ use mathlib.Core.Bool.{Bool, true, false, _&&_, _||_}
 use Prim.Native.Nat.{ℕ, _+_, _-_, _<_, _≤_}
 use native.Mathlib.Omega.{arith}
 use lib.Dec.{ltb, leb, eqb}
-use borrow.Author.Tests.{ltb-true, ltb-false, leb-true, leb-false}
+use borrow.Author.Tests.{ltb-false, leb-true, leb-false}
 use Rattle.basics.specs.Limits.{mostNames, mostClass, mostGrower}
 use Rattle.basics.specs.Base.{pick}
 use Rattle.basics.specs.Laws.{and-left, and-right, or-left, or-right}
@@ -13,12 +13,12 @@ use Rattle.terms.specs.Terms.{settles, mostJobs, mostArcs, mostBits, mostWorker
 use Rattle.terms.specs.declared.Sizes.{Sizes}
 use Rattle.terms.specs.declared.HandOut.{HandOut}
 use Rattle.words.specs.Layout.{none, LABEL, COUNT, FIRST, LAST, DEPENDENT, AFTER, PHASE, HELD, LIST-COUNT}
-use Rattle.words.specs.Layout.{OWN-CLASS}
+use Rattle.words.specs.Layout.{OUTCOME, OWN-CLASS, NOTE}
 use Rattle.words.specs.Layout.{OWN-GROWER, TALLY, PLACE, OWN-JOB, OWN-ARC, IDLE, LOOKING, LINKING, MARKING, NOTIFYING}
 use Rattle.words.specs.Layout.{Tables, View, view, longEnough, sizesKept, roomFor, sizesFit}
-use Rattle.words.specs.Words.{placeOk, isPlace, countersOk, ownOk, planLookUp, planEnter, planAppend, planLink}
-use Rattle.words.specs.Words.{withSeat, planSettle, planMark, planNotify, planAdd, planLinks, planCall}
-use Rattle.words.specs.Words.{planPhase}
+use Rattle.words.specs.Words.{placeOk, isPlace, countersOk, ownOk, planLookUp, planEnter, planAppend, planTally}
+use Rattle.words.specs.Words.{planLink, withSeat, planSettle, planMark, planNotify, planAdd, planLinks, planCall}
+use Rattle.words.specs.Words.{planPhase, markOk}
 use Rattle.words.specs.Words.{admitted, planStep, nextJob, takeFrom, planTake, planQueue, planGet, planGetOf}
 use Rattle.words.specs.Index.{firstSeat}
 use Rattle.words.specs.declared.Seat.{Seat}
@@ -39,16 +39,17 @@ choice : {A : Type 0} (P : A → Type 0) (b : Bool) (x y : A) → (b ≡ true �
 choice P true x y f g = f refl
 choice P false x y f g = g refl
 
--- the second and third of five tests; the third, sixth and seventh of nine
+-- the second and third of five tests; the third, sixth and seventh of ten
 limits : (a b c d e : Bool) → (a && b && c && d && e) ≡ true → (b ≡ true) × (c ≡ true)
 limits a b c d e h =
     let k = and-left (a && b && c) d (and-left (a && b && c && d) e h) in
     (and-right a b (and-left (a && b) c k), and-right (a && b) c k)
 
-counts : (a b c d e f g h i : Bool) → (a && b && c && d && e && f && g && h && i) ≡ true
+counts : (a b c d e f g h i j : Bool) → (a && b && c && d && e && f && g && h && i && j) ≡ true
     → (c ≡ true) × (f ≡ true) × (g ≡ true)
-counts a b c d e f g h i k =
-    let m = and-left (a && b && c && d && e && f && g) h (and-left (a && b && c && d && e && f && g && h) i k) in
+counts a b c d e f g h i j k =
+    let l = and-left (a && b && c && d && e && f && g && h && i) j k in
+    let m = and-left (a && b && c && d && e && f && g) h (and-left (a && b && c && d && e && f && g && h) i l) in
     let n = and-left (a && b && c && d && e && f) g m in
     let o = and-left (a && b && c) d (and-left (a && b && c && d) e (and-left (a && b && c && d && e) f n)) in
     (and-right (a && b) c o, and-right (a && b && c && d && e) f n, and-right (a && b && c && d && e && f) g m)
@@ -75,7 +76,7 @@ own-small s v w e =
     (leb (v .worker OWN-CLASS w) mostClass) (leb (v .worker OWN-GROWER w) mostGrower)
     (leb (v .worker TALLY w) (v .worker LIST-COUNT w))
     (leb (v .worker PLACE w) (v .worker LIST-COUNT w)) (placeOk (v .worker OWN-JOB w) (v .made) (s .jobs))
-    (placeOk (v .worker OWN-ARC w) (v .reserved) (s .arcs)) e in
+    (placeOk (v .worker OWN-ARC w) (v .reserved) (s .arcs)) (leb (v .worker NOTE w) 1) e in
     let a = leb-true (v .worker LIST-COUNT w) mostNames (h .0) in
     let b = leb-true (v .worker TALLY w) (v .worker LIST-COUNT w) (h .1) in
     let c = leb-true (v .worker PLACE w) (v .worker LIST-COUNT w) (h .2) in
@@ -104,9 +105,9 @@ module _ (s : Sizes) (v : View) (w : ℕ) (jobs : s .jobs ≤ mostJobs) (arcs : 
   unfolding Fitting
   enter j k h x a b = (a, b)
 
-  tallied : Fine Tally
+  tallied : (o : ℕ) → Fine (Tally o)
   unfolding Fitting
-  tallied = (place, tally)
+  tallied o = (place, tally)
 
   link-first : (p x j : ℕ) → Fine (LinkFirst p x j)
   unfolding Fitting
@@ -165,11 +166,15 @@ module _ (s : Sizes) (v : View) (w : ℕ) (jobs : s .jobs ≤ mostJobs) (arcs : 
       (λ _. choice Fine (eqb (v .job LAST p) none) _ _ (λ _. link-first _ _ _) (λ _. link-after _ _ _ _))
       (λ _. refuse _)
 
+  tally-one : (p : ℕ) → Fine (planTally v p)
+  unfolding planTally
+  tally-one p = choice Fine (leb (v .job OUTCOME p) 1) _ _ (λ _. tallied _) (λ _. refuse _)
+
   link : (x j : ℕ) (f : Found) → Fine (planLink s v x j f)
   unfolding planLink
   link x j (At p) =
       choice Fine (leb (v .job LABEL p) 2) _ _
-      (λ _. choice Fine (eqb (v .job LABEL p) 2) _ _ (λ _. tallied) (λ _. append p x j))
+      (λ _. choice Fine (eqb (v .job LABEL p) 2) _ _ (λ _. tally-one p) (λ _. append p x j))
       (λ _. refuse _)
   link x j Missing = refuse _
   link x j Damaged = refuse _
@@ -263,7 +268,8 @@ module _ (v : View) where
 
   take-fits : (r : Seating) → v .taken < none → FineGet (takeFrom v r)
   take-fits (Seated e) h =
-      choice FineGet (eqb (v .job LABEL (nextJob v)) 0) _ _ (λ _. takes _ _ h) (λ _. refuse-get _)
+      choice FineGet (eqb (v .job LABEL (nextJob v)) 0 && markOk v (nextJob v)) _ _ (λ _. takes _ _ h)
+      (λ _. refuse-get _)
   take-fits Unseated h = refuse-get _
 
   queue-fits : (s : Sizes) → s .jobs ≤ mostJobs → FineGet (planQueue s v)

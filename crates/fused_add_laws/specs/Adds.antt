@@ -33,7 +33,7 @@ module _ (s : Sizes) (t : Tables) (w : ℕ) (a : Arguments) (A : Admitted s t w)
       → Run s w
       (then (pick idle
       (pick wrong (outcome (Refused wrongArguments 0) t)
-      (pick sound (outcome Posted (withWorker t w (addWorker LOOKING (holdOf t w) a 0 0 none none)))
+      (pick sound (outcome Posted (withWorker t w (addWorker LOOKING (holdOf t w) a 0 0 none none 0)))
       (outcome (Refused damaged 0) t)))
       (outcome (Refused halfDone 0) t)))
       (pick idle

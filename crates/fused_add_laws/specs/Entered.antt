@@ -16,7 +16,7 @@ use Rattle.terms.specs.declared.Sizes.{Sizes}
 use Rattle.words.specs.Columns.{Shape, place, Rows, columns, put, store, columns-put, columns-putHeader}
 use Rattle.words.specs.Columns.{header-putHeader, stores}
 use Rattle.words.specs.Layout.{Tables, View, view, none, jobShape, arcShape, bucketShape, MADE, RESERVED, NAME, LABEL}
-use Rattle.words.specs.Layout.{COUNT, CLASS, GROWER, FIRST, LAST, NEXT, LOOKING, sizesFit}
+use Rattle.words.specs.Layout.{COUNT, CLASS, GROWER, FIRST, LAST, NEXT, OUTCOME, MARK, LOOKING, sizesFit}
 use Rattle.words.specs.declared.Plan.the-variants.{Enter}
 use Rattle.fused_words.specs.FusedWorker.{addWorker}
 use Rattle.fused_words.specs.FusedAdd.{newRecord, enteredTables}
@@ -58,12 +58,12 @@ module _ (s : Sizes) (t : Tables) (a : Arguments) (fit : sizesFit s t ≡ true) 
 
   fits : sizesFit s (enteredTables s t a) ≡ sizesFit s t
   unfolding storedBy
-  fits = stored-fits s (Enter (v .made) k head (v .reserved)) t (addWorker LOOKING 0 a 0 0 0 0)
+  fits = stored-fits s (Enter (v .made) k head (v .reserved)) t (addWorker LOOKING 0 a 0 0 0 0 0)
 
   stored-columns : columns jobShape stored
-      ≡ store (store (store (store (store (store (store (store (v .job) (v .made) NAME (a .name)) (v .made) LABEL 0)
-      (v .made) COUNT (a .count)) (v .made) CLASS (a .class)) (v .made) GROWER (a .grower)) (v .made) FIRST none)
-      (v .made) LAST none) (v .made) NEXT head
+      ≡ store (store (store (store (store (store (store (store (store (store (v .job) (v .made) NAME (a .name))
+      (v .made) LABEL 0) (v .made) COUNT (a .count)) (v .made) CLASS (a .class)) (v .made) GROWER (a .grower))
+      (v .made) FIRST none) (v .made) LAST none) (v .made) NEXT head) (v .made) OUTCOME 0) (v .made) MARK 0
   stored-columns =
       let r = room s t fit .jobs in
       rw stored-puts (simp (columns-put jobShape (s .jobs), stores, r))

@@ -42,36 +42,40 @@ pub record Open (s : Sizes) (held : ℕ) (t : Tables) : Type 0 where
 module _ (s : Sizes) (w : ℕ) (known : w < s .workers) (held : ℕ) (t : Tables) (O : Open s held t) where
   pub idle-admitted : Admitted s (idledWith t w held) w
   idle-admitted = record {
-    sizes = with-worker-fits s t w (bareWorker IDLE held) ∙ O .sizes;
+    sizes = with-worker-fits s t w (bareWorker IDLE held 0) ∙ O .sizes;
     worker = known;
     own =
-        worker-ok s t w (bareWorker IDLE held) (O .sizes) known refl
-        ∙ bare-ok s (view t) IDLE held (omega arith) (O .hold);
+        worker-ok s t w (bareWorker IDLE held 0) (O .sizes) known refl
+        ∙ bare-ok s (view t) IDLE held 0 (omega arith) (O .hold) (omega arith);
   }
 
-  module _ (a : Arguments) (fine : Right a) (ph k i j x : ℕ) (phase : ph ≤ NOTIFYING) (hk : k ≤ a .count)
+  module _ (a : Arguments) (fine : Right a) (ph k i j x note : ℕ) (phase : ph ≤ NOTIFYING) (hk : k ≤ a .count)
       (hi : i ≤ a .count) (job : placeOk j (view t .made) (s .jobs) ≡ true)
-      (arc : placeOk x (view t .reserved) (s .arcs) ≡ true) where
-    sound : recordOk s (view t) (addWorker ph held a k i j x) ≡ true
+      (arc : placeOk x (view t .reserved) (s .arcs) ≡ true) (bit : note ≤ 1) where
+    sound : recordOk s (view t) (addWorker ph held a k i j x note) ≡ true
     sound =
-        add-ok s (view t) held a k i j x ph phase (O .hold) (fine .count) (fine .class) (fine .grower) hk hi job arc
+        add-ok s (view t) held a k i j x note ph phase (O .hold) (fine .count) (fine .class) (fine .grower) hk hi job
+        arc bit
 
-    pub add-admitted : Admitted s (withWorker t w (addWorker ph held a k i j x)) w
+    pub add-admitted : Admitted s (withWorker t w (addWorker ph held a k i j x note)) w
     add-admitted = record {
-      sizes = with-worker-fits s t w (addWorker ph held a k i j x) ∙ O .sizes;
+      sizes = with-worker-fits s t w (addWorker ph held a k i j x note) ∙ O .sizes;
       worker = known;
-      own = worker-ok s t w (addWorker ph held a k i j x) (O .sizes) known (add-whole ph held a k i j x) ∙ sound;
+      own =
+          worker-ok s t w (addWorker ph held a k i j x note) (O .sizes) known (add-whole ph held a k i j x note)
+          ∙ sound;
     }
 
     -- its step, and the steps after it
-    pub add-step : eqb ph IDLE ≡ false → (p : Plan) → recordPlan s (view t) (addWorker ph held a k i j x) ≡ p → (n : ℕ)
-        → stepsOf (suc n) s w (withWorker t w (addWorker ph held a k i j x))
+    pub add-step : eqb ph IDLE ≡ false → (p : Plan) → recordPlan s (view t) (addWorker ph held a k i j x note) ≡ p
+        → (n : ℕ)
+        → stepsOf (suc n) s w (withWorker t w (addWorker ph held a k i j x note))
         ≡ andThen (answerOf p)
-        (withWorker (storedBy p t (addWorker ph held a k i j x)) w (recordBy p (addWorker ph held a k i j x)))
+        (withWorker (storedBy p t (addWorker ph held a k i j x note)) w (recordBy p (addWorker ph held a k i j x note)))
         (stepsOf n s w)
     unfolding stepsOf
     add-step busy p e n =
-        let r = addWorker ph held a k i j x in
+        let r = addWorker ph held a k i j x note in
         ap (λ (o : Outcome Tables). andThen (o .answer) (o .state) (stepsOf n s w))
-        (step-by-record s t w r (O .sizes) known (add-whole ph held a k i j x) sound (O .counters) busy
+        (step-by-record s t w r (O .sizes) known (add-whole ph held a k i j x note) sound (O .counters) busy
         ∙ ap (λ q. outcome (answerOf q) (withWorker (storedBy q t r) w (recordBy q r))) e)

@@ -6,14 +6,14 @@ use lib.Dec.{ltb, leb, eqb}
 use Rattle.basics.specs.Laws.{pick-by}
 use Rattle.terms.specs.Terms.{damaged}
 use Rattle.terms.specs.declared.Sizes.{Sizes}
-use Rattle.words.specs.Layout.{View, none, LABEL, LAST}
-use Rattle.words.specs.Words.{placeOk, planAppend, planLink}
+use Rattle.words.specs.Layout.{View, none, LABEL, LAST, OUTCOME}
+use Rattle.words.specs.Words.{placeOk, planAppend, planTally, planLink}
 use Rattle.words.specs.declared.Found.the-variants.{At}
 use Rattle.words.specs.declared.Plan.{Plan}
 use Rattle.words.specs.declared.Plan.the-variants.{Refuse, Tally, LinkFirst, LinkAfter}
 
 pub data LinkPlan (p x j : ℕ) : Plan → Type 0 where
-  tallied : LinkPlan p x j Tally
+  tallied : (o : ℕ) → LinkPlan p x j (Tally o)
   first : LinkPlan p x j (LinkFirst p x j)
   after : (l : ℕ) → LinkPlan p x j (LinkAfter p l x j)
   stopped : LinkPlan p x j (Refuse damaged)
@@ -25,9 +25,14 @@ append-plans s v p x j =
     (λ _. pick-by (LinkPlan p x j) (eqb (v .job LAST p) none) (λ _. first) (λ _. after (v .job LAST p)))
     (λ _. stopped)
 
+tally-plans : (v : View) (p x j : ℕ) → LinkPlan p x j (planTally v p)
+unfolding planTally
+tally-plans v p x j =
+    pick-by (LinkPlan p x j) (leb (v .job OUTCOME p) 1) (λ _. tallied (v .job OUTCOME p)) (λ _. stopped)
+
 pub link-plans : (s : Sizes) (v : View) (p x j : ℕ) → LinkPlan p x j (planLink s v x j (At p))
 unfolding planLink
 link-plans s v p x j =
     pick-by (LinkPlan p x j) (leb (v .job LABEL p) 2)
-    (λ _. pick-by (LinkPlan p x j) (eqb (v .job LABEL p) 2) (λ _. tallied) (λ _. append-plans s v p x j))
+    (λ _. pick-by (LinkPlan p x j) (eqb (v .job LABEL p) 2) (λ _. tally-plans v p x j) (λ _. append-plans s v p x j))
     (λ _. stopped)

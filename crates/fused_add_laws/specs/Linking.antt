@@ -23,9 +23,9 @@ use Rattle.fused_add_laws.specs.Room.{room}
 use Rattle.fused_add_laws.specs.Stage.{Stage}
 use Rattle.fused_add_laws.specs.Halfway.{Open, add-admitted, add-step}
 
--- the words of an add that entered its job in tables with the view v, k tallied, at place i
-abbrev pub linkWords : View → Arguments → ℕ → ℕ → ℕ → List ℕ
-linkWords v a held k i = addWorker LINKING held a k i (v .made) (firstArc (a .count) (v .reserved))
+-- the words of an add that entered its job in tables with the view v, k tallied, with this note, at place i
+abbrev pub linkWords : View → Arguments → ℕ → ℕ → ℕ → ℕ → List ℕ
+linkWords v a held k note i = addWorker LINKING held a k i (v .made) (firstArc (a .count) (v .reserved)) note
 
 -- a place in use stays in use as more are made
 place-grows : (p m n size : ℕ) → m ≤ n → placeOk p m size ≡ true → placeOk p n size ≡ true
@@ -78,15 +78,17 @@ module _ (s : Sizes) (v : View) (w : ℕ) (known : w < s .workers) (a : Argument
             )
 
     -- a step of this add
-    module _ (k i : ℕ) (hk : k ≤ a .count) (hi : i ≤ a .count) where
-      pub linking-stays : Admitted s (withWorker u w (linkWords v a held k i)) w
+    module _ (k note i : ℕ) (hk : k ≤ a .count) (bit : note ≤ 1) (hi : i ≤ a .count) where
+      pub linking-stays : Admitted s (withWorker u w (linkWords v a held k note i)) w
       linking-stays =
-          add-admitted s w known held u linking-open a fine LINKING k i j firstOwn (omega arith) hk hi job-ok arc-ok
+          add-admitted s w known held u linking-open a fine LINKING k i j firstOwn note (omega arith) hk hi job-ok
+          arc-ok bit
 
-      pub linking-steps : (p : Plan) → recordPlan s (view u) (linkWords v a held k i) ≡ p → (n : ℕ)
-          → stepsOf (suc n) s w (withWorker u w (linkWords v a held k i))
+      pub linking-steps : (p : Plan) → recordPlan s (view u) (linkWords v a held k note i) ≡ p → (n : ℕ)
+          → stepsOf (suc n) s w (withWorker u w (linkWords v a held k note i))
           ≡ andThen (answerOf p)
-          (withWorker (storedBy p u (linkWords v a held k i)) w (recordBy p (linkWords v a held k i)))
+          (withWorker (storedBy p u (linkWords v a held k note i)) w (recordBy p (linkWords v a held k note i)))
           (stepsOf n s w)
       linking-steps =
-          add-step s w known held u linking-open a fine LINKING k i j firstOwn (omega arith) hk hi job-ok arc-ok refl
+          add-step s w known held u linking-open a fine LINKING k i j firstOwn note (omega arith) hk hi job-ok arc-ok
+          bit refl

@@ -42,7 +42,7 @@ module _ (s : Sizes) (t : Tables) (w : ℕ) (A : Admitted s t w) (a : Arguments)
   v = view t
 
   abbrev words : ℕ → List ℕ
-  words i = addWorker LOOKING (holdOf t w) a 0 i none none
+  words i = addWorker LOOKING (holdOf t w) a 0 i none none 0
 
   O : Open s (holdOf t w) t
   O = record { sizes = A .sizes; counters = counters; hold = hold-ok s t w A }
@@ -53,15 +53,15 @@ module _ (s : Sizes) (t : Tables) (w : ℕ) (A : Admitted s t w) (a : Arguments)
   module _ (i : ℕ) (hi : i ≤ a .count) where
     stays : Admitted s (withWorker t w (words i)) w
     stays =
-        add-admitted s w (A .worker) (holdOf t w) t O a fine LOOKING 0 i none none (omega arith) (omega arith) hi refl
-        refl
+        add-admitted s w (A .worker) (holdOf t w) t O a fine LOOKING 0 i none none 0 (omega arith) (omega arith) hi refl
+        refl (omega arith)
 
     steps : (p : Plan) → recordPlan s (view t) (words i) ≡ p → (n : ℕ)
         → stepsOf (suc n) s w (withWorker t w (words i))
         ≡ andThen (answerOf p) (withWorker (storedBy p t (words i)) w (recordBy p (words i))) (stepsOf n s w)
     steps =
-        add-step s w (A .worker) (holdOf t w) t O a fine LOOKING 0 i none none (omega arith) (omega arith) hi refl refl
-        refl
+        add-step s w (A .worker) (holdOf t w) t O a fine LOOKING 0 i none none 0 (omega arith) (omega arith) hi refl
+        refl (omega arith) refl
 
   -- ---- entering
   -- no room is left, and the plan where it is not, or is
@@ -81,7 +81,7 @@ module _ (s : Sizes) (t : Tables) (w : ℕ) (A : Admitted s t w) (a : Arguments)
         (stepsOf n s w))
         (pick b (outcome (Refused tablesFull 0) (idledWith t w (holdOf t w)))
         (settleIn s w a (holdOf t w) (v .made) (v .reserved)
-        (links s (v .made) (v .reserved) (jobsFound s v (listed a)) 0 (enteredTables s t a) 0)))
+        (links s (v .made) (v .reserved) (jobsFound s v (listed a)) 0 (enteredTables s t a) 0 0)))
     unfolding storedBy
     room true e = run-ends (Refused tablesFull 0) _ refl idle
     room false e =
@@ -90,8 +90,8 @@ module _ (s : Sizes) (t : Tables) (w : ℕ) (A : Admitted s t w) (a : Arguments)
         let short = ltb-false (s .arcs) (v .reserved + a .count)
         (or-right (leb (s .jobs) (v .made)) (ltb (s .arcs) (v .reserved + a .count)) e) in
         links-run s (view t) w (A .worker) a fine (holdOf t w) (hold-ok s t w A) (omega arith) (omega arith) (listed a)
-        0 0 (enteredTables s t a) (rest-all a) (omega arith) (entered-stage s t a (A .sizes) (omega arith)) L n
-        (omega (arith, length-prefix (a .count) (a .names)))
+        0 0 0 (enteredTables s t a) (rest-all a) (omega arith) (omega arith)
+        (entered-stage s t a (A .sizes) (omega arith)) L n (omega (arith, length-prefix (a .count) (a .names)))
 
     after-plan : (f : Found)
         → Run s w
@@ -109,14 +109,14 @@ module _ (s : Sizes) (t : Tables) (w : ℕ) (A : Admitted s t w) (a : Arguments)
     enter-run =
         run-on
         (steps (a .count) (omega arith) _
-        (enter-plan s (view t) (holdOf t w) a 0 (a .count) none none (omega arith)) n)
+        (enter-plan s (view t) (holdOf t w) a 0 (a .count) none none 0 (omega arith)) n)
         (after-plan (findOf s (view t) (a .name)))
 
   -- ---- the look-up at place i
   planned : (i x : ℕ) → i < a .count → getD (listed a) i 0 ≡ x
       → recordPlan s (view t) (words i) ≡ planLookUp i (findOf s (view t) x)
   planned i x h e =
-      look-plan s (view t) (holdOf t w) a 0 i none none (fine .count) h
+      look-plan s (view t) (holdOf t w) a 0 i none none 0 (fine .count) h
       ∙ ap (λ n. planLookUp i (findOf s (view t) n)) e
 
   -- the rest of the look-ups, from place i on with the names l
@@ -148,7 +148,7 @@ module _ (s : Sizes) (t : Tables) (w : ℕ) (A : Admitted s t w) (a : Arguments)
           run-ends (Refused damaged 0) _ refl (stays i (omega (arith, rest-more R)))
 
   pub looked-run : (n : ℕ) → a .count + (a .count + 2) ≤ n
-      → Run s w (stepsOf n s w (withWorker t w (addWorker LOOKING (holdOf t w) a 0 0 none none)))
+      → Run s w (stepsOf n s w (withWorker t w (addWorker LOOKING (holdOf t w) a 0 0 none none 0)))
       (lookIn s t w a (lookUps s (view t) (listed a) 0))
   looked-run n h =
       looks-run (listed a) 0 (rest-all a) refl n (omega (arith, length-prefix (a .count) (a .names)))

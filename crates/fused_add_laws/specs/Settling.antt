@@ -42,9 +42,10 @@ open-stored s held t p r e O = record {
 
 module _ (s : Sizes) (v : View) (w : ℕ) (known : w < s .workers) (a : Arguments) (fine : Right a) (held : ℕ)
     (hold : placeOk held (v .made) (s .jobs) ≡ true) (more : v .made < s .jobs)
-    (arcs : v .reserved + a .count ≤ s .arcs) (u : Tables) (S : Stage s v a u) (k : ℕ) (hk : k ≤ a .count) where
+    (arcs : v .reserved + a .count ≤ s .arcs) (u : Tables) (S : Stage s v a u) (k note : ℕ) (hk : k ≤ a .count)
+    (bit : note ≤ 1) where
   abbrev r : List ℕ
-  r = linkWords v a held k (a .count)
+  r = linkWords v a held k note (a .count)
 
   abbrev c : ℕ
   c = a .count - k
@@ -52,11 +53,11 @@ module _ (s : Sizes) (v : View) (w : ℕ) (known : w < s .workers) (a : Argument
   abbrev settlePlan : Bool → Seating → Plan
   settlePlan queues seating = pick queues (inSeat seating (SettleQueue (v .made) c)) (Settle (v .made) c)
 
-  planned : recordPlan s (view u) (linkWords v a held k (a .count))
+  planned : recordPlan s (view u) (linkWords v a held k note (a .count))
       ≡ settlePlan (settles c k (a .count)) (seatFor s (view u) (v .made))
   unfolding planSettle withSeat
   planned =
-      settle-plan s (view u) held a k (a .count) (v .made) (firstArc (a .count) (v .reserved)) (omega arith)
+      settle-plan s (view u) held a k (a .count) (v .made) (firstArc (a .count) (v .reserved)) note (omega arith)
       ∙ rw (
         S .count,
         own-place s v w known a fine held hold more arcs u S,
@@ -72,26 +73,27 @@ module _ (s : Sizes) (v : View) (w : ℕ) (known : w < s .workers) (a : Argument
       (andThen (answerOf (settlePlan queues seating))
       (withWorker (storedBy (settlePlan queues seating) u r) w (recordBy (settlePlan queues seating) r))
       (stepsOf n s w))
-      (pick queues (queueIn seating u w held (v .made) c (halted u w r))
-      (outcome Ended (idledWith (settledTables u (v .made) c) w held)))
+      (pick queues (queueIn seating u w held (v .made) c note (halted u w r))
+      (outcome Ended (idledWith (settledTables u (v .made) c note) w held)))
   unfolding storedBy
   after-plan n true (Seated e) =
       run-ends Ended _ refl
-      (idle-admitted s w known held (queuedTables u (v .made) c e)
+      (idle-admitted s w known held (queuedTables u (v .made) c note e)
       (open-stored s held u (SettleQueue (v .made) c e) r refl O))
   after-plan n true Unseated =
       run-ends (Refused damaged 0) _ refl
-      (linking-stays s v w known a fine held hold more arcs u S k (a .count) hk (omega arith))
+      (linking-stays s v w known a fine held hold more arcs u S k note (a .count) hk bit (omega arith))
   after-plan n false seating =
       run-ends Ended _ refl
-      (idle-admitted s w known held (settledTables u (v .made) c) (open-stored s held u (Settle (v .made) c) r refl O))
+      (idle-admitted s w known held (settledTables u (v .made) c note)
+      (open-stored s held u (Settle (v .made) c) r refl O))
 
   pub settle-run : (n : ℕ)
-      → Run s w (stepsOf (suc n) s w (withWorker u w (linkWords v a held k (a .count))))
-      (settleIn s w a held (v .made) (v .reserved) (linksTo u (a .count) k true))
+      → Run s w (stepsOf (suc n) s w (withWorker u w (linkWords v a held k note (a .count))))
+      (settleIn s w a held (v .made) (v .reserved) (linksTo u (a .count) k note true))
   unfolding settleIn
   settle-run n =
       run-on
-      (linking-steps s v w known a fine held hold more arcs u S k (a .count) hk (omega arith)
+      (linking-steps s v w known a fine held hold more arcs u S k note (a .count) hk bit (omega arith)
       (settlePlan (settles c k (a .count)) (seatFor s (view u) (v .made))) planned n)
       (after-plan n (settles c k (a .count)) (seatFor s (view u) (v .made)))

@@ -1,19 +1,22 @@
 // A finish of an idle worker in one go: the mark, then each notice, and the worker's words stored once, at the end.
 // Follows docs/RULES.md, "Steps" and "Turned-away calls". Nothing is required: the definition holds of all tables.
 ghost use mathlib.Core.Path.{_≡_};
+ghost use Rattle.terms.specs.Terms.{finishOf};
 ghost use Rattle.terms.specs.Runs.{outcome};
 ghost use Rattle.words.specs.Layout.{atEntry, atExit};
 ghost use Rattle.fused_words.specs.FusedFinish.{finishIfIdle};
 use fused_mark::mark_and_tell;
-use graph_own::counters_ok;
+use graph_judge::judge_outcome;
 use graph_words::job_word;
 use graph_words::layout::*;
 use graph_words::numbers::*;
 use graph_words::worker_word;
 use terms::Answer;
 use terms::Sizes;
+use terms::bit;
 
-// Finishes the job of a name, which the worker holds. Of a worker that is half done it answers 3, and changes nothing.
+// Finishes the job of a name, which the worker holds, failed or good. Of a worker that is half done it answers 3, and
+// changes nothing.
 pub fn finish_if_idle(
     sizes: Sizes,
     jobs: &mut [u32],
@@ -23,9 +26,10 @@ pub fn finish_if_idle(
     workers: &mut [u32],
     worker: u32,
     name: u32,
+    failed: bool,
 ) -> Answer
     ensures { λ r. ⌜ outcome r (atExit jobs arcs buckets queue workers)
-        ≡ finishIfIdle sizes (atEntry jobs arcs buckets queue workers) worker name ⌝ }
+        ≡ finishIfIdle sizes (atEntry jobs arcs buckets queue workers) worker (finishOf name failed) ⌝ }
 {
     let idle = worker_word(workers, worker, PHASE) == IDLE;
     if idle {} else {
@@ -49,13 +53,10 @@ pub fn finish_if_idle(
             place: 0,
         };
     }
-    let counted = counters_ok(sizes, jobs, arcs);
-    if counted {
-        mark_and_tell(sizes, jobs, arcs, queue, workers, worker, held)
+    let number = judge_outcome(sizes, jobs, arcs, held, failed);
+    if number == 0 {
+        mark_and_tell(sizes, jobs, arcs, queue, workers, worker, held, bit(failed))
     } else {
-        Answer::Refused {
-            number: DAMAGED,
-            place: 0,
-        }
+        Answer::Refused { number, place: 0 }
     }
 }

@@ -1,26 +1,26 @@
 -- A finish run whole, posted and stepped to its end, is the finish in one go: for all tables, sound or damaged. Follows
 -- docs/RULES.md, "Steps" and "Turned-away calls". Assumes nothing.
 use mathlib.Core.Path.{_≡_, refl, sym, ap, _∙_}
-use mathlib.Core.Bool.{Bool, true, false, _&&_}
+use mathlib.Core.Bool.{Bool, true, false, _&&_, not}
 use mathlib.Core.List.{List}
-use Prim.Native.Nat.{ℕ, _+_}
+use Prim.Native.Nat.{ℕ, zero, suc, _+_, _≤_}
 use native.Mathlib.Numerals.{add-one}
 use native.Mathlib.Omega.{arith}
 use lib.Dec.{eqb}
 use Rattle.basics.specs.Base.{pick}
 use Rattle.basics.specs.Laws.{and-right, pick-by}
-use Rattle.terms.specs.Terms.{damaged, halfDone, notHeld}
+use Rattle.terms.specs.Terms.{damaged, halfDone, notHeld, goodForSpoiled, Finish, bit}
 use Rattle.terms.specs.Runs.{Outcome, outcome}
 use Rattle.terms.specs.declared.Sizes.{Sizes}
-use Rattle.terms.specs.declared.Answer.the-variants.{Posted, Refused}
-use Rattle.words.specs.Layout.{Tables, View, view, none, LABEL, FIRST, HELD, MARKING, bareWorker}
+use Rattle.terms.specs.declared.Answer.the-variants.{Refused}
+use Rattle.words.specs.Layout.{Tables, View, view, none, LABEL, FIRST, MARK, HELD, MARKING, bareWorker}
 use Rattle.words.specs.Words.{placeOk, isPlace, countersOk, holdsName, planMark, answerOf, posted, refusal}
-use Rattle.words.specs.Words.{judgedFinish, admitted, stepWords, finishWords}
+use Rattle.words.specs.Words.{markOk, judgedOutcome, judgedFinish, admitted, stepWords, finishWords}
 use Rattle.words.specs.declared.Plan.{Plan}
 use Rattle.words.specs.declared.Plan.the-variants.{Refuse, Mark}
 use Rattle.whole_words.specs.Whole.{andThen, stepsOf, wholeFinish}
 use Rattle.fused_words.specs.FusedWorker.{Admitted, isIdle, holdOf, withWorker}
-use Rattle.fused_words.specs.FusedFinish.{markedTables, markIn, finishIn, finishIfIdle}
+use Rattle.fused_words.specs.FusedFinish.{markedTables, markIn, markIf, finishIn, finishIfIdle}
 use Rattle.fused_laws.specs.Deeds.{recordBy, storedBy}
 use Rattle.fused_laws.specs.Steps.{step-by-record}
 use Rattle.fused_laws.specs.Kept.{stored-fits, stored-counters}
@@ -39,9 +39,10 @@ module _ (s : Sizes) (v : View) (Q : Plan → Type 0) (refuses : Q (Refuse damag
       (λ _. refuses)
 
 -- ---- the mark and the notices
-module _ (s : Sizes) (t : Tables) (w : ℕ) (a : Admitted s t w) (counters : countersOk s (view t) ≡ true) where
+module _ (s : Sizes) (t : Tables) (w : ℕ) (o : ℕ) (bound : o ≤ 1) (a : Admitted s t w)
+    (counters : countersOk s (view t) ≡ true) where
   abbrev r : List ℕ
-  r = bareWorker MARKING (holdOf t w)
+  r = bareWorker MARKING (holdOf t w) o
 
   abbrev plan : Plan
   plan = planMark s (view t) (holdOf t w)
@@ -49,65 +50,85 @@ module _ (s : Sizes) (t : Tables) (w : ℕ) (a : Admitted s t w) (counters : cou
   mark-step : stepWords s (withWorker t w r) w
       ≡ outcome (answerOf plan) (withWorker (storedBy plan t r) w (recordBy plan r))
   mark-step =
-      step-by-record s t w r (a .sizes) (a .worker) refl (bare-ok s (view t) MARKING (holdOf t w) (omega arith)
-      (hold-ok s t w a)) counters refl
+      step-by-record s t w r (a .sizes) (a .worker) refl (bare-ok s (view t) MARKING (holdOf t w) o (omega arith)
+      (hold-ok s t w a) bound) counters refl
       ∙ ap (λ p. outcome (answerOf p) (withWorker (storedBy p t r) w (recordBy p r)))
-      (mark-plan s (view t) (holdOf t w))
+      (mark-plan s (view t) (holdOf t w) o)
 
-  steps-after-post : stepsOf (s .arcs + 1) s w (withWorker t w r) ≡ markIn s t w plan
+  steps-after-post : stepsOf (s .arcs + 1) s w (withWorker t w r) ≡ markIn s t w o plan
   unfolding stepsOf markIn storedBy
   steps-after-post =
       ap (λ n. stepsOf n s w (withWorker t w r)) (add-one (s .arcs))
-      ∙ ap (λ o. andThen (o .answer) (o .state) (stepsOf (s .arcs) s w)) mark-step
+      ∙ ap (λ q. andThen (q .answer) (q .state) (stepsOf (s .arcs) s w)) mark-step
       ∙ mark-plans s (view t)
       (λ p. andThen (answerOf p) (withWorker (storedBy p t r) w (recordBy p r)) (stepsOf (s .arcs) s w)
-      ≡ markIn s t w p)
+      ≡ markIn s t w o p)
       refl
-      (λ p x e. on-or-end s w (a .worker) (s .arcs) x (markedTables t p) (eqb x none)
-      (notices s w (a .worker) (s .arcs) x (markedTables t p) (stored-fits s (Mark p x) t r ∙ a .sizes)
+      (λ p x e. on-or-end s w (a .worker) o bound (s .arcs) x (markedTables t p o) (eqb x none)
+      (notices s w (a .worker) o bound (s .arcs) x (markedTables t p o) (stored-fits s (Mark p x) t r ∙ a .sizes)
       (stored-counters s (Mark p x) t r refl ∙ counters) e))
       (holdOf t w)
 
 -- ---- the post's tests, then what follows it
-module _ (t u : Tables) (next : Tables → Outcome Tables) (m : Outcome Tables) where
+module _ (s : Sizes) (t : Tables) (w o : ℕ) (next : Tables → Outcome Tables) where
   abbrev told : Outcome Tables → Outcome Tables
-  told o = andThen (o .answer) (o .state) next
+  told q = andThen (q .answer) (q .state) next
 
   abbrev refusedBy : ℕ → Outcome Tables
   refusedBy n = outcome (Refused n 0) t
 
-  by-tests : (x y z : Bool) → (z ≡ true → next u ≡ m)
-      → told
-      (pick x (pick y (pick z (outcome Posted u) (refusedBy damaged)) (refusedBy notHeld)) (refusedBy halfDone))
-      ≡ pick x (pick y (pick z m (refusedBy damaged)) (refusedBy notHeld)) (refusedBy halfDone)
-  by-tests true true true e = e refl
-  by-tests true true false e = refl
-  by-tests true false z e = refl
-  by-tests false y z e = refl
+  abbrev u : List ℕ
+  u = bareWorker MARKING (holdOf t w) o
+
+  -- a post that is not refused has read sound counters
+  by-number : (n : ℕ) → (n ≡ 0 → next (withWorker t w u) ≡ markIn s t w o (planMark s (view t) (holdOf t w)))
+      → told (posted n t w u) ≡ markIf n s t w o
+  unfolding posted markIf
+  by-number zero e = e refl
+  by-number (suc n) e = refl
+
+  by-tests : (x y : Bool) (n : ℕ)
+      → (n ≡ 0 → next (withWorker t w u) ≡ markIn s t w o (planMark s (view t) (holdOf t w)))
+      → told (pick x (pick y (posted n t w u) (refusedBy notHeld)) (refusedBy halfDone))
+      ≡ pick x (pick y (markIf n s t w o) (refusedBy notHeld)) (refusedBy halfDone)
+  by-tests true true n e = by-number n e
+  by-tests true false n e = refl
+  by-tests false y n e = refl
+
+sound : (a b c : Bool) → pick (a && b) (pick c goodForSpoiled 0) damaged ≡ 0 → a ≡ true
+sound true b c e = refl
+sound false b c e = absurd (omega arith)
+
+small : (failed : Bool) → bit failed ≤ 1
+small true = omega arith
+small false = omega arith
 
 -- ---- THE theorem of an admitted worker
-pub fused-finish : (s : Sizes) (t : Tables) (w name : ℕ) → Admitted s t w
-    → wholeFinish s t w name ≡ finishIfIdle s t w name
+pub fused-finish : (s : Sizes) (t : Tables) (w : ℕ) (f : Finish) → Admitted s t w
+    → wholeFinish s t w f ≡ finishIfIdle s t w f
 unfolding wholeFinish finishIfIdle finishIn
-fused-finish s t w name a =
-    ap (λ o. andThen (o .answer) (o .state) (stepsOf (s .arcs + 1) s w)) (finish-posted s t w name a)
-    ∙ by-tests t (withWorker t w (bareWorker MARKING (holdOf t w))) (stepsOf (s .arcs + 1) s w)
-    (markIn s t w (planMark s (view t) (holdOf t w)))
-    (isIdle t w) (holdsName (view t) w name) (countersOk s (view t)) (steps-after-post s t w a)
+fused-finish s t w f a =
+    let o = bit (f .failed) in
+    let p = holdOf t w in
+    ap (λ q. andThen (q .answer) (q .state) (stepsOf (s .arcs + 1) s w)) (finish-posted s t w f a)
+    ∙ by-tests s t w o (stepsOf (s .arcs + 1) s w) (isIdle t w) (holdsName (view t) w (f .name))
+    (judgedOutcome s (view t) p (f .failed))
+    (λ e. steps-after-post s t w o (small (f .failed)) a
+    (sound (countersOk s (view t)) (markOk (view t) p) (eqb (view t .job MARK p) 1 && not (f .failed)) e))
 
 -- and of every worker
-pub whole-finish : (s : Sizes) (t : Tables) (w name : ℕ)
-    → wholeFinish s t w name ≡ admitted s t w (λ n. outcome (Refused n 0) t) (finishIfIdle s t w name)
+pub whole-finish : (s : Sizes) (t : Tables) (w : ℕ) (f : Finish)
+    → wholeFinish s t w f ≡ admitted s t w (λ n. outcome (Refused n 0) t) (finishIfIdle s t w f)
 unfolding wholeFinish finishWords posted
-whole-finish s t w name =
+whole-finish s t w f =
     admitted-map H s t w refusal J
-    ∙ admitted-each s t w H (λ n. outcome (Refused n 0) t) (H J) (finishIfIdle s t w name) (λ n. refl)
-    (λ a. sym (ap H (admitted-as s t w refusal J a)) ∙ fused-finish s t w name a)
+    ∙ admitted-each s t w H (λ n. outcome (Refused n 0) t) (H J) (finishIfIdle s t w f) (λ n. refl)
+    (λ a. sym (ap H (admitted-as s t w refusal J a)) ∙ fused-finish s t w f a)
   where
     J : ℕ
-    J = judgedFinish s (view t) w name
+    J = judgedFinish s (view t) w f
 
     H : ℕ → Outcome Tables
     H n =
-        let o = posted n t w (bareWorker MARKING (view t .worker HELD w)) in
+        let o = posted n t w (bareWorker MARKING (view t .worker HELD w) (bit (f .failed))) in
         andThen (o .answer) (o .state) (stepsOf (s .arcs + 1) s w)

@@ -3,8 +3,9 @@
 use mathlib.Core.Path.{_≡_, refl, ap, _∙_}
 use mathlib.Core.Bool.{Bool, true, false, _&&_}
 use mathlib.Core.List.{List}
-use Prim.Native.Nat.{ℕ, zero, suc, _-_, _<_}
+use Prim.Native.Nat.{ℕ, zero, suc, _-_, _≤_, _<_}
 use lib.Dec.{ltb, leb, eqb}
+use borrow.Author.Tests.{le-leb}
 use Rattle.basics.specs.Limits.{mostNames}
 use Rattle.basics.specs.Base.{pick}
 use Rattle.basics.specs.Laws.{and-left, and-right, pick-by}
@@ -56,43 +57,44 @@ module _ (s : Sizes) (v : View) (Q : Plan → Type 0) (refuses : Q (Refuse damag
       (λ _. notifies j (v .job COUNT j - 1) y ok))
       (λ _. refuses)
 
-module _ (s : Sizes) (w : ℕ) (known : w < s .workers) where
+-- of a finish of outcome o
+module _ (s : Sizes) (w : ℕ) (known : w < s .workers) (o : ℕ) (bit : o ≤ 1) where
   -- the last notice ends the finish, and any other goes on
   pub on-or-end : (n : ℕ) (y : ℕ) (u : Tables) (b : Bool)
-      → stepsOf n s w (withWorker u w (notifyWorker y)) ≡ notifyIn n s w y u
-      → andThen (goingUnless b) (withWorker u w (pick b (bareWorker IDLE none) (notifyWorker y))) (stepsOf n s w)
-      ≡ pick b (outcome Ended (idledWith u w none)) (notifyIn n s w y u)
+      → stepsOf n s w (withWorker u w (notifyWorker o y)) ≡ notifyIn n s w o y u
+      → andThen (goingUnless b) (withWorker u w (pick b (bareWorker IDLE none 0) (notifyWorker o y))) (stepsOf n s w)
+      ≡ pick b (outcome Ended (idledWith u w none)) (notifyIn n s w o y u)
   on-or-end n y u true e = refl
   on-or-end n y u false e = e
 
   -- one step along arc x
   one-notice : (t : Tables) (x : ℕ) → sizesFit s t ≡ true → countersOk s (view t) ≡ true
       → placeOk x (view t .reserved) (s .arcs) ≡ true
-      → stepWords s (withWorker t w (notifyWorker x)) w
+      → stepWords s (withWorker t w (notifyWorker o x)) w
       ≡ outcome (answerOf (planNotify s (view t) x))
-      (withWorker (storedBy (planNotify s (view t) x) t (notifyWorker x)) w
-      (recordBy (planNotify s (view t) x) (notifyWorker x)))
+      (withWorker (storedBy (planNotify s (view t) x) t (notifyWorker o x)) w
+      (recordBy (planNotify s (view t) x) (notifyWorker o x)))
   one-notice t x fit counters ok =
-      step-by-record s t w (notifyWorker x) fit known refl ok counters refl
-      ∙ ap (λ p. outcome (answerOf p) (withWorker (storedBy p t (notifyWorker x)) w (recordBy p (notifyWorker x))))
-      (notify-plan s (view t) x)
+      step-by-record s t w (notifyWorker o x) fit known refl (rw (ok, le-leb o 1 bit)) counters refl
+      ∙ ap (λ p. outcome (answerOf p) (withWorker (storedBy p t (notifyWorker o x)) w (recordBy p (notifyWorker o x))))
+      (notify-plan s (view t) o x)
 
   pub notices : (n x : ℕ) (t : Tables) → sizesFit s t ≡ true → countersOk s (view t) ≡ true
       → placeOk x (view t .reserved) (s .arcs) ≡ true
-      → stepsOf n s w (withWorker t w (notifyWorker x)) ≡ notifyIn n s w x t
+      → stepsOf n s w (withWorker t w (notifyWorker o x)) ≡ notifyIn n s w o x t
   unfolding stepsOf notifyIn storedBy
   notices zero x t fit counters ok = refl
   notices (suc n) x t fit counters ok =
-      ap (λ o. andThen (o .answer) (o .state) (stepsOf n s w)) (one-notice t x fit counters ok)
+      ap (λ q. andThen (q .answer) (q .state) (stepsOf n s w)) (one-notice t x fit counters ok)
       ∙ notice-plans s (view t)
       (λ p. andThen (answerOf p) (withWorker (storedBy p t r) w (recordBy p r)) (stepsOf n s w)
-      ≡ notifyBy p x w t (notifyIn n s w))
+      ≡ notifyBy p o x w t (notifyIn n s w o))
       refl
-      (λ j c y e. on-or-end n y (toldTables t j c) (eqb y none) (notices n y (toldTables t j c)
+      (λ j c y e. on-or-end n y (toldTables t j c o) (eqb y none) (notices n y (toldTables t j c o)
       (stored-fits s (Notify j c y) t r ∙ fit) (stored-counters s (Notify j c y) t r refl ∙ counters) e))
-      (λ j c y d e. on-or-end n y (toldQueued t j c d) (eqb y none) (notices n y (toldQueued t j c d)
+      (λ j c y d e. on-or-end n y (toldQueued t j c o d) (eqb y none) (notices n y (toldQueued t j c o d)
       (stored-fits s (NotifyQueue j c y d) t r ∙ fit) (stored-counters s (NotifyQueue j c y d) t r refl ∙ counters) e))
       x
     where
       r : List ℕ
-      r = notifyWorker x
+      r = notifyWorker o x

@@ -37,7 +37,7 @@ pub fn enter_and_link(
         (header (now (arcs .entry)) RESERVED)
         (links sizes (header (now (jobs .entry)) MADE) (header (now (arcs .entry)) RESERVED)
         (prefix (entry .count) (now (found .entry))) 0
-        (enteredTables sizes (atEntry jobs arcs buckets queue workers) (argumentsOf entry)) 0)) ⌝ }
+        (enteredTables sizes (atEntry jobs arcs buckets queue workers) (argumentsOf entry)) 0 0)) ⌝ }
 {
     let made = header(jobs, MADE);
     let reserved = header(arcs, RESERVED);

@@ -18,54 +18,55 @@ use Rattle.fused_laws.specs.Plans.{recordOk, recordPlan, recordName}
 
 -- ---- a finish
 module _ (s : Sizes) (v : View) where
-  pub bare-ok : (phase held : ℕ) → phase ≤ NOTIFYING → placeOk held (v .made) (s .jobs) ≡ true
-      → recordOk s v (bareWorker phase held) ≡ true
-  bare-ok phase held h e = rw (le-leb phase NOTIFYING h, e)
+  pub bare-ok : (phase held o : ℕ) → phase ≤ NOTIFYING → placeOk held (v .made) (s .jobs) ≡ true → o ≤ 1
+      → recordOk s v (bareWorker phase held o) ≡ true
+  bare-ok phase held o h e l = rw (le-leb phase NOTIFYING h, e, le-leb o 1 l)
 
-  pub mark-plan : (held : ℕ) → recordPlan s v (bareWorker MARKING held) ≡ planMark s v held
+  pub mark-plan : (held o : ℕ) → recordPlan s v (bareWorker MARKING held o) ≡ planMark s v held
   unfolding recordPlan
-  mark-plan held = refl
+  mark-plan held o = refl
 
-  pub notify-plan : (x : ℕ) → recordPlan s v (notifyWorker x) ≡ planNotify s v x
+  pub notify-plan : (o x : ℕ) → recordPlan s v (notifyWorker o x) ≡ planNotify s v x
   unfolding recordPlan
-  notify-plan x = refl
+  notify-plan o x = refl
 
 -- ---- an add
-pub add-whole : (phase held : ℕ) (a : Arguments) (k i j x : ℕ)
-    → length (addWorker phase held a k i j x) ≡ workerShape .width
-add-whole phase held a k i j x = omega (arith, length-prefix mostNames (listed a))
+pub add-whole : (phase held : ℕ) (a : Arguments) (k i j x n : ℕ)
+    → length (addWorker phase held a k i j x n) ≡ workerShape .width
+add-whole phase held a k i j x n = omega (arith, length-prefix mostNames (listed a))
 
-module _ (s : Sizes) (v : View) (held : ℕ) (a : Arguments) (k i j x : ℕ) where
+module _ (s : Sizes) (v : View) (held : ℕ) (a : Arguments) (k i j x n : ℕ) where
   -- the name at the place
-  name-at : (phase : ℕ) → i < mostNames → recordName (addWorker phase held a k i j x) ≡ getD (listed a) i 0
+  name-at : (phase : ℕ) → i < mostNames → recordName (addWorker phase held a k i j x n) ≡ getD (listed a) i 0
   name-at phase h =
-      getD-past (take NAMES (addWorker phase held a k i j x)) (prefix mostNames (listed a)) i
+      getD-past (take NAMES (addWorker phase held a k i j x n)) (prefix mostNames (listed a)) i
       ∙ getD-prefix mostNames (listed a) i h
 
   pub add-ok : (phase : ℕ) → phase ≤ NOTIFYING → placeOk held (v .made) (s .jobs) ≡ true
       → a .count ≤ mostNames → a .class ≤ mostClass → a .grower ≤ mostGrower → k ≤ a .count → i ≤ a .count
       → placeOk j (v .made) (s .jobs) ≡ true → placeOk x (v .reserved) (s .arcs) ≡ true
-      → recordOk s v (addWorker phase held a k i j x) ≡ true
-  add-ok phase p h c d g m n y z =
+      → n ≤ 1 → recordOk s v (addWorker phase held a k i j x n) ≡ true
+  add-ok phase p h c d g m l y z o =
       rw (le-leb phase NOTIFYING p, h, le-leb (a .count) mostNames c, le-leb (a .class) mostClass d)
-      (rw (le-leb (a .grower) mostGrower g, le-leb k (a .count) m, le-leb i (a .count) n, y, z))
+      (rw (le-leb (a .grower) mostGrower g, le-leb k (a .count) m, le-leb i (a .count) l, y, z, le-leb n 1 o))
 
   module _ (few : a .count ≤ mostNames) (more : i < a .count) where
-    pub look-plan : recordPlan s v (addWorker LOOKING held a k i j x) ≡ planLookUp i (findOf s v (getD (listed a) i 0))
+    pub look-plan : recordPlan s v (addWorker LOOKING held a k i j x n)
+        ≡ planLookUp i (findOf s v (getD (listed a) i 0))
     unfolding recordPlan
     look-plan = rw (lt-ltb i (a .count) more, name-at LOOKING (omega arith))
 
-    pub link-plan : recordPlan s v (addWorker LINKING held a k i j x)
+    pub link-plan : recordPlan s v (addWorker LINKING held a k i j x n)
         ≡ planLink s v (x + i) j (findOf s v (getD (listed a) i 0))
     unfolding recordPlan
     link-plan = rw (lt-ltb i (a .count) more, name-at LINKING (omega arith))
 
   pub enter-plan : a .count ≤ i
-      → recordPlan s v (addWorker LOOKING held a k i j x)
+      → recordPlan s v (addWorker LOOKING held a k i j x n)
       ≡ planEnter s v (a .name) (a .count) (findOf s v (a .name))
   unfolding recordPlan
   enter-plan h = rw (le-ltb i (a .count) h)
 
-  pub settle-plan : a .count ≤ i → recordPlan s v (addWorker LINKING held a k i j x) ≡ planSettle s v j k (a .count)
+  pub settle-plan : a .count ≤ i → recordPlan s v (addWorker LINKING held a k i j x n) ≡ planSettle s v j k (a .count)
   unfolding recordPlan
   settle-plan h = rw (le-ltb i (a .count) h)

@@ -14,10 +14,10 @@ use Rattle.heap.specs.Sift.{above}
 use Rattle.terms.specs.declared.Sizes.{Sizes}
 use Rattle.words.specs.Columns.{place, header, put, putHeader, header-put, header-other}
 use Rattle.words.specs.Layout.{Tables, view, none, jobShape, arcShape, queueShape, bucketShape, MADE, sizesFit}
-use Rattle.words.specs.Layout.{LABEL, COUNT, FIRST, LAST, DEPENDENT, AFTER, PUT, CELL, SLOT, POSITION}
-use Rattle.words.specs.Layout.{RESERVED, LIST-COUNT}
+use Rattle.words.specs.Layout.{LABEL, COUNT, FIRST, LAST, OUTCOME, MARK, DEPENDENT, AFTER, PUT, CELL, SLOT, POSITION}
+use Rattle.words.specs.Layout.{RESERVED, LIST-COUNT, NOTE}
 use Rattle.words.specs.Index.{levels, slotIn, putSlot, shiftedDown, putSeat}
-use Rattle.words.specs.Words.{newArc, countersOk}
+use Rattle.words.specs.Words.{putCount, putOutcome, newArc, countersOk}
 use Rattle.words.specs.declared.Seat.{Seat}
 use Rattle.words.specs.declared.Plan.{Plan}
 use Rattle.words.specs.declared.Plan.the-variants.{Refuse, Quit, Pass, Enter, Tally, LinkFirst, LinkAfter, Settle}
@@ -39,6 +39,11 @@ job-put {l} {m} a i k v = record {
   long = length-put jobShape m i k v ∙ a .long;
   kept = λ q h. header-put jobShape m i k v q (lt-ltb q 21 (omega arith)) ∙ a .kept q h;
 }
+
+-- a count, and the mark where the note is 1
+job-count : {l m : List ℕ} → Jobs l m → (j c n : ℕ) → Jobs l (putCount m j c n)
+job-count {l} a j c n =
+    pick-by (Jobs l) (eqb n 1) (λ _. job-put (job-put a j COUNT c) j MARK 1) (λ _. job-put a j COUNT c)
 
 job-record : {l m : List ℕ} → Jobs l m → (i : ℕ) (r : List ℕ) → Jobs l (sets m (place jobShape i 0) r)
 job-record {l} {m} a i r = record {
@@ -91,17 +96,20 @@ stored-alike (Enter j k h x) t r =
     (length-put bucketShape (t .buckets) k 0 j)
     refl
     refl
-stored-alike Tally t r = alike start refl refl refl refl
+stored-alike (Tally o) t r = alike start refl refl refl refl
 stored-alike (LinkFirst p x j) t r =
     alike (job-put (job-put start p FIRST x) p LAST x) (arc-long (t .arcs) x j) refl refl refl
 stored-alike (LinkAfter p y x j) t r =
     alike (job-put start p LAST x)
     (length-put arcShape (newArc (t .arcs) x j) y AFTER x ∙ arc-long (t .arcs) x j) refl refl refl
-stored-alike (Settle j c) t r = alike (job-put start j COUNT c) refl refl refl refl
-stored-alike (SettleQueue j c e) t r = alike (job-put start j COUNT c) refl refl (seat-long (t .queue) e j) refl
-stored-alike (Mark p x) t r = alike (job-put start p LABEL 2) refl refl refl refl
-stored-alike (Notify j c x) t r = alike (job-put start j COUNT c) refl refl refl refl
-stored-alike (NotifyQueue j c x e) t r = alike (job-put start j COUNT c) refl refl (seat-long (t .queue) e j) refl
+stored-alike (Settle j c) t r = alike (job-count start j c (getD r NOTE 0)) refl refl refl refl
+stored-alike (SettleQueue j c e) t r =
+    alike (job-count start j c (getD r NOTE 0)) refl refl (seat-long (t .queue) e j) refl
+stored-alike (Mark p x) t r =
+    alike (job-put (job-put start p LABEL 2) p OUTCOME (getD r NOTE 0)) refl refl refl refl
+stored-alike (Notify j c x) t r = alike (job-count start j c (getD r NOTE 0)) refl refl refl refl
+stored-alike (NotifyQueue j c x e) t r =
+    alike (job-count start j c (getD r NOTE 0)) refl refl (seat-long (t .queue) e j) refl
 
 pub stored-fits : (s : Sizes) (p : Plan) (t : Tables) (r : List ℕ) → sizesFit s (storedBy p t r) ≡ sizesFit s t
 stored-fits s p t r = alike-fits s t (storedBy p t r) (stored-alike p t r)
@@ -109,6 +117,15 @@ stored-fits s p t r = alike-fits s t (storedBy p t r) (stored-alike p t r)
 -- ---- the counters
 pub made-put : (l : List ℕ) (i k v : ℕ) → header (put jobShape l i k v) MADE ≡ header l MADE
 made-put l i k v = header-put jobShape l i k v MADE refl
+
+pub made-count : (l : List ℕ) (j c n : ℕ) → header (putCount l j c n) MADE ≡ header l MADE
+made-count l j c n =
+    pick-by (λ m. header m MADE ≡ header l MADE) (eqb n 1)
+    (λ _. made-put (put jobShape l j COUNT c) j MARK 1 ∙ made-put l j COUNT c)
+    (λ _. made-put l j COUNT c)
+
+pub made-outcome : (l : List ℕ) (p o : ℕ) → header (putOutcome l p o) MADE ≡ header l MADE
+made-outcome l p o = made-put (put jobShape l p LABEL 2) p OUTCOME o ∙ made-put l p LABEL 2
 
 pub reserved-put : (l : List ℕ) (i k v : ℕ) → header (put arcShape l i k v) RESERVED ≡ header l RESERVED
 reserved-put l i k v = header-put arcShape l i k v RESERVED refl
@@ -122,7 +139,7 @@ entersNone (Enter j k h x) = false
 entersNone (Refuse n) = true
 entersNone (Quit n i) = true
 entersNone Pass = true
-entersNone Tally = true
+entersNone (Tally o) = true
 entersNone (LinkFirst p x j) = true
 entersNone (LinkAfter p y x j) = true
 entersNone (Settle j c) = true
@@ -138,15 +155,15 @@ stored-made (Enter j k h x) t r e = never (cc)
 stored-made (Refuse n) t r e = refl
 stored-made (Quit n i) t r e = refl
 stored-made Pass t r e = refl
-stored-made Tally t r e = refl
+stored-made (Tally o) t r e = refl
 stored-made (LinkFirst p x j) t r e =
     made-put (put jobShape (t .jobs) p FIRST x) p LAST x ∙ made-put (t .jobs) p FIRST x
 stored-made (LinkAfter p y x j) t r e = made-put (t .jobs) p LAST x
-stored-made (Settle j c) t r e = made-put (t .jobs) j COUNT c
-stored-made (SettleQueue j c d) t r e = made-put (t .jobs) j COUNT c
-stored-made (Mark p x) t r e = made-put (t .jobs) p LABEL 2
-stored-made (Notify j c x) t r e = made-put (t .jobs) j COUNT c
-stored-made (NotifyQueue j c x d) t r e = made-put (t .jobs) j COUNT c
+stored-made (Settle j c) t r e = made-count (t .jobs) j c (getD r NOTE 0)
+stored-made (SettleQueue j c d) t r e = made-count (t .jobs) j c (getD r NOTE 0)
+stored-made (Mark p x) t r e = made-outcome (t .jobs) p (getD r NOTE 0)
+stored-made (Notify j c x) t r e = made-count (t .jobs) j c (getD r NOTE 0)
+stored-made (NotifyQueue j c x d) t r e = made-count (t .jobs) j c (getD r NOTE 0)
 
 pub stored-reserved : (p : Plan) (t : Tables) (r : List ℕ) → entersNone p ≡ true
     → view (storedBy p t r) .reserved ≡ view t .reserved
@@ -155,7 +172,7 @@ stored-reserved (Enter j k h x) t r e = never (cc)
 stored-reserved (Refuse n) t r e = refl
 stored-reserved (Quit n i) t r e = refl
 stored-reserved Pass t r e = refl
-stored-reserved Tally t r e = refl
+stored-reserved (Tally o) t r e = refl
 stored-reserved (LinkFirst p x j) t r e = reserved-new (t .arcs) x j
 stored-reserved (LinkAfter p y x j) t r e = reserved-put (newArc (t .arcs) x j) y AFTER x ∙ reserved-new (t .arcs) x j
 stored-reserved (Settle j c) t r e = refl

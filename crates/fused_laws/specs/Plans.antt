@@ -1,4 +1,4 @@
--- The plan of a step, read from a worker's record alone: as a list of 42 words, stored or not. Follows docs/RULES.md,
+-- The plan of a step, read from a worker's record alone: as a list of 43 words, stored or not. Follows docs/RULES.md,
 -- "Steps". Assumes nothing.
 use mathlib.Core.Path.{_≡_, refl, ap, _∙_}
 use mathlib.Core.Bool.{Bool, _&&_}
@@ -10,10 +10,10 @@ use Rattle.basics.specs.Limits.{mostNames, mostClass, mostGrower}
 use Rattle.basics.specs.Base.{pick}
 use Rattle.terms.specs.declared.Sizes.{Sizes}
 use Rattle.words.specs.Layout.{View, PHASE, HELD, OWN-NAME, LIST-COUNT, OWN-CLASS, OWN-GROWER, TALLY, PLACE, OWN-JOB}
-use Rattle.words.specs.Layout.{OWN-ARC, NAMES, LOOKING, LINKING, MARKING, NOTIFYING}
+use Rattle.words.specs.Layout.{OWN-ARC, NOTE, NAMES, LOOKING, LINKING, MARKING, NOTIFYING}
 use Rattle.words.specs.Words.{placeOk, ownOk, findOf, planLookUp, planEnter, planAppend, planLink, withSeat, planSettle}
 use Rattle.words.specs.Index.{seatFor, waits}
-use Rattle.words.specs.Words.{planMark, planNotify, planAdd, planLinks, planCall}
+use Rattle.words.specs.Words.{planTally, planMark, planNotify, planAdd, planLinks, planCall}
 use Rattle.words.specs.declared.Found.{Found}
 use Rattle.words.specs.declared.Found.the-variants.{At, Missing, Damaged}
 use Rattle.words.specs.declared.Plan.{Plan}
@@ -28,6 +28,7 @@ recordOk s v r =
     && leb (getD r PLACE 0) (getD r LIST-COUNT 0)
     && placeOk (getD r OWN-JOB 0) (v .made) (s .jobs)
     && placeOk (getD r OWN-ARC 0) (v .reserved) (s .arcs)
+    && leb (getD r NOTE 0) 1
 
 abbrev pub recordName : List ℕ → ℕ
 recordName r = getD r (NAMES + getD r PLACE 0) 0
@@ -76,7 +77,7 @@ module _ (s : Sizes) (v : View) (f : ℕ → ℕ → ℕ) where
   enter-with name d Damaged = refl
 
   link-with : (x j : ℕ) (y : Found) → planLink s (viewWith v f) x j y ≡ planLink s v x j y
-  unfolding planLink planAppend
+  unfolding planLink planTally planAppend
   link-with x j (At p) = refl
   link-with x j Missing = refl
   link-with x j Damaged = refl
@@ -98,7 +99,7 @@ module _ (s : Sizes) (v : View) (f : ℕ → ℕ → ℕ) where
     pub own-by-record : ownOk s (viewWith v f) w ≡ recordOk s v r
     unfolding ownOk
     own-by-record =
-        rw (e PHASE, e HELD, e LIST-COUNT, e OWN-CLASS, e OWN-GROWER, e TALLY, e PLACE, e OWN-JOB, e OWN-ARC)
+        rw (e PHASE, e HELD, e LIST-COUNT, e OWN-CLASS, e OWN-GROWER, e TALLY, e PLACE, e OWN-JOB, e OWN-ARC, e NOTE)
 
     name-same : f (NAMES + f PLACE w) w ≡ recordName r
     name-same = e (NAMES + f PLACE w) ∙ ap (λ i. getD r (NAMES + i) 0) (e PLACE)

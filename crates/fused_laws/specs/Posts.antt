@@ -1,23 +1,21 @@
 -- The posts of an admitted worker, by their tests: halfDone first, then what the call itself asks, then the counters. A
 -- refused post leaves the tables. Follows docs/RULES.md, "Turned-away calls". Assumes nothing.
 use mathlib.Core.Path.{_≡_, refl, ap, _∙_}
-use mathlib.Core.Bool.{Bool, true, false, _&&_}
+use mathlib.Core.Bool.{Bool, true, false}
 use mathlib.Core.List.{List}
 use Prim.Native.Nat.{ℕ, suc}
-use lib.Dec.{ltb, leb}
+use lib.Dec.{ltb}
 use borrow.Author.Tests.{lt-ltb, ltb-true}
-use Rattle.basics.specs.Limits.{mostNames, mostClass, mostGrower}
 use Rattle.basics.specs.Base.{pick}
-use Rattle.basics.specs.Laws.{and-left, and-right}
 use Rattle.terms.specs.Terms.{Arguments, argumentsWrong, wrongSizes, noSuchWorker, halfDone, wrongArguments, damaged}
-use Rattle.terms.specs.Terms.{notHeld}
+use Rattle.terms.specs.Terms.{notHeld, Finish, bit}
 use Rattle.terms.specs.Runs.{Outcome, outcome}
 use Rattle.terms.specs.declared.Sizes.{Sizes}
 use Rattle.terms.specs.declared.Answer.the-variants.{Posted, Refused}
-use Rattle.words.specs.Layout.{Tables, view, HELD, MARKING, LOOKING, none, bareWorker, sizesFit, PHASE}
-use Rattle.words.specs.Layout.{LIST-COUNT, OWN-CLASS, OWN-GROWER, TALLY, PLACE, OWN-JOB, OWN-ARC, NOTIFYING}
+use Rattle.words.specs.Layout.{Tables, view, MARKING, LOOKING, none, bareWorker, sizesFit}
+use Rattle.words.specs.Sized.{both}
 use Rattle.words.specs.Words.{placeOk, countersOk, ownOk, admitted, holdsName, posted, refusal, judgedAdd, judgedFinish}
-use Rattle.words.specs.Words.{addWords, finishWords}
+use Rattle.words.specs.Words.{judgedOutcome, addWords, finishWords}
 use Rattle.fused_words.specs.FusedWorker.{Admitted, isIdle, holdOf, withWorker, addWorker}
 
 -- ---- who is admitted, and who is not
@@ -57,25 +55,9 @@ admitted-map h s t w f x = go (sizesFit s t) (ltb w (s .workers)) (ownOk s (view
     go false b c = refl
 
 -- the hold of an admitted worker is a place in use, or none
-own-hold : (a b c d e f g h i : Bool) → (a && b && c && d && e && f && g && h && i) ≡ true → b ≡ true
-own-hold a b c d e f g h i k =
-    let abcdefgh = and-left (a && b && c && d && e && f && g && h) i k in
-    let abcdefg = and-left (a && b && c && d && e && f && g) h abcdefgh in
-    let abcdef = and-left (a && b && c && d && e && f) g abcdefg in
-    let abcde = and-left (a && b && c && d && e) f abcdef in
-    let abcd = and-left (a && b && c && d) e abcde in
-    and-right a b (and-left (a && b) c (and-left (a && b && c) d abcd))
-
 pub hold-ok : (s : Sizes) (t : Tables) (w : ℕ) → Admitted s t w → placeOk (holdOf t w) (view t .made) (s .jobs) ≡ true
 unfolding ownOk
-hold-ok s t w a =
-    let v = view t in
-    own-hold (leb (v .worker PHASE w) NOTIFYING) (placeOk (v .worker HELD w) (v .made) (s .jobs))
-    (leb (v .worker LIST-COUNT w) mostNames)
-    (leb (v .worker OWN-CLASS w) mostClass) (leb (v .worker OWN-GROWER w) mostGrower)
-    (leb (v .worker TALLY w) (v .worker LIST-COUNT w))
-    (leb (v .worker PLACE w) (v .worker LIST-COUNT w)) (placeOk (v .worker OWN-JOB w) (v .made) (s .jobs))
-    (placeOk (v .worker OWN-ARC w) (v .reserved) (s .arcs)) (a .own)
+hold-ok s t w a = let own = a .own in search both depth 12
 
 -- ---- what a post's number does
 module _ (t : Tables) (w : ℕ) (r : List ℕ) where
@@ -85,14 +67,13 @@ module _ (t : Tables) (w : ℕ) (r : List ℕ) where
   abbrev refusedBy : ℕ → Outcome Tables
   refusedBy n = outcome (Refused n 0) t
 
-  by-held : (x y z : Bool) (n : ℕ)
-      → posted (pick x (pick y (pick z 0 damaged) (suc n)) halfDone) t w r
-      ≡ pick x (pick y (pick z done (refusedBy damaged)) (refusedBy (suc n))) (refusedBy halfDone)
+  by-held : (x y : Bool) (n m : ℕ)
+      → posted (pick x (pick y m (suc n)) halfDone) t w r
+      ≡ pick x (pick y (posted m t w r) (refusedBy (suc n))) (refusedBy halfDone)
   unfolding posted
-  by-held true true true n = refl
-  by-held true true false n = refl
-  by-held true false z n = refl
-  by-held false y z n = refl
+  by-held true true n m = refl
+  by-held true false n m = refl
+  by-held false y n m = refl
 
   by-wrong : (x y z : Bool) (n : ℕ)
       → posted (pick x (pick y (suc n) (pick z 0 damaged)) halfDone) t w r
@@ -109,26 +90,25 @@ pub add-posted : (s : Sizes) (t : Tables) (w : ℕ) (a : Arguments) → Admitted
     ≡ pick (isIdle t w)
     (pick (argumentsWrong a) (outcome (Refused wrongArguments 0) t)
     (pick (countersOk s (view t))
-    (outcome Posted (withWorker t w (addWorker LOOKING (holdOf t w) a 0 0 none none)))
+    (outcome Posted (withWorker t w (addWorker LOOKING (holdOf t w) a 0 0 none none 0)))
     (outcome (Refused damaged 0) t)))
     (outcome (Refused halfDone 0) t)
 unfolding addWords
 add-posted s t w a h =
-    let r = addWorker LOOKING (holdOf t w) a 0 0 none none in
+    let r = addWorker LOOKING (holdOf t w) a 0 0 none none 0 in
     ap (λ n. posted n t w r) (admitted-as s t w refusal (judgedAdd s (view t) w a) h)
     ∙ by-wrong t w r (isIdle t w) (argumentsWrong a) (countersOk s (view t)) 4
 
-pub finish-posted : (s : Sizes) (t : Tables) (w name : ℕ) → Admitted s t w
-    → finishWords s t w name
+pub finish-posted : (s : Sizes) (t : Tables) (w : ℕ) (f : Finish) → Admitted s t w
+    → finishWords s t w f
     ≡ pick (isIdle t w)
-    (pick (holdsName (view t) w name)
-    (pick (countersOk s (view t))
-    (outcome Posted (withWorker t w (bareWorker MARKING (holdOf t w))))
-    (outcome (Refused damaged 0) t))
+    (pick (holdsName (view t) w (f .name))
+    (posted (judgedOutcome s (view t) (holdOf t w) (f .failed)) t w (bareWorker MARKING (holdOf t w) (bit (f .failed))))
     (outcome (Refused notHeld 0) t))
     (outcome (Refused halfDone 0) t)
 unfolding finishWords
-finish-posted s t w name h =
-    let r = bareWorker MARKING (holdOf t w) in
-    ap (λ n. posted n t w r) (admitted-as s t w refusal (judgedFinish s (view t) w name) h)
-    ∙ by-held t w r (isIdle t w) (holdsName (view t) w name) (countersOk s (view t)) 10
+finish-posted s t w f h =
+    let r = bareWorker MARKING (holdOf t w) (bit (f .failed)) in
+    ap (λ n. posted n t w r) (admitted-as s t w refusal (judgedFinish s (view t) w f) h)
+    ∙ by-held t w r (isIdle t w) (holdsName (view t) w (f .name)) 10
+    (judgedOutcome s (view t) (holdOf t w) (f .failed))

@@ -17,9 +17,10 @@ use Rattle.words.specs.Columns.{rows, Rows}
 use Rattle.words.specs.Layout.{Tables, tables, view, none, need, jobShape, arcShape, bucketShape, queueShape}
 use Rattle.words.specs.Layout.{workerShape}
 use Rattle.words.specs.Layout.{PHASE, HELD, OWN-NAME, LIST-COUNT, OWN-CLASS, OWN-GROWER, TALLY, PLACE, OWN-JOB, OWN-ARC}
+use Rattle.words.specs.Layout.{NOTE}
 use Rattle.words.specs.Layout.{IDLE, LINKING, NOTIFYING, bareWorker, longEnough, sizesKept, roomFor, sizesFit}
 use Rattle.words.specs.Words.{countersOk, ownOk, planCall, planPhase, admitted, planStep, answerOf, putWorker, putField}
-use Rattle.words.specs.Words.{firstArc, idleWorker, nextPlace, arcsFrom, markedWorker, enteredWorker, applied}
+use Rattle.words.specs.Words.{noted, firstArc, idleWorker, nextPlace, arcsFrom, markedWorker, enteredWorker, applied}
 use Rattle.words.specs.Words.{stepWords}
 use Rattle.words.specs.declared.Plan.{Plan}
 use Rattle.words.specs.declared.Plan.the-variants.{Refuse, Quit, Pass, Enter, Tally, LinkFirst, LinkAfter, Settle}
@@ -64,20 +65,12 @@ module _ (s : Sizes) (t : Tables) (w : ℕ) (r : List ℕ) (fit : sizesFit s t �
   over m e = record-on-record l w r m (omega arith)
 
   idled : idleWorker (view (withWorker t w r)) w (putWorker l w r) ≡ putWorker l w (idleRecord r)
-  idled = over (bareWorker IDLE (view (withWorker t w r) .worker HELD w)) refl
-      ∙ ap (λ h. putWorker l w (bareWorker IDLE h)) (worker-word HELD)
+  idled = over (bareWorker IDLE (view (withWorker t w r) .worker HELD w) 0) refl
+      ∙ ap (λ h. putWorker l w (bareWorker IDLE h 0)) (worker-word HELD)
 
   next : nextPlace (view (withWorker t w r)) w (putWorker l w r) ≡ putWorker l w (nextRecord r)
   next = ap (λ i. putField (putWorker l w r) w PLACE (i + 1)) (worker-word PLACE)
       ∙ field PLACE (getD r PLACE 0 + 1) (omega arith)
-
-  tallied : putField (nextPlace (view (withWorker t w r)) w (putWorker l w r)) w TALLY
-      (view (withWorker t w r) .worker TALLY w + 1)
-      ≡ putWorker l w (recordBy Tally r)
-  tallied = ap (λ m. putField m w TALLY (view (withWorker t w r) .worker TALLY w + 1)) next
-      ∙ ap (λ i. putField (putWorker l w (nextRecord r)) w TALLY (i + 1)) (worker-word TALLY)
-      ∙ field-in-record l w (nextRecord r) TALLY (getD r TALLY 0 + 1)
-      (omega (arith, length-set r PLACE (getD r PLACE 0 + 1)))
 
   -- three fields one after the other
   three : (a b c x y z : ℕ) → a < workerShape .width → b < workerShape .width → c < workerShape .width
@@ -87,6 +80,15 @@ module _ (s : Sizes) (t : Tables) (w : ℕ) (r : List ℕ) (fit : sizesFit s t �
       ap (λ m. putField (putField m w b y) w c z) (field a x ha)
       ∙ ap (λ m. putField m w c z) (field-in-record l w (set r a x) b y (omega (arith, length-set r a x)))
       ∙ field-in-record l w (set (set r a x) b y) c z (omega (arith, length-set r a x, length-set (set r a x) b y))
+
+  tallied : (o : ℕ)
+      → putField (putField (nextPlace (view (withWorker t w r)) w (putWorker l w r)) w TALLY
+      (view (withWorker t w r) .worker TALLY w + 1)) w NOTE (noted o (view (withWorker t w r) .worker NOTE w))
+      ≡ putWorker l w (recordBy (Tally o) r)
+  tallied o =
+      rw (worker-word PLACE, worker-word TALLY, worker-word NOTE)
+      (three PLACE TALLY NOTE (getD r PLACE 0 + 1) (getD r TALLY 0 + 1) (noted o (getD r NOTE 0)) (omega arith)
+      (omega arith) (omega arith))
 
   entered : (j x : ℕ) → enteredWorker (view (withWorker t w r)) w j x (putWorker l w r)
       ≡ putWorker l w (recordBy (Enter j 0 0 x) r)
@@ -113,8 +115,8 @@ module _ (s : Sizes) (t : Tables) (w : ℕ) (r : List ℕ) (fit : sizesFit s t �
 
   marked : (x : ℕ) → markedWorker x w (putWorker l w r) ≡ putWorker l w (recordBy (Mark 0 x) r)
   marked x =
-      choose (eqb x none) (bareWorker IDLE none) (set (set (set r PHASE NOTIFYING) HELD none) OWN-ARC x)
-      (over (bareWorker IDLE none) refl)
+      choose (eqb x none) (bareWorker IDLE none 0) (set (set (set r PHASE NOTIFYING) HELD none) OWN-ARC x)
+      (over (bareWorker IDLE none 0) refl)
       (three PHASE HELD OWN-ARC NOTIFYING none x (omega arith) (omega arith) (omega arith))
 
   -- what a plan stores
@@ -131,15 +133,19 @@ module _ (s : Sizes) (t : Tables) (w : ℕ) (r : List ℕ) (fit : sizesFit s t �
   applied-by-record (Enter j k h x) =
       rw (worker-word OWN-NAME, worker-word LIST-COUNT, worker-word OWN-CLASS, worker-word OWN-GROWER)
       (with-workers (storedBy (Enter j k h x) t r) (recordBy (Enter j k h x) r) (rw worker-word at (entered j x)))
-  applied-by-record Tally = with-workers t (recordBy Tally r) tallied
+  applied-by-record (Tally o) = with-workers t (recordBy (Tally o) r) (tallied o)
   applied-by-record (LinkFirst p x j) = with-workers (storedBy (LinkFirst p x j) t r) (nextRecord r) next
   applied-by-record (LinkAfter p y x j) = with-workers (storedBy (LinkAfter p y x j) t r) (nextRecord r) next
-  applied-by-record (Settle j c) = with-workers (storedBy (Settle j c) t r) (idleRecord r) idled
-  applied-by-record (SettleQueue j c e) = with-workers (storedBy (SettleQueue j c e) t r) (idleRecord r) idled
-  applied-by-record (Mark p x) = with-workers (storedBy (Mark p x) t r) (recordBy (Mark p x) r) (marked x)
-  applied-by-record (Notify j c x) = with-workers (storedBy (Notify j c x) t r) (recordBy (Notify j c x) r) (from x)
+  applied-by-record (Settle j c) = rw (worker-word NOTE) (with-workers (storedBy (Settle j c) t r) (idleRecord r) idled)
+  applied-by-record (SettleQueue j c e) =
+      rw (worker-word NOTE) (with-workers (storedBy (SettleQueue j c e) t r) (idleRecord r) idled)
+  applied-by-record (Mark p x) =
+      rw (worker-word NOTE) (with-workers (storedBy (Mark p x) t r) (recordBy (Mark p x) r) (marked x))
+  applied-by-record (Notify j c x) =
+      rw (worker-word NOTE) (with-workers (storedBy (Notify j c x) t r) (recordBy (Notify j c x) r) (from x))
   applied-by-record (NotifyQueue j c x e) =
-      with-workers (storedBy (NotifyQueue j c x e) t r) (recordBy (NotifyQueue j c x e) r) (from x)
+      rw (worker-word NOTE)
+      (with-workers (storedBy (NotifyQueue j c x e) t r) (recordBy (NotifyQueue j c x e) r) (from x))
 
   -- a step of a call half done, whose words are sound
   module _ (own : recordOk s (view t) r ≡ true) (counters : countersOk s (view t) ≡ true)

@@ -24,33 +24,33 @@ pub add-zero : (k : ℕ) → k + 0 ≡ k
 add-zero k = omega arith
 
 -- ---- any plan but a tally and an arc ends the links
-pub ends : (p : Plan) → OneOf (0 ∷ 1 ∷ 2 ∷ 3 ∷ 7 ∷ 8 ∷ 9 ∷ 10 ∷ 11 ∷ []) (tag p) → (t : Tables) (i k : ℕ)
-    (more : Tables → ℕ → Links) → linksTo t i k false ≡ linkBy p t i k more
-ends Tally h t i k more =
+pub ends : (p : Plan) → OneOf (0 ∷ 1 ∷ 2 ∷ 3 ∷ 7 ∷ 8 ∷ 9 ∷ 10 ∷ 11 ∷ []) (tag p) → (t : Tables) (i k n : ℕ)
+    (more : Tables → ℕ → ℕ → Links) → linksTo t i k n false ≡ linkBy p t i k n more
+ends (Tally o) h t i k n more =
     absurd (apart (4 ∷ 5 ∷ 6 ∷ []) (0 ∷ 1 ∷ 2 ∷ 3 ∷ 7 ∷ 8 ∷ 9 ∷ 10 ∷ 11 ∷ []) 4 tt (inl refl) h)
-ends (LinkFirst p x j) h t i k more =
+ends (LinkFirst p x j) h t i k n more =
     absurd (apart (4 ∷ 5 ∷ 6 ∷ []) (0 ∷ 1 ∷ 2 ∷ 3 ∷ 7 ∷ 8 ∷ 9 ∷ 10 ∷ 11 ∷ []) 5 tt (inr (inl refl)) h)
-ends (LinkAfter p l x j) h t i k more =
+ends (LinkAfter p l x j) h t i k n more =
     absurd (apart (4 ∷ 5 ∷ 6 ∷ []) (0 ∷ 1 ∷ 2 ∷ 3 ∷ 7 ∷ 8 ∷ 9 ∷ 10 ∷ 11 ∷ []) 6 tt (inr (inr refl)) h)
-ends (Refuse n) h t i k more = refl
-ends (Quit n q) h t i k more = refl
-ends Pass h t i k more = refl
-ends (Enter j b g x) h t i k more = refl
-ends (Settle j c) h t i k more = refl
-ends (SettleQueue j c q) h t i k more = refl
-ends (Mark p x) h t i k more = refl
-ends (Notify j c x) h t i k more = refl
-ends (NotifyQueue j c x q) h t i k more = refl
+ends (Refuse m) h t i k n more = refl
+ends (Quit m q) h t i k n more = refl
+ends Pass h t i k n more = refl
+ends (Enter j b g x) h t i k n more = refl
+ends (Settle j c) h t i k n more = refl
+ends (SettleQueue j c q) h t i k n more = refl
+ends (Mark p x) h t i k n more = refl
+ends (Notify j c x) h t i k n more = refl
+ends (NotifyQueue j c x q) h t i k n more = refl
 
 -- ---- one link of those that are left
-module _ (s : Sizes) (j x count : ℕ) (found : List ℕ) (i : ℕ) (t : Tables) (k : ℕ) where
+module _ (s : Sizes) (j x count : ℕ) (found : List ℕ) (i : ℕ) (t : Tables) (k n : ℕ) where
   pub link-next : i < count
-      → linkBy (planLink s (view t) (x + i) j (At (getD found i 0))) t i k
+      → linkBy (planLink s (view t) (x + i) j (At (getD found i 0))) t i k n
       (links s j x (drop (i + 1) (prefix count found)) (i + 1))
-      ≡ links s j x (drop i (prefix count found)) i t k
+      ≡ links s j x (drop i (prefix count found)) i t k n
   unfolding links
   link-next h = rw (next count found i h, add-one)
 
-  pub link-none : count ≤ i → i ≤ count → linksTo t i k true ≡ links s j x (drop i (prefix count found)) i t k
+  pub link-none : count ≤ i → i ≤ count → linksTo t i k n true ≡ links s j x (drop i (prefix count found)) i t k n
   unfolding links
   link-none a b = rw (none-left count found i a b)

@@ -1,6 +1,6 @@
-// The links of an add in one go, by the jobs that its look-ups found: a finished prerequisite is tallied, and any other
-// gets an arc. Follows docs/RULES.md, "Steps". Nothing is required of a table; tables that a function is not lent stay,
-// whatever they are. Assumes nothing.
+// The links of an add in one go, by the jobs that its look-ups found: a finished prerequisite is tallied, a failed one
+// noted, and any other gets an arc. Follows docs/RULES.md, "Steps". Nothing is required of a table; tables that a
+// function is not lent stay, whatever they are. Assumes nothing.
 ghost use mathlib.Core.Path.{_≡_};
 ghost use mathlib.Core.List.{List};
 ghost use Prim.Native.Nat.{ℕ, _≤_};
@@ -17,20 +17,25 @@ use graph_lists::put_only_arc;
 use graph_words::layout::*;
 use graph_words::put_job;
 use graph_words::word;
+use graph_worker_words::note_of;
 use terms::Sizes;
 use words::Found;
 use words::Plan;
 
-// What came of a link: whether its words were sound, and how many finished prerequisites it met, 0 or 1.
+// What came of a link: whether its words were sound, how many finished prerequisites it met, 0 or 1, and the outcome of
+// that one, which is 0 where it met none.
 pub struct Link {
     pub sound: bool,
     pub tallied: u32,
+    pub outcome: u32,
 }
 
-// What came of the links: the place reached, the finished prerequisites, and whether all words were sound.
+// What came of the links: the place reached, the finished prerequisites, whether one of them failed, and whether all
+// words were sound.
 pub struct Linked {
     pub place: u32,
     pub tally: u32,
+    pub note: u32,
     pub sound: bool,
 }
 
@@ -44,17 +49,18 @@ fn link_one(
     prerequisite: u32,
 ) -> Link
     ensures { λ r. ⌜ (r .tallied ≤ 1)
-        × ((buckets queue workers : List ℕ) (i k : ℕ) (next : Tables → ℕ → Links)
-        → linkedTo r (tables (now (jobs .exit)) (now (arcs .exit)) buckets queue workers) i k next
+        × ((buckets queue workers : List ℕ) (i k n : ℕ) (next : Tables → ℕ → ℕ → Links)
+        → linkedTo r (tables (now (jobs .exit)) (now (arcs .exit)) buckets queue workers) i k n next
         ≡ linkBy (planLink sizes (view (tables (now (jobs .entry)) (now (arcs .entry)) buckets queue workers)) arc job
-        (At prerequisite)) (tables (now (jobs .entry)) (now (arcs .entry)) buckets queue workers) i k next) ⌝ }
+        (At prerequisite)) (tables (now (jobs .entry)) (now (arcs .entry)) buckets queue workers) i k n next) ⌝ }
 {
     let found = Found::At { job: prerequisite };
     let plan = plan_link(sizes, jobs, arcs, arc, job, found);
     match plan {
-        Plan::Tally => Link {
+        Plan::Tally { outcome } => Link {
             sound: true,
             tallied: 1,
+            outcome,
         },
         Plan::LinkFirst {
             prerequisite: before,
@@ -66,6 +72,7 @@ fn link_one(
             Link {
                 sound: true,
                 tallied: 0,
+                outcome: 0,
             }
         }
         Plan::LinkAfter {
@@ -79,11 +86,13 @@ fn link_one(
             Link {
                 sound: true,
                 tallied: 0,
+                outcome: 0,
             }
         }
         _ => Link {
             sound: false,
             tallied: 0,
+            outcome: 0,
         },
     }
 }
@@ -99,12 +108,14 @@ pub fn link_all(
     count: u32,
 ) -> Linked
     ensures { λ r. ⌜ ((buckets queue workers : List ℕ)
-        → linksTo (tables (now (jobs .exit)) (now (arcs .exit)) buckets queue workers) (r .place) (r .tally) (r .sound)
+        → linksTo (tables (now (jobs .exit)) (now (arcs .exit)) buckets queue workers) (r .place) (r .tally) (r .note)
+        (r .sound)
         ≡ links sizes job first (prefix count (now (found .entry))) 0
-        (tables (now (jobs .entry)) (now (arcs .entry)) buckets queue workers) 0) ⌝ }
+        (tables (now (jobs .entry)) (now (arcs .entry)) buckets queue workers) 0 0) ⌝ }
 {
     let mut i: u32 = 0;
     let mut tally: u32 = 0;
+    let mut note: u32 = 0;
     while i < count {
         let made = link_one(
             sizes,
@@ -119,15 +130,18 @@ pub fn link_all(
             return Linked {
                 place: i,
                 tally,
+                note,
                 sound: false,
             };
         }
         tally += made.tallied;
+        note = note_of(made.outcome, note);
         i += 1;
     }
     Linked {
         place: i,
         tally,
+        note,
         sound: true,
     }
 }

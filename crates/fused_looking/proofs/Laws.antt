@@ -24,7 +24,7 @@ module _ (s : Sizes) (t : Tables) (w : ℕ) (a : Arguments) {held : ℕ} (h : he
   unfolding lookIn
   unknown e p = rw (← q, e, ← h) p
 
-  pub broken : {i : ℕ} → f ≡ Broken i → o ≡ halted t w (addWorker LOOKING held a 0 i none none)
+  pub broken : {i : ℕ} → f ≡ Broken i → o ≡ halted t w (addWorker LOOKING held a 0 i none none 0)
       → o ≡ lookIn s t w a (lookUps s (view t) (listed a) 0)
   unfolding lookIn
   broken e p = rw (← q, e, ← h) p

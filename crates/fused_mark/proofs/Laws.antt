@@ -4,27 +4,26 @@ use mathlib.Core.List.{[], _∷_}
 use Prim.Native.Nat.{ℕ}
 use types.Run.{OneOf}
 use Rattle.terms.specs.declared.Sizes.{Sizes}
-use Rattle.words.specs.Layout.{Tables, MARKING, bareWorker}
+use Rattle.words.specs.Layout.{Tables}
 use Rattle.words.specs.declared.Plan.{Plan}
 use Rattle.words.specs.declared.Plan.the-variants.{Refuse, Quit, Pass, Enter, Tally, LinkFirst, LinkAfter, Settle}
 use Rattle.words.specs.declared.Plan.the-variants.{SettleQueue, Mark, Notify, NotifyQueue}
 use Rattle.fitting.specs.Kinds.{tag, apart}
-use Rattle.fused_words.specs.FusedWorker.{holdOf, halted}
-use Rattle.fused_words.specs.FusedFinish.{markIn}
+use Rattle.fused_words.specs.FusedFinish.{unmarked, markIn}
 
 pub halts : (p : Plan) → OneOf (0 ∷ 1 ∷ 2 ∷ 3 ∷ 4 ∷ 5 ∷ 6 ∷ 7 ∷ 8 ∷ 10 ∷ 11 ∷ []) (tag p) → (s : Sizes) (t : Tables)
-    (w : ℕ) → halted t w (bareWorker MARKING (holdOf t w)) ≡ markIn s t w p
+    (w o : ℕ) → unmarked t w o ≡ markIn s t w o p
 unfolding markIn
-halts (Mark p x) k s t w =
+halts (Mark p x) k s t w o =
     absurd (apart (9 ∷ []) (0 ∷ 1 ∷ 2 ∷ 3 ∷ 4 ∷ 5 ∷ 6 ∷ 7 ∷ 8 ∷ 10 ∷ 11 ∷ []) 9 tt refl k)
-halts (Refuse n) k s t w = refl
-halts (Quit n q) k s t w = refl
-halts Pass k s t w = refl
-halts (Enter j b h y) k s t w = refl
-halts Tally k s t w = refl
-halts (LinkFirst p y j) k s t w = refl
-halts (LinkAfter p l y j) k s t w = refl
-halts (Settle j c) k s t w = refl
-halts (SettleQueue j c q) k s t w = refl
-halts (Notify j c y) k s t w = refl
-halts (NotifyQueue j c y q) k s t w = refl
+halts (Refuse n) k s t w o = refl
+halts (Quit n q) k s t w o = refl
+halts Pass k s t w o = refl
+halts (Enter j b h y) k s t w o = refl
+halts (Tally q) k s t w o = refl
+halts (LinkFirst p y j) k s t w o = refl
+halts (LinkAfter p l y j) k s t w o = refl
+halts (Settle j c) k s t w o = refl
+halts (SettleQueue j c q) k s t w o = refl
+halts (Notify j c y) k s t w o = refl
+halts (NotifyQueue j c y q) k s t w o = refl

@@ -18,14 +18,14 @@ use graph_posted_add::put_call;
 use graph_records::put_bare_worker;
 use graph_words::layout::*;
 use graph_words::numbers::*;
-use graph_words::put_job;
+use graph_words::put_outcome;
 use terms::Answer;
 use terms::Sizes;
 use words::Plan;
 
-// A finish that has marked and is left half done at an arc: it has no arguments.
-fn put_notifying(workers: &mut [u32], worker: u32, arc: u32)
-    ensures { λ _. ⌜ now (workers .exit) ≡ putWorker (now (workers .entry)) worker (notifyWorker arc) ⌝ }
+// A finish that has marked and is left half done at an arc: its note is its outcome, and it has no list.
+fn put_notifying(workers: &mut [u32], worker: u32, note: u32, arc: u32)
+    ensures { λ _. ⌜ now (workers .exit) ≡ putWorker (now (workers .entry)) worker (notifyWorker note arc) ⌝ }
 {
     let names = [0u32; 32];
     put_call(
@@ -42,35 +42,36 @@ fn put_notifying(workers: &mut [u32], worker: u32, arc: u32)
         0,
         NONE,
         arc,
+        note,
     );
 }
 
 // The notices have ended: what the finish answers, and its worker's words.
-fn close(workers: &mut [u32], worker: u32, ending: Ending) -> Answer
+fn close(workers: &mut [u32], worker: u32, note: u32, ending: Ending) -> Answer
     ensures { λ r. ⌜ ((jobs arcs buckets queue : List ℕ)
         → outcome r (tables jobs arcs buckets queue (now (workers .exit)))
-        ≡ closed ending worker (tables jobs arcs buckets queue (now (workers .entry)))) ⌝ }
+        ≡ closed ending note worker (tables jobs arcs buckets queue (now (workers .entry)))) ⌝ }
 {
     match ending {
         Ending::Done => {
-            put_bare_worker(workers, worker, IDLE, NONE);
+            put_bare_worker(workers, worker, IDLE, NONE, 0);
             Answer::Ended
         }
         Ending::Broken { arc } => {
-            put_notifying(workers, worker, arc);
+            put_notifying(workers, worker, note, arc);
             Answer::Refused {
                 number: DAMAGED,
                 place: 0,
             }
         }
         Ending::Left { arc } => {
-            put_notifying(workers, worker, arc);
+            put_notifying(workers, worker, note, arc);
             Answer::Going
         }
     }
 }
 
-// The mark of the held job, and its notices. A job that nothing waits for has none.
+// The mark of the held job with the outcome that the note has, and its notices. A job that nothing waits for has none.
 pub fn mark_and_tell(
     sizes: Sizes,
     jobs: &mut [u32],
@@ -79,29 +80,30 @@ pub fn mark_and_tell(
     workers: &mut [u32],
     worker: u32,
     held: u32,
+    note: u32,
 ) -> Answer
     ensures { λ r. ⌜ (held ≡ columns workerShape (now (workers .entry)) HELD worker → (buckets : List ℕ)
         → outcome r (tables (now (jobs .exit)) (now (arcs .entry)) buckets (now (queue .exit)) (now (workers .exit)))
         ≡ markIn sizes
         (tables (now (jobs .entry)) (now (arcs .entry)) buckets (now (queue .entry)) (now (workers .entry))) worker
-        (planMark sizes (view (tables (now (jobs .entry)) (now (arcs .entry)) buckets (now (queue .entry))
+        note (planMark sizes (view (tables (now (jobs .entry)) (now (arcs .entry)) buckets (now (queue .entry))
         (now (workers .entry)))) held)) ⌝ }
 {
     let plan = plan_mark(sizes, jobs, arcs, held);
     match plan {
         Plan::Mark { job, first } => {
-            put_job(jobs, job, LABEL, FINISHED);
+            put_outcome(jobs, job, note);
             let last = first == NONE;
             if last {
-                put_bare_worker(workers, worker, IDLE, NONE);
+                put_bare_worker(workers, worker, IDLE, NONE, 0);
                 Answer::Ended
             } else {
-                let ending = notices(sizes, jobs, arcs, queue, first);
-                close(workers, worker, ending)
+                let ending = notices(sizes, jobs, arcs, queue, note, first);
+                close(workers, worker, note, ending)
             }
         }
         _ => {
-            put_bare_worker(workers, worker, MARKING, held);
+            put_bare_worker(workers, worker, MARKING, held, note);
             Answer::Refused {
                 number: DAMAGED,
                 place: 0,

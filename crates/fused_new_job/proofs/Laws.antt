@@ -33,7 +33,7 @@ module _ (s : Sizes) (t : Tables) (w : ℕ) (a : Arguments) {held : ℕ} (h : he
   unfolding enterIn
   present e p = rw (← q, e, ← h) p
 
-  pub stopped : f ≡ Damaged → o ≡ halted t w (addWorker LOOKING held a 0 (a .count) none none)
+  pub stopped : f ≡ Damaged → o ≡ halted t w (addWorker LOOKING held a 0 (a .count) none none 0)
       → o ≡ enterIn s t w a (findOf s (view t) (a .name))
   unfolding enterIn
   stopped e p = rw (← q, e, ← h) p
@@ -47,7 +47,7 @@ module _ (s : Sizes) (t : Tables) (w : ℕ) (a : Arguments) {held : ℕ} (h : he
     pub entered : (leb (s .jobs) made || ltb (s .arcs) (reserved + a .count)) ≡ false → {l : List ℕ}
         → l ≡ jobsFound s (view t) (listed a)
         → o ≡ settleIn s w a held (view t .made) (view t .reserved)
-        (links s (view t .made) (view t .reserved) l 0 (enteredTables s t a) 0)
+        (links s (view t .made) (view t .reserved) l 0 (enteredTables s t a) 0 0)
         → o ≡ enterIn s t w a (findOf s (view t) (a .name))
     unfolding enterIn
     entered k i p = p ∙ rw (← q, e, ← h, ← i, ← m, ← r, k)

@@ -32,7 +32,7 @@ Below n (Refuse k) = Unit {0}
 Below n (Quit k i) = Unit {0}
 Below n Pass = Unit {0}
 Below n (Enter j b h y) = Unit {0}
-Below n Tally = Unit {0}
+Below n (Tally o) = Unit {0}
 Below n (LinkFirst p y j) = Unit {0}
 Below n (LinkAfter p l y j) = Unit {0}
 Below n (Settle j c) = Unit {0}
@@ -56,32 +56,32 @@ pub seat-below : (s : Sizes) (v : View) (x : ℕ) (p : Plan) {j c y : ℕ} {e : 
 seat-below s v x p g f = rw (← g, f) at (below s v x)
 
 -- ---- any other plan leaves the finish half done
-pub halts : (p : Plan) → OneOf (0 ∷ 1 ∷ 2 ∷ 3 ∷ 4 ∷ 5 ∷ 6 ∷ 7 ∷ 8 ∷ 9 ∷ []) (tag p) → (x w : ℕ) (t : Tables)
-    (next : ℕ → Tables → Outcome Tables) → halted t w (notifyWorker x) ≡ notifyBy p x w t next
-halts (Notify j c y) k x w t next =
+pub halts : (p : Plan) → OneOf (0 ∷ 1 ∷ 2 ∷ 3 ∷ 4 ∷ 5 ∷ 6 ∷ 7 ∷ 8 ∷ 9 ∷ []) (tag p) → (o x w : ℕ) (t : Tables)
+    (next : ℕ → Tables → Outcome Tables) → halted t w (notifyWorker o x) ≡ notifyBy p o x w t next
+halts (Notify j c y) k o x w t next =
     absurd (apart (10 ∷ 11 ∷ []) (0 ∷ 1 ∷ 2 ∷ 3 ∷ 4 ∷ 5 ∷ 6 ∷ 7 ∷ 8 ∷ 9 ∷ []) 10 tt (inl refl) k)
-halts (NotifyQueue j c y e) k x w t next =
+halts (NotifyQueue j c y e) k o x w t next =
     absurd (apart (10 ∷ 11 ∷ []) (0 ∷ 1 ∷ 2 ∷ 3 ∷ 4 ∷ 5 ∷ 6 ∷ 7 ∷ 8 ∷ 9 ∷ []) 11 tt (inr refl) k)
-halts (Refuse n) k x w t next = refl
-halts (Quit n q) k x w t next = refl
-halts Pass k x w t next = refl
-halts (Enter j b h y) k x w t next = refl
-halts Tally k x w t next = refl
-halts (LinkFirst p y j) k x w t next = refl
-halts (LinkAfter p l y j) k x w t next = refl
-halts (Settle j c) k x w t next = refl
-halts (SettleQueue j c e) k x w t next = refl
-halts (Mark p y) k x w t next = refl
+halts (Refuse n) k o x w t next = refl
+halts (Quit n q) k o x w t next = refl
+halts Pass k o x w t next = refl
+halts (Enter j b h y) k o x w t next = refl
+halts (Tally q) k o x w t next = refl
+halts (LinkFirst p y j) k o x w t next = refl
+halts (LinkAfter p l y j) k o x w t next = refl
+halts (Settle j c) k o x w t next = refl
+halts (SettleQueue j c e) k o x w t next = refl
+halts (Mark p y) k o x w t next = refl
 
 -- ---- one notice of those that are left
-module _ (s : Sizes) (w x : ℕ) (t : Tables) where
+module _ (s : Sizes) (w o x : ℕ) (t : Tables) where
   pub notify-one : (n : ℕ) → 0 < n
-      → notifyBy (planNotify s (view t) x) x w t (notifyIn (n - 1) s w) ≡ notifyIn n s w x t
+      → notifyBy (planNotify s (view t) x) o x w t (notifyIn (n - 1) s w o) ≡ notifyIn n s w o x t
   unfolding notifyIn
   notify-one zero h = absurd (omega arith)
   notify-one (suc n) h = rw sub-one
 
-  pub notify-none : (n : ℕ) → n ≤ 0 → outcome Going (withWorker t w (notifyWorker x)) ≡ notifyIn n s w x t
+  pub notify-none : (n : ℕ) → n ≤ 0 → outcome Going (withWorker t w (notifyWorker o x)) ≡ notifyIn n s w o x t
   unfolding notifyIn
   notify-none zero h = refl
   notify-none (suc n) h = absurd (omega arith)

@@ -11,13 +11,13 @@ use Rattle.fused_notices.specs.declared.Told.the-variants.{Next, Halt}
 use Rattle.fused_notices.specs.declared.Ending.{Ending}
 use Rattle.fused_notices.specs.declared.Ending.the-variants.{Done, Broken, Left}
 
--- after the notice along the arc x the finish ends, goes on, or stays half done
-abbrev pub toldTo : Told → ℕ → ℕ → Tables → (ℕ → Tables → Outcome Tables) → Outcome Tables
-toldTo (Next y) x w t next = orEnd y w t next
-toldTo Halt x w t next = halted t w (notifyWorker x)
+-- after the notice along the arc x the finish of outcome o ends, goes on, or stays half done
+abbrev pub toldTo : Told → ℕ → ℕ → ℕ → Tables → (ℕ → Tables → Outcome Tables) → Outcome Tables
+toldTo (Next y) o x w t next = orEnd y w t next
+toldTo Halt o x w t next = halted t w (notifyWorker o x)
 
 -- the notices have ended
-abbrev pub closed : Ending → ℕ → Tables → Outcome Tables
-closed Done w t = outcome Ended (idledWith t w none)
-closed (Broken x) w t = halted t w (notifyWorker x)
-closed (Left x) w t = outcome Going (withWorker t w (notifyWorker x))
+abbrev pub closed : Ending → ℕ → ℕ → Tables → Outcome Tables
+closed Done o w t = outcome Ended (idledWith t w none)
+closed (Broken x) o w t = halted t w (notifyWorker o x)
+closed (Left x) o w t = outcome Going (withWorker t w (notifyWorker o x))

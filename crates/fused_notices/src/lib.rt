@@ -1,6 +1,7 @@
 // The notices of a finish in one go: along each arc of the marked job, oldest first, the dependent's remaining count
-// falls by 1. The worker's words are neither read nor stored. Follows docs/RULES.md, "Steps". Assumes nothing: each
-// definition holds of all tables, and tables that a function is not lent stay, whatever they are.
+// falls by 1, and a failed finish spoils it. The worker's words are neither read nor stored. Follows docs/RULES.md,
+// "Steps". Assumes nothing: each definition holds of all tables, and tables that a function is not lent stay, whatever
+// they are.
 ghost use mathlib.Core.Path.{_≡_};
 ghost use mathlib.Core.List.{List};
 ghost use Prim.Native.Nat.{ℕ};
@@ -12,7 +13,7 @@ ghost use Rattle.fused_notices.specs.Notices.{toldTo, closed};
 use graph_finish_steps::plan_notify;
 use graph_queue::put_seat;
 use graph_words::layout::*;
-use graph_words::put_job;
+use graph_words::put_count;
 use terms::Sizes;
 use words::Plan;
 
@@ -30,18 +31,26 @@ pub enum Ending {
     Left { arc: u32 },
 }
 
-// The notice along one arc: planned, and stored.
-fn tell(sizes: Sizes, jobs: &mut [u32], arcs: &[u32], queue: &mut [u32], arc: u32) -> Told
+// The notice along one arc, of a finish whose note is its outcome: planned, and stored.
+fn tell(
+    sizes: Sizes,
+    jobs: &mut [u32],
+    arcs: &[u32],
+    queue: &mut [u32],
+    note: u32,
+    arc: u32,
+) -> Told
     ensures { λ r. ⌜ ((buckets workers : List ℕ) (w : ℕ) (next : ℕ → Tables → Outcome Tables)
-        → toldTo r arc w (tables (now (jobs .exit)) (now (arcs .entry)) buckets (now (queue .exit)) workers) next
+        → toldTo r note arc w (tables (now (jobs .exit)) (now (arcs .entry)) buckets (now (queue .exit)) workers)
+        next
         ≡ notifyBy (planNotify sizes (view (tables (now (jobs .entry)) (now (arcs .entry)) buckets (now (queue .entry))
-        workers)) arc) arc w (tables (now (jobs .entry)) (now (arcs .entry)) buckets (now (queue .entry)) workers)
-        next) ⌝ }
+        workers)) arc) note arc w
+        (tables (now (jobs .entry)) (now (arcs .entry)) buckets (now (queue .entry)) workers) next) ⌝ }
 {
     let plan = plan_notify(sizes, jobs, arcs, queue, arc);
     match plan {
         Plan::Notify { job, count, next } => {
-            put_job(jobs, job, COUNT, count);
+            put_count(jobs, job, count, note);
             Told::Next { arc: next }
         }
         Plan::NotifyQueue {
@@ -50,7 +59,7 @@ fn tell(sizes: Sizes, jobs: &mut [u32], arcs: &[u32], queue: &mut [u32], arc: u3
             next,
             seat,
         } => {
-            put_job(jobs, job, COUNT, count);
+            put_count(jobs, job, count, note);
             put_seat(queue, seat, job);
             Told::Next { arc: next }
         }
@@ -64,17 +73,18 @@ pub fn notices(
     jobs: &mut [u32],
     arcs: &[u32],
     queue: &mut [u32],
+    note: u32,
     first: u32,
 ) -> Ending
     ensures { λ r. ⌜ ((buckets workers : List ℕ) (w : ℕ)
-        → closed r w (tables (now (jobs .exit)) (now (arcs .entry)) buckets (now (queue .exit)) workers)
-        ≡ notifyIn (sizes .arcs) sizes w first
+        → closed r note w (tables (now (jobs .exit)) (now (arcs .entry)) buckets (now (queue .exit)) workers)
+        ≡ notifyIn (sizes .arcs) sizes w note first
         (tables (now (jobs .entry)) (now (arcs .entry)) buckets (now (queue .entry)) workers)) ⌝ }
 {
     let mut arc = first;
     let mut left = sizes.arcs;
     while left > 0 {
-        let told = tell(sizes, jobs, arcs, queue, arc);
+        let told = tell(sizes, jobs, arcs, queue, note, arc);
         match told {
             Told::Next { arc: next } => {
                 let ends = next == NONE;

@@ -15,11 +15,12 @@ use Rattle.fused_words.specs.FusedAdd.{settledTables, queueIn}
 abbrev pub orStop : Bool → ℕ → ℕ → Tables → (Tables → Outcome Tables) → Outcome Tables
 orStop done w held t stopped = pick done (outcome Ended (idledWith t w held)) (stopped t)
 
--- the settling of job j with k of its d prerequisites tallied, after links that were sound or not, whatever stops it
-abbrev pub settling : Sizes → ℕ → ℕ → ℕ → ℕ → ℕ → Bool → Tables → (Tables → Outcome Tables) → Outcome Tables
-settling s w held j k d sound t stopped =
+-- the settling of job j with k of its d prerequisites tallied and the note n, after links that were sound or not,
+-- whatever stops it
+abbrev pub settling : Sizes → ℕ → ℕ → ℕ → ℕ → ℕ → ℕ → Bool → Tables → (Tables → Outcome Tables) → Outcome Tables
+settling s w held j k d n sound t stopped =
     pick sound
     (pick (settles (d - k) k d)
-    (queueIn (seatFor s (view t) j) t w held j (d - k) (stopped t))
-    (outcome Ended (idledWith (settledTables t j (d - k)) w held)))
+    (queueIn (seatFor s (view t) j) t w held j (d - k) n (stopped t))
+    (outcome Ended (idledWith (settledTables t j (d - k) n) w held)))
     (stopped t)

@@ -15,15 +15,15 @@ use graph_queue::put_seat;
 use graph_records::put_bare_worker;
 use graph_words::layout::*;
 use graph_words::less;
-use graph_words::put_job;
+use graph_words::put_count;
 use graph_worker_words::first_arc;
 use sheet_format::Entry;
 use terms::Answer;
 use terms::Sizes;
 use words::Seating;
 
-// The job's remaining count falls by the tally, and it is queued or not. Says whether it could: where the links were
-// not sound, or no seat is found, nothing is stored.
+// The job's remaining count falls by the tally, a note spoils it, and it is queued or not. Says whether it could: where
+// the links were not sound, or no seat is found, nothing is stored.
 fn settle(
     sizes: Sizes,
     jobs: &mut [u32],
@@ -31,11 +31,12 @@ fn settle(
     job: u32,
     tally: u32,
     count: u32,
+    note: u32,
     sound: bool,
 ) -> bool
     ensures { λ r. ⌜ ((arcs buckets workers : List ℕ) (w held : ℕ) (stopped : Tables → Outcome Tables)
         → orStop r w held (tables (now (jobs .exit)) arcs buckets (now (queue .exit)) workers) stopped
-        ≡ settling sizes w held job tally count sound
+        ≡ settling sizes w held job tally count note sound
         (tables (now (jobs .entry)) arcs buckets (now (queue .entry)) workers) stopped) ⌝ }
 {
     if sound {} else {
@@ -47,14 +48,14 @@ fn settle(
         let seating = seat_for(sizes, jobs, queue, job);
         match seating {
             Seating::Seated { seat } => {
-                put_job(jobs, job, COUNT, left);
+                put_count(jobs, job, left, note);
                 put_seat(queue, seat, job);
                 true
             }
             Seating::Unseated => false,
         }
     } else {
-        put_job(jobs, job, COUNT, left);
+        put_count(jobs, job, left, note);
         true
     }
 }
@@ -77,13 +78,23 @@ pub fn settle_add(
         → outcome r (tables (now (jobs .exit)) arcs buckets (now (queue .exit)) (now (workers .exit)))
         ≡ settleIn sizes worker (argumentsOf entry) held job arc
         (linksTo (tables (now (jobs .entry)) arcs buckets (now (queue .entry)) (now (workers .entry)))
-        (linked .place) (linked .tally) (linked .sound))) ⌝ }
+        (linked .place) (linked .tally) (linked .note) (linked .sound))) ⌝ }
 {
     let tally = linked.tally;
     let place = linked.place;
-    let settled = settle(sizes, jobs, queue, job, tally, entry.count, linked.sound);
+    let note = linked.note;
+    let settled = settle(
+        sizes,
+        jobs,
+        queue,
+        job,
+        tally,
+        entry.count,
+        note,
+        linked.sound,
+    );
     if settled {
-        put_bare_worker(workers, worker, IDLE, held);
+        put_bare_worker(workers, worker, IDLE, held, 0);
         Answer::Ended
     } else {
         let first = first_arc(entry.count, arc);
@@ -97,6 +108,7 @@ pub fn settle_add(
             place,
             job,
             first,
+            note,
         )
     }
 }

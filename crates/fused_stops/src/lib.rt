@@ -23,7 +23,7 @@ pub fn turn_away(workers: &mut [u32], worker: u32, held: u32, number: u32, place
         ≡ outcome (Refused number place)
         (idledWith (tables jobs arcs buckets queue (now (workers .entry))) worker held)) ⌝ }
 {
-    put_bare_worker(workers, worker, IDLE, held);
+    put_bare_worker(workers, worker, IDLE, held, 0);
     Answer::Refused { number, place }
 }
 
@@ -38,11 +38,12 @@ pub fn stop(
     place: u32,
     job: u32,
     arc: u32,
+    note: u32,
 ) -> Answer
     ensures { λ r. ⌜ ((jobs arcs buckets queue : List ℕ)
         → outcome r (tables jobs arcs buckets queue (now (workers .exit)))
         ≡ halted (tables jobs arcs buckets queue (now (workers .entry))) worker
-        (addWorker phase held (argumentsOf entry) tally place job arc)) ⌝ }
+        (addWorker phase held (argumentsOf entry) tally place job arc note)) ⌝ }
 {
     put_call(
         workers,
@@ -58,6 +59,7 @@ pub fn stop(
         place,
         job,
         arc,
+        note,
     );
     Answer::Refused {
         number: DAMAGED,
@@ -70,7 +72,18 @@ pub fn stop_looking(workers: &mut [u32], worker: u32, held: u32, entry: Entry, p
     ensures { λ r. ⌜ ((jobs arcs buckets queue : List ℕ)
         → outcome r (tables jobs arcs buckets queue (now (workers .exit)))
         ≡ halted (tables jobs arcs buckets queue (now (workers .entry))) worker
-        (addWorker LOOKING held (argumentsOf entry) 0 place none none)) ⌝ }
+        (addWorker LOOKING held (argumentsOf entry) 0 place none none 0)) ⌝ }
 {
-    stop(workers, worker, LOOKING, held, entry, 0, place, NONE, NONE)
+    stop(
+        workers,
+        worker,
+        LOOKING,
+        held,
+        entry,
+        0,
+        place,
+        NONE,
+        NONE,
+        0,
+    )
 }

@@ -1,6 +1,6 @@
 -- A worker's words, stored once: as an add or a finish that was run in one go leaves them where it ends, and where it
 -- stops half done. Follows docs/RULES.md, "Tables and their measures". Assumes nothing.
-use mathlib.Core.Bool.{Bool, true, _&&_}
+use mathlib.Core.Bool.{Bool, true}
 use mathlib.Core.Path.{_≡_}
 use mathlib.Core.List.{List, _∷_}
 use Prim.Native.Nat.{ℕ, _<_}
@@ -12,7 +12,7 @@ use Rattle.terms.specs.Terms.{Arguments, listed, damaged}
 use Rattle.terms.specs.Runs.{Outcome, outcome}
 use Rattle.terms.specs.declared.Sizes.{Sizes}
 use Rattle.terms.specs.declared.Answer.the-variants.{Refused}
-use Rattle.words.specs.Layout.{Tables, tables, View, view, none, PHASE, HELD, IDLE, NOTIFYING, bareWorker, sizesFit}
+use Rattle.words.specs.Layout.{Tables, tables, view, none, PHASE, HELD, IDLE, NOTIFYING, bareWorker, sizesFit}
 use Rattle.words.specs.Words.{putWorker, ownOk}
 
 -- the tests that come first are passed: "Order: 1, 2, 9 for the worker's own words"
@@ -33,18 +33,18 @@ withWorker t w r = tables (t .jobs) (t .arcs) (t .buckets) (t .queue) (putWorker
 
 -- "A call that ends puts the words of its call back", and the hold stays
 abbrev pub idledWith : Tables → ℕ → ℕ → Tables
-idledWith t w held = withWorker t w (bareWorker IDLE held)
+idledWith t w held = withWorker t w (bareWorker IDLE held 0)
 
 -- an add half done: its phase, its arguments, the finished prerequisites so far, the place in the list, the job that it
--- entered and the first arc that it reserved
-abbrev pub addWorker : ℕ → ℕ → Arguments → ℕ → ℕ → ℕ → ℕ → List ℕ
-addWorker phase held a tally place job arc =
-    phase ∷ held ∷ a .name ∷ a .count ∷ a .class ∷ a .grower ∷ tally ∷ place ∷ job ∷ arc
+-- entered, the first arc that it reserved, and whether it has met a failed job
+abbrev pub addWorker : ℕ → ℕ → Arguments → ℕ → ℕ → ℕ → ℕ → ℕ → List ℕ
+addWorker phase held a tally place job arc note =
+    phase ∷ held ∷ a .name ∷ a .count ∷ a .class ∷ a .grower ∷ tally ∷ place ∷ job ∷ arc ∷ note
     ∷ prefix mostNames (listed a)
 
--- a finish that has marked its job and is to notify along the arc x
-abbrev pub notifyWorker : ℕ → List ℕ
-notifyWorker x = NOTIFYING ∷ none ∷ 0 ∷ 0 ∷ 0 ∷ 0 ∷ 0 ∷ 0 ∷ none ∷ x ∷ replicate mostNames 0
+-- a finish that has marked its job with an outcome and is to notify along the arc x
+abbrev pub notifyWorker : ℕ → ℕ → List ℕ
+notifyWorker o x = NOTIFYING ∷ none ∷ 0 ∷ 0 ∷ 0 ∷ 0 ∷ 0 ∷ 0 ∷ none ∷ x ∷ o ∷ replicate mostNames 0
 
 -- number 9 in a call's middle: the call stays half done
 abbrev pub halted : Tables → ℕ → List ℕ → Outcome Tables

@@ -14,7 +14,9 @@ use graph_lists::new_arc;
 use graph_lists::put_only_arc;
 use graph_queue::put_seat;
 use graph_words::layout::*;
+use graph_words::put_count;
 use graph_words::put_job;
+use graph_words::worker_word;
 use graph_worker_words::count_place;
 use graph_worker_words::idle_worker;
 use words::Plan;
@@ -87,18 +89,19 @@ pub fn apply_link(jobs: &mut [u32], arcs: &mut [u32], workers: &mut [u32], worke
     }
 }
 
-// The add ends, and its job waits.
+// The add ends, and its job waits. A note spoils it.
 fn settle(jobs: &mut [u32], workers: &mut [u32], worker: u32, job: u32, count: u32)
     ensures { λ _. ⌜ ((arcs buckets queue : List ℕ) →
         tables (now (jobs .exit)) arcs buckets queue (now (workers .exit))
         ≡ applied (Settle job count)
         (tables (now (jobs .entry)) arcs buckets queue (now (workers .entry))) worker) ⌝ }
 {
-    put_job(jobs, job, COUNT, count);
+    let note = worker_word(workers, worker, NOTE);
+    put_count(jobs, job, count, note);
     idle_worker(workers, worker);
 }
 
-// The add ends, and its job is queued.
+// The add ends, and its job is queued. A note spoils it.
 fn settle_queue(
     jobs: &mut [u32],
     queue: &mut [u32],
@@ -114,7 +117,8 @@ fn settle_queue(
         ≡ applied (SettleQueue job count seat)
         (tables (now (jobs .entry)) arcs buckets (now (queue .entry)) (now (workers .entry))) worker) ⌝ }
 {
-    put_job(jobs, job, COUNT, count);
+    let note = worker_word(workers, worker, NOTE);
+    put_count(jobs, job, count, note);
     put_seat(queue, seat, job);
     idle_worker(workers, worker);
 }

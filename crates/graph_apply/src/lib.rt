@@ -30,7 +30,7 @@ fn apply_own(workers: &mut [u32], worker: u32, plan: Plan)
     match plan {
         Plan::Quit { .. } => idle_worker(workers, worker),
         Plan::Pass => count_place(workers, worker),
-        Plan::Tally => count_tally(workers, worker),
+        Plan::Tally { outcome } => count_tally(workers, worker, outcome),
         _ => {}
     }
 }
@@ -58,7 +58,7 @@ pub fn apply(
             head,
             arc,
         } => enter(jobs, arcs, buckets, workers, worker, job, bucket, head, arc),
-        Plan::Quit { .. } | Plan::Pass | Plan::Tally => apply_own(workers, worker, plan),
+        Plan::Quit { .. } | Plan::Pass | Plan::Tally { .. } => apply_own(workers, worker, plan),
         Plan::LinkFirst { .. } | Plan::LinkAfter { .. } => apply_link(
             jobs,
             arcs,

@@ -24,7 +24,8 @@ use Rattle.totals.specs.declared.JobRecord.{JobRecord}
 use Rattle.totals.specs.declared.Totals.{Totals}
 use Rattle.graph_board.specs.Board.{rowsFrom, graphRows, jobsFit, graphTotals, minutesEntered}
 
--- ---- sums over jobs by their number: how many of the first n have a label, and their minutes, by the columns of the jobs table
+-- ---- sums over jobs by their number: how many of the first n have a label, and their minutes, by the columns of the
+-- jobs table
 abbrev pub jobsOf : (ℕ → ℕ → ℕ) → ℕ → Label → ℕ
 jobsOf f n l = overJobs (λ j. pick (eqb (f LABEL j) (labelNumber l)) 1 0) n
 

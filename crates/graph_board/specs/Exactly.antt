@@ -9,16 +9,16 @@ use Prim.Native.Nat.{ℕ, zero, suc, _+_, _*_, _≤_, _<_}
 use native.Mathlib.Omega.{arith}
 use lib.Dec.{leb, ltb}
 use lib.ListN.{length, getD}
-use borrow.Author.Tests.{leb-true, ltb-true, eqb-true, le-leb, lt-leb, le-ltb, lt-ltb, eq-eqb}
+use borrow.Author.Tests.{leb-true, ltb-true, le-leb, lt-leb, le-ltb, lt-ltb}
 use Rattle.basics.specs.Base.{pick}
 use Rattle.basics.specs.Laws.{fails}
 use Rattle.minutes.specs.Rising.{isRising, SixteenRising, rising-means}
 use Rattle.minutes.specs.Judged.{noMinutes, judgedMinutes}
 use Rattle.minutes.specs.declared.GraphMinutes.{GraphMinutes}
-use Rattle.terms.specs.Terms.{damaged, wrongSizes, withinLimits}
+use Rattle.terms.specs.Terms.{damaged, wrongSizes}
 use Rattle.terms.specs.declared.Sizes.{Sizes}
 use Rattle.words.specs.Columns.{columns, header}
-use Rattle.words.specs.Layout.{jobShape, sizesKept, storedMinutes, MADE, LABEL, CLASS}
+use Rattle.words.specs.Layout.{jobShape, storedMinutes, MADE, LABEL, CLASS}
 use Rattle.words.specs.Stored.{minutes-by-words}
 use Rattle.words.specs.Sized.{both, Limited, limited-means, Kept, kept-means}
 use Rattle.totals.specs.Board.{served, refused, allWellFormed, totalsOf, mostRecords, counted}
@@ -30,7 +30,7 @@ use Rattle.graph_board.specs.Accounted.{Board, UnderLabels, graph-counts
 -- ---- sizes in their limits, a jobs table as long as its header and records need, and the sizes that laying out kept
 pub record JobsSized (s : Sizes) (jobs : List ℕ) : Type 0 where
   pub limits : Limited s
-  pub long : 21 + 8 * s .jobs ≤ length jobs
+  pub long : 21 + 10 * s .jobs ≤ length jobs
   pub kept : Kept s jobs
 
 -- the board's test says it, both ways
@@ -39,12 +39,12 @@ unfolding jobsFit
 jobs-sized-means s jobs = (
   λ e. record {
     limits = limited-means s .0 (search both);
-    long = leb-true (21 + 8 * s .jobs) (length jobs) (search both);
+    long = leb-true (21 + 10 * s .jobs) (length jobs) (search both);
     kept = kept-means s jobs .0 (search both);
   },
   λ h. rw (
     limited-means s .1 (h .limits),
-    le-leb (21 + 8 * s .jobs) (length jobs) (h .long),
+    le-leb (21 + 10 * s .jobs) (length jobs) (h .long),
     kept-means s jobs .1 (h .kept),
   ),
 )
@@ -54,7 +54,7 @@ unsized s jobs f = fails (jobsFit s jobs) (jobs-sized-means s jobs .0) f
 
 -- the label and the class of a job are within their limits: words 1 and 3 of its record
 abbrev pub RightRow : List ℕ → ℕ → Type 0
-RightRow jobs j = (getD jobs (21 + 8 * j + 1) 0 ≤ 2) × (getD jobs (21 + 8 * j + 3) 0 ≤ 15)
+RightRow jobs j = (getD jobs (21 + 10 * j + 1) 0 ≤ 2) × (getD jobs (21 + 10 * j + 3) 0 ≤ 15)
 
 -- "1 comes before" 9; 9 for more jobs made (word 4) than R, for stored minutes that "are not from 1 to 1,440 or do not
 -- rise", and for "a wrong label or class", "wherever it stands in the row"; else the jobs and the minutes under each

@@ -25,7 +25,7 @@ use Rattle.graph_board.specs.Exactly.{JobsSized, BoardsExactly, MinutesE
 
 -- one job was made: name 7, unexecuted, class 1, by the minutes of a table
 abbrev pub oneJob : List ℕ → List ℕ
-oneJob table = 1 ∷ 0 ∷ 1 ∷ 1 ∷ 1 ∷ (table ++ (7 ∷ 0 ∷ 0 ∷ 1 ∷ 0 ∷ 0 ∷ 0 ∷ 0 ∷ []))
+oneJob table = 1 ∷ 0 ∷ 1 ∷ 1 ∷ 1 ∷ (table ++ (7 ∷ 0 ∷ 0 ∷ 1 ∷ 0 ∷ 0 ∷ 0 ∷ 0 ∷ 0 ∷ 0 ∷ []))
 
 -- a district's minutes: 3 of class 0, 4 of class 1 and so on
 abbrev pub district : List ℕ

@@ -25,7 +25,8 @@ fn enter_job(jobs: &mut [u32], workers: &[u32], worker: u32, job: u32, head: u32
         (columns workerShape (now (workers .entry)) OWN-NAME worker ∷ 0
         ∷ columns workerShape (now (workers .entry)) LIST-COUNT worker
         ∷ columns workerShape (now (workers .entry)) OWN-CLASS worker
-        ∷ columns workerShape (now (workers .entry)) OWN-GROWER worker ∷ none ∷ none ∷ head ∷ [])) MADE (job + 1)) ⌝ }
+        ∷ columns workerShape (now (workers .entry)) OWN-GROWER worker ∷ none ∷ none ∷ head ∷ 0 ∷ 0 ∷ [])) MADE
+        (job + 1)) ⌝ }
 {
     let name = worker_word(workers, worker, OWN_NAME);
     let count = worker_word(workers, worker, LIST_COUNT);

@@ -13,37 +13,42 @@ ghost use Rattle.fitting.specs.Kinds.{Finishing, Stored};
 use graph_queue::put_seat;
 use graph_queue::take_seat;
 use graph_words::layout::*;
+use graph_words::put_count;
 use graph_words::put_job;
+use graph_words::put_outcome;
 use graph_words::put_worker;
+use graph_words::worker_word;
 use graph_worker_words::arcs_from;
 use graph_worker_words::mark_worker;
 use terms::HandOut;
 use words::Plan;
 use words::Seat;
 
-// The finish marks its job.
+// The finish marks its job, with its outcome.
 fn mark(jobs: &mut [u32], workers: &mut [u32], worker: u32, job: u32, first: u32)
     ensures { λ _. ⌜ ((arcs buckets queue : List ℕ) →
         tables (now (jobs .exit)) arcs buckets queue (now (workers .exit))
         ≡ applied (Mark job first)
         (tables (now (jobs .entry)) arcs buckets queue (now (workers .entry))) worker) ⌝ }
 {
-    put_job(jobs, job, LABEL, FINISHED);
+    let outcome = worker_word(workers, worker, NOTE);
+    put_outcome(jobs, job, outcome);
     mark_worker(workers, worker, first);
 }
 
-// The finish tells a dependent, which still waits.
+// The finish tells a dependent, which still waits. A failed one spoils it.
 fn notify(jobs: &mut [u32], workers: &mut [u32], worker: u32, job: u32, count: u32, next: u32)
     ensures { λ _. ⌜ ((arcs buckets queue : List ℕ) →
         tables (now (jobs .exit)) arcs buckets queue (now (workers .exit))
         ≡ applied (Notify job count next)
         (tables (now (jobs .entry)) arcs buckets queue (now (workers .entry))) worker) ⌝ }
 {
-    put_job(jobs, job, COUNT, count);
+    let note = worker_word(workers, worker, NOTE);
+    put_count(jobs, job, count, note);
     arcs_from(workers, worker, next);
 }
 
-// The finish tells a dependent, which is queued.
+// The finish tells a dependent, which is queued. A failed one spoils it.
 fn notify_queue(
     jobs: &mut [u32],
     queue: &mut [u32],
@@ -60,7 +65,8 @@ fn notify_queue(
         ≡ applied (NotifyQueue job count next seat)
         (tables (now (jobs .entry)) arcs buckets (now (queue .entry)) (now (workers .entry))) worker) ⌝ }
 {
-    put_job(jobs, job, COUNT, count);
+    let note = worker_word(workers, worker, NOTE);
+    put_count(jobs, job, count, note);
     put_seat(queue, seat, job);
     arcs_from(workers, worker, next);
 }

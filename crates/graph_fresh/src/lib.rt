@@ -31,11 +31,11 @@ fn fresh_job_records(jobs: &mut [u32], count: u32)
 // The records of the workers.
 fn fresh_workers(workers: &mut [u32], count: u32)
     ensures { λ _. ⌜ now (workers .exit)
-        ≡ sets (now (workers .entry)) (place workerShape 0 0) (repeated count (bareWorker IDLE none)) ⌝ }
+        ≡ sets (now (workers .entry)) (place workerShape 0 0) (repeated count (bareWorker IDLE none 0)) ⌝ }
 {
     let mut i = 0;
     while i < count {
-        put_bare_worker(workers, i, IDLE, NONE);
+        put_bare_worker(workers, i, IDLE, NONE, 0);
         i += 1;
     }
 }

@@ -42,36 +42,6 @@ fn adds_of(call: u32, name: u32) -> u32
     if adding { name } else { 0 }
 }
 
-// The held job's name is read only where there is one.
-fn holding_of(jobs: &[u32], workers: &[u32], worker: u32) -> Holding
-    ensures { λ r. ⌜ ((arcs buckets queue : List ℕ)
-        → r ≡ holdingOf (view (tables (now (jobs .entry)) arcs buckets queue (now (workers .entry)))) worker) ⌝ }
-{
-    let call = call_of(worker_word(workers, worker, PHASE));
-    let adds = adds_of(call, worker_word(workers, worker, OWN_NAME));
-    let held = worker_word(workers, worker, HELD);
-    let none = held == NONE;
-    if none {
-        Holding {
-            number: 0,
-            holds: 0,
-            job: 0,
-            name: 0,
-            call,
-            adds,
-        }
-    } else {
-        Holding {
-            number: 0,
-            holds: 1,
-            job: held,
-            name: job_word(jobs, held, NAME),
-            call,
-            adds,
-        }
-    }
-}
-
 fn refused(number: u32) -> Holding
     ensures { λ r. ⌜ r ≡ refused number ⌝ }
 {
@@ -82,6 +52,44 @@ fn refused(number: u32) -> Holding
         name: 0,
         call: 0,
         adds: 0,
+        spoiled: 0,
+    }
+}
+
+// The held job's name and mark are read only where there is one.
+fn holding_of(jobs: &[u32], workers: &[u32], worker: u32) -> Holding
+    ensures { λ r. ⌜ ((arcs buckets queue : List ℕ)
+        → r ≡ holdingOf (view (tables (now (jobs .entry)) arcs buckets queue (now (workers .entry)))) worker) ⌝ }
+{
+    let call = call_of(worker_word(workers, worker, PHASE));
+    let adds = adds_of(call, worker_word(workers, worker, OWN_NAME));
+    let held = worker_word(workers, worker, HELD);
+    let none = held == NONE;
+    if none {
+        return Holding {
+            number: 0,
+            holds: 0,
+            job: 0,
+            name: 0,
+            call,
+            adds,
+            spoiled: 0,
+        };
+    }
+    let mark = job_word(jobs, held, MARK);
+    let marked = mark <= 1;
+    if marked {
+        Holding {
+            number: 0,
+            holds: 1,
+            job: held,
+            name: job_word(jobs, held, NAME),
+            call,
+            adds,
+            spoiled: mark,
+        }
+    } else {
+        refused(DAMAGED)
     }
 }
 

@@ -6,10 +6,10 @@ ghost use mathlib.Core.List.{List};
 ghost use Prim.Native.Nat.{ℕ};
 ghost use lib.Dec.{eqb};
 ghost use Rattle.basics.specs.Base.{pick};
-ghost use Rattle.terms.specs.Terms.{argumentsWrong, halfDone, wrongArguments, damaged, notHeld};
+ghost use Rattle.terms.specs.Terms.{argumentsWrong, halfDone, wrongArguments, damaged, finishOf};
 ghost use Rattle.words.specs.Columns.{columns};
 ghost use Rattle.words.specs.Layout.{workerShape, PHASE, IDLE, tables, atEntry, view};
-ghost use Rattle.words.specs.Words.{admitted, refusal, judgedAdd, holdsName, judgedFinish};
+ghost use Rattle.words.specs.Words.{admitted, refusal, judgedAdd, judgedOutcome, judgedFinish};
 ghost use Rattle.sheet_rows.specs.Arguments.{argumentsOf};
 use graph_arguments::arguments_wrong;
 use graph_own::counters_ok;
@@ -86,18 +86,37 @@ pub fn judge_add(
     }
 }
 
-// The same for a finish. The held job's name is read only where there is one.
+// What turns a finish of the held job away, failed or good: the counters or the job's mark off their range, and then
+// good for a spoiled job.
+pub fn judge_outcome(sizes: Sizes, jobs: &[u32], arcs: &[u32], job: u32, failed: bool) -> u32
+    ensures { λ r. ⌜ ((buckets queue workers : List ℕ)
+        → r ≡ judgedOutcome sizes (view (tables (now (jobs .entry)) (now (arcs .entry)) buckets queue workers)) job
+        failed) ⌝ }
+{
+    let mark = job_word(jobs, job, MARK);
+    let sound = counters_ok(sizes, jobs, arcs) & (mark <= 1);
+    if sound {
+        let refused = (mark == 1) & !failed;
+        if refused { GOOD_FOR_SPOILED } else { 0 }
+    } else {
+        DAMAGED
+    }
+}
+
+// The same for a finish. The held job's words are read only where there is one.
 fn judge_admitted_finish(
+    sizes: Sizes,
     jobs: &[u32],
+    arcs: &[u32],
     workers: &[u32],
     worker: u32,
-    counted: bool,
     name: u32,
+    failed: bool,
 ) -> u32
-    ensures { λ r. ⌜ ((arcs buckets queue : List ℕ)
-        → r ≡ pick (eqb (columns workerShape (now (workers .entry)) PHASE worker) IDLE)
-        (pick (holdsName (view (tables (now (jobs .entry)) arcs buckets queue (now (workers .entry)))) worker name)
-        (pick counted 0 damaged) notHeld) halfDone) ⌝ }
+    ensures { λ r. ⌜ ((buckets queue : List ℕ)
+        → r ≡ judgedFinish sizes
+        (view (tables (now (jobs .entry)) (now (arcs .entry)) buckets queue (now (workers .entry)))) worker
+        (finishOf name failed)) ⌝ }
 {
     let idle = worker_word(workers, worker, PHASE) == IDLE;
     if idle {
@@ -108,7 +127,7 @@ fn judge_admitted_finish(
         }
         let holds = job_word(jobs, held, NAME) == name;
         if holds {
-            judge_counters(counted)
+            judge_outcome(sizes, jobs, arcs, held, failed)
         } else {
             NOT_HELD
         }
@@ -127,9 +146,10 @@ pub fn judge_finish(
     workers: &[u32],
     worker: u32,
     name: u32,
+    failed: bool,
 ) -> u32
     ensures { λ r. ⌜ r ≡ admitted sizes (atEntry jobs arcs buckets queue workers) worker refusal
-        (judgedFinish sizes (view (atEntry jobs arcs buckets queue workers)) worker name) ⌝ }
+        (judgedFinish sizes (view (atEntry jobs arcs buckets queue workers)) worker (finishOf name failed)) ⌝ }
 {
     let fit = sizes_fit(sizes, jobs, arcs, buckets, queue, workers);
     if fit {
@@ -137,8 +157,7 @@ pub fn judge_finish(
         if known {
             let sound = own_ok(sizes, jobs, arcs, workers, worker);
             if sound {
-                let counted = counters_ok(sizes, jobs, arcs);
-                judge_admitted_finish(jobs, workers, worker, counted, name)
+                judge_admitted_finish(sizes, jobs, arcs, workers, worker, name, failed)
             } else {
                 DAMAGED
             }

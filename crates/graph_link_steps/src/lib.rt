@@ -74,7 +74,13 @@ pub fn plan_link(sizes: Sizes, jobs: &[u32], arcs: &[u32], arc: u64, job: u32, f
             if sound {
                 let finished = label == FINISHED;
                 if finished {
-                    Plan::Tally
+                    let outcome = job_word(jobs, prerequisite, OUTCOME);
+                    let told = outcome <= 1;
+                    if told {
+                        Plan::Tally { outcome }
+                    } else {
+                        Plan::Refuse { number: DAMAGED }
+                    }
                 } else {
                     plan_append(sizes, jobs, arcs, prerequisite, arc, job)
                 }

@@ -55,11 +55,16 @@ fn own_sound(sizes: Sizes, jobs: &[u32], arcs: &[u32], workers: &[u32], worker: 
             if call {
                 let job = place_ok(worker_word(workers, worker, OWN_JOB), made, sizes.jobs);
                 if job {
-                    place_ok(
+                    let arc = place_ok(
                         worker_word(workers, worker, OWN_ARC),
                         header(arcs, RESERVED),
                         sizes.arcs,
-                    )
+                    );
+                    if arc {
+                        worker_word(workers, worker, NOTE) <= 1
+                    } else {
+                        false
+                    }
                 } else {
                     false
                 }

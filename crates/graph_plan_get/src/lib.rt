@@ -20,7 +20,7 @@ use terms::Sizes;
 use words::GetPlan;
 use words::Seating;
 
-// The job of the index's first place. Its label is read only where that place waits.
+// The job of the index's first place. Its words are read only where that place waits.
 fn plan_take(jobs: &[u32], queue: &[u32]) -> GetPlan
     ensures { λ r. ⌜ ((arcs buckets workers : List ℕ)
         → r ≡ planTake (view (tables (now (jobs .entry)) arcs buckets (now (queue .entry)) workers))) ⌝ }
@@ -30,12 +30,14 @@ fn plan_take(jobs: &[u32], queue: &[u32]) -> GetPlan
         Seating::Seated { seat } => {
             let place = queue_word(queue, 0, SLOT);
             let job = queue_word(queue, place, CELL);
-            let unexecuted = job_word(jobs, job, LABEL) == UNEXECUTED;
-            if unexecuted {
+            let mark = job_word(jobs, job, MARK);
+            let sound = (job_word(jobs, job, LABEL) == UNEXECUTED) & (mark <= 1);
+            if sound {
                 GetPlan::Take {
                     out: HandOut {
                         job,
                         name: job_word(jobs, job, NAME),
+                        spoiled: mark == 1,
                     },
                     seat,
                 }

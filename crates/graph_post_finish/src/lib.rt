@@ -1,6 +1,7 @@
 // The post of a finish over five lent tables: a number refuses the call, or it is kept in its worker's record. Follows
 // docs/RULES.md, "Steps" and "Turned-away calls". Nothing is required: it answers for all tables and arguments.
 ghost use mathlib.Core.Path.{_≡_};
+ghost use Rattle.terms.specs.Terms.{finishOf};
 ghost use Rattle.terms.specs.Runs.{outcome};
 ghost use Rattle.words.specs.Layout.{atEntry, atExit};
 ghost use Rattle.words.specs.Words.{finishWords};
@@ -10,8 +11,9 @@ use graph_words::layout::*;
 use graph_words::worker_word;
 use terms::Answer;
 use terms::Sizes;
+use terms::bit;
 
-// Posts a finish of the held job `name`.
+// Posts a finish of the held job `name`, failed or good.
 pub fn post_finish(
     sizes: Sizes,
     jobs: &mut [u32],
@@ -21,14 +23,25 @@ pub fn post_finish(
     workers: &mut [u32],
     worker: u32,
     name: u32,
+    failed: bool,
 ) -> Answer
     ensures { λ r. ⌜ outcome r (atExit jobs arcs buckets queue workers)
-        ≡ finishWords sizes (atEntry jobs arcs buckets queue workers) worker name ⌝ }
+        ≡ finishWords sizes (atEntry jobs arcs buckets queue workers) worker (finishOf name failed) ⌝ }
 {
-    let number = judge_finish(sizes, jobs, arcs, buckets, queue, workers, worker, name);
+    let number = judge_finish(
+        sizes,
+        jobs,
+        arcs,
+        buckets,
+        queue,
+        workers,
+        worker,
+        name,
+        failed,
+    );
     if number == 0 {
         let held = worker_word(workers, worker, HELD);
-        put_bare_worker(workers, worker, MARKING, held);
+        put_bare_worker(workers, worker, MARKING, held, bit(failed));
         Answer::Posted
     } else {
         Answer::Refused { number, place: 0 }

@@ -40,15 +40,24 @@ fn put_arguments(
     put_worker(workers, worker, OWN_GROWER, grower);
 }
 
-// How far a call has come: the finished prerequisites, the place in the list, its job and its arc.
-fn put_reached(workers: &mut [u32], worker: u32, tally: u32, position: u32, job: u32, arc: u32)
+// How far a call has come: the finished prerequisites, the place in the list, its job, its arc and its note.
+fn put_reached(
+    workers: &mut [u32],
+    worker: u32,
+    tally: u32,
+    position: u32,
+    job: u32,
+    arc: u32,
+    note: u32,
+)
     ensures { λ _. ⌜ now (workers .exit)
-        ≡ sets (now (workers .entry)) (place workerShape worker TALLY) (tally ∷ position ∷ job ∷ arc ∷ []) ⌝ }
+        ≡ sets (now (workers .entry)) (place workerShape worker TALLY) (tally ∷ position ∷ job ∷ arc ∷ note ∷ []) ⌝ }
 {
     put_worker(workers, worker, TALLY, tally);
     put_worker(workers, worker, PLACE, position);
     put_worker(workers, worker, OWN_JOB, job);
     put_worker(workers, worker, OWN_ARC, arc);
+    put_worker(workers, worker, NOTE, note);
 }
 
 // Where a worker's list begins.
@@ -100,14 +109,15 @@ pub fn put_call(
     position: u32,
     job: u32,
     arc: u32,
+    note: u32,
 )
     ensures { λ _. ⌜ now (workers .exit)
         ≡ putWorker (now (workers .entry)) worker
-        (phase ∷ held ∷ name ∷ count ∷ class ∷ grower ∷ tally ∷ position ∷ job ∷ arc
+        (phase ∷ held ∷ name ∷ count ∷ class ∷ grower ∷ tally ∷ position ∷ job ∷ arc ∷ note
         ∷ prefix mostNames (prefix count (now (names .entry)))) ⌝ }
 {
     put_arguments(workers, worker, phase, held, name, count, class, grower);
-    put_reached(workers, worker, tally, position, job, arc);
+    put_reached(workers, worker, tally, position, job, arc, note);
     put_names(workers, worker, names, count);
 }
 
@@ -140,5 +150,6 @@ pub fn put_adding_worker(
         0,
         NONE,
         NONE,
+        0,
     );
 }

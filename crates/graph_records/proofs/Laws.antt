@@ -9,7 +9,7 @@ use lib.ListN.{length, getD, set, drop, replicate, length-set, drop-of-length-le
 use lib.Seq.{sets, set-out, drop-cons}
 use Rattle.basics.specs.Stores.{set-in}
 use Rattle.words.specs.Columns.{Shape, place, put}
-use Rattle.words.specs.Layout.{none, workerShape, PHASE, HELD, OWN-JOB, OWN-ARC, bareWorker}
+use Rattle.words.specs.Layout.{none, workerShape, PHASE, HELD, OWN-JOB, OWN-ARC, NOTE, bareWorker}
 
 -- ---- a store before a run
 pub put-sets : (s : Shape) (l : List ℕ) (i k v : ℕ) (vs : List ℕ)
@@ -65,14 +65,15 @@ put-in l vs w k v h = let z : place workerShape w k ≡ place workerShape w 0 + 
 abbrev blank : List ℕ
 blank = replicate (workerShape .width) 0
 
-pub bare-record : (l : List ℕ) (w p h : ℕ)
-    → put workerShape (put workerShape
+pub bare-record : (l : List ℕ) (w p h n : ℕ)
+    → put workerShape (put workerShape (put workerShape
     (put workerShape (put workerShape (sets l (place workerShape w 0) blank) w PHASE p) w HELD h) w OWN-JOB
-    none) w OWN-ARC none ≡ sets l (place workerShape w 0) (bareWorker p h)
-bare-record l w p h =
+    none) w OWN-ARC none) w NOTE n ≡ sets l (place workerShape w 0) (bareWorker p h n)
+bare-record l w p h n =
     rw (
       put-in l blank w PHASE p (lit< tt),
       put-in l (set blank PHASE p) w HELD h (lit< tt),
       put-in l (set (set blank PHASE p) HELD h) w OWN-JOB none (lit< tt),
       put-in l (set (set (set blank PHASE p) HELD h) OWN-JOB none) w OWN-ARC none (lit< tt),
+      put-in l (set (set (set (set blank PHASE p) HELD h) OWN-JOB none) OWN-ARC none) w NOTE n (lit< tt),
     )

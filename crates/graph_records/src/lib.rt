@@ -1,5 +1,5 @@
 // The stores of words one after another, and of whole records: a job's, and that of a worker whose call has no
-// arguments. Follows docs/RULES.md, "Tables and their measures". A store past a table's end changes nothing. Assumes
+// list. Follows docs/RULES.md, "Tables and their measures". A store past a table's end changes nothing. Assumes
 // nothing.
 ghost use mathlib.Core.Path.{_≡_};
 ghost use mathlib.Core.List.{[], _∷_};
@@ -52,7 +52,7 @@ pub fn put_words(s: &mut [u32], from: u32, words: &[u32])
     }
 }
 
-// A job's words: it is unexecuted and has no arcs.
+// A job's words: it is unexecuted, has no arcs and is not spoiled.
 pub fn put_job_record(
     jobs: &mut [u32],
     job: u32,
@@ -64,7 +64,7 @@ pub fn put_job_record(
 )
     ensures { λ _. ⌜ now (jobs .exit)
         ≡ sets (now (jobs .entry)) (place jobShape job 0)
-        (name ∷ 0 ∷ count ∷ class ∷ grower ∷ none ∷ none ∷ next ∷ []) ⌝ }
+        (name ∷ 0 ∷ count ∷ class ∷ grower ∷ none ∷ none ∷ next ∷ 0 ∷ 0 ∷ []) ⌝ }
 {
     put_job(jobs, job, NAME, name);
     put_job(jobs, job, LABEL, UNEXECUTED);
@@ -74,6 +74,8 @@ pub fn put_job_record(
     put_job(jobs, job, FIRST, NONE);
     put_job(jobs, job, LAST, NONE);
     put_job(jobs, job, NEXT, next);
+    put_job(jobs, job, OUTCOME, 0);
+    put_job(jobs, job, MARK, 0);
 }
 
 // Where a worker's record begins.
@@ -83,13 +85,14 @@ pub fn record_at(worker: u32) -> usize
     (WORKER_HEAD as usize) + (WORKER_WIDTH as usize) * (worker as usize)
 }
 
-// A worker's words with a call that has no arguments.
-pub fn put_bare_worker(workers: &mut [u32], worker: u32, phase: u32, held: u32)
-    ensures { λ _. ⌜ now (workers .exit) ≡ putWorker (now (workers .entry)) worker (bareWorker phase held) ⌝ }
+// A worker's words with a call that has no list.
+pub fn put_bare_worker(workers: &mut [u32], worker: u32, phase: u32, held: u32, note: u32)
+    ensures { λ _. ⌜ now (workers .exit) ≡ putWorker (now (workers .entry)) worker (bareWorker phase held note) ⌝ }
 {
     fill(workers, record_at(worker), WORKER_WIDTH as usize, 0);
     put_worker(workers, worker, PHASE, phase);
     put_worker(workers, worker, HELD, held);
     put_worker(workers, worker, OWN_JOB, NONE);
     put_worker(workers, worker, OWN_ARC, NONE);
+    put_worker(workers, worker, NOTE, note);
 }

@@ -27,7 +27,7 @@ fn answer_of(plan: Plan) -> Answer
         Plan::Quit { number, place } => Answer::Refused { number, place },
         Plan::Pass => Answer::Going,
         Plan::Enter { .. } => Answer::Going,
-        Plan::Tally => Answer::Going,
+        Plan::Tally { .. } => Answer::Going,
         Plan::LinkFirst { .. } => Answer::Going,
         Plan::LinkAfter { .. } => Answer::Going,
         Plan::Settle { .. } => Answer::Ended,

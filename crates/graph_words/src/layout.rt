@@ -35,6 +35,10 @@ pub const LAST: u32 = 6;
 
 pub const NEXT: u32 = 7;
 
+pub const OUTCOME: u32 = 8;
+
+pub const MARK: u32 = 9;
+
 // A job's labels.
 pub const UNEXECUTED: u32 = 0;
 
@@ -85,7 +89,9 @@ pub const OWN_JOB: u32 = 8;
 
 pub const OWN_ARC: u32 = 9;
 
-pub const NAMES: u32 = 10;
+pub const NOTE: u32 = 10;
+
+pub const NAMES: u32 = 11;
 
 // A worker's phases.
 pub const IDLE: u32 = 0;
@@ -101,7 +107,7 @@ pub const NOTIFYING: u32 = 4;
 // Words before the first record of a table, and words of a record.
 pub const JOB_HEAD: u32 = 21;
 
-pub const JOB_WIDTH: u32 = 8;
+pub const JOB_WIDTH: u32 = 10;
 
 pub const ARC_HEAD: u32 = 1;
 
@@ -117,4 +123,4 @@ pub const QUEUE_WIDTH: u32 = 3;
 
 pub const WORKER_HEAD: u32 = 0;
 
-pub const WORKER_WIDTH: u32 = 42;
+pub const WORKER_WIDTH: u32 = 43;

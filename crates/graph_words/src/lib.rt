@@ -5,6 +5,7 @@ ghost use Prim.Native.Nat.{_+_, _-_};
 ghost use lib.ListN.{getD, set};
 ghost use Rattle.words.specs.Columns.{columns, put, header, putHeader};
 ghost use Rattle.words.specs.Layout.{jobShape, arcShape, bucketShape, queueShape, workerShape, NAMES};
+ghost use Rattle.words.specs.Words.{putCount, putOutcome};
 
 pub mod layout;
 pub mod numbers;
@@ -69,6 +70,25 @@ pub fn put_job(jobs: &mut [u32], job: u32, field: u32, v: u32)
     ensures { λ _. ⌜ now (jobs .exit) ≡ put jobShape (now (jobs .entry)) job field v ⌝ }
 {
     put_column(jobs, JOB_HEAD, JOB_WIDTH, job, field, v);
+}
+
+// A job's count, and its mark where the note is 1. The mark is not read.
+pub fn put_count(jobs: &mut [u32], job: u32, count: u32, note: u32)
+    ensures { λ _. ⌜ now (jobs .exit) ≡ putCount (now (jobs .entry)) job count note ⌝ }
+{
+    put_job(jobs, job, COUNT, count);
+    let spoils = note == 1;
+    if spoils {
+        put_job(jobs, job, MARK, 1);
+    }
+}
+
+// A job is finished, with its outcome.
+pub fn put_outcome(jobs: &mut [u32], job: u32, outcome: u32)
+    ensures { λ _. ⌜ now (jobs .exit) ≡ putOutcome (now (jobs .entry)) job outcome ⌝ }
+{
+    put_job(jobs, job, LABEL, FINISHED);
+    put_job(jobs, job, OUTCOME, outcome);
 }
 
 pub fn arc_word(arcs: &[u32], arc: u32, field: u32) -> u32

@@ -44,3 +44,5 @@ pub const TOO_MANY_ENTRIES: u32 = 16;
 pub const WRONG_MINUTES: u32 = 17;
 
 pub const JOBS_ENTERED: u32 = 18;
+
+pub const GOOD_FOR_SPOILED: u32 = 19;

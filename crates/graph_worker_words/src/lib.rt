@@ -5,9 +5,9 @@ ghost use Prim.Native.Nat.{_+_, _<_, _≤_};
 ghost use lib.Dec.{eqb};
 ghost use Rattle.basics.specs.Base.{pick};
 ghost use Rattle.words.specs.Columns.{columns, put};
-ghost use Rattle.words.specs.Layout.{none, workerShape, PHASE, HELD, LIST-COUNT, TALLY, PLACE, OWN-JOB, OWN-ARC, IDLE};
-ghost use Rattle.words.specs.Layout.{LINKING, NOTIFYING, bareWorker};
-ghost use Rattle.words.specs.Words.{putWorker, firstArc, markedWorker};
+ghost use Rattle.words.specs.Layout.{none, workerShape, PHASE, HELD, LIST-COUNT, TALLY, PLACE, OWN-JOB, OWN-ARC, NOTE};
+ghost use Rattle.words.specs.Layout.{IDLE, LINKING, NOTIFYING, bareWorker};
+ghost use Rattle.words.specs.Words.{putWorker, firstArc, noted, markedWorker};
 use graph_records::put_bare_worker;
 use graph_words::layout::*;
 use graph_words::put_worker;
@@ -24,10 +24,18 @@ pub fn sum(a: u32, b: u32) -> u32
 pub fn idle_worker(workers: &mut [u32], worker: u32)
     ensures { λ _. ⌜ now (workers .exit)
         ≡ putWorker (now (workers .entry)) worker
-        (bareWorker IDLE (columns workerShape (now (workers .entry)) HELD worker)) ⌝ }
+        (bareWorker IDLE (columns workerShape (now (workers .entry)) HELD worker) 0) ⌝ }
 {
     let held = worker_word(workers, worker, HELD);
-    put_bare_worker(workers, worker, IDLE, held);
+    put_bare_worker(workers, worker, IDLE, held, 0);
+}
+
+// The note after a link to a finished job of an outcome.
+pub fn note_of(outcome: u32, note: u32) -> u32
+    ensures { λ r. ⌜ r ≡ noted outcome note ⌝ }
+{
+    let failed = outcome == 1;
+    if failed { 1 } else { note }
 }
 
 // The call goes on to the next name of its list.
@@ -40,18 +48,21 @@ pub fn count_place(workers: &mut [u32], worker: u32)
     put_worker(workers, worker, PLACE, sum(place, 1));
 }
 
-// The same, and one more finished prerequisite.
-pub fn count_tally(workers: &mut [u32], worker: u32)
+// The same, and one more finished prerequisite, of this outcome.
+pub fn count_tally(workers: &mut [u32], worker: u32, outcome: u32)
     ensures { λ _. ⌜ (columns workerShape (now (workers .entry)) PLACE worker < none
         → columns workerShape (now (workers .entry)) TALLY worker < none
-        → now (workers .exit) ≡ put workerShape
+        → now (workers .exit) ≡ put workerShape (put workerShape
         (put workerShape (now (workers .entry)) worker PLACE
         (columns workerShape (now (workers .entry)) PLACE worker + 1)) worker TALLY
-        (columns workerShape (now (workers .entry)) TALLY worker + 1)) ⌝ }
+        (columns workerShape (now (workers .entry)) TALLY worker + 1)) worker NOTE
+        (noted outcome (columns workerShape (now (workers .entry)) NOTE worker))) ⌝ }
 {
     let tally = worker_word(workers, worker, TALLY);
+    let note = note_of(outcome, worker_word(workers, worker, NOTE));
     count_place(workers, worker);
     put_worker(workers, worker, TALLY, sum(tally, 1));
+    put_worker(workers, worker, NOTE, note);
 }
 
 // The first reserved arc, or none where none was reserved.
@@ -82,7 +93,7 @@ pub fn mark_worker(workers: &mut [u32], worker: u32, first: u32)
 {
     let ends = first == NONE;
     if ends {
-        put_bare_worker(workers, worker, IDLE, NONE);
+        put_bare_worker(workers, worker, IDLE, NONE, 0);
     } else {
         put_worker(workers, worker, PHASE, NOTIFYING);
         put_worker(workers, worker, HELD, NONE);
@@ -94,7 +105,7 @@ pub fn mark_worker(workers: &mut [u32], worker: u32, first: u32)
 pub fn arcs_from(workers: &mut [u32], worker: u32, next: u32)
     ensures { λ _. ⌜ now (workers .exit)
         ≡ pick (eqb next none) (putWorker (now (workers .entry)) worker
-        (bareWorker IDLE (columns workerShape (now (workers .entry)) HELD worker)))
+        (bareWorker IDLE (columns workerShape (now (workers .entry)) HELD worker) 0))
         (put workerShape (now (workers .entry)) worker OWN-ARC next) ⌝ }
 {
     let ends = next == NONE;

@@ -1,5 +1,5 @@
--- What is read of minutes off calls and replies is what is read off the items that the calls are worth: no post, step or
--- get is a load. Of any machine. Assumes nothing.
+-- What is read of minutes off calls and replies is what is read off the items that the calls are worth: no post, step
+-- or get is a load. Of any machine. Assumes nothing.
 use mathlib.Core.Path.{_≡_, refl, sym, _∙_}
 use mathlib.Core.List.{List, [], _∷_, _++_}
 use Prim.Native.Nat.{ℕ, zero, suc}

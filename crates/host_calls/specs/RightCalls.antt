@@ -1,6 +1,7 @@
 -- A right machine on a list of every kind of call: what it replies, and the clauses for the lists by which the wrong
 -- machines of WrongSheets.antt, WrongTurned.antt and WrongWhole.antt are refuted. Assumes nothing.
 use mathlib.Core.Path.{_≡_, refl}
+use mathlib.Core.Bool.{true, false}
 use mathlib.Core.List.{List, [], _∷_, _++_}
 use Prim.Native.Nat.{ℕ}
 use Rattle.terms.specs.Terms.{finishOf}
@@ -11,6 +12,7 @@ use Rattle.rules.specs.Rules.{Graph, empty}
 use Rattle.rules.specs.Observed.{seen}
 use Rattle.linearization.specs.Calls.{reading}
 use Rattle.linearizability.specs.WrongLoads.{district, equalOnes}
+use Rattle.linearizability.specs.Spoiling.{handsSpoiled}
 use Rattle.host_calls.specs.HostCalls.{HostCall, single, wholeAdd, wholeFinish, sheet, Reply, one, each, Replied}
 use Rattle.host_calls.specs.HostCalls.{worth, afterCalls, callEntries}
 use Rattle.host_calls.specs.CallsDemand.{turningSheet, allWorth, items, read, at-end, Replies, Leaves}
@@ -27,20 +29,22 @@ module _ {X : Type 0} (answer : X → HostCall → Replied X) where
 
 -- minutes that do not rise are refused by 17, and a district's are loaded; worker 0 brings a sheet of 4 needing 1,
 -- which 6 refuses, of 1, and of 4 again; worker 1 posts an add of 5, and a sheet of 65 that it brings meanwhile is
--- refused by 3; a load is refused by 18; worker 1 steps its add to the end; worker 0 gets 1 and finishes it; 1 is there
--- already; a sheet of 65 is refused by 16; and one with no entry is served
+-- refused by 3; a load is refused by 18; worker 1 steps its add to the end; worker 0 gets 1 and finishes it as failed;
+-- worker 1 gets 5, and worker 0 gets 4, which is spoiled: a good finish is refused by 19, and a failed one is not; 1 is
+-- there already; a sheet of 65 is refused by 16; and one with no entry is served
 abbrev pub everyKind : List HostCall
 everyKind =
     single (load S equalOnes) ∷ single (load S district)
     ∷ sheet S 0 (job 4 (1 ∷ []) ∷ job 1 [] ∷ job 4 (1 ∷ []) ∷ []) ∷ single (postAdd S 1 (job 5 [])) ∷ sheet S 1 tooMany
     ∷ single (load S district) ∷ single (step S 1) ∷ single (step S 1) ∷ single (get S 0)
-    ∷ wholeFinish S 0 (finishOf 1) ∷ wholeAdd S 1 (job 1 []) ∷ sheet S 0 tooMany ∷ sheet S 0 [] ∷ []
+    ∷ wholeFinish S 0 (finishOf 1 true) ∷ single (get S 1) ∷ single (get S 0) ∷ wholeFinish S 0 (finishOf 4 false)
+    ∷ wholeFinish S 0 (finishOf 4 true) ∷ wholeAdd S 1 (job 1 []) ∷ sheet S 0 tooMany ∷ sheet S 0 [] ∷ []
 
 abbrev pub itsReplies : List Reply
 itsReplies =
     one (Refused 17 0) ∷ one Loaded ∷ each 0 (Refused 6 0 ∷ Ended ∷ Ended ∷ []) ∷ one Posted ∷ each 3 []
-    ∷ one (Refused 18 0) ∷ one Going ∷ one Ended ∷ one (hands 0 1) ∷ one Ended ∷ one (Refused 7 0) ∷ each 16 []
-    ∷ each 0 [] ∷ []
+    ∷ one (Refused 18 0) ∷ one Going ∷ one Ended ∷ one (hands 0 1) ∷ one Ended ∷ one (hands 2 5)
+    ∷ one (handsSpoiled 1 4) ∷ one (Refused 19 0) ∷ one Ended ∷ one (Refused 7 0) ∷ each 16 [] ∷ each 0 [] ∷ []
 
 abbrev pub right : Answering
 right = rightly turning
@@ -73,7 +77,7 @@ pub reads-sheet : SameNames (sheet S 0 refusedFirst ∷ [])
 unfolding calling
 reads-sheet = (refl, refl)
 
-pub reads-finish : SameNames (wholeFinish S 1 (finishOf 1) ∷ [])
+pub reads-finish : SameNames (wholeFinish S 1 (finishOf 1 false) ∷ [])
 unfolding calling
 reads-finish = (refl, refl)
 
@@ -101,6 +105,6 @@ pub enters-at-once : EntersRightly (wholeAdd S 0 (job 1 []) ∷ []) 0
 unfolding calling
 enters-at-once = refl
 
-pub enters-by-finish : EntersRightly (held ++ (wholeFinish S 0 (finishOf 1) ∷ [])) 1
+pub enters-by-finish : EntersRightly (held ++ (wholeFinish S 0 (finishOf 1 false) ∷ [])) 1
 unfolding calling
 enters-by-finish = refl

@@ -37,8 +37,8 @@ abbrev pub ofIdle : Call → ℕ → ℕ
 ofIdle idle n = n
 ofIdle (looking a i) n = halfDone
 ofIdle (linking a j i t) n = halfDone
-ofIdle marking n = halfDone
-ofIdle (notifying p k) n = halfDone
+ofIdle (marking f) n = halfDone
+ofIdle (notifying p k f) n = halfDone
 
 -- the number that turns a sheet away, or 0: 1, 2, 3, and then 16
 abbrev pub turning : Turning

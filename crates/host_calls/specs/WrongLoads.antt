@@ -70,8 +70,8 @@ abbrev whenIdle : Call → Replied Graph → Replied Graph → Replied Graph
 whenIdle idle x y = x
 whenIdle (looking a i) x y = y
 whenIdle (linking a j i t) x y = y
-whenIdle marking x y = y
-whenIdle (notifying p k) x y = y
+whenIdle (marking f) x y = y
+whenIdle (notifying p k f) x y = y
 
 abbrev pub refusesHalfDone : Answering
 refusesHalfDone =

@@ -123,8 +123,8 @@ abbrev pub callNumber : Call → ℕ
 callNumber idle = 0
 callNumber (looking a i) = 1
 callNumber (linking a j i t) = 2
-callNumber marking = 3
-callNumber (notifying p k) = 4
+callNumber (marking f) = 3
+callNumber (notifying p k f) = 4
 
 abbrev pub half : List Arguments → Graph → ℕ → Graph
 half [] g w = g

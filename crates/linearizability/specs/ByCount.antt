@@ -193,13 +193,13 @@ module _ {S R : Type 0} (perform : S → Item → Outcome S) (see : S → Seen) 
       let queued : (k : ℕ) → 0 < occurrences k (shown y .waiting) → see x .job k ≡ shown y .job k =
       (λ k h. same .jobs k (T .there k h)) in
       let F : First (longFirst (shown y)) (shown y .waiting) (o .job) = o .first in
-      let named = ap (λ (z : JobSeen). z .name) (queued (o .job)
-      (first-occurs (longFirst (shown y)) (shown y .waiting) (o .job) (is-first (minutesSeen (shown y)) _ _ F))) in
+      let shows : see x .job (o .job) ≡ shown y .job (o .job) = queued (o .job)
+      (first-occurs (longFirst (shown y)) (shown y .waiting) (o .job) (is-first (minutesSeen (shown y)) _ _ F)) in
       record {
         job = o .job;
         first = rw (same .waiting) (first-same (minutesSeen (shown y)) (minutesSeen (see x))
             (λ k h. rw (same .minutes, queued k h)) F);
-        handed = answers i ∙ o .handed ∙ rw named;
+        handed = answers i ∙ o .handed ∙ rw shows;
         left = does i .waiting ∙ o .left ∙ ap (without (o .job)) (sym (same .waiting));
       }
 

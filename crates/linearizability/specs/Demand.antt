@@ -12,7 +12,7 @@ use lib.ListN.{length, getD}
 use Rattle.basics.specs.Base.{pick, contains, occurrences}
 use Rattle.minutes.specs.Rising.{isRising}
 use Rattle.terms.specs.Terms.{noArguments, Arguments, listed, labelNumber, unexecuted, finished, sameSizes, wrongSizes}
-use Rattle.terms.specs.Terms.{noSuchWorker, halfDone, nothingToStep, wrongMinutes, jobsEntered}
+use Rattle.terms.specs.Terms.{Finish, noSuchWorker, halfDone, nothingToStep, wrongMinutes, jobsEntered, bit}
 use Rattle.terms.specs.Runs.{Item, postAdd, postFinish, step, get, load, Event, Outcome, after, events}
 use Rattle.terms.specs.Runs.{entries, sizesOf, workerOf, isLoad}
 use Rattle.terms.specs.Seen.{Seen, Same}
@@ -23,7 +23,7 @@ use Rattle.terms.specs.declared.Answer.the-variants.{Laid, Loaded, Posted, Goin
 use Rattle.rules.specs.Rules.{empty}
 use Rattle.rules.specs.Rules as rules
 use Rattle.rules.specs.Observed as rules-seen
-use Rattle.sequential_model.specs.Book.{Book, blank, entry, remaining, Ready, Follows}
+use Rattle.sequential_model.specs.Book.{Book, blank, entry, remaining, spoiled, finishEnd, Ready, Follows}
 use Rattle.sequential_model.specs.Book as book
 use Rattle.linearization.specs.Calls.{Pending, idle, adding, finishing, Reading, reading, Quiet, acceptedAdds}
 use Rattle.linearization.specs.Calls.{acceptedFinishes, minutesLoaded}
@@ -44,36 +44,75 @@ abbrev pub PrerequisitesFinished : Seen → List Arguments → ℕ → Type 0
 PrerequisitesFinished x adds j =
     (i : ℕ) → i < addOf adds j .count → MarkedFinished x adds (getD (listed (addOf adds j)) i 0)
 
--- a job that is handed out, by what was seen just before and by the calls decided so far: it is that of an accepted
--- add, under its own name; it is labelled unexecuted; each of its prerequisites is marked finished, and an accepted
--- finish of each was made
+-- ---- "A job is spoiled if it has a prerequisite that failed"
+-- k is a prerequisite of j: its name is one that j lists
+pub record Prerequisite (adds : List Arguments) (j k : ℕ) : Type 0 where
+  pub there : k < length adds
+  pub place : ℕ
+  pub within : place < addOf adds j .count
+  pub named : addOf adds k .name ≡ getD (listed (addOf adds j)) place 0
+
+pub record PrerequisiteFailed (x : Seen) (adds : List Arguments) (j : ℕ) : Type 0 where
+  pub job : ℕ
+  pub needed : Prerequisite adds j job
+  pub failed : x .job job .outcome ≡ 1
+
+-- "the words of outcome, mark … are 0 or 1": no job is marked for nothing, and none has failed before its end
+pub record MarkedRightly (x : Seen) (adds : List Arguments) (j : ℕ) : Type 0 where
+  pub mark : x .job j .mark ≤ 1
+  pub outcome : x .job j .outcome ≤ 1
+  pub spoiled : x .job j .mark ≡ 1 → PrerequisiteFailed x adds j
+  pub failed : x .job j .outcome ≡ 1 → x .job j .label ≡ labelNumber finished
+
+-- "a chain of prerequisites leads to" a job: one or more
+pub data Chain (adds : List Arguments) : ℕ → ℕ → Type 0 where
+  one : {j k : ℕ} → Prerequisite adds j k → Chain adds j k
+  more : {j k l : ℕ} → Prerequisite adds j k → Chain adds k l → Chain adds j l
+
+-- "to a job that failed without being spoiled"
+pub record Source (x : Seen) (adds : List Arguments) (j : ℕ) : Type 0 where
+  pub job : ℕ
+  pub chain : Chain adds j job
+  pub failed : x .job job .outcome ≡ 1
+  pub unspoiled : x .job job .mark ≡ 0
+
+-- a job that is handed out, by what was seen just before and by the calls decided so far: it waited; it is that of an
+-- accepted add, under its own name; it is labelled unexecuted; each of its prerequisites is marked finished, and an
+-- accepted finish of each was made; it is told to be spoiled exactly if one of them failed
 pub record HandedRightly (x : Seen) (calls : List book.Ended) (h : HandOut) : Type 0 where
+  pub waited : 0 < occurrences (h .job) (x .waiting)
   pub there : h .job < length (acceptedAdds calls)
   pub named : h .name ≡ addOf (acceptedAdds calls) (h .job) .name
   pub unexecuted : x .job (h .job) .label ≡ labelNumber unexecuted
   pub prerequisites : PrerequisitesFinished x (acceptedAdds calls) (h .job)
   pub finishes : (i : ℕ) → i < addOf (acceptedAdds calls) (h .job) .count
       → contains (getD (listed (addOf (acceptedAdds calls) (h .job))) i 0) (acceptedFinishes calls) ≡ true
+  pub told : (h .spoiled ≡ true) ↔ PrerequisiteFailed x (acceptedAdds calls) (h .job)
 
 -- a job that is finished: it is labelled so, and an accepted finish of it was made
 pub record JobFinished (x : Seen) (calls : List book.Ended) (j : ℕ) : Type 0 where
   pub label : x .job j .label ≡ labelNumber finished
   pub finish : contains (addOf (acceptedAdds calls) j .name) (acceptedFinishes calls) ≡ true
 
--- ---- the equality with the book
-pub record JobShown (x : Seen) (b : Book) (j : ℕ) : Type 0 where
+-- ---- the equality with the book: "the jobs in order of entry, the labels", "the outcome", "what each worker holds",
+-- at every moment, a call half done or not;
+pub record JobKept (x : Seen) (b : Book) (j : ℕ) : Type 0 where
   pub name : x .job j .name ≡ entry b j .name
   pub class : x .job j .class ≡ entry b j .class
   pub grower : x .job j .grower ≡ entry b j .grower
   pub label : x .job j .label ≡ labelNumber (entry b j .label)
-  pub count : x .job j .count ≡ remaining b j
+  pub outcome : x .job j .outcome ≡ bit (entry b j .failed)
 
--- "the jobs in order of entry, the labels, the remaining counts, the set of waiting jobs, what each worker holds"
-pub record Shows (s : Sizes) (x : Seen) (b : Book) : Type 0 where
+pub record Keeps (s : Sizes) (x : Seen) (b : Book) : Type 0 where
   pub made : x .made ≡ length (b .jobs)
-  pub jobs : (j : ℕ) → j < length (b .jobs) → JobShown x b j
-  pub waits : (j : ℕ) → (0 < occurrences j (x .waiting)) ↔ Ready b j
+  pub jobs : (j : ℕ) → j < length (b .jobs) → JobKept x b j
   pub holds : (w : ℕ) → w < s .workers → x .held w ≡ b .held w
+
+-- "the remaining counts", "the mark", "the set of waiting jobs", with no call half done
+pub record Shows (x : Seen) (b : Book) : Type 0 where
+  pub counts : (j : ℕ) → j < length (b .jobs) → x .job j .count ≡ remaining b j
+  pub marks : (j : ℕ) → j < length (b .jobs) → x .job j .mark ≡ bit (spoiled b j)
+  pub waits : (j : ℕ) → (0 < occurrences j (x .waiting)) ↔ Ready b j
 
 -- ---- numbers 1 to 4, which end no call, in their order: by the sizes laid out, the number of workers, and whether the
 -- worker's call is half done
@@ -110,6 +149,13 @@ turnedAwayBy Going = 0
 turnedAwayBy Ended = 0
 turnedAwayBy NoneReady = 0
 turnedAwayBy (Handed h) = 0
+
+-- ---- what the post of a call answers that ends so: a refusal of the post comes at once
+abbrev pub postEnd : book.End → Answer
+postEnd book.accepted = Posted
+postEnd book.noneReady = NoneReady
+postEnd (book.handed h) = Handed h
+postEnd (book.refused n i) = Refused n i
 
 -- ---- what a load answers, by the values and by whether a job has entered: "the order is 1, 17, 9, 18", of which 9
 -- never comes from a fresh graph
@@ -158,13 +204,52 @@ module _ {S : Type 0} (perform : S → Item → Outcome S) (see : S → Seen) (s
       → ((i : ℕ) → i < addOf adds j .count → contains (getD (listed (addOf adds j)) i 0) (read .finished) ≡ true)
       → entriesInto j ≡ 1
 
+  -- "A job is spoiled if it has a prerequisite that failed": it is not marked else,
+  abbrev pub Marks : Type 0
+  Marks = (j : ℕ) → j < length adds → MarkedRightly (see at-end) adds j
+
+  -- it is marked before it is queued,
+  abbrev pub MarkedOnceQueued : Type 0
+  MarkedOnceQueued =
+      (j : ℕ) → 0 < entriesInto j → PrerequisiteFailed (see at-end) adds j → see at-end .job j .mark ≡ 1
+
+  -- and once its add and the failed finish have ended
+  abbrev pub MarkedWhenEnded : Type 0
+  MarkedWhenEnded =
+      (j k : ℕ) → contains (addOf adds j .name) (read .added) ≡ true → Prerequisite adds j k
+      → contains (addOf adds k .name) (read .finished) ≡ true → see at-end .job k .outcome ≡ 1
+      → see at-end .job j .mark ≡ 1
+
+  -- a spoiled job "may only end as failed"
+  abbrev pub EndsFailed : Type 0
+  EndsFailed =
+      (j : ℕ) → j < length adds → see at-end .job j .label ≡ labelNumber finished → see at-end .job j .mark ≡ 1
+      → see at-end .job j .outcome ≡ 1
+
+  -- "once no call is half done, a job whose prerequisites have all ended is spoiled exactly if a chain of prerequisites
+  -- leads to a job that failed without being spoiled"
+  abbrev pub Chains : Type 0
+  Chains =
+      Quiet read → (j : ℕ) → j < length adds → PrerequisitesFinished (see at-end) adds j
+      → (see at-end .job j .mark ≡ 1) ↔ Source (see at-end) adds j
+
   -- the book, "fed the same calls whole, one after another, ordered by their deciding steps", has each end as it did;
   abbrev pub FollowedBy : Book → Type 0
   FollowedBy b = Follows s blank (read .calls) b
 
-  -- "If then no call is half done", it equals what is seen
+  -- the jobs with their labels and outcomes, and the holds, are its own;
+  abbrev pub KeptBy : Book → Type 0
+  KeptBy b = Keeps s (see at-end) b
+
+  -- a finish of an idle worker is posted, or refused by 11 or 19 at once, as the book has it end;
+  abbrev pub PostsBy : Book → Type 0
+  PostsBy b =
+      (w : ℕ) → w < s .workers → read .pending w ≡ idle → (f : Finish)
+      → perform at-end (postFinish s w f) .answer ≡ postEnd (finishEnd b f (b .held w))
+
+  -- "If then no call is half done", so are the counts, the marks and the set of waiting jobs
   abbrev pub ShownBy : Book → Type 0
-  ShownBy b = Quiet read → Shows s (see at-end) b
+  ShownBy b = Quiet read → Shows (see at-end) b
 
   -- "None ready": "with no call half done it is given exactly if no unexecuted job has all prerequisites finished"
   abbrev pub NoneReadyBy : Book → Type 0
@@ -191,8 +276,15 @@ module _ {S : Type 0} (perform : S → Item → Outcome S) (see : S → Seen) (s
     pub once : Once
     pub after-prerequisites : AfterPrerequisites
     pub when-ended : WhenEnded
+    pub marks : Marks
+    pub marked-once-queued : MarkedOnceQueued
+    pub marked-when-ended : MarkedWhenEnded
+    pub ends-failed : EndsFailed
+    pub chains : Chains
     pub book : Book
     pub follows : FollowedBy book
+    pub keeps : KeptBy book
+    pub finish-posts : PostsBy book
     pub shows : ShownBy book
     pub none-ready : NoneReadyBy book
     pub turns-away : TurnsAway

@@ -1,4 +1,5 @@
 pub mod Demand
+pub mod Stays
 pub mod Ends
 pub mod LongFirst
 pub mod ByCount
@@ -8,3 +9,8 @@ pub mod WrongTexts
 pub mod WrongOthers
 pub mod WrongOrders
 pub mod WrongLoads
+pub mod Spoiling
+pub mod WrongMarks
+pub mod WrongOutcomes
+pub mod WrongMoments
+pub mod WrongHandOut

@@ -1,8 +1,8 @@
 -- How a system is shown to be wrong: the clauses of the claim one by one, and the rules with one part put otherwise.
--- The systems stand in WrongIdle.antt, WrongTexts.antt, WrongOthers.antt, WrongOrders.antt and WrongLoads.antt.
--- Assumes nothing.
+-- The systems stand in WrongIdle.antt, WrongTexts.antt, WrongOthers.antt, WrongOrders.antt, WrongLoads.antt,
+-- WrongMarks.antt, WrongOutcomes.antt, WrongMoments.antt and WrongHandOut.antt. Assumes nothing.
 use mathlib.Core.Path.{_≡_, refl, sym, ap, subst}
-use mathlib.Core.Bool.{false}
+use mathlib.Core.Bool.{Bool, false}
 use mathlib.Core.List.{List, [], _∷_}
 use mathlib.Core.Option.{Option, none, some}
 use Prim.Native.Nat.{ℕ, zero, suc, _+_, _*_, _<_}
@@ -13,7 +13,7 @@ use borrow.Author.Tests.{eqb-false}
 use Rattle.basics.specs.Base.{update, contains, repeats, occurrences, prefix}
 use Rattle.minutes.specs.Minutes.{minutesIn, fixedMinutes}
 use Rattle.minutes.specs.Rising.{risesAbove, isRising}
-use Rattle.terms.specs.Terms.{Arguments, argumentsWrong, sameSizes, alreadyHolding}
+use Rattle.terms.specs.Terms.{Arguments, Tally, bit, argumentsWrong, sameSizes, alreadyHolding}
 use Rattle.terms.specs.Runs.{Item, postAdd, postFinish, step, get, load, Outcome, outcome, Event, after, events}
 use Rattle.terms.specs.Runs.{entries}
 use Rattle.terms.specs.Order.{earliest, firstBy, without}
@@ -27,16 +27,15 @@ use Rattle.rules.specs.Rules.{linkTo, link, markDependents, mark, notify, stepC
 use Rattle.rules.specs.Rules.{takeNext, getJob, loadMinutes, admitted, perform, nextOut}
 use Rattle.rules.specs.Observed.{seen}
 use Rattle.sequential_model.specs.Book.{Book, blank, entry, Ready, Ends, GetEnd, taken, Follows, done, feed, End}
-use Rattle.sequential_model.specs.Book.{handed}
-use Rattle.sequential_model.specs.Book.{known, awaited, awaitedNames, firstUnknown, listedNames, addKnown, addEnd}
-use Rattle.sequential_model.specs.Book.{finishEnd}
-use Rattle.sequential_model.specs.Book.{finishedBy, next}
+use Rattle.sequential_model.specs.Book.{handed, spoiled}
+use Rattle.sequential_model.specs.Book.{known, awaited, awaitedNames, hasFailed, anyFailed, firstUnknown, listedNames}
+use Rattle.sequential_model.specs.Book.{addKnown, addEnd, finishEnd, finishedBy, next}
 use Rattle.sequential_model.specs.Book as book
 use Rattle.linearization.specs.Calls.{unread, anyCallOf, withoutLast, noteStep, noteAdd, noteFinish, noteGet, note}
-use Rattle.linearization.specs.Calls.{readOn}
-use Rattle.linearization.specs.Calls.{acceptedAdds, minutesOn}
+use Rattle.linearization.specs.Calls.{readOn, acceptedAdds, minutesOn}
 use Rattle.linearizability.specs.Demand.{Answers, Does, Once, AfterPrerequisites, WhenEnded, FollowedBy, ShownBy}
-use Rattle.linearizability.specs.Demand.{NoneReadyBy, TurnsAway, Loads, Minutes, Demand}
+use Rattle.linearizability.specs.Demand.{Marks, EndsFailed, Chains, NoneReadyBy, TurnsAway, Loads, Minutes}
+use Rattle.linearizability.specs.Demand.{MarkedOnceQueued, MarkedWhenEnded, KeptBy, PostsBy, Demand}
 
 -- ---- a system, from a fresh graph of R 4, A 4, b 2 and P 2
 abbrev pub System : Type 0
@@ -50,28 +49,28 @@ posts = addPosted
 abbrev pub looks : Graph → ℕ → Arguments → ℕ → Outcome Graph
 looks g w a i = stepCall S g w (looking a i)
 
-abbrev pub links : Graph → ℕ → Arguments → ℕ → ℕ → ℕ → Outcome Graph
+abbrev pub links : Graph → ℕ → Arguments → ℕ → ℕ → Tally → Outcome Graph
 links g w a j i t = stepCall S g w (linking a j i t)
 
-abbrev pub marks : Graph → ℕ → Outcome Graph
-marks g w = stepCall S g w marking
+abbrev pub labels : Graph → ℕ → Bool → Outcome Graph
+labels g w f = stepCall S g w (marking f)
 
-abbrev pub notifies : Graph → ℕ → ℕ → ℕ → Outcome Graph
-notifies g w p k = stepCall S g w (notifying p k)
+abbrev pub notifies : Graph → ℕ → ℕ → ℕ → Bool → Outcome Graph
+notifies g w p k f = stepCall S g w (notifying p k f)
 
 abbrev pub takes : Graph → ℕ → Outcome Graph
 takes g w = takeNext g w (nextOut g)
 
 -- the system of such parts
 module _ (onPost : Graph → ℕ → Arguments → Outcome Graph) (onLook : Graph → ℕ → Arguments → ℕ → Outcome Graph)
-    (onLink : Graph → ℕ → Arguments → ℕ → ℕ → ℕ → Outcome Graph) (onMark : Graph → ℕ → Outcome Graph)
-    (onNotify : Graph → ℕ → ℕ → ℕ → Outcome Graph) (onTake : Graph → ℕ → Outcome Graph) where
+    (onLink : Graph → ℕ → Arguments → ℕ → ℕ → Tally → Outcome Graph) (onMark : Graph → ℕ → Bool → Outcome Graph)
+    (onNotify : Graph → ℕ → ℕ → ℕ → Bool → Outcome Graph) (onTake : Graph → ℕ → Outcome Graph) where
   abbrev stepped : Graph → ℕ → Call → Outcome Graph
   stepped g w idle = stepCall S g w idle
   stepped g w (looking a i) = onLook g w a i
   stepped g w (linking a j i t) = onLink g w a j i t
-  stepped g w marking = onMark g w
-  stepped g w (notifying p k) = onNotify g w p k
+  stepped g w (marking f) = onMark g w f
+  stepped g w (notifying p k f) = onNotify g w p k f
 
   abbrev got : Graph → ℕ → Option ℕ → Outcome Graph
   got g w none = onTake g w
@@ -84,34 +83,42 @@ module _ (onPost : Graph → ℕ → Arguments → Outcome Graph) (onLook : Grap
   system g (get s w) = admitted S s g w (whenIdle g (g .workers w .call) (got g w (g .workers w .held)))
   system g (load s m) = perform S g (load s m)
 
--- with the parts above it is the rules
-own-step : (g : Graph) (w : ℕ) (c : Call) → stepped posts looks links marks notifies takes g w c ≡ stepCall S g w c
-own-step g w idle = refl
-own-step g w (looking a i) = refl
-own-step g w (linking a j i t) = refl
-own-step g w marking = refl
-own-step g w (notifying p k) = refl
+-- with the parts above it is the rules; and so it is with links and steps for arcs that do the same
+module _ (onLink : Graph → ℕ → Arguments → ℕ → ℕ → Tally → Outcome Graph)
+    (onNotify : Graph → ℕ → ℕ → ℕ → Bool → Outcome Graph)
+    (same-link : (g : Graph) (w : ℕ) (a : Arguments) (j i : ℕ) (t : Tally) → onLink g w a j i t ≡ links g w a j i t)
+    (same-notify : (g : Graph) (w p k : ℕ) (f : Bool) → onNotify g w p k f ≡ notifies g w p k f) where
+  same-step : (g : Graph) (w : ℕ) (c : Call)
+      → stepped posts looks onLink labels onNotify takes g w c ≡ stepCall S g w c
+  same-step g w idle = refl
+  same-step g w (looking a i) = refl
+  same-step g w (linking a j i t) = same-link g w a j i t
+  same-step g w (marking f) = refl
+  same-step g w (notifying p k f) = same-notify g w p k f
 
-own-get : (g : Graph) (w : ℕ) (h : Option ℕ) → got posts looks links marks notifies takes g w h ≡ getJob g w h
-unfolding getJob
-own-get g w none = refl
-own-get g w (some j) = refl
+  same-get : (g : Graph) (w : ℕ) (h : Option ℕ) → got posts looks onLink labels onNotify takes g w h ≡ getJob g w h
+  unfolding getJob
+  same-get g w none = refl
+  same-get g w (some j) = refl
 
-pub own-parts : (g : Graph) (i : Item) → system posts looks links marks notifies takes g i ≡ perform S g i
-unfolding perform
-own-parts g (postAdd s w a) = refl
-own-parts g (postFinish s w f) = refl
-own-parts g (step s w) = ap (admitted S s g w) (own-step g w (g .workers w .call))
-own-parts g (get s w) =
-    ap (λ r. admitted S s g w (whenIdle g (g .workers w .call) r)) (own-get g w (g .workers w .held))
-own-parts g (load s m) = refl
+  pub same-parts : (g : Graph) (i : Item) → system posts looks onLink labels onNotify takes g i ≡ perform S g i
+  unfolding perform
+  same-parts g (postAdd s w a) = refl
+  same-parts g (postFinish s w f) = refl
+  same-parts g (step s w) = ap (admitted S s g w) (same-step g w (g .workers w .call))
+  same-parts g (get s w) =
+      ap (λ r. admitted S s g w (whenIdle g (g .workers w .call) r)) (same-get g w (g .workers w .held))
+  same-parts g (load s m) = refl
+
+pub own-parts : (g : Graph) (i : Item) → system posts looks links labels notifies takes g i ≡ perform S g i
+own-parts = same-parts links notifies (λ g w a j i t. refl) (λ g w p k f. refl)
 
 -- ---- the clauses of `Demand`
 pub data Clause : Type 0 where
-  answers does once after-prerequisites when-ended follows shows none-ready turns-away loads
-      minutes : Clause
+  answers does once after-prerequisites when-ended marks marked-once-queued marked-when-ended ends-failed chains
+      follows keeps finish-posts shows none-ready turns-away loads minutes : Clause
 
--- the clause does not hold of the system for the items; `shows` and `none-ready`, of the book that `follows` gives
+-- the clause does not hold of the system for the items; what speaks of the book, of that which `follows` gives
 module _ (m : System) (items : List Item) where
   abbrev pub Lacks : Clause → Type 0
   Lacks answers = Answers m seen S empty items → ⊥
@@ -119,7 +126,14 @@ module _ (m : System) (items : List Item) where
   Lacks once = Once m seen S empty items → ⊥
   Lacks after-prerequisites = AfterPrerequisites m seen S empty items → ⊥
   Lacks when-ended = WhenEnded m seen S empty items → ⊥
+  Lacks marks = Marks m seen S empty items → ⊥
+  Lacks marked-once-queued = MarkedOnceQueued m seen S empty items → ⊥
+  Lacks marked-when-ended = MarkedWhenEnded m seen S empty items → ⊥
+  Lacks ends-failed = EndsFailed m seen S empty items → ⊥
+  Lacks chains = Chains m seen S empty items → ⊥
   Lacks follows = (b : Book) → FollowedBy m seen S empty items b → ⊥
+  Lacks keeps = (b : Book) → FollowedBy m seen S empty items b → KeptBy m seen S empty items b → ⊥
+  Lacks finish-posts = (b : Book) → FollowedBy m seen S empty items b → PostsBy m seen S empty items b → ⊥
   Lacks shows = (b : Book) → FollowedBy m seen S empty items b → ShownBy m seen S empty items b → ⊥
   Lacks none-ready = (b : Book) → FollowedBy m seen S empty items b → NoneReadyBy m seen S empty items b → ⊥
   Lacks turns-away = TurnsAway m seen S empty items → ⊥
@@ -133,7 +147,14 @@ module _ (m : System) (items : List Item) where
   refuted once lacks d = lacks (d .once)
   refuted after-prerequisites lacks d = lacks (d .after-prerequisites)
   refuted when-ended lacks d = lacks (d .when-ended)
+  refuted marks lacks d = lacks (d .marks)
+  refuted marked-once-queued lacks d = lacks (d .marked-once-queued)
+  refuted marked-when-ended lacks d = lacks (d .marked-when-ended)
+  refuted ends-failed lacks d = lacks (d .ends-failed)
+  refuted chains lacks d = lacks (d .chains)
   refuted follows lacks d = lacks (d .book) (d .follows)
+  refuted keeps lacks d = lacks (d .book) (d .follows) (d .keeps)
+  refuted finish-posts lacks d = lacks (d .book) (d .follows) (d .finish-posts)
   refuted shows lacks d = lacks (d .book) (d .follows) (d .shows)
   refuted none-ready lacks d = lacks (d .book) (d .follows) (d .none-ready)
   refuted turns-away lacks d = lacks (d .turns-away)
@@ -150,14 +171,18 @@ running = 0
 
 unfoldable pub booking : ℕ
 unfolding running unread anyCallOf withoutLast noteStep noteAdd noteFinish noteGet note readOn acceptedAdds blank known
-    awaited awaitedNames firstUnknown listedNames addKnown addEnd finishEnd finishedBy next minutesOn
+    awaited awaitedNames hasFailed anyFailed firstUnknown listedNames addKnown addEnd finishEnd finishedBy next
+    minutesOn
 booking = 0
 
 -- ---- things that are told apart by a number
 pub apart : {A : Type 0} {x y : A} (f : A → ℕ) → eqb (f x) (f y) ≡ false → x ≡ y → ⊥
 apart {A} {x} {y} f e p = eqb-false (f x) (f y) e (ap f p)
 
--- an answer's number: a refusal's number and place, and a job's number and name, are part of it
+-- an answer's number: a refusal's number and place, and a job's number, mark and name, are part of it
+abbrev handCode : HandOut → ℕ
+handCode h = 10000 * suc (2 * h .job + bit (h .spoiled)) + h .name
+
 abbrev pub code : Answer → ℕ
 code Laid = 0
 code Loaded = 5
@@ -166,7 +191,7 @@ code Going = 2
 code Ended = 3
 code NoneReady = 4
 code (Refused n i) = 100 * n + i
-code (Handed h) = 10000 * suc (h .job) + h .name
+code (Handed h) = handCode h
 
 abbrev pub answerAt : ℕ → List Event → ℕ
 answerAt k [] = 0
@@ -177,7 +202,7 @@ abbrev pub endCode : End → ℕ
 endCode End.accepted = 3
 endCode End.noneReady = 4
 endCode (End.refused n i) = 100 * n + i
-endCode (handed h) = 10000 * suc (h .job) + h .name
+endCode (handed h) = handCode h
 
 -- ---- the book that is fed a list of calls, and how it has each of them end
 unfoldable pub fed : Book → List book.Ended → Book
@@ -199,10 +224,10 @@ ends-at k h done = absurd (omega arith)
 ends-at zero h (feed e f) = e
 ends-at (suc k) h (feed e f) = ends-at k (omega arith) f
 
--- a job that the book has handed out was ready, and has that name
+-- a job that the book has handed out was ready, and has that name and that mark
 pub handed-right : {b : Book} {held : Option ℕ} {h : HandOut} → GetEnd b held (handed h)
-    → Ready b (h .job) × (entry b (h .job) .name ≡ h .name)
-handed-right (taken j r) = (r, refl)
+    → Ready b (h .job) × (entry b (h .job) .name ≡ h .name) × (spoiled b (h .job) ≡ h .spoiled)
+handed-right (taken j r) = (r, refl, refl)
 
 -- what holds of the book that follows holds of the book that is fed
 pub by-fed : {s : Sizes} {b : Book} {l : List book.Ended} (P : Book → Type 0) → Follows s blank l b

@@ -118,8 +118,8 @@ abbrev pub isIdle : Call → Bool
 isIdle idle = true
 isIdle (looking a i) = false
 isIdle (linking a j i t) = false
-isIdle marking = false
-isIdle (notifying p k) = false
+isIdle (marking f) = false
+isIdle (notifying p k f) = false
 
 abbrev pub refusesPosted : System
 refusesPosted = loadingIf isRising (λ g. noneEntered g && isIdle (g .workers 0 .call))

@@ -18,6 +18,7 @@ use Rattle.terms.specs.Runs.{Item, postAdd, postFinish, step, get, load, Outcom
 use Rattle.terms.specs.Order.{firstBy, without, before, ahead}
 use Rattle.terms.specs.OrderLaws.{first-out}
 use Rattle.terms.specs.AheadLaws.{is-first}
+use Rattle.terms.specs.Seen as seen-as
 use Rattle.terms.specs.Starred.{S, sizes, steps, job}
 use Rattle.terms.specs.declared.Sizes.{Sizes}
 use Rattle.terms.specs.declared.HandOut.{HandOut}
@@ -29,7 +30,7 @@ use Rattle.rules.specs.Observed.{seen}
 use Rattle.linearizability.specs.Demand.{Answers, handedOut}
 use Rattle.linearizability.specs.LongFirst.{TakesLongest, NoHeavierEnters, ByCount}
 use Rattle.linearizability.specs.ByCount.{hands-none, same-job}
-use Rattle.linearizability.specs.Wrong.{System, posts, looks, links, marks, notifies, takes, system, Lacks}
+use Rattle.linearizability.specs.Wrong.{System, posts, looks, links, labels, notifies, takes, system, Lacks}
 use Rattle.linearizability.specs.Wrong.{answers, running, apart, answerAt}
 use Rattle.linearizability.specs.WrongIdle.{saysNone}
 
@@ -94,7 +95,7 @@ module _ (s : Sizes) (m : System) (items : List Item) where
       → TakesOther
   not-next i h j e f other T =
       let o = T .only i h e in
-      let same : h .job ≡ o .job = same-job h (handOut end (o .job)) (sym e ∙ o .handed) in
+      let same : h .job ≡ o .job = same-job h (seen-as.handOut (seen end) (o .job)) (sym e ∙ o .handed) in
       other (same ∙ Option·some-injective (o .job) j
       (sym (is-first (minutesOf end) (end .queue) (o .job) (o .first)) ∙ f))
 
@@ -262,8 +263,8 @@ inFront g o =
     outcome (o .answer) (withQueue (o .state) (drop (length (g .queue)) (o .state .queue) ++ g .queue))
 
 abbrev pub queuesInFront : System
-queuesInFront = system posts looks (λ g w a j i t. inFront g (links g w a j i t)) marks
-    (λ g w p k. inFront g (notifies g w p k)) takes
+queuesInFront = system posts looks (λ g w a j i t. inFront g (links g w a j i t)) labels
+    (λ g w p k f. inFront g (notifies g w p k f)) takes
 
 -- job 1 settles, and stands before job 0, which waited
 abbrev pub unsettled : List Item

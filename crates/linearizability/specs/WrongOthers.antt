@@ -1,14 +1,14 @@
 -- Systems that do most of what the rules say, and that a weaker claim would let pass. Assumes nothing.
 use mathlib.Core.Path.{_≡_, refl, sym, _∙_}
-use mathlib.Core.Bool.{true, _||_}
+use mathlib.Core.Bool.{true, false, _||_}
 use mathlib.Core.List.{List, [], _∷_, _++_}
 use mathlib.Core.Option.{Option, none, some}
 use Prim.Native.Nat.{ℕ, zero, suc, _-_, _<_}
 use native.Mathlib.Omega.{arith}
-use lib.Dec.{ltb, eqb, eqb·suc-zero}
+use lib.Dec.{ltb, eqb}
 use lib.ListN.{length, getD, set}
 use Rattle.basics.specs.Base.{pick, update, contains}
-use Rattle.terms.specs.Terms.{labelNumber, Arguments, listed, unknownName, tablesFull, finishOf}
+use Rattle.terms.specs.Terms.{labelNumber, Arguments, listed, Tally, unknownName, tablesFull, finishOf}
 use Rattle.terms.specs.Runs.{Item, postAdd, postFinish, step, get, load, Outcome, outcome, events}
 use Rattle.terms.specs.Order.{firstBy, without}
 use Rattle.terms.specs.Starred.{S, sizes, job, steps, add, added, answersOf, hands}
@@ -17,19 +17,16 @@ use Rattle.terms.specs.declared.Answer.the-variants.{Posted, Going, Ended, Refu
 use Rattle.rules.specs.Rules.{Graph, Job, empty, Call, idle, looking, linking, marking, notifying, Found, at, missing}
 use Rattle.rules.specs.Rules.{find, withCall, perform, withWorkers, withJobs}
 use Rattle.rules.specs.Rules as rules
-use Rattle.rules.specs.Observed.{seen}
 use Rattle.sequential_model.specs.Book.{entry}
-use Rattle.linearization.specs.Calls.{Quiet}
-use Rattle.linearizability.specs.Demand.{read}
-use Rattle.linearizability.specs.Wrong.{System, posts, looks, links, marks, notifies, takes, system, Lacks}
+use Rattle.linearizability.specs.Wrong.{System, posts, looks, links, labels, notifies, takes, system, Lacks}
 use Rattle.linearizability.specs.Wrong.{answers, does}
-use Rattle.linearizability.specs.Wrong.{when-ended, follows, shows, turns-away, running, booking}
+use Rattle.linearizability.specs.Wrong.{when-ended, follows, keeps, turns-away, running, booking}
 use Rattle.linearizability.specs.Wrong.{apart, answerAt, endCode, fed, ends-at, handed-right, by-fed}
 use Rattle.linearizability.specs.WrongOrders.{taking, leavesTaken}
 
 -- job 1, and 4 needing it; worker 0 holds job 1, has posted its finish and marks it
 abbrev pub finishing : List Item
-finishing = add S 0 1 [] 2 ++ (add S 0 4 (1 ∷ []) 4 ++ (get S 0 ∷ postFinish S 0 (finishOf 1) ∷ step S 0 ∷ []))
+finishing = add S 0 1 [] 2 ++ (add S 0 4 (1 ∷ []) 4 ++ (get S 0 ∷ postFinish S 0 (finishOf 1 false) ∷ step S 0 ∷ []))
 
 -- ---- a get that takes the newest job
 abbrev pub takesNewest : System
@@ -54,7 +51,7 @@ misplaced g w a i missing = outcome (Refused unknownName 0) (withCall g w idle)
 abbrev pub tellsPlaceNought : System
 tellsPlaceNought = system posts
     (λ g w a i. pick (ltb i (a .count)) (misplaced g w a i (find g (getD (listed a) i 0))) (looks g w a i))
-    links marks notifies takes
+    links labels notifies takes
 
 -- `follows`: 4 needs 1 and 9, and 9, at place 1, is the unknown one
 pub tells-place-nought : Lacks tellsPlaceNought (add S 0 1 [] 2 ++ add S 0 4 (1 ∷ 9 ∷ []) 2) follows
@@ -66,7 +63,7 @@ abbrev pub seeksRoomFirst : System
 seeksRoomFirst = system posts
     (λ g w a i. pick (ltb i (a .count) || ltb (length (g .jobs)) (S .jobs)) (looks g w a i)
     (outcome (Refused tablesFull 0) (withCall g w idle)))
-    links marks notifies takes
+    links labels notifies takes
 
 -- `follows`: with 4 of 4 jobs made, a name that is there is refused by 8, and the book says 7
 pub seeks-room-first : Lacks seeksRoomFirst
@@ -78,27 +75,23 @@ seeks-room-first b f = apart endCode refl (ends-at 4 (omega arith) f)
 abbrev pub losesClass : System
 losesClass = system
     (λ g w a. posts g w (record { name = a .name; count = a .count; names = a .names; class = 0; grower = a .grower }))
-    looks links marks notifies takes
+    looks links labels notifies takes
 
 abbrev pub ofClassThree : List Item
 ofClassThree = postAdd S 0 (record { name = 1; count = 0; names = []; class = 3; grower = 0 }) ∷ steps 2 S 0
 
--- `shows`: the book has the job under class 3
-pub loses-class : Lacks losesClass ofClassThree shows
+-- `keeps`: the book has the job under class 3
+pub loses-class : Lacks losesClass ofClassThree keeps
 unfolding booking fed
-loses-class b f sh =
+loses-class b f kept =
     apart (λ n. n) refl
-    (by-fed (λ b. 0 < length (b .jobs) → 0 ≡ entry b 0 .class) f (λ h. sh quiet .jobs 0 h .class) (omega arith))
-  where
-    quiet : Quiet (read losesClass seen S empty ofClassThree)
-    quiet zero = refl
-    quiet (suc w) = rw (eqb·suc-zero w)
+    (by-fed (λ b. 0 < length (b .jobs) → 0 ≡ entry b 0 .class) f (λ h. kept .jobs 0 h .class) (omega arith))
 
 -- ---- a settling that goes on for ever
 abbrev pub neverSettles : System
 neverSettles = system posts looks
     (λ g w a j i t. pick (ltb i (a .count)) (links g w a j i t) (outcome Going g))
-    marks notifies takes
+    labels notifies takes
 
 -- `answers`: the second step of an add with no prerequisites goes on
 pub never-settles : Lacks neverSettles (add S 0 1 [] 2) answers
@@ -107,7 +100,8 @@ never-settles = apart (answerAt 2) refl
 
 -- ---- a finish that ends at its mark and notifies no job
 abbrev pub notifiesNone : System
-notifiesNone = system posts looks links (λ g w. outcome Ended (withCall (marks g w .state) w idle)) notifies takes
+notifiesNone =
+    system posts looks links (λ g w f. outcome Ended (withCall (labels g w f .state) w idle)) notifies takes
 
 -- `when-ended`: the add of 4 and the finish of 1 have ended, and job 4 never entered the queue
 pub notifies-none : Lacks notifiesNone finishing when-ended
@@ -123,8 +117,8 @@ abbrev pub heldOn : Call → Option ℕ → Option ℕ
 heldOn idle h = none
 heldOn (looking a i) h = h
 heldOn (linking a j i t) h = h
-heldOn marking h = h
-heldOn (notifying p k) h = h
+heldOn (marking f) h = h
+heldOn (notifying p k f) h = h
 
 abbrev pub holdingOn : Graph → ℕ → Outcome Graph → Outcome Graph
 holdingOn g w o =
@@ -134,7 +128,8 @@ holdingOn g w o =
 
 abbrev pub freesLate : System
 freesLate =
-    system posts looks links (λ g w. holdingOn g w (marks g w)) (λ g w p k. holdingOn g w (notifies g w p k)) takes
+    system posts looks links (λ g w f. holdingOn g w (labels g w f))
+    (λ g w p k f. holdingOn g w (notifies g w p k f)) takes
 
 -- `does`: after the mark worker 0 still holds job 1
 pub frees-late : Lacks freesLate finishing does
@@ -169,13 +164,15 @@ withFirst x j = record {
   grower = x .grower;
   list = x .list;
   dependents = j ∷ x .dependents;
+  failed = x .failed;
+  spoiled = x .spoiled;
 }
 
-abbrev pub linkedFirst : Graph → ℕ → Arguments → ℕ → ℕ → ℕ → ℕ → Graph
+abbrev pub linkedFirst : Graph → ℕ → Arguments → ℕ → ℕ → Tally → ℕ → Graph
 linkedFirst g w a j i t p =
     withJobs (withCall g w (linking a j (suc i) t)) (set (g .jobs) p (withFirst (rules.job g p) j))
 
-abbrev pub linkFirst : Graph → ℕ → Arguments → ℕ → ℕ → ℕ → Found → Outcome Graph
+abbrev pub linkFirst : Graph → ℕ → Arguments → ℕ → ℕ → Tally → Found → Outcome Graph
 linkFirst g w a j i t (at p) =
     pick (eqb (labelNumber (rules.job g p .label)) 2) (links g w a j i t) (outcome Going (linkedFirst g w a j i t p))
 linkFirst g w a j i t missing = links g w a j i t
@@ -183,7 +180,7 @@ linkFirst g w a j i t missing = links g w a j i t
 abbrev pub linksBackwards : System
 linksBackwards = system posts looks
     (λ g w a j i t. pick (ltb i (a .count)) (linkFirst g w a j i t (find g (getD (listed a) i 0))) (links g w a j i t))
-    marks notifies takes
+    labels notifies takes
 
 -- `does`: 4 and 5 both need 1, and the arc of 5 stands before that of 4
 pub links-backwards : Lacks linksBackwards (add S 0 1 [] 2 ++ (add S 0 4 (1 ∷ []) 4 ++ add S 0 5 (1 ∷ []) 4)) does

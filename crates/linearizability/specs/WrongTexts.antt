@@ -1,41 +1,41 @@
 -- The errors of the published text (docs/RULES.md, "Where the published text misleads"), each as a system. Assumes
 -- nothing.
 use mathlib.Core.Path.{_≡_, refl}
-use mathlib.Core.Bool.{Bool, _&&_}
+use mathlib.Core.Bool.{Bool, false, _&&_}
 use mathlib.Core.List.{List, [], _∷_, _++_}
 use Prim.Native.Nat.{ℕ, zero, suc, _-_, _*_, _≤_, _<_}
 use native.Mathlib.Omega.{arith}
 use lib.Dec.{ltb, eqb}
 use lib.ListN.{length, getD, set}
 use Rattle.basics.specs.Base.{pick}
-use Rattle.terms.specs.Terms.{Arguments, listed, unknownName, finishOf}
+use Rattle.terms.specs.Terms.{Arguments, listed, Tally, tallyOne, unknownName, finishOf}
 use Rattle.terms.specs.Runs.{Item, postAdd, postFinish, step, get, Outcome, outcome, after}
 use Rattle.terms.specs.Starred.{S, job, steps, add, prepared}
 use Rattle.terms.specs.declared.Answer.the-variants.{Going, Ended, Refused}
-use Rattle.rules.specs.Rules.{Graph, empty, idle, looking, linking, Found, at, missing, find, withCall, withCount}
+use Rattle.rules.specs.Rules.{Graph, empty, idle, looking, linking, Found, at, missing, find, withCall, lowered}
 use Rattle.rules.specs.Rules.{enqueue, enter, link, settled, withJobs, withQueue}
 use Rattle.rules.specs.Rules as rules
 use Rattle.rules.specs.Observed.{seen}
 use Rattle.linearizability.specs.Demand.{addOf, adds, MarkedFinished}
-use Rattle.linearizability.specs.Wrong.{System, posts, looks, links, marks, notifies, takes, system, Lacks}
+use Rattle.linearizability.specs.Wrong.{System, posts, looks, links, labels, notifies, takes, system, Lacks}
 use Rattle.linearizability.specs.Wrong.{once, after-prerequisites, when-ended, follows, running, booking}
 use Rattle.linearizability.specs.Wrong.{apart, endCode, fed, ends-at}
 
 -- ---- the remaining count starts at 0
 abbrev pub uncounted : Graph → ℕ → Graph
-uncounted g j = withJobs g (set (g .jobs) j (withCount (rules.job g j) 0))
+uncounted g j = withJobs g (set (g .jobs) j (lowered (rules.job g j) 0 false))
 
 abbrev pub startsAtZero : System
 startsAtZero = system posts
     (λ g w a i. pick (ltb i (a .count)) (looks g w a i)
     (outcome (looks g w a i .answer) (uncounted (looks g w a i .state) (length (g .jobs)))))
-    links marks notifies takes
+    links labels notifies takes
 
 -- jobs 1 and 2, then 3 needing both; job 1 is finished
 abbrev pub oneFinished : List Item
 oneFinished =
     add S 0 1 [] 2 ++ (add S 0 2 [] 2
-    ++ (add S 0 3 (1 ∷ 2 ∷ []) 6 ++ (get S 0 ∷ postFinish S 0 (finishOf 1) ∷ steps 2 S 0)))
+    ++ (add S 0 3 (1 ∷ 2 ∷ []) 6 ++ (get S 0 ∷ postFinish S 0 (finishOf 1 false) ∷ steps 2 S 0)))
 
 -- `after-prerequisites`: job 3 entered the queue, and job 2 is not finished
 pub starts-at-zero : Lacks startsAtZero oneFinished after-prerequisites
@@ -60,16 +60,16 @@ starts-at-zero p =
     not-two (suc (suc (suc j))) h n l = let few : suc (suc (suc j)) < 3 = h in omega arith
 
 -- ---- settling queues by a test of its own, of the settled count and the tally
-abbrev pub settlesBy : (ℕ → ℕ → Bool) → Graph → ℕ → Arguments → ℕ → ℕ → ℕ → Outcome Graph
+abbrev pub settlesBy : (ℕ → ℕ → Bool) → Graph → ℕ → Arguments → ℕ → ℕ → Tally → Outcome Graph
 settlesBy test g w a j i t =
-    let left = rules.job g j .count - t in
+    let left = rules.job g j .count - t .count in
     pick (ltb i (a .count)) (links g w a j i t)
-    (outcome Ended (withJobs (withQueue (withCall g w idle) (enqueue (test left t) (g .queue) j))
-    (set (g .jobs) j (withCount (rules.job g j) left))))
+    (outcome Ended (withJobs (withQueue (withCall g w idle) (enqueue (test left (t .count)) (g .queue) j))
+    (set (g .jobs) j (lowered (rules.job g j) left (t .noted)))))
 
 -- it queues only with a tally above 0
 abbrev pub queuesByTally : System
-queuesByTally = system posts looks (settlesBy (λ left t. eqb left 0 && ltb 0 t)) marks notifies takes
+queuesByTally = system posts looks (settlesBy (λ left t. eqb left 0 && ltb 0 t)) labels notifies takes
 
 -- `when-ended`: the add of a job with no prerequisites has ended, and the job never entered the queue
 pub queues-by-tally : Lacks queuesByTally (add S 0 1 [] 2) when-ended
@@ -78,7 +78,7 @@ queues-by-tally e = apart (λ n. n) refl (e 0 (omega arith) refl (λ i h. absurd
 
 -- it queues whenever the settled count is 0
 abbrev pub queuesByCount : System
-queuesByCount = system posts looks (settlesBy (λ left t. eqb left 0)) marks notifies takes
+queuesByCount = system posts looks (settlesBy (λ left t. eqb left 0)) labels notifies takes
 
 -- `once`: in case 3 the finish queues job 4, and settling queues it again
 pub queues-by-count : Lacks queuesByCount (prepared ++ (step S 1 ∷ step S 0 ∷ step S 0 ∷ step S 1 ∷ [])) once
@@ -86,7 +86,7 @@ unfolding running
 queues-by-count o = let twice : 2 ≤ 1 = o 1 in omega arith
 
 -- ---- an add that enters first, then looks its names up, then links them
-abbrev pub looksLate : Graph → ℕ → Arguments → ℕ → ℕ → ℕ → Found → Outcome Graph
+abbrev pub looksLate : Graph → ℕ → Arguments → ℕ → ℕ → Tally → Found → Outcome Graph
 looksLate g w a j i t (at p) = outcome Going (withCall g w (linking a j (suc i) t))
 looksLate g w a j i t missing = outcome (Refused unknownName i) (withCall g w idle)
 
@@ -96,7 +96,7 @@ entersFirst = system posts
     (λ g w a j i t. let name : ℕ → Found = λ k. find g (getD (listed a) k 0) in
     pick (ltb i (a .count)) (looksLate g w a j i t (name i))
     (pick (ltb i (2 * a .count)) (link g w a j i t (name (i - a .count))) (outcome Ended (settled g w j t (a .count)))))
-    marks notifies takes
+    labels notifies takes
 
 -- `follows`: in case 4 the two adds enter, find and link each other and end; the book refuses the first by 6
 pub enters-first : Lacks entersFirst
@@ -106,16 +106,16 @@ unfolding booking fed
 enters-first b f = apart endCode refl (ends-at 0 (omega arith) f)
 
 -- ---- an unknown name is taken as finished
-abbrev pub linksUnknown : Graph → ℕ → Arguments → ℕ → ℕ → ℕ → Found → Outcome Graph
+abbrev pub linksUnknown : Graph → ℕ → Arguments → ℕ → ℕ → Tally → Found → Outcome Graph
 linksUnknown g w a j i t (at p) = links g w a j i t
-linksUnknown g w a j i t missing = outcome Going (withCall g w (linking a j (suc i) (suc t)))
+linksUnknown g w a j i t missing = outcome Going (withCall g w (linking a j (suc i) (tallyOne t false)))
 
 abbrev pub takesUnknown : System
 takesUnknown = system posts
     (λ g w a i. pick (ltb i (a .count)) (outcome Going (withCall g w (looking a (suc i)))) (looks g w a i))
     (λ g w a j i t. pick (ltb i (a .count)) (linksUnknown g w a j i t (find g (getD (listed a) i 0)))
     (links g w a j i t))
-    marks notifies takes
+    labels notifies takes
 
 -- `follows`: the add of 4 needing 9, which no job has, is accepted, and the book refuses it by 6
 pub takes-unknown : Lacks takesUnknown (add S 0 4 (9 ∷ []) 4) follows

@@ -20,7 +20,7 @@ use Rattle.heap.specs.Compared.{pairsDown, Alike, AgreeOn, same-down}
 use Rattle.heap.specs.declared.Sifted.{Sifted}
 use Rattle.terms.specs.declared.Sizes.{Sizes}
 use Rattle.words.specs.Columns.{place, columns, header, put, sep}
-use Rattle.words.specs.Layout.{jobShape, JOBS, ARCS, BITS, WORKERS, MADE, NAME, LABEL, CLASS, CELL, POSITION}
+use Rattle.words.specs.Layout.{jobShape, JOBS, ARCS, BITS, WORKERS, MADE, NAME, LABEL, CLASS, MARK, CELL, POSITION}
 use Rattle.words.specs.Layout.{Tables, tables, View, view, longEnough, sizesKept}
 use Rattle.words.specs.Index.{levels, rankOf, placeIn, waits, seated, firstPlace, lastSlot, lastPlace, firstSeatBy}
 use Rattle.words.specs.Index.{firstSeat}
@@ -134,6 +134,7 @@ module _ (t : Tables) (m : List ℕ) (b : ButClasses (t .jobs) m) where
       rw (
         field-same (t .jobs) m b LABEL (nextJob v) refl (omega arith),
         field-same (t .jobs) m b NAME (nextJob v) refl (omega arith),
+        field-same (t .jobs) m b MARK (nextJob v) refl (omega arith),
       )
   take-same Unseated = refl
 

@@ -3,21 +3,21 @@
 -- "Turned-away calls", and docs/TABLES.md, "What each step reads and writes". Assumes nothing.
 use mathlib.Core.Path.{_≡_, refl}
 use mathlib.Core.Logic.{_≢_}
-use mathlib.Core.Bool.{Bool, true, false, _&&_}
+use mathlib.Core.Bool.{Bool, true, false, _&&_, not, and-false}
 use mathlib.Core.List.{List}
-use Prim.Native.Nat.{ℕ, _≤_}
-use lib.Dec.{leb}
-use borrow.Author.Tests.{leb-true, le-leb, eqb-true, eq-eqb, ne-eqb}
+use Prim.Native.Nat.{ℕ, _≤_, _<_}
+use lib.Dec.{leb, eqb}
+use borrow.Author.Tests.{leb-true, le-leb, lt-leb, eqb-true, eq-eqb, ne-eqb}
 use Rattle.basics.specs.Laws.{never, fails}
-use Rattle.terms.specs.Terms.{Arguments, Finish, argumentsWrong}
+use Rattle.terms.specs.Terms.{Arguments, Finish, bit, argumentsWrong}
 use Rattle.terms.specs.Runs.{Item, postAdd, postFinish, step, get, load, sizesOf, workerOf, isLoad, outcome}
 use Rattle.terms.specs.declared.Sizes.{Sizes}
 use Rattle.terms.specs.declared.Answer.the-variants.{Posted, Refused}
-use Rattle.words.specs.Layout.{none, NAME, PHASE, HELD, IDLE, MARKING, Tables, tables, View, view, bareWorker}
+use Rattle.words.specs.Layout.{none, NAME, MARK, PHASE, HELD, IDLE, MARKING, Tables, tables, View, view, bareWorker}
 use Rattle.words.specs.Words.{countersOk, applied, appliedGet, posted, addWords, finishWords, stepWords, getWords}
 use Rattle.words.specs.Words.{planPhase, refusal, holdsName, addingWorker, putWorker, perform}
 use Rattle.words.specs.declared.Plan.the-variants.{Refuse}
-use Rattle.locality.specs.Parts.{parts}
+use Rattle.locality.specs.Parts.{test, parts}
 use Rattle.locality.specs.Compared.{early, empty, index, reach}
 use Rattle.locality.specs.Judged.{Counters, counters-mean, Admitted, TurnedAway, by-1, by-2, by-9, admits}
 use Rattle.locality.specs.Judged.{turns-away}
@@ -57,11 +57,27 @@ pub record Holds (v : View) (w name : ℕ) : Type 0 where
   pub held : v .worker HELD w ≢ none
   pub named : v .job NAME (v .worker HELD w) ≡ name
 
-pub data FinishRefused (s : Sizes) (t : Tables) (w name : ℕ) : ℕ → Type 0 where
-  by-3 : view t .worker PHASE w ≢ IDLE → FinishRefused s t w name 3
-  by-11 : view t .worker PHASE w ≡ IDLE → (Holds (view t) w name → ⊥) → FinishRefused s t w name 11
-  counters : view t .worker PHASE w ≡ IDLE → Holds (view t) w name → (Counters s (view t) → ⊥)
-      → FinishRefused s t w name 9
+-- the mark of the job that it holds
+abbrev pub heldMark : View → ℕ → ℕ
+heldMark v w = v .job MARK (v .worker HELD w)
+
+-- 9 for a counter or the mark, then "19, good for a spoiled job, after 11"
+pub data FinishRefused (s : Sizes) (t : Tables) (w : ℕ) (f : Finish) : ℕ → Type 0 where
+  by-3 : view t .worker PHASE w ≢ IDLE → FinishRefused s t w f 3
+  by-11 : view t .worker PHASE w ≡ IDLE → (Holds (view t) w (f .name) → ⊥) → FinishRefused s t w f 11
+  counters : view t .worker PHASE w ≡ IDLE → Holds (view t) w (f .name) → (Counters s (view t) → ⊥)
+      → FinishRefused s t w f 9
+  mark : view t .worker PHASE w ≡ IDLE → Holds (view t) w (f .name) → 1 < heldMark (view t) w
+      → FinishRefused s t w f 9
+  by-19 : view t .worker PHASE w ≡ IDLE → Holds (view t) w (f .name) → Counters s (view t)
+      → heldMark (view t) w ≡ 1 → f .failed ≡ false
+      → FinishRefused s t w f 19
+
+-- else: the mark is 0 or 1, and a spoiled job ends as failed
+pub record FinishFits (v : View) (w : ℕ) (f : Finish) : Type 0 where
+  pub holds : Holds v w (f .name)
+  pub marked : heldMark v w ≤ 1
+  pub ends : heldMark v w ≡ 1 → f .failed ≡ true
 
 module _ (s : Sizes) (t : Tables) (w : ℕ) (a : Admitted s t w) where
   off : (Counters s (view t) → ⊥) → countersOk s (view t) ≡ false
@@ -88,12 +104,22 @@ module _ (s : Sizes) (t : Tables) (w : ℕ) (a : Admitted s t w) where
   add-is-refused x n (by-5 e h) = rw (admits s t w refusal _ a, e, h)
   add-is-refused x n (counters e h f) = rw (admits s t w refusal _ a, e, h, off f)
 
-  pub finish-is-refused : (f : Finish) (n : ℕ) → FinishRefused s t w (f .name) n
+  pub finish-is-refused : (f : Finish) (n : ℕ) → FinishRefused s t w f n
       → perform t (postFinish s w f) ≡ outcome (Refused n 0) t
   unfolding perform finishWords posted
   finish-is-refused x n (by-3 e) = rw (admits s t w refusal _ a, ne-eqb (view t .worker PHASE w) IDLE e)
   finish-is-refused x n (by-11 e h) = rw (admits s t w refusal _ a, e, holds-not (x .name) h)
   finish-is-refused x n (counters e h f) = rw (admits s t w refusal _ a, e, holds (x .name) h, off f)
+  finish-is-refused x n (mark e h o) =
+      rw (
+        admits s t w refusal _ a,
+        e,
+        holds (x .name) h,
+        lt-leb (heldMark (view t) w) 1 o,
+        and-false (countersOk s (view t)),
+      )
+  finish-is-refused x n (by-19 e h c m g) =
+      rw (admits s t w refusal _ a, e, holds (x .name) h, counters-mean s (view t) .1 c, m, g)
 
   -- and what no number refuses is posted: the worker's words are written, and nothing else
   module _ (here : view t .worker PHASE w ≡ IDLE) (sound : Counters s (view t)) where
@@ -102,10 +128,24 @@ module _ (s : Sizes) (t : Tables) (w : ℕ) (a : Admitted s t w) where
     unfolding perform addWords posted
     add-is-posted x h = rw (admits s t w refusal _ a, here, h, counters-mean s (view t) .1 sound)
 
-    pub finish-is-posted : (f : Finish) → Holds (view t) w (f .name)
-        → perform t (postFinish s w f) ≡ outcome Posted (withWorker t w (bareWorker MARKING (view t .worker HELD w)))
+    -- with a mark of 1 the outcome is failed
+    not-good : (f : Finish) → (heldMark (view t) w ≡ 1 → f .failed ≡ true)
+        → (eqb (heldMark (view t) w) 1 && not (f .failed)) ≡ false
+    not-good f h = test (eqb (heldMark (view t) w) 1) (λ e. rw (e, h (eqb-true (heldMark (view t) w) 1 e))) (λ e. rw e)
+
+    pub finish-is-posted : (f : Finish) → FinishFits (view t) w f
+        → perform t (postFinish s w f)
+        ≡ outcome Posted (withWorker t w (bareWorker MARKING (view t .worker HELD w) (bit (f .failed))))
     unfolding perform finishWords posted
-    finish-is-posted f h = rw (admits s t w refusal _ a, here, holds (f .name) h, counters-mean s (view t) .1 sound)
+    finish-is-posted f h =
+        rw (
+          admits s t w refusal _ a,
+          here,
+          holds (f .name) (h .holds),
+          counters-mean s (view t) .1 sound,
+          le-leb (heldMark (view t) w) 1 (h .marked),
+          not-good f (h .ends),
+        )
 
 -- ---- a get
 -- the counters that it reads then: "`taken` is at most `put`, and `put` at most R"

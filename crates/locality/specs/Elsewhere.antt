@@ -8,15 +8,16 @@ use lib.Dec.{leb, ltb, eqb}
 use lib.ListN.{length}
 use borrow.Author.Tests.{lt-ltb}
 use Rattle.basics.specs.Base.{pick}
+use Rattle.terms.specs.Terms.{bit}
 use Rattle.terms.specs.Runs.{Outcome, outcome, Item, postAdd, postFinish, step, get, load}
 use Rattle.terms.specs.declared.Sizes.{Sizes}
 use Rattle.words.specs.Layout.{none, LABEL, FIRST, LAST, OWN-NAME, OWN-JOB, OWN-ARC, HELD, PHASE, PLACE, LIST-COUNT}
 use Rattle.words.specs.Layout.{IDLE, LOOKING, LINKING, MARKING, Tables, tables, View, view, longEnough, sizesFit}
-use Rattle.words.specs.Layout.{bareWorker}
-use Rattle.words.specs.Words.{isPlace, placeOk, countersOk, ownOk, findOf, nameAt, planLookUp, planEnter, planAppend}
-use Rattle.words.specs.Words.{planLink, planMark, planAdd, planLinks, planCall, planPhase, admitted, answerOf}
-use Rattle.words.specs.Words.{applied, stepWords, posted, refusal, judgedAdd, judgedFinish, addingWorker, addWords}
-use Rattle.words.specs.Words.{finishWords, judgedLoad, loading, loadWords, perform}
+use Rattle.words.specs.Layout.{OUTCOME, bareWorker}
+use Rattle.words.specs.Words.{isPlace, placeOk, countersOk, ownOk, findOf, nameAt, planLookUp, planEnter}
+use Rattle.words.specs.Words.{planAppend, planTally, planLink, planMark, planAdd, planLinks, planCall, planPhase}
+use Rattle.words.specs.Words.{admitted, answerOf, applied, stepWords, posted, refusal, judgedAdd, judgedFinish}
+use Rattle.words.specs.Words.{addingWorker, addWords, finishWords, judgedLoad, loading, loadWords, perform}
 use Rattle.words.specs.declared.Found.{Found}
 use Rattle.words.specs.declared.Found.the-variants.{At, Missing, Damaged}
 use Rattle.words.specs.declared.Plan.{Plan}
@@ -74,10 +75,10 @@ module _ (t : Tables) (q : List ℕ) (same : length q ≡ length (t .queue)) whe
   enters s w name d Damaged = refl
 
   links : (s : Sizes) (w x j : ℕ) (f : Found) → Alike w (planLink s v′ x j f) (planLink s v x j f)
-  unfolding planLink planAppend applied
+  unfolding planLink planTally planAppend applied
   links s w x j (At p) =
       either w (leb (v .job LABEL p) 2) _ _ _ _
-      (either w (eqb (v .job LABEL p) 2) _ _ _ _ refl
+      (either w (eqb (v .job LABEL p) 2) _ _ _ _ (either w (leb (v .job OUTCOME p) 1) _ _ _ _ refl refl)
       (either w (ltb j (v .made) && ltb x (v .reserved) && placeOk (v .job LAST p) (v .reserved) (s .arcs)) _ _ _ _
       (either w (eqb (v .job LAST p) none) _ _ _ _ refl refl)
       refl))
@@ -132,7 +133,8 @@ module _ (t : Tables) (q : List ℕ) (same : length q ≡ length (t .queue)) whe
   elsewhere (postAdd s w a) e =
       rw same (posts w (admitted s t w refusal (judgedAdd s v w a)) (addingWorker (v .worker HELD w) a))
   elsewhere (postFinish s w f) e =
-      rw same (posts w (admitted s t w refusal (judgedFinish s v w (f .name))) (bareWorker MARKING (v .worker HELD w)))
+      rw same (posts w (admitted s t w refusal (judgedFinish s v w f))
+      (bareWorker MARKING (v .worker HELD w) (bit (f .failed))))
   elsewhere (step s w) e = admits-alike s w (planPhase s v′ w) (planPhase s v w) (phases s w e)
   elsewhere (get s w) e = absurd e
   elsewhere (load s m) e = rw same (loads (judgedLoad s t m) m)

@@ -1,6 +1,6 @@
 -- For ALL tables: the seat of the job that a get takes, and whether it takes it, are told by the counters, four words
--- of each slot that it looks at and the first job's label, and by no other word. Follows docs/TABLES.md, "What each
--- step reads and writes". Assumes nothing.
+-- of each slot that it looks at and the first job's label and mark, and by no other word. Follows docs/TABLES.md, "What
+-- each step reads and writes". Assumes nothing.
 use mathlib.Core.Path.{_≡_, refl, sym, ap, _∙_}
 use mathlib.Core.Bool.{Bool, true, false, _&&_}
 use mathlib.Core.List.{List, [], _∷_, _++_}
@@ -12,13 +12,13 @@ use Rattle.heap.specs.Sift.{left, right, siftDown, lesser, soundBelow}
 use Rattle.heap.specs.Looked.{eachSound, slotsBelow, slotsDown, exact-below}
 use Rattle.heap.specs.declared.Sifted.{Sifted}
 use Rattle.heap.specs.declared.Sifted.the-variants.{Rests, Astray}
-use Rattle.words.specs.Layout.{LABEL, CELL, View}
+use Rattle.words.specs.Layout.{LABEL, MARK, CELL, View}
 use Rattle.words.specs.Index.{levels, rankOf, placeIn, waits, seated, firstPlace, lastSlot, lastPlace, firstSeatBy}
 use Rattle.words.specs.Index.{firstSeat}
-use Rattle.words.specs.Words.{nextJob}
+use Rattle.words.specs.Words.{nextJob, markOk}
 use Rattle.words.specs.declared.Seating.{Seating}
 use Rattle.words.specs.declared.Seating.the-variants.{Unseated}
-use Rattle.locality.specs.Looked.{isSeated, lookedByGet, takesFirst, first-exact}
+use Rattle.locality.specs.Looked.{isSeated, lookedByGet, firstOk, takesFirst, first-exact}
 use Rattle.locality.specs.EntryReads.{SameSlot, SameSlots, SameCounters, waits-same, rank-same, beyond}
 
 module _ (u v : View) where
@@ -130,16 +130,16 @@ module _ (u v : View) where
 
     -- whether it is taken, too
     pub takes-same : SameSlots u v (lookedByGet v) → u .job LABEL (nextJob v) ≡ v .job LABEL (nextJob v)
+        → u .job MARK (nextJob v) ≡ v .job MARK (nextJob v)
         → takesFirst u ≡ takesFirst v
     unfolding lookedByGet SameSlots
-    takes-same A label =
-        sym (exact u) ∙ ap (λ r. isSeated r && eqb (u .job LABEL (nextJob u)) 0) (first-seat-same A)
-        ∙ ap (λ j. isSeated (firstSeat v) && eqb (u .job LABEL j) 0) next
-        ∙ ap (λ n. isSeated (firstSeat v) && eqb n 0) label
-        ∙ exact v
+    takes-same A label mark =
+        sym (exact u) ∙ ap (λ r. isSeated r && firstOk u) (first-seat-same A)
+        ∙ ap (λ j. isSeated (firstSeat v) && (eqb (u .job LABEL j) 0 && markOk u j)) next
+        ∙ rw (label, mark) (exact v)
       where
         next : nextJob u ≡ nextJob v
         next = ap (u .cell CELL) (A .0 .place) ∙ A .0 .cell
 
-        exact : (x : View) → (isSeated (firstSeat x) && eqb (x .job LABEL (nextJob x)) 0) ≡ takesFirst x
-        exact x = ap (λ b. b && eqb (x .job LABEL (nextJob x)) 0) (first-exact x)
+        exact : (x : View) → (isSeated (firstSeat x) && firstOk x) ≡ takesFirst x
+        exact x = ap (λ b. b && firstOk x) (first-exact x)

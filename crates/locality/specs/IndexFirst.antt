@@ -15,10 +15,10 @@ use Rattle.terms.specs.Terms.{damaged}
 use Rattle.terms.specs.declared.Sizes.{Sizes}
 use Rattle.terms.specs.declared.HandOut.{HandOut}
 use Rattle.terms.specs.declared.Answer.the-variants.{NoneReady, Handed}
-use Rattle.words.specs.Layout.{Tables, View, view, NAME, LABEL, CELL, SLOT, PHASE, HELD, IDLE, none, sizesFit}
+use Rattle.words.specs.Layout.{Tables, View, view, NAME, LABEL, MARK, CELL, SLOT, PHASE, HELD, IDLE, none, sizesFit}
 use Rattle.words.specs.Index.{levels, rankOf, placeIn, waits, firstPlace, lastPlace, lastSlot, seated, firstSeatBy}
 use Rattle.words.specs.Index.{firstSeat}
-use Rattle.words.specs.Words.{admitted, ownOk, countersOk, takeFrom, nextJob, answerGet, getWords, planGetOf}
+use Rattle.words.specs.Words.{admitted, ownOk, countersOk, markOk, takeFrom, nextJob, answerGet, getWords, planGetOf}
 use Rattle.words.specs.declared.Seating.{Seating}
 use Rattle.words.specs.declared.Seating.the-variants.{Seated, Unseated}
 use Rattle.words.specs.declared.GetPlan.{GetPlan}
@@ -82,13 +82,15 @@ planned s t w = sym (plan-by-reach s t w)
 
 -- ---- a job that is handed out
 -- what a hand-out says of the index, by the words of the tables: the first place is that in slot 0, the last slot is
--- below `put` less `taken`
+-- below `put` less `taken`; and of the job's mark, which it tells
 pub record FirstTaken (v : View) (h : HandOut) : Type 0 where
   pub first : h .job ≡ v .cell CELL (v .cell SLOT 0)
   pub name : h .name ≡ v .job NAME (h .job)
   pub last : waits v (v .put - v .taken - 1) ≡ true
   pub waits : waits v 0 ≡ true
   pub unexecuted : v .job LABEL (h .job) ≡ 0
+  pub marked : v .job MARK (h .job) ≤ 1
+  pub spoiled : h .spoiled ≡ eqb (v .job MARK (h .job)) 1
 
 abbrev Says : View → GetPlan → Type 0
 Says v p = (h : HandOut) → answerGet p ≡ Handed h → FirstTaken v h
@@ -100,7 +102,7 @@ taking : (v : View) → waits v 0 ≡ true → waits v (lastSlot v) ≡ true →
     → Says v (takeFrom v (seated f (firstPlace v) (lastSlot v)))
 taking v a b Astray = refusing v damaged
 taking v a b (Rests k) =
-    pick-by (Says v) (eqb (v .job LABEL (nextJob v)) 0)
+    pick-by (Says v) (eqb (v .job LABEL (nextJob v)) 0 && markOk v (nextJob v))
     (λ c h e.
     let same : h .job ≡ nextJob v = cc in
     record {
@@ -108,7 +110,9 @@ taking v a b (Rests k) =
       name = cc;
       last = b;
       waits = a;
-      unexecuted = rw same (eqb-true (v .job LABEL (nextJob v)) 0 c);
+      unexecuted = rw same (eqb-true (v .job LABEL (nextJob v)) 0 (search parts));
+      marked = rw same (leb-true (v .job MARK (nextJob v)) 1 (search parts));
+      spoiled = cc;
     })
     (λ c. refusing v damaged)
 
@@ -140,7 +144,9 @@ none-ready-empty s t w e = go (reach s t w) (reached s t w) (ap answerGet (sym (
     N p = answerGet p ≡ NoneReady → view t .taken ≡ view t .put
 
     no : (r : Seating) → N (takeFrom (view t) r)
-    no (Seated x) = pick-by N (eqb (view t .job LABEL (nextJob (view t))) 0) (λ _ f. never (cc)) (λ _ f. never (cc))
+    no (Seated x) =
+        let j = nextJob (view t) in
+        pick-by N (eqb (view t .job LABEL j) 0 && markOk (view t) j) (λ _ f. never (cc)) (λ _ f. never (cc))
     no Unseated = λ f. never (cc)
 
     go : (r : Reach) → Reached s t w r → N (planAt r (takeFrom (view t) (firstSeat (view t))))

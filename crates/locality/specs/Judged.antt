@@ -3,16 +3,16 @@
 -- Assumes nothing.
 use mathlib.Core.Path.{_≡_}
 use mathlib.Core.Logic.{_↔_, _≢_}
-use mathlib.Core.Bool.{Bool, true, false}
+use mathlib.Core.Bool.{true}
 use Prim.Native.Nat.{ℕ, _+_, _*_, _^_, _≤_, _<_}
 use native.Mathlib.Omega.{arith}
 use lib.Dec.{eqb}
 use lib.ListN.{length}
-use borrow.Author.Tests.{ltb-true, leb-true, eqb-true, eqb-false, lt-ltb, le-ltb, le-leb, eq-eqb, ne-eqb}
+use borrow.Author.Tests.{ltb-true, leb-true, eqb-false, lt-ltb, le-ltb, le-leb, ne-eqb}
 use Rattle.basics.specs.Laws.{fails}
 use Rattle.terms.specs.declared.Sizes.{Sizes}
 use Rattle.words.specs.Layout.{none, PHASE, HELD, LIST-COUNT, OWN-CLASS, OWN-GROWER, TALLY}
-use Rattle.words.specs.Layout.{PLACE, OWN-JOB, OWN-ARC, Tables, View, view, longEnough, roomFor, sizesFit}
+use Rattle.words.specs.Layout.{PLACE, OWN-JOB, OWN-ARC, NOTE, Tables, View, view, longEnough, roomFor, sizesFit}
 use Rattle.words.specs.Words.{placeOk, countersOk, ownOk, admitted}
 use Rattle.words.specs.Sized.{Limited, limited-means, Kept, kept-means}
 use Rattle.locality.specs.Parts.{test, parts}
@@ -20,30 +20,30 @@ use Rattle.locality.specs.Parts.{test, parts}
 -- ---- what laying out asks for: sizes in their limits, and each table as long as its counters and records need
 pub record Roomy (s : Sizes) (t : Tables) : Type 0 where
   pub limits : Limited s
-  pub jobs-long : 21 + 8 * s .jobs ≤ length (t .jobs)
+  pub jobs-long : 21 + 10 * s .jobs ≤ length (t .jobs)
   pub arcs-long : 1 + 2 * s .arcs ≤ length (t .arcs)
   pub buckets-long : 2 ^ s .bits ≤ length (t .buckets)
   pub queue-long : 2 + 3 * s .jobs ≤ length (t .queue)
-  pub workers-long : 42 * s .workers ≤ length (t .workers)
+  pub workers-long : 43 * s .workers ≤ length (t .workers)
 
 pub room-means : (s : Sizes) (t : Tables) → (roomFor s t ≡ true) ↔ Roomy s t
 unfolding longEnough
 room-means s t = (
   λ e. record {
     limits = limited-means s .0 (search parts);
-    jobs-long = leb-true (21 + 8 * s .jobs) (length (t .jobs)) (search parts);
+    jobs-long = leb-true (21 + 10 * s .jobs) (length (t .jobs)) (search parts);
     arcs-long = leb-true (1 + 2 * s .arcs) (length (t .arcs)) (search parts);
     buckets-long = omega (arith, leb-true (0 + 1 * 2 ^ s .bits) (length (t .buckets)) (search parts));
     queue-long = leb-true (2 + 3 * s .jobs) (length (t .queue)) (search parts);
-    workers-long = omega (arith, leb-true (0 + 42 * s .workers) (length (t .workers)) (search parts));
+    workers-long = omega (arith, leb-true (0 + 43 * s .workers) (length (t .workers)) (search parts));
   },
   λ h. rw (
     limited-means s .1 (h .limits),
-    le-leb (21 + 8 * s .jobs) (length (t .jobs)) (h .jobs-long),
+    le-leb (21 + 10 * s .jobs) (length (t .jobs)) (h .jobs-long),
     le-leb (1 + 2 * s .arcs) (length (t .arcs)) (h .arcs-long),
     le-leb (0 + 1 * 2 ^ s .bits) (length (t .buckets)) (omega (arith, h .buckets-long)),
     le-leb (2 + 3 * s .jobs) (length (t .queue)) (h .queue-long),
-    le-leb (0 + 42 * s .workers) (length (t .workers)) (omega (arith, h .workers-long)),
+    le-leb (0 + 43 * s .workers) (length (t .workers)) (omega (arith, h .workers-long)),
   ),
 )
 
@@ -71,7 +71,8 @@ place-means p counter size = (
       (λ e. let u = h (eqb-false p none e) in rw (e, lt-ltb p counter (u .0), lt-ltb p size (u .1))),
 )
 
--- ---- "the worker's own words": "phase, hold, list count, class, grower, tally, list place, the call's job and arc"
+-- ---- "the worker's own words": "phase, hold, list count, class, grower, tally, list place, the call's job and arc",
+-- and the note, which is 0 or 1
 pub record Own (s : Sizes) (v : View) (w : ℕ) : Type 0 where
   pub phase : v .worker PHASE w ≤ 4
   pub hold : NoneOrUsed (v .worker HELD w) (v .made) (s .jobs)
@@ -82,20 +83,22 @@ pub record Own (s : Sizes) (v : View) (w : ℕ) : Type 0 where
   pub place : v .worker PLACE w ≤ v .worker LIST-COUNT w
   pub job : NoneOrUsed (v .worker OWN-JOB w) (v .made) (s .jobs)
   pub arc : NoneOrUsed (v .worker OWN-ARC w) (v .reserved) (s .arcs)
+  pub note : v .worker NOTE w ≤ 1
 
 pub own-means : (s : Sizes) (v : View) (w : ℕ) → (ownOk s v w ≡ true) ↔ Own s v w
 unfolding ownOk
 own-means s v w = (
   λ e. record {
-    phase = leb-true (v .worker PHASE w) 4 (search parts depth 9);
-    hold = place-means (v .worker HELD w) (v .made) (s .jobs) .0 (search parts depth 9);
-    count = leb-true (v .worker LIST-COUNT w) 32 (search parts depth 9);
-    class = leb-true (v .worker OWN-CLASS w) 15 (search parts);
+    phase = leb-true (v .worker PHASE w) 4 (search parts depth 10);
+    hold = place-means (v .worker HELD w) (v .made) (s .jobs) .0 (search parts depth 10);
+    count = leb-true (v .worker LIST-COUNT w) 32 (search parts depth 10);
+    class = leb-true (v .worker OWN-CLASS w) 15 (search parts depth 10);
     grower = leb-true (v .worker OWN-GROWER w) 65535 (search parts);
     tally = leb-true (v .worker TALLY w) (v .worker LIST-COUNT w) (search parts);
     place = leb-true (v .worker PLACE w) (v .worker LIST-COUNT w) (search parts);
     job = place-means (v .worker OWN-JOB w) (v .made) (s .jobs) .0 (search parts);
     arc = place-means (v .worker OWN-ARC w) (v .reserved) (s .arcs) .0 (search parts);
+    note = leb-true (v .worker NOTE w) 1 (search parts);
   },
   λ h. rw (
     le-leb (v .worker PHASE w) 4 (h .phase),
@@ -107,6 +110,7 @@ own-means s v w = (
     le-leb (v .worker PLACE w) (v .worker LIST-COUNT w) (h .place),
     place-means (v .worker OWN-JOB w) (v .made) (s .jobs) .1 (h .job),
     place-means (v .worker OWN-ARC w) (v .reserved) (s .arcs) .1 (h .arc),
+    le-leb (v .worker NOTE w) 1 (h .note),
   ),
 )
 

@@ -47,7 +47,7 @@ lay-fresh s t h i =
     let arcs = length-repeated (s .arcs) freshArc in
     let buckets = length-replicate (2 ^ s .bits) none in
     let queue = length-repeated (s .jobs) freshPlace in
-    let workers = length-repeated (s .workers) (bareWorker IDLE none) in
+    let workers = length-repeated (s .workers) (bareWorker IDLE none 0) in
     tables (lay-table (freshJobs s) (t .jobs) (need jobShape (s .jobs)) (omega arith) (h .jobs) i)
     (lay-table (freshArcs s) (t .arcs) (need arcShape (s .arcs)) (omega arith) (h .arcs) i)
     (lay-table (freshBuckets s) (t .buckets) (need bucketShape (2 ^ s .bits)) (omega arith) (h .buckets) i)

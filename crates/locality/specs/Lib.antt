@@ -6,6 +6,17 @@ pub mod Within
 pub mod Refusals
 pub mod Laying
 pub mod Loads
+pub mod Outcomes
+pub mod Origins
+pub mod Fields
+pub mod OutcomeWords
+pub mod OutcomeSteps
+pub mod NoteSteps
+pub mod OutcomeItems
+pub mod LinkSteps
+pub mod MarkSteps
+pub mod WrongOutcomes
+pub mod WrongSteps
 pub mod WrongLoads
 pub mod WrongLaying
 pub mod Numbers

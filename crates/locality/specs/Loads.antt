@@ -3,7 +3,6 @@
 -- first job enters", "the order is 1, 17, 9, 18, with nothing changed". (WrongLoads.antt has loads that do otherwise.)
 -- Assumes nothing.
 use mathlib.Core.Path.{_≡_, refl, sym, ap, _∙_}
-use mathlib.Core.Bool.{true}
 use mathlib.Core.List.{List}
 use Prim.Native.Nat.{ℕ, zero, suc, _+_, _≤_, _<_}
 use native.Mathlib.Omega.{arith}
@@ -11,17 +10,14 @@ use lib.ListN.{length, getD}
 use lib.Seq.{length-sets}
 use borrow.Author.Tests.{le-leb, lt-leb, eq-eqb, ne-eqb}
 use Rattle.basics.specs.Stores.{sets-off, sets-at}
-use Rattle.minutes.specs.Minutes.{fixedMinutes}
 use Rattle.minutes.specs.Rising.{isRising, SixteenRising, rising-means}
 use Rattle.basics.specs.Laws.{fails}
-use Rattle.terms.specs.Terms.{wrongSizes, damaged, wrongMinutes, jobsEntered}
 use Rattle.terms.specs.Runs.{load, Outcome, outcome}
 use Rattle.terms.specs.declared.Sizes.{Sizes}
 use Rattle.terms.specs.declared.Answer.the-variants.{Loaded, Refused}
 use Rattle.words.specs.Columns.{header, cells, cells-list}
-use Rattle.words.specs.Layout.{MINUTES, Tables, view, roomFor, sizesFit, storedMinutes, putMinutes}
-use Rattle.words.specs.Words.{loaded, judgedLoad, loading, loadWords, layOut, perform}
-use Rattle.locality.specs.Laying.{laid-out}
+use Rattle.words.specs.Layout.{MINUTES, Tables, view, sizesFit, storedMinutes, putMinutes}
+use Rattle.words.specs.Words.{loaded, judgedLoad, loading, loadWords, perform}
 use Rattle.locality.specs.Judged.{Sized, sized-means}
 
 -- ---- the statement
@@ -72,11 +68,6 @@ loaded-stores t m e fits =
       workers = refl;
     }
 
--- the number of jobs made is word 4 of the jobs' table
-pub made-by-word : (t : Tables) → view t .made ≡ getD (t .jobs) 4 0
-unfolding header
-made-by-word t = refl
-
 pub loads-exactly : (s : Sizes) (t : Tables) (m : List ℕ) → LoadsExactly loadWords s t m
 unfolding loadWords loading header
 loads-exactly s t m =
@@ -104,23 +95,3 @@ loads-exactly s t m =
 pub item-loads-exactly : (s : Sizes) (t : Tables) (m : List ℕ) → LoadsExactly (λ q u n. perform u (load q n)) s t m
 unfolding perform
 item-loads-exactly s t m = loads-exactly s t m
-
--- ---- the words that a load reads
-answered : (n : ℕ) (t u : Tables) (m : List ℕ) → loading n t m .answer ≡ loading n u m .answer
-unfolding loading
-answered zero t u m = refl
-answered (suc n) t u m = refl
-
--- "It reads how many jobs were made, and none of the minutes that it replaces": tables that agree in the tests of the
--- sizes and in the number of jobs made give one answer
-pub no-other-word-is-read-by-a-load : (s : Sizes) (t u : Tables) (m : List ℕ) → sizesFit s t ≡ sizesFit s u
-    → view t .made ≡ view u .made
-    → loadWords s t m .answer ≡ loadWords s u m .answer
-unfolding loadWords
-no-other-word-is-read-by-a-load s t u m e h = rw (e, h) (answered (judgedLoad s u m) t u m)
-
--- ---- "Laying out anew brings the fixed ones back", whatever was stored
-pub laid-out-anew : (s : Sizes) (t : Tables) → roomFor s t ≡ true
-    → storedMinutes (layOut s t .state .jobs) ≡ fixedMinutes
-unfolding header cells fixedMinutes
-laid-out-anew s t e = rw (laid-out s t, e)

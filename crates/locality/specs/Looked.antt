@@ -1,8 +1,8 @@
 -- For ALL tables: which slots of the index a get and an entry look at, and that they are few. A get that comes to the
--- index is refused by 9, with nothing changed, where one of them does not wait or the first job is not unexecuted (what
--- it does otherwise: Taken). A job that enters is seated exactly where each of them waits. So an index that is empty
--- over a filled queue is seen, and where all slots wait no order of them stops a get. Follows docs/RULES.md, "The
--- index", "Steps" and "Turned-away calls". Assumes nothing.
+-- index is refused by 9, with nothing changed, where one of them does not wait, the first job is not unexecuted or its
+-- mark is not 0 or 1 (what it does otherwise: Taken). A job that enters is seated exactly where each of them waits. So
+-- an index that is empty over a filled queue is seen, and where all slots wait no order of them stops a get. Follows
+-- docs/RULES.md, "The index", "Steps" and "Turned-away calls". Assumes nothing.
 use mathlib.Core.Path.{_≡_, refl, ap, subst, _∙_}
 use mathlib.Core.Bool.{Bool, true, false, _&&_}
 use mathlib.Core.List.{List, _∷_}
@@ -11,7 +11,7 @@ use native.Mathlib.Omega.{arith}
 use lib.Dec.{ltb, leb, eqb}
 use lib.ListN.{length}
 use lib.Pow.{pow-pos}
-use borrow.Author.Tests.{leb-true, le-ltb}
+use borrow.Author.Tests.{leb-true, le-leb, le-ltb}
 use Rattle.basics.specs.Base.{pick}
 use Rattle.basics.specs.Limits.{mostClass}
 use Rattle.heap.specs.Sift.{siftUp, siftDown}
@@ -24,10 +24,10 @@ use Rattle.terms.specs.Terms.{mostJobs, withinLimits, damaged}
 use Rattle.terms.specs.Runs.{outcome}
 use Rattle.terms.specs.declared.Sizes.{Sizes}
 use Rattle.terms.specs.declared.Answer.the-variants.{Refused}
-use Rattle.words.specs.Layout.{none, LABEL, CLASS, Tables, View, view}
+use Rattle.words.specs.Layout.{none, LABEL, CLASS, MARK, Tables, View, view}
 use Rattle.words.specs.Index.{levels, rankIn, rankOf, placeIn, waits, filled, seated, seatFor, firstPlace, lastSlot}
 use Rattle.words.specs.Index.{lastPlace, firstSeatBy, firstSeat}
-use Rattle.words.specs.Words.{nextJob, takeFrom, appliedGet, getWords, planGetOf}
+use Rattle.words.specs.Words.{nextJob, markOk, takeFrom, appliedGet, getWords, planGetOf}
 use Rattle.words.specs.declared.Seating.{Seating}
 use Rattle.words.specs.declared.Seating.the-variants.{Seated, Unseated}
 use Rattle.words.specs.declared.GetPlan.{GetPlan}
@@ -90,10 +90,13 @@ first-exact v =
     go false b e = refl
 
 -- ---- a get that comes to the index: the tests that decide whether it takes the first or is refused by 9
-abbrev pub takesFirst : View → Bool
-takesFirst v = eachWaits v (lookedByGet v) && eqb (v .job LABEL (nextJob v)) 0
+abbrev pub firstOk : View → Bool
+firstOk v = eqb (v .job LABEL (nextJob v)) 0 && markOk v (nextJob v)
 
-take-refused : (v : View) (r : Seating) → (isSeated r && eqb (v .job LABEL (nextJob v)) 0) ≡ false
+abbrev pub takesFirst : View → Bool
+takesFirst v = eachWaits v (lookedByGet v) && firstOk v
+
+take-refused : (v : View) (r : Seating) → (isSeated r && firstOk v) ≡ false
     → takeFrom v r ≡ RefuseGet damaged
 take-refused v (Seated e) c = rw c
 take-refused v Unseated c = refl
@@ -108,8 +111,8 @@ module _ (s : Sizes) (t : Tables) (w : ℕ) (here : reach s t w ≡ index) where
   pub plan-here : planGetOf s t w ≡ first
   plan-here = planned s t w ∙ ap (λ r. planAt r first) here
 
-  pub takes-exact : (isSeated (firstSeat v) && eqb (v .job LABEL (nextJob v)) 0) ≡ takesFirst v
-  takes-exact = ap (λ b. b && eqb (v .job LABEL (nextJob v)) 0) (first-exact v)
+  pub takes-exact : (isSeated (firstSeat v) && firstOk v) ≡ takesFirst v
+  takes-exact = ap (λ b. b && firstOk v) (first-exact v)
 
   pub refused-at-index : takesFirst v ≡ false → getWords s t w ≡ outcome (Refused damaged 0) t
   unfolding getWords appliedGet
@@ -133,9 +136,10 @@ module _ (s : Sizes) (t : Tables) (w : ℕ) (here : reach s t w ≡ index) where
 
   -- where every filled slot waits it passes these tests, whatever the order of the heap
   pub trusted-at-index : ((k : ℕ) → k < filled v → waits v k ≡ true) → v .job LABEL (nextJob v) ≡ 0
+      → v .job MARK (nextJob v) ≤ 1
       → takesFirst v ≡ true
   unfolding lookedByGet eachSound
-  trusted-at-index h e =
+  trusted-at-index h e o =
       let more = some .some in
       let rank = rankOf v (lastPlace v) in
       let rest = trusted-down (rankOf v) (waits v) (placeIn v) (lastSlot v) (λ k l. h k (omega arith)) levels rank 0 in
@@ -145,6 +149,7 @@ module _ (s : Sizes) (t : Tables) (w : ℕ) (here : reach s t w ≡ index) where
         ← (exact-down (rankOf v) (waits v) (placeIn v) levels (lastSlot v) rank 0),
         rest,
         e,
+        le-leb (v .job MARK (nextJob v)) 1 o,
       )
 
 -- ---- the slots that a job looks at that enters: those on the way up

@@ -6,27 +6,29 @@ use mathlib.Core.List.{List, [], _∷_}
 use Prim.Native.Nat.{ℕ, zero, suc, _+_, _-_, _≤_, _<_}
 use native.Mathlib.Omega.{arith}
 use native.Mathlib.Decide.{decLt}
-use lib.Dec.{ltb}
+use lib.Dec.{ltb, eqb}
 use lib.ListN.{length, getD, set}
 use lib.Seq.{sets, set-comm, length-sets, getD-set-other, ext-getD}
 use Rattle.basics.specs.Base.{pick}
 use Rattle.basics.specs.Laws.{never}
 use Rattle.basics.specs.Stores.{sets-off}
 use Rattle.minutes.specs.Minutes.{classes}
+use Rattle.terms.specs.Terms.{bit}
 use Rattle.terms.specs.Runs.{Outcome, outcome, Item, postAdd, postFinish, step, get, load, isLoad}
 use Rattle.terms.specs.declared.Sizes.{Sizes}
 use Rattle.words.specs.Columns.{place, columns, header, put, putHeader, cells}
 use Rattle.words.specs.Layout.{jobShape, JOBS, ARCS, BITS, WORKERS, MADE, MINUTES, LABEL, COUNT, FIRST, LAST, HELD}
 use Rattle.words.specs.Layout.{MARKING, Tables, tables, View, view, longEnough, sizesKept, storedMinutes, putMinutes}
-use Rattle.words.specs.Layout.{sizesFit, bareWorker}
+use Rattle.words.specs.Layout.{OUTCOME, MARK, NOTE, sizesFit, bareWorker}
 use Rattle.words.specs.Words.{admitted, refusal, judgedAdd, judgedFinish, addingWorker, enteredJob, posted, planPhase}
 use Rattle.words.specs.Words.{planGet, planStep, planGetOf, applied, appliedGet, loaded, addWords, finishWords}
-use Rattle.words.specs.Words.{stepWords, getWords, perform}
+use Rattle.words.specs.Words.{lowered, stepWords, getWords, perform}
 use Rattle.words.specs.declared.Plan.{Plan}
 use Rattle.words.specs.declared.Plan.the-variants.{Refuse, Quit, Pass, Enter, Tally, LinkFirst, LinkAfter, Settle}
 use Rattle.words.specs.declared.Plan.the-variants.{SettleQueue, Mark, Notify, NotifyQueue}
 use Rattle.words.specs.declared.GetPlan.{GetPlan}
 use Rattle.words.specs.declared.GetPlan.the-variants.{RefuseGet, Wait, Take}
+use Rattle.locality.specs.Parts.{test}
 use Rattle.locality.specs.Within.{not-changed}
 use Rattle.locality.specs.Loads.{Stored, loaded-stores}
 
@@ -133,6 +135,11 @@ module _ (t : Tables) (m : List ℕ) (e : length m ≡ classes) where
     cells-alike (header x) (header (t .jobs)) MINUTES classes (d .stay),
   )
 
+  -- a job's count, and its mark by the worker's note
+  counted : (w j c : ℕ) → Beside (lowered (view t) w (t .jobs) j c) (lowered (view t) w (putMinutes (t .jobs) m) j c)
+  counted w j c = test (eqb (view t .worker NOTE w) 1) (λ e. rw e (field (field start j COUNT c) j MARK 1))
+      (λ e. rw e (field start j COUNT c))
+
   applies : (w : ℕ) (p : Plan) → Carried (applied p t w) (applied p (loaded t m) w)
   unfolding applied
   applies w (Refuse n) = carried _ _ _ _ start
@@ -140,14 +147,14 @@ module _ (t : Tables) (m : List ℕ) (e : length m ≡ classes) where
   applies w Pass = carried _ _ _ _ start
   applies w (Enter j k h x) =
       carried _ _ _ _ (counter (fields start j (enteredJob (view t) w h)) MADE (j + 1) (omega arith))
-  applies w Tally = carried _ _ _ _ start
+  applies w (Tally o) = carried _ _ _ _ start
   applies w (LinkFirst p x j) = carried _ _ _ _ (field (field start p FIRST x) p LAST x)
   applies w (LinkAfter p l x j) = carried _ _ _ _ (field start p LAST x)
-  applies w (Settle j c) = carried _ _ _ _ (field start j COUNT c)
-  applies w (SettleQueue j c s) = carried _ _ _ _ (field start j COUNT c)
-  applies w (Mark p x) = carried _ _ _ _ (field start p LABEL 2)
-  applies w (Notify j c x) = carried _ _ _ _ (field start j COUNT c)
-  applies w (NotifyQueue j c x s) = carried _ _ _ _ (field start j COUNT c)
+  applies w (Settle j c) = carried _ _ _ _ (counted w j c)
+  applies w (SettleQueue j c s) = carried _ _ _ _ (counted w j c)
+  applies w (Mark p x) = carried _ _ _ _ (field (field start p LABEL 2) p OUTCOME (view t .worker NOTE w))
+  applies w (Notify j c x) = carried _ _ _ _ (counted w j c)
+  applies w (NotifyQueue j c x s) = carried _ _ _ _ (counted w j c)
 
   applies-get : (w : ℕ) (p : GetPlan) → Carried (appliedGet p t w) (appliedGet p (loaded t m) w)
   unfolding appliedGet
@@ -171,9 +178,9 @@ module _ (t : Tables) (m : List ℕ) (e : length m ≡ classes) where
       rw (plans-alike s w refusal (λ v. judgedAdd s v w a))
       (posts (admitted s t w refusal (judgedAdd s (view t) w a)) w (addingWorker (view t .worker HELD w) a))
   does (postFinish s w f) n =
-      rw (plans-alike s w refusal (λ v. judgedFinish s v w (f .name)))
-      (posts (admitted s t w refusal (judgedFinish s (view t) w (f .name))) w
-      (bareWorker MARKING (view t .worker HELD w)))
+      rw (plans-alike s w refusal (λ v. judgedFinish s v w f))
+      (posts (admitted s t w refusal (judgedFinish s (view t) w f)) w
+      (bareWorker MARKING (view t .worker HELD w) (bit (f .failed))))
   does (step s w) n =
       let c = applies w (planStep s t w) in
       rw (plans-alike s w Refuse (λ v. planPhase s v w), c .0) (refl, c .1)

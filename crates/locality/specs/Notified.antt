@@ -62,11 +62,11 @@ pub data NotifiesRightly (s : Sizes) (t : Tables) (w x : ℕ) (o : Outcome Table
   refused : Unlowered s (view t) x → o ≡ outcome (Refused damaged 0) t → NotifiesRightly s t w x o
   waits-on : (c : ℕ) → Lowers s (view t) x c → c ≢ 0
       → (a : Answer) (r : List ℕ) → Onward t w (view t .arc AFTER x) a r
-      → o ≡ outcome a (counted t (view t .arc DEPENDENT x) c (t .queue) r)
+      → o ≡ outcome a (counted t w (view t .arc DEPENDENT x) c (t .queue) r)
       → NotifiesRightly s t w x o
   queued : Lowers s (view t) x 0 → (q : List ℕ) → Entered s t (view t .arc DEPENDENT x) q
       → (a : Answer) (r : List ℕ) → Onward t w (view t .arc AFTER x) a r
-      → o ≡ outcome a (counted t (view t .arc DEPENDENT x) 0 q r)
+      → o ≡ outcome a (counted t w (view t .arc DEPENDENT x) 0 q r)
       → NotifiesRightly s t w x o
 
 -- the code's own are so, and there are no others
@@ -170,7 +170,7 @@ module _ (s : Sizes) (t : Tables) (w : ℕ) (comes : Comes s t w NOTIFYING) wher
   pub notifies-seated : (e : Seat) → Lowers s (view t) arc 0 → seatFor s (view t) (view t .arc DEPENDENT arc) ≡ Seated e
       → (a : Answer) (r : List ℕ) → Onward t w (view t .arc AFTER arc) a r
       → stepWords s t w
-      ≡ outcome a (counted t (view t .arc DEPENDENT arc) 0 (putSeat (t .queue) e (view t .arc DEPENDENT arc)) r)
+      ≡ outcome a (counted t w (view t .arc DEPENDENT arc) 0 (putSeat (t .queue) e (view t .arc DEPENDENT arc)) r)
   unfolding planNotify withSeat applied
   notifies-seated e g z a r o =
       let j = view t .arc DEPENDENT arc in

@@ -12,7 +12,7 @@ use Rattle.basics.specs.Limits.{mostNames}
 use Rattle.basics.specs.Base.{pick, contains}
 use Rattle.terms.specs.Terms.{Arguments, wrongSizes, noSuchWorker, halfDone, nothingToStep, wrongArguments}
 use Rattle.terms.specs.Terms.{unknownName, namePresent, tablesFull, damaged, alreadyHolding, notHeld, wrongMinutes}
-use Rattle.terms.specs.Terms.{jobsEntered, Finish}
+use Rattle.terms.specs.Terms.{jobsEntered, goodForSpoiled, Finish, bit}
 use Rattle.terms.specs.Runs.{Item, postAdd, postFinish, step, get, load, isLoad}
 use Rattle.terms.specs.declared.Sizes.{Sizes}
 use Rattle.terms.specs.declared.HandOut.{HandOut}
@@ -20,7 +20,7 @@ use Rattle.terms.specs.declared.Answer.{Answer}
 use Rattle.terms.specs.declared.Answer.the-variants.{Loaded, Posted, Going, Ended, NoneReady, Handed, Refused}
 use Rattle.words.specs.Layout.{HELD, LIST-COUNT, PLACE, MARKING, Tables, View, view, bareWorker}
 use Rattle.words.specs.Words.{ownOk, planLookUp, planEnter, planAppend, planLink, inSeat, withSeat, planSettle}
-use Rattle.words.specs.Words.{planMark}
+use Rattle.words.specs.Words.{planTally, planMark}
 use Rattle.words.specs.Words.{planNotify, planAdd, planLinks, planCall, planPhase, admitted, planStep, goingUnless}
 use Rattle.words.specs.Words.{answerOf, stepWords, takeFrom, planTake, planQueue, planGet, answerGet, planGetOf}
 use Rattle.words.specs.Words.{getWords}
@@ -37,10 +37,10 @@ use Rattle.locality.specs.Parts.{parts}
 -- ---- the answers of each kind of item
 -- the column "When": 3 "post or get while that worker's call is half done", 4 "step while the worker is idle", 5 "add
 -- posted with", 7 and 8 "entering finds", 10 "get while holding a job", 11 "finish of a name", 17 "values that do not
--- rise or leave the limits", 18 "loading after a job has entered"
+-- rise or leave the limits", 18 "loading after a job has entered", 19 "good for a spoiled job"
 abbrev pub kindNumbers : Item → List ℕ
 kindNumbers (postAdd s w a) = halfDone ∷ wrongArguments ∷ []
-kindNumbers (postFinish s w f) = halfDone ∷ notHeld ∷ []
+kindNumbers (postFinish s w f) = halfDone ∷ notHeld ∷ goodForSpoiled ∷ []
 kindNumbers (step s w) = nothingToStep ∷ namePresent ∷ tablesFull ∷ []
 kindNumbers (get s w) = halfDone ∷ alreadyHolding ∷ []
 kindNumbers (load s m) = wrongMinutes ∷ jobsEntered ∷ []
@@ -102,7 +102,7 @@ module _ (s : Sizes) (v : View) (w : ℕ) where
   enter name d Damaged = search answers
 
   link : (x j : ℕ) (f : Found) → Step (planLink s v x j f)
-  unfolding planLink planAppend contains
+  unfolding planLink planTally planAppend contains
   link x j (At p) = search answers depth 7
   link x j Missing = search answers
   link x j Damaged = search answers
@@ -129,7 +129,7 @@ module _ (s : Sizes) (v : View) (w : ℕ) where
   unfolding planAdd ownOk
   adding o =
       let i = v .worker PLACE w in let d = v .worker LIST-COUNT w in
-      let h : leb d mostNames ≡ true = search parts depth 9 in
+      let h : leb d mostNames ≡ true = search parts depth 10 in
       either (ltb i d) (λ e. look-up i (omega (arith, ltb-true i d e, leb-true d mostNames h)) _) (enter _ _ _)
 
   stepping : ownOk s v w ≡ true → Step (planPhase s v w)
@@ -155,8 +155,8 @@ fits t (postAdd s w a) =
     (admitted s t w refusal (judgedAdd s (view t) w a))
     (search answers depth 9)
 fits t (postFinish s w f) =
-    said (λ n. posted n t w (bareWorker MARKING (view t .worker HELD w)) .answer)
-    (admitted s t w refusal (judgedFinish s (view t) w (f .name)))
+    said (λ n. posted n t w (bareWorker MARKING (view t .worker HELD w) (bit (f .failed))) .answer)
+    (admitted s t w refusal (judgedFinish s (view t) w f))
     (search answers depth 9)
 fits t (step s w) = said answerOf (planStep s t w) (search (answers, stepping) depth 7)
 fits t (get s w) = said answerGet (planGetOf s t w) (search (answers, getting) depth 7)

@@ -1,7 +1,7 @@
 -- What the calls plan is read within the sizes, and names only places within the sizes; and which numbers a plan can
 -- refuse with. Follows docs/RULES.md, "Tables and their measures" and "Turned-away calls". Assumes nothing.
 use mathlib.Core.Path.{_≡_, refl, ap}
-use mathlib.Core.Bool.{Bool, true, false, _&&_, _||_}
+use mathlib.Core.Bool.{Bool, true, false, _&&_, _||_, not}
 use Prim.Native.Nat.{ℕ, zero, suc, _+_, _-_, _^_, _≤_, _<_}
 use native.Mathlib.Omega.{arith}
 use lib.Dec.{ltb, leb, eqb}
@@ -12,16 +12,16 @@ use Rattle.basics.specs.Laws.{and-right, or-left}
 use Rattle.bucket.specs.Bucket.{bucketOf}
 use Rattle.bucket.specs.Laws.{below}
 use Rattle.terms.specs.Terms.{settles, wrongSizes, noSuchWorker, unknownName, namePresent, tablesFull, damaged}
-use Rattle.terms.specs.Terms.{Arguments, argumentsWrong}
+use Rattle.terms.specs.Terms.{Arguments, argumentsWrong, Finish}
 use Rattle.terms.specs.declared.Sizes.{Sizes}
 use Rattle.words.specs.Layout.{none, NAME, LABEL, COUNT, FIRST, LAST, NEXT, DEPENDENT, AFTER, PHASE, HELD, OWN-NAME}
 use Rattle.words.specs.Layout.{LIST-COUNT, PLACE, OWN-JOB, OWN-ARC, IDLE, LOOKING, LINKING, MARKING, Tables, View, view}
-use Rattle.words.specs.Layout.{sizesFit}
+use Rattle.words.specs.Layout.{OUTCOME, MARK, sizesFit}
 use Rattle.words.specs.Words.{placeOk, isPlace, countersOk, ownOk, walk, findOf, planLookUp, planEnter, planAppend}
 use Rattle.words.specs.Words.{planLink, inSeat, withSeat, planSettle, planMark, planNotify, nameAt, planAdd, planLinks}
 use Rattle.words.specs.Words.{planCall, planPhase, admitted, nextJob, takeFrom, planTake, planQueue, planGet}
 use Rattle.words.specs.Words.{judgedCounters, judgedAdd}
-use Rattle.words.specs.Words.{judgedFinish}
+use Rattle.words.specs.Words.{planTally, markOk, judgedFinish}
 use Rattle.words.specs.Index.{seatFor, firstSeat}
 use Rattle.words.specs.declared.Seat.{Seat}
 use Rattle.words.specs.declared.Seating.{Seating}
@@ -48,7 +48,7 @@ Inside s v m (Refuse n) = quitsBy n ≡ false
 Inside s v m (Quit n i) = (quitsBy n ≡ true) × (m ≡ false)
 Inside s v m Pass = Unit {0}
 Inside s v m (Enter j k h x) = (ltb j (s .jobs) ≡ true) × (ltb k (2 ^ s .bits) ≡ true)
-Inside s v m Tally = Unit {0}
+Inside s v m (Tally o) = Unit {0}
 Inside s v m (LinkFirst p x j) = (ltb p (s .jobs) ≡ true) × (ltb x (s .arcs) ≡ true)
 Inside s v m (LinkAfter p l x j) = (ltb p (s .jobs) ≡ true) × (ltb x (s .arcs) ≡ true) × (ltb l (s .arcs) ≡ true)
 Inside s v m (Settle j c) = (ltb j (s .jobs) ≡ true) × (m ≡ false)
@@ -127,11 +127,15 @@ module _ (s : Sizes) (v : View) (made : leb (v .made) (s .jobs) ≡ true)
         (λ n k. rw n (refl, (h, i, k))))
         (λ _. damage))
 
+    tally : (p : ℕ) → ltb p (s .jobs) ≡ true → Planned (λ u. planTally u p)
+    unfolding planTally
+    tally p h = rw h (choose (Inside s v m) (leb (v .job OUTCOME p) 1) (λ _. (refl, tt)) (λ _. damage))
+
     link : (x j : ℕ) (f : Found) → InFound f → Planned (λ u. planLink s u x j f)
     unfolding planLink
     link x j (At p) h =
         rw h (choose (Inside s v m) (leb (v .job LABEL p) 2)
-        (λ _. choose (Inside s v m) (eqb (v .job LABEL p) 2) (λ _. (refl, tt)) (λ _. append p x j h))
+        (λ _. choose (Inside s v m) (eqb (v .job LABEL p) 2) (λ _. tally p h) (λ _. append p x j h))
         (λ _. damage))
     link x j Missing h = damage
     link x j Damaged h = damage
@@ -199,7 +203,7 @@ pub own-places : (s : Sizes) (v : View) (w : ℕ) → ownOk s v w ≡ true
     × (placeOk (v .worker OWN-JOB w) (v .made) (s .jobs) ≡ true)
     × (placeOk (v .worker OWN-ARC w) (v .reserved) (s .arcs) ≡ true)
 unfolding ownOk
-own-places s v w e = (search parts depth 9, search parts, search parts)
+own-places s v w e = (search parts depth 10, search parts, search parts)
 
 pub own-alike : (s : Sizes) (v : View) (w : ℕ) → ltb w (s .workers) ≡ true → ownOk s v w ≡ ownOk s (clip s v) w
 unfolding ownOk
@@ -243,7 +247,8 @@ module _ (s : Sizes) (v : View) (w : ℕ) (known : ltb w (s .workers) ≡ true) 
       go : (r : Seating) → InFirst s v a r → Alike (InsideGet s v) (takeFrom v r) (takeFrom (clip s v) r)
       go (Seated e) i =
           rw (lt-ltb 0 (s .jobs) (omega arith), i .1, i .2)
-          (choose (InsideGet s v) (eqb (v .job LABEL (nextJob v)) 0) (λ _. (refl, (i .2, i .0))) (λ _. (refl, refl)))
+          (choose (InsideGet s v) (eqb (v .job LABEL (nextJob v)) 0 && markOk v (nextJob v))
+          (λ _. (refl, (i .2, i .0))) (λ _. (refl, refl)))
       go Unseated i = (refl, refl)
 
   queue-alike : Reads s v (InsideGet s v) (λ u. planQueue s u)
@@ -275,12 +280,16 @@ module _ (s : Sizes) (v : View) (w : ℕ) (known : ltb w (s .workers) ≡ true) 
       (λ _. choose Post (argumentsWrong a) (λ _. (refl, refl)) (λ _. counters-alike))
       (λ _. (refl, refl)))
 
-  pub finish-alike : (name : ℕ) → Reads s v Post (λ u. judgedFinish s u w name)
-  finish-alike name =
+  pub finish-alike : (f : Finish) → Reads s v Post (λ u. judgedFinish s u w f)
+  finish-alike f =
       let p = v .worker HELD w in
       rw known (choose Post (eqb phase IDLE)
       (λ _. place-cases p (v .made) (s .jobs) (own-places s v w own .0) (λ e. rw e (refl, refl))
-      (λ e h. rw (e, h) (choose Post (eqb (v .job NAME p) name) (λ _. counters-alike) (λ _. (refl, refl)))))
+      (λ e h. rw (e, h) (choose Post (eqb (v .job NAME p) (f .name))
+      (λ _. choose Post (countersOk s v && markOk v p)
+      (λ _. choose Post (eqb (v .job MARK p) 1 && not (f .failed)) (λ _. (refl, refl)) (λ _. (refl, refl)))
+      (λ _. (refl, refl)))
+      (λ _. (refl, refl)))))
       (λ _. (refl, refl)))
 
 -- ---- what is admitted, or refused before: by 1, 2 or 9

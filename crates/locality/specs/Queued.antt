@@ -10,14 +10,15 @@ use native.Mathlib.Omega.{arith}
 use lib.Dec.{leb, eqb}
 use borrow.Author.Tests.{eqb-true, leb-true, leb-false, le-ltb, le-leb, ne-eqb}
 use Rattle.basics.specs.Limits.{mostNames}
+use Rattle.basics.specs.Base.{pick}
 use Rattle.basics.specs.Laws.{never, pick-by}
 use Rattle.terms.specs.Terms.{settles, damaged}
 use Rattle.terms.specs.Runs.{Outcome, outcome}
 use Rattle.terms.specs.declared.Sizes.{Sizes}
 use Rattle.terms.specs.declared.Answer.the-variants.{Ended, Refused}
 use Rattle.words.specs.Columns.{Rows, put}
-use Rattle.words.specs.Layout.{none, jobShape, queueShape, COUNT, PHASE, HELD, PLACE, LIST-COUNT, TALLY, OWN-JOB, IDLE}
-use Rattle.words.specs.Layout.{LINKING, Tables, tables, View, view, longEnough, bareWorker}
+use Rattle.words.specs.Layout.{none, jobShape, queueShape, COUNT, MARK, PHASE, HELD, PLACE, LIST-COUNT, TALLY}
+use Rattle.words.specs.Layout.{OWN-JOB, NOTE, IDLE, LINKING, Tables, tables, View, view, longEnough, bareWorker}
 use Rattle.words.specs.Index.{seatFor, putSeat}
 use Rattle.words.specs.Words.{isPlace, inSeat, withSeat, planSettle, planLinks, planCall, planPhase, answerOf}
 use Rattle.words.specs.Words.{putWorker, applied, stepWords}
@@ -61,13 +62,20 @@ settle-here s t w (c, e) =
     rw (admits s t w Refuse _ (c .admitted), c .here, counters-mean s (view t) .1 (c .counters), e)
     (rw (le-ltb n n (omega arith)) refl)
 
--- ---- the tables after a count: that of the job j is c, the queue's words are q and the workers' r
-abbrev pub counted : Tables → ℕ → ℕ → List ℕ → List ℕ → Tables
-counted t j c q r = tables (put jobShape (t .jobs) j COUNT c) (t .arcs) (t .buckets) q r
+-- ---- the jobs after a count by worker w: that of the job j is c, and its mark is 1 where the worker's note is, else
+-- as it was
+abbrev pub countedJobs : Tables → ℕ → ℕ → ℕ → List ℕ
+countedJobs t w j c =
+    pick (eqb (view t .worker NOTE w) 1) (put jobShape (put jobShape (t .jobs) j COUNT c) j MARK 1)
+    (put jobShape (t .jobs) j COUNT c)
+
+-- the tables then; the queue's words are q and the workers' r
+abbrev pub counted : Tables → ℕ → ℕ → ℕ → List ℕ → List ℕ → Tables
+counted t w j c q r = tables (countedJobs t w j c) (t .arcs) (t .buckets) q r
 
 -- the workers' words after a call of w that "puts the words of its call back": all but the hold are as laid out
 abbrev pub putBack : Tables → ℕ → List ℕ
-putBack t w = putWorker (t .workers) w (bareWorker IDLE (view t .worker HELD w))
+putBack t w = putWorker (t .workers) w (bareWorker IDLE (view t .worker HELD w) 0)
 
 -- a place that is one
 pub place-some : (p : ℕ) → isPlace p ≡ true → p ≢ none
@@ -92,11 +100,11 @@ pub data Unsettled (s : Sizes) (v : View) (j tally d : ℕ) : Type 0 where
 pub data SettlesRightly (s : Sizes) (t : Tables) (w j tally d : ℕ) (o : Outcome Tables) : Type 0 where
   refused : Unsettled s (view t) j tally d → o ≡ outcome (Refused damaged 0) t → SettlesRightly s t w j tally d o
   waits-on : (c : ℕ) → Settles (view t) j tally c → settles c tally d ≡ false
-      → o ≡ outcome Ended (counted t j c (t .queue) (putBack t w))
+      → o ≡ outcome Ended (counted t w j c (t .queue) (putBack t w))
       → SettlesRightly s t w j tally d o
   queued : (c : ℕ) → Settles (view t) j tally c → settles c tally d ≡ true
       → (q : List ℕ) → Entered s t j q
-      → o ≡ outcome Ended (counted t j c q (putBack t w))
+      → o ≡ outcome Ended (counted t w j c q (putBack t w))
       → SettlesRightly s t w j tally d o
 
 module _ (s : Sizes) (t : Tables) (w j tally d : ℕ) where
@@ -172,7 +180,7 @@ module _ (s : Sizes) (t : Tables) (w : ℕ) (comes : ComesToSettle s t w) where
   pub settles-seated : (c : ℕ) (e : Seat) → Settles (view t) job tallied c → settles c tallied listed ≡ true
       → seatFor s (view t) job ≡ Seated e
       → stepWords s t w
-      ≡ outcome Ended (counted t job c (putSeat (t .queue) e job) (putBack t w))
+      ≡ outcome Ended (counted t w job c (putSeat (t .queue) e job) (putBack t w))
   unfolding planSettle withSeat applied
   settles-seated c e g f z =
       let n = view t .job COUNT job in

@@ -2,7 +2,6 @@
 -- in "Turned-away calls", "none ready" in "Steps", and "A call that ends puts the words of its call back" in "Tables
 -- and their measures". Assumes nothing.
 use mathlib.Core.Path.{_≡_, refl, ap, subst, _∙_}
-use mathlib.Core.Logic.{_≢_}
 use mathlib.Core.Bool.{Bool, true, false}
 use mathlib.Core.List.{List, _++_, append-assoc}
 use Prim.Native.Nat.{ℕ, zero, suc, _+_}
@@ -11,8 +10,9 @@ use lib.Dec.{ltb, leb, eqb}
 use lib.ListN.{length, take, drop}
 use lib.Seq.{sets-eq, length-take-le, take-at, drop-at}
 use Rattle.basics.specs.Base.{pick}
-use Rattle.basics.specs.Laws.{never, pick-by}
+use Rattle.basics.specs.Laws.{pick-by}
 use Rattle.minutes.specs.Rising.{isRising}
+use Rattle.terms.specs.Terms.{bit}
 use Rattle.terms.specs.Runs.{Item, postAdd, postFinish, step, get, load, Outcome, outcome, workerOf}
 use Rattle.terms.specs.declared.Sizes.{Sizes}
 use Rattle.terms.specs.declared.Answer.{Answer}
@@ -47,7 +47,7 @@ ends NoneReady = false
 ends (Handed h) = false
 ends (Refused n p) = quitsBy n
 
--- a worker's 42 words
+-- a worker's 43 words
 abbrev pub record-of : ℕ → List ℕ → List ℕ
 record-of w l = take (workerShape .width) (drop (place workerShape w 0) l)
 
@@ -71,8 +71,8 @@ Changed t w u (Refused n p) = u ≡ pick (quitsBy n) (idled t w) t
 
 abbrev Back : Tables → ℕ → Tables → Type 0
 Back t w u =
-    (u .workers ≡ putWorker (t .workers) w (bareWorker IDLE (holdAfter (view t) w)))
-    × (wordsOf w u ≡ bareWorker IDLE (holdAfter (view t) w))
+    (u .workers ≡ putWorker (t .workers) w (bareWorker IDLE (holdAfter (view t) w) 0))
+    × (wordsOf w u ≡ bareWorker IDLE (holdAfter (view t) w) 0)
 
 abbrev Left : Tables → ℕ → Outcome Tables → Type 0
 Left t w o = Changed t w (o .state) (o .answer) × pick (ends (o .answer)) (Back t w (o .state)) (Unit {0})
@@ -91,8 +91,8 @@ put-back P l w x r k e =
     ∙ take-at x z (workerShape .width) e
 
 module _ (s : Sizes) (t : Tables) (w : ℕ) (h : Long s t) (known : ltb w (s .workers) ≡ true) where
-  bare : (held : ℕ) → record-of w (putWorker (t .workers) w (bareWorker IDLE held)) ≡ bareWorker IDLE held
-  bare held = put-back (s .workers) (t .workers) w (bareWorker IDLE held) (h .workers) known refl
+  bare : (held : ℕ) → record-of w (putWorker (t .workers) w (bareWorker IDLE held 0)) ≡ bareWorker IDLE held 0
+  bare held = put-back (s .workers) (t .workers) w (bareWorker IDLE held 0) (h .workers) known refl
 
   step-left : (p : Plan) → Inside s (view t) (marking (view t) w) p → Left t w (outcome (answerOf p) (applied p t w))
   unfolding applied
@@ -100,7 +100,7 @@ module _ (s : Sizes) (t : Tables) (w : ℕ) (h : Long s t) (known : ltb w (s .wo
   step-left (Quit n j) i = (rw (i .0), rw (i .0, i .1) (refl, bare _))
   step-left Pass i = (tt, tt)
   step-left (Enter j k x y) i = (tt, tt)
-  step-left Tally i = (tt, tt)
+  step-left (Tally o) i = (tt, tt)
   step-left (LinkFirst p x j) i = (tt, tt)
   step-left (LinkAfter p l x j) i = (tt, tt)
   step-left (Settle j c) i = (tt, rw (i .1) (refl, bare _))
@@ -144,10 +144,10 @@ left-behind t (postAdd s w a) =
     admit (λ n. Left t w (posted n t w x)) s t w refusal (judgedAdd s (view t) w a) (λ n. post-left t w x (suc n))
     (λ _ k o. post-left t w x (judgedAdd s (view t) w a) (add-alike s (view t) w k o a .1))
 left-behind t (postFinish s w f) =
-    let x = bareWorker MARKING (view t .worker HELD w) in
-    admit (λ n. Left t w (posted n t w x)) s t w refusal (judgedFinish s (view t) w (f .name))
+    let x = bareWorker MARKING (view t .worker HELD w) (bit (f .failed)) in
+    admit (λ n. Left t w (posted n t w x)) s t w refusal (judgedFinish s (view t) w f)
     (λ n. post-left t w x (suc n))
-    (λ _ k o. post-left t w x (judgedFinish s (view t) w (f .name)) (finish-alike s (view t) w k o (f .name) .1))
+    (λ _ k o. post-left t w x (judgedFinish s (view t) w f) (finish-alike s (view t) w k o f .1))
 left-behind t (step s w) =
     admit (λ p. Left t w (outcome (answerOf p) (applied p t w))) s t w Refuse (planPhase s (view t) w)
     (λ n e. (rw e, rw e tt))
@@ -169,40 +169,10 @@ refused t i n p e = subst (Changed t (workerOf i) (perform t i .state)) e (left-
 pub none-ready : (t : Tables) (i : Item) → perform t i .answer ≡ NoneReady → perform t i .state ≡ t
 none-ready t i e = subst (Changed t (workerOf i) (perform t i .state)) e (left-behind t i .0)
 
--- "A call that ends puts the words of its call back": all 42 words of the worker are those of a fresh one but for the
+-- "A call that ends puts the words of its call back": all 43 words of the worker are those of a fresh one but for the
 -- hold, and no other worker's words change
 pub ended : (t : Tables) (i : Item) → ends (perform t i .answer) ≡ true
     → (perform t i .state .workers
-    ≡ putWorker (t .workers) (workerOf i) (bareWorker IDLE (holdAfter (view t) (workerOf i))))
-    × (wordsOf (workerOf i) (perform t i .state) ≡ bareWorker IDLE (holdAfter (view t) (workerOf i)))
+    ≡ putWorker (t .workers) (workerOf i) (bareWorker IDLE (holdAfter (view t) (workerOf i)) 0))
+    × (wordsOf (workerOf i) (perform t i .state) ≡ bareWorker IDLE (holdAfter (view t) (workerOf i)) 0)
 ended t i e = subst (λ b. pick b (Back t (workerOf i) (perform t i .state)) (Unit {0})) e (left-behind t i .1)
-
--- ---- a load: it is loaded or refused, and ends no call
-module _ (s : Sizes) (t : Tables) (m : List ℕ) where
-  loading-refused : (k n p : ℕ) → loading k t m .answer ≡ Refused n p → loading k t m .state ≡ t
-  unfolding loading
-  loading-refused zero n p e = never cc
-  loading-refused (suc k) n p e = refl
-
-  loading-waits : (k : ℕ) → loading k t m .answer ≢ NoneReady
-  unfolding loading
-  loading-waits zero e = never cc
-  loading-waits (suc k) e = never cc
-
-  loading-ends : (k : ℕ) → quitsBy k ≡ false → ends (loading k t m .answer) ≡ false
-  unfolding loading
-  loading-ends zero e = refl
-  loading-ends (suc k) e = e
-
-  -- "with nothing changed"
-  pub refused-load : (n p : ℕ) → perform t (load s m) .answer ≡ Refused n p → perform t (load s m) .state ≡ t
-  unfolding perform loadWords
-  refused-load = loading-refused (judgedLoad s t m)
-
-  pub load-never-none-ready : perform t (load s m) .answer ≢ NoneReady
-  unfolding perform loadWords
-  load-never-none-ready = loading-waits (judgedLoad s t m)
-
-  pub load-ends-no-call : ends (perform t (load s m) .answer) ≡ false
-  unfolding perform loadWords
-  load-ends-no-call = loading-ends (judgedLoad s t m) (load-keeps s t m)

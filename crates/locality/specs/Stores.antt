@@ -20,11 +20,11 @@ use Rattle.words.specs.Columns.{Shape, place, Rows, rows, columns, header, put,
 use Rattle.words.specs.Columns.{columns-put}
 use Rattle.words.specs.Layout.{none, jobShape, JOBS, ARCS, BITS, WORKERS, MADE, LABEL, COUNT, FIRST, LAST, arcShape}
 use Rattle.words.specs.Layout.{RESERVED, DEPENDENT, AFTER, bucketShape, queueShape, TAKEN, PUT, CELL, SLOT, POSITION}
-use Rattle.words.specs.Layout.{MINUTES, workerShape, PHASE}
+use Rattle.words.specs.Layout.{OUTCOME, MARK, MINUTES, workerShape, PHASE, NOTE}
 use Rattle.words.specs.Layout.{HELD, OWN-NAME, LIST-COUNT, OWN-CLASS, OWN-GROWER, TALLY, PLACE, OWN-JOB, OWN-ARC, IDLE}
 use Rattle.words.specs.Layout.{LINKING, NOTIFYING, Tables, tables, view, bareWorker}
 use Rattle.words.specs.Words.{applied, appliedGet, idleWorker, putWorker, enteredJob, putField, nextPlace, arcsFrom}
-use Rattle.words.specs.Words.{markedWorker, loaded}
+use Rattle.words.specs.Words.{markedWorker, lowered, loaded}
 use Rattle.words.specs.Index.{levels, slotIn, putSlot, shiftedDown, shiftedUp, putSeat, takeSeat}
 use Rattle.words.specs.declared.Seat.{Seat}
 use Rattle.words.specs.declared.Plan.{Plan}
@@ -256,7 +256,7 @@ module _ (s : Sizes) (t r : Tables) (h : Long s t) where
 
     -- the worker's record as the plans leave it
     idle : Stored W (idleWorker (view t) w (t .workers)) (idleWorker (view (joined t r)) w (t .workers ++ r .workers))
-    idle = rw (own HELD) (fields start w (bareWorker IDLE (view t .worker HELD w)) known refl)
+    idle = rw (own HELD) (fields start w (bareWorker IDLE (view t .worker HELD w) 0) known refl)
 
     next : Stored W (nextPlace (view t) w (t .workers)) (nextPlace (view (joined t r)) w (t .workers ++ r .workers))
     next = rw (own PLACE) (mine start PLACE _ refl)
@@ -267,8 +267,15 @@ module _ (s : Sizes) (t r : Tables) (h : Long s t) where
 
     marked : (x : ℕ) → Stored W (markedWorker x w (t .workers)) (markedWorker x w (t .workers ++ r .workers))
     marked x =
-        either (eqb x none) (fields start w (bareWorker IDLE none) known refl)
+        either (eqb x none) (fields start w (bareWorker IDLE none 0) known refl)
         (mine (mine (mine start PHASE NOTIFYING refl) HELD none refl) OWN-ARC x refl)
+
+    -- a job's count, and its mark by the worker's note
+    counted : (j c : ℕ) → ltb j (s .jobs) ≡ true
+        → Stored J (lowered (view t) w (t .jobs) j c) (lowered (view (joined t r)) w (t .jobs ++ r .jobs) j c)
+    counted j c h =
+        rw (own NOTE) (either (eqb (view t .worker NOTE w) 1)
+        (field (field start j COUNT c refl h) j MARK 1 refl h) (field start j COUNT c refl h))
 
     pub step-carried : (m : Bool) (p : Plan) → Inside s (view t) m p
         → Carried (applied p t w) (applied p (joined t r) w)
@@ -283,7 +290,8 @@ module _ (s : Sizes) (t r : Tables) (h : Long s t) where
         (field start k 0 j refl (i .1))
         start
         (mine (mine (mine (mine start PHASE LINKING refl) PLACE 0 refl) OWN-JOB j refl) OWN-ARC _ refl))
-    step-carried m Tally i = rw (own TALLY) (carried start start start start (mine next TALLY _ refl))
+    step-carried m (Tally o) i =
+        rw (own TALLY, own NOTE) (carried start start start start (mine (mine next TALLY _ refl) NOTE _ refl))
     step-carried m (LinkFirst p x j) i =
         carried (field (field start p FIRST x refl (i .0)) p LAST x refl (i .0))
         (field (field start x DEPENDENT j refl (i .1)) x AFTER none refl (i .1))
@@ -296,13 +304,15 @@ module _ (s : Sizes) (t r : Tables) (h : Long s t) where
         start
         start
         next
-    step-carried m (Settle j c) i = carried (field start j COUNT c refl (i .0)) start start start idle
+    step-carried m (Settle j c) i = carried (counted j c (i .0)) start start start idle
     step-carried m (SettleQueue j c e) i =
-        carried (field start j COUNT c refl (i .0)) start start (put-seat e j (i .1)) idle
-    step-carried m (Mark p x) i = carried (field start p LABEL 2 refl (i .0)) start start start (marked x)
-    step-carried m (Notify j c x) i = carried (field start j COUNT c refl (i .0)) start start start (from x)
+        carried (counted j c (i .0)) start start (put-seat e j (i .1)) idle
+    step-carried m (Mark p x) i =
+        rw (own NOTE) (carried (field (field start p LABEL 2 refl (i .0)) p OUTCOME _ refl (i .0)) start start start
+        (marked x))
+    step-carried m (Notify j c x) i = carried (counted j c (i .0)) start start start (from x)
     step-carried m (NotifyQueue j c x e) i =
-        carried (field start j COUNT c refl (i .0)) start start (put-seat e j (i .1)) (from x)
+        carried (counted j c (i .0)) start start (put-seat e j (i .1)) (from x)
 
     pub get-carried : (p : GetPlan) → InsideGet s (view t) p → Carried (appliedGet p t w) (appliedGet p (joined t r) w)
     unfolding appliedGet

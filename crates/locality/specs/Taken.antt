@@ -12,8 +12,8 @@ use Rattle.terms.specs.Runs.{Outcome, outcome}
 use Rattle.terms.specs.declared.Sizes.{Sizes}
 use Rattle.terms.specs.declared.Answer.the-variants.{NoneReady, Handed, Refused}
 use Rattle.words.specs.Columns.{columns, columns-put, put}
-use Rattle.words.specs.Layout.{jobShape, workerShape, NAME, LABEL, CELL, SLOT, HELD, Tables, tables, View, view}
-use Rattle.words.specs.Layout.{longEnough}
+use Rattle.words.specs.Layout.{jobShape, workerShape, NAME, LABEL, MARK, CELL, SLOT, HELD, Tables, tables, View}
+use Rattle.words.specs.Layout.{view, longEnough}
 use Rattle.words.specs.Index.{firstPlace, lastSlot, firstSeat, takeSeat}
 use Rattle.words.specs.Words.{nextJob, takeFrom, answerGet, appliedGet, getWords}
 use Rattle.words.specs.declared.Seat.{Seat}
@@ -22,7 +22,7 @@ use Rattle.words.specs.declared.Seating.the-variants.{Seated, Unseated}
 use Rattle.locality.specs.Parts.{parts, Long, long}
 use Rattle.locality.specs.Compared.{early, empty, index, reach}
 use Rattle.locality.specs.IndexFirst.{Filled, planned}
-use Rattle.locality.specs.Looked.{isSeated, takesFirst, plan-here, takes-exact, some}
+use Rattle.locality.specs.Looked.{isSeated, firstOk, takesFirst, plan-here, takes-exact, some}
 use Rattle.locality.specs.Judged.{sized-means}
 use Rattle.locality.specs.Waits.{waits-means}
 use Rattle.locality.specs.Moved.{first-seat, Emptied, seat-emptied}
@@ -55,7 +55,7 @@ GetsFirst t w o =
     let v = view t in
     let p = v .cell SLOT 0 in
     let j = v .cell CELL p in
-    (o .answer ≡ Handed (record { job = j; name = v .job NAME j }))
+    (o .answer ≡ Handed (record { job = j; name = v .job NAME j; spoiled = eqb (v .job MARK j) 1 }))
     × FirstGot t w j p (v .put - v .taken - 1) (o .state)
 
 module _ (s : Sizes) (t : Tables) (w : ℕ) (here : reach s t w ≡ index) where
@@ -87,14 +87,15 @@ module _ (s : Sizes) (t : Tables) (w : ℕ) (here : reach s t w ≡ index) where
             (columns-put workerShape (s .workers) (t .workers) w HELD (nextJob v) refl (rows .workers) known)
             ∙ update-same (columns workerShape (t .workers) HELD) w (nextJob v);
         queue = rw (← (seat .place), ← (seat .last))
-            (seat-emptied (s .jobs) t e (rows .queue) (at .fits) (sized-means s t .0 fit .room .limits .jobs .1) (at .some) seat);
+            (seat-emptied (s .jobs) t e (rows .queue) (at .fits) (sized-means s t .0 fit .room .limits .jobs .1)
+            (at .some) seat);
       }
 
   pub first-got : takesFirst v ≡ true → GetsFirst t w (getWords s t w)
   unfolding getWords appliedGet
   first-got e = rw (plan-here s t w here) (go (firstSeat v) refl (takes-exact s t w here ∙ e))
     where
-      go : (r : Seating) → firstSeat v ≡ r → (isSeated r && eqb (v .job LABEL (nextJob v)) 0) ≡ true
+      go : (r : Seating) → firstSeat v ≡ r → (isSeated r && firstOk v) ≡ true
           → GetsFirst t w (outcome (answerGet (takeFrom v r)) (appliedGet (takeFrom v r) t w))
       go (Seated x) f c = rw c (refl, taken x f)
       go Unseated f c = never cc

@@ -12,7 +12,7 @@ use Rattle.basics.specs.Limits.{mostNames}
 use Rattle.basics.specs.Base.{pick}
 use Rattle.basics.specs.Laws.{length-prefix}
 use Rattle.minutes.specs.Rising.{isRising, SixteenRising, rising-means}
-use Rattle.terms.specs.Terms.{Arguments, listed, withinLimits, wrongSizes}
+use Rattle.terms.specs.Terms.{Arguments, listed, withinLimits, wrongSizes, bit}
 use Rattle.terms.specs.Runs.{Item, postAdd, postFinish, step, get, load, Outcome, outcome, Event, after, events}
 use Rattle.terms.specs.Runs.{sizesOf}
 use Rattle.terms.specs.declared.Sizes.{Sizes}
@@ -141,8 +141,8 @@ frame t r (postAdd s w a) e =
     post-framed s t r e w (λ v. judgedAdd s v w a) (λ held. addingWorker held a) (λ held. length-adding held a)
     (λ v k o. add-alike s v w k o a .0)
 frame t r (postFinish s w f) e =
-    post-framed s t r e w (λ v. judgedFinish s v w (f .name)) (bareWorker MARKING) (λ held. refl)
-    (λ v k o. finish-alike s v w k o (f .name) .0)
+    post-framed s t r e w (λ v. judgedFinish s v w f) (λ held. bareWorker MARKING held (bit (f .failed))) (λ held. refl)
+    (λ v k o. finish-alike s v w k o f .0)
 frame t r (step s w) e = step-framed s t r e w
 frame t r (get s w) e = get-framed s t r e w
 frame t r (load s m) e = load-framed s t r e m

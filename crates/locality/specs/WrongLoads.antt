@@ -31,12 +31,12 @@ one = record { jobs = 1; arcs = 0; bits = 1; workers = 1 }
 
 abbrev pub left : ℕ → ℕ → Tables
 left made phase =
-    tables (1 ∷ 0 ∷ 1 ∷ 1 ∷ made ∷ replicate 24 7) (replicate 1 7) (replicate 2 7) (replicate 5 7)
-    (phase ∷ replicate 41 7)
+    tables (1 ∷ 0 ∷ 1 ∷ 1 ∷ made ∷ replicate 26 7) (replicate 1 7) (replicate 2 7) (replicate 5 7)
+    (phase ∷ replicate 42 7)
 
 -- tables of no sizes
 abbrev pub unlaid : Tables
-unlaid = tables (replicate 29 7) (replicate 1 7) (replicate 2 7) (replicate 5 7) (replicate 42 7)
+unlaid = tables (replicate 31 7) (replicate 1 7) (replicate 2 7) (replicate 5 7) (replicate 43 7)
 
 -- values that rise; that do not; and that rise past 1,440
 abbrev pub rise : List ℕ

@@ -10,7 +10,10 @@
 --   demand 3                  linearizability: specs/Demand.antt           (of any machine; wrong ones in Wrong*.antt)
 --   how calls end             linearizability: specs/Ends.antt
 --   long jobs first           linearizability: specs/LongFirst.antt; words: specs/Index.antt; heap: specs/Sift.antt
---   loads of minutes          minutes: specs/Minutes.antt, specs/Rising.antt, specs/Judged.antt; locality: specs/Loads.antt
+--   loads of minutes          minutes: specs/Minutes.antt, specs/Rising.antt, specs/Judged.antt
+--                             locality: specs/Loads.antt
+--   outcomes and marks        linearizability: specs/Stays.antt; locality: specs/Outcomes.antt, specs/OutcomeWords.antt
+--   links and marks           locality: specs/LinkSteps.antt, specs/MarkSteps.antt
 --   the board                 graph_board: specs/Board.antt, specs/Accounted.antt, specs/Exactly.antt
 --   the board on a row        totals: specs/Board.antt, specs/Exactly.antt
 --   laying out                locality: specs/Laying.antt
@@ -30,7 +33,7 @@ use mathlib.Core.Path.{_≡_, refl}
 use mathlib.Core.Logic.{_↔_, _≢_}
 use mathlib.Core.Bool.{true, false, _&&_}
 use mathlib.Core.List.{List, [], _∷_, _++_}
-use mathlib.Core.Option.{none}
+use mathlib.Core.Option.{none, some}
 use Prim.Native.Nat.{ℕ, suc, _+_, _*_, _-_, _^_, _%_, _≤_, _<_}
 use native.Mathlib.Omega.{arith}
 use lib.ListN.{length, getD, replicate}
@@ -42,10 +45,12 @@ use Rattle.minutes.specs.Minutes.{classes, minutesIn, fixedMinutes}
 use Rattle.minutes.specs.Judged.{allMinutes, noMinutes}
 use Rattle.minutes.specs.Rising.{isRising, SixteenRising, rising-means}
 use Rattle.terms.specs.Terms.{Arguments, withinLimits, sameSizes, wrongSizes, noSuchWorker, damaged}
-use Rattle.terms.specs.Terms.{argumentsWrong, settles, halfDone, nothingToStep, mostJobs, mostWorkers, Finish}
+use Rattle.terms.specs.Terms.{bit}
+use Rattle.terms.specs.Terms.{argumentsWrong, settles, halfDone, nothingToStep, mostJobs, mostWorkers, Finish, finishOf}
+use Rattle.terms.specs.Terms.{labelNumber, finished}
 use Rattle.terms.specs.Order.{First}
 use Rattle.terms.specs.Runs.{Item, postAdd, postFinish, step, get, load, sizesOf, workerOf, isLoad}
-use Rattle.terms.specs.Runs.{outcome, after, events}
+use Rattle.terms.specs.Runs.{outcome, after, events, entries}
 use Rattle.terms.specs.Seen.{Same, idle, handOut}
 use Rattle.terms.specs.declared.Sizes.{Sizes}
 use Rattle.terms.specs.declared.HandOut.{HandOut}
@@ -54,7 +59,7 @@ use Rattle.terms.specs.declared.Answer.the-variants.{Laid, Posted, Ended, NoneR
 use Rattle.heap.specs.Compared.{Alike}
 use Rattle.words.specs.Layout.{Tables, View, view, workerShape, NAME, LABEL, CLASS, DEPENDENT, AFTER, HELD, LIST-COUNT}
 use Rattle.words.specs.Layout.{CELL, SLOT, TALLY, OWN-JOB, OWN-ARC, NAMES, IDLE, NOTIFYING, bareWorker}
-use Rattle.words.specs.Layout.{jobShape, storedMinutes}
+use Rattle.words.specs.Layout.{jobShape, storedMinutes, OUTCOME, MARK, NOTE}
 use Rattle.words.specs.Layout as words
 use Rattle.words.specs.Columns.{columns, header}
 use Rattle.words.specs.Stored.{minutes-by-words, job-by-words}
@@ -70,11 +75,15 @@ use Rattle.rules.specs.Observed as rules-seen
 use Rattle.linearization.specs.Calls.{adding, finishing, Reading, reading, Quiet, acceptedAdds, acceptedFinishes}
 use Rattle.linearization.specs.Calls.{minutesLoaded}
 use Rattle.linearization.specs.Calls as reading
-use Rattle.linearizability.specs.Demand.{Demand, addOf, HandedRightly, JobFinished, gives, handedOut, loadEnd}
+use Rattle.linearizability.specs.Demand.{Demand, addOf, PrerequisitesFinished, Prerequisite, PrerequisiteFailed, Source}
+use Rattle.linearizability.specs.Demand.{MarkedRightly, HandedRightly}
+use Rattle.linearizability.specs.Demand.{JobFinished, gives, handedOut, loadEnd}
+use Rattle.linearizability.specs.Stays.{Stays}
 use Rattle.linearizability.specs.Ends.{AddStep, FinishOf}
 use Rattle.linearizability.specs.LongFirst.{longFirst, TakesLongest, ByCount}
 use Rattle.words_history.specs.Theorem as shown
 use Rattle.words_history.specs.Lifted as lifted
+use Rattle.words_history.specs.Staying as staying
 use Rattle.words_history.specs.IndexExact.{IndexExact, index-exact}
 use Rattle.locality.specs.Parts.{needed, rest, joined, lengths, laidOut}
 use Rattle.locality.specs.Plans.{quitsBy}
@@ -85,8 +94,13 @@ use Rattle.locality.specs.Refusals as refusals
 use Rattle.locality.specs.Within as within
 use Rattle.locality.specs.Judged.{Sized, sized-means, Own, own-means, Counters, counters-mean, Admitted, TurnedAway}
 use Rattle.locality.specs.Compared.{index, reach, placesByGet, comparedByGet, few-compared}
-use Rattle.locality.specs.Comes.{first-of-all, StepRefused, AddRefused, FinishRefused, step-refused, add-is-refused}
-use Rattle.locality.specs.Comes.{finish-is-refused, withWorker, Holds, add-is-posted, finish-is-posted, MayGet}
+use Rattle.locality.specs.Comes.{first-of-all, StepRefused, AddRefused, step-refused, add-is-refused, withWorker}
+use Rattle.locality.specs.Comes.{add-is-posted, MayGet}
+use Rattle.locality.specs.Outcomes.{FinishesExactly, item-finishes-exactly, TellsMark, item-tells-mark}
+use Rattle.locality.specs.OutcomeWords.{WritesOutcomes}
+use Rattle.locality.specs.LinkSteps.{LinksExactly, item-links-exactly}
+use Rattle.locality.specs.MarkSteps.{MarksExactly, item-marks-exactly}
+use Rattle.locality.specs.OutcomeItems.{writes-outcomes}
 use Rattle.locality.specs.Comes.{GetRefused, at-empty, at-index, comes-early}
 use Rattle.locality.specs.Elsewhere.{withQueue, Elsewhere, elsewhere}
 use Rattle.locality.specs.Loads.{Stored, loaded-stores, LoadsExactly, item-loads-exactly}
@@ -128,7 +142,9 @@ use Rattle.graph_board.specs.Exactly.{BoardsExactly, boards-exactly, MinutesExa
 use Rattle.board_history.specs.Minutes.{accounted, minutes-told, board-number}
 use Rattle.worker_state.specs.Held.{heldWords}
 use Rattle.worker_state.specs.Drained.{drainedWords}
-use Rattle.state_history.specs.Told.{heldRead, turnedAway, told}
+use Rattle.state_history.specs.Told.{handedRead, heldRead, turnedAway, told}
+use Rattle.state_history.specs.HeldExactly.{Ask, HeldExactly, held-exactly, only-held-words}
+use Rattle.state_history.specs.DrainedExactly.{AskDrained, DrainedExactly, drained-exactly-told, only-drained-words}
 use Rattle.state_history.specs.Numbers as state-numbers
 use Rattle.state_history.specs.Need as state-need
 use Rattle.state_history.specs.Agrees as state-agrees
@@ -185,8 +201,8 @@ module _ (s : Sizes) (t : Tables) (laid : layOut s t .answer ≡ Laid) (items : 
 
   -- ---- DEMAND 3, whole: each item does and answers what the rules say; no job enters the ready queue twice, none
   -- before each of its prerequisites is marked finished, each once its add and the finishes of its prerequisites have
-  -- ended; and with no call half done jobs, labels, counts, waiting jobs, holds and how each call ended are those of
-  -- the plain book.
+  -- ended; jobs, labels, outcomes and holds and how each call ended are those of the plain book, and with no call half
+  -- done counts, marks and waiting jobs too.
   pub every-history-is-right : Demand perform seen s (layOut s t .state) items
   every-history-is-right = shown.demand s t laid items
 
@@ -195,8 +211,8 @@ module _ (s : Sizes) (t : Tables) (laid : layOut s t .answer ≡ Laid) (items : 
   the-words-do-what-the-rules-do = shown.same-events s t laid items
 
   -- and after every item the words show the rules' graph, a call half done or not: names, labels, counts, classes,
-  -- growers, arcs in order, the queue, holds and calls. (The list of items is any list, so this is said after each
-  -- single step.)
+  -- growers, outcomes, marks, arcs in order, the queue, holds and calls with their notes. (The list of items is any
+  -- list, so this is said after each single step.)
   pub the-words-show-the-rules-graph : Same s (seen at-end) (rules-seen.seen (after (rules.perform s) empty items))
   the-words-show-the-rules-graph = shown.demand s t laid items .does
 
@@ -248,7 +264,7 @@ module _ (s : Sizes) (t : Tables) (laid : layOut s t .answer ≡ Laid) (items : 
   -- the hold are as laid out,
   pub an-idle-worker-is-fresh : (w : ℕ) → w < s .workers → read .pending w ≡ reading.idle → (k : ℕ)
       → k < workerShape .width → k ≢ HELD
-      → view at-end .worker k w ≡ getD (bareWorker IDLE words.none) k 0
+      → view at-end .worker k w ≡ getD (bareWorker IDLE words.none 0) k 0
   an-idle-worker-is-fresh = lifted.fresh-call s t laid items
 
   -- and "names past the count are kept as 0".
@@ -267,6 +283,49 @@ module _ (s : Sizes) (t : Tables) (laid : layOut s t .answer ≡ Laid) (items : 
       → bucketFrom (view at-end) (view at-end .bucket 0 k)
       ≡ newestFirst (λ j. bucketOf (view at-end .job NAME j) (s .bits)) k (view at-end .made)
   a-bucket-holds-its-jobs = lifted.newest-first s t laid items
+
+  -- ---- outcomes. "A job is spoiled if it has a prerequisite that failed": at every moment no job is marked else, and
+  -- none has failed that is not finished;
+  pub a-job-is-marked-for-cause : (j : ℕ) → j < length (acceptedAdds (read .calls))
+      → MarkedRightly (seen at-end) (acceptedAdds (read .calls)) j
+  a-job-is-marked-for-cause = shown.demand s t laid items .marks
+
+  -- it is marked before it is queued, and in any case once its add and the failed finish have ended;
+  pub a-mark-is-complete-once-queued : (j : ℕ) → 0 < entries perform waiting (layOut s t .state) items j
+      → PrerequisiteFailed (seen at-end) (acceptedAdds (read .calls)) j → seen at-end .job j .mark ≡ 1
+  a-mark-is-complete-once-queued = shown.demand s t laid items .marked-once-queued
+
+  pub a-job-is-marked-when-its-calls-have-ended : (j k : ℕ)
+      → contains (addOf (acceptedAdds (read .calls)) j .name) (read .added) ≡ true
+      → Prerequisite (acceptedAdds (read .calls)) j k
+      → contains (addOf (acceptedAdds (read .calls)) k .name) (read .finished) ≡ true
+      → seen at-end .job k .outcome ≡ 1
+      → seen at-end .job j .mark ≡ 1
+  a-job-is-marked-when-its-calls-have-ended = shown.demand s t laid items .marked-when-ended
+
+  -- and no later item takes a mark away, changes the mark of a job that has entered the queue, or the outcome of a
+  -- finished job. (That a get tells the mark: `told` in `HandedRightly`, above.)
+  pub marks-and-outcomes-stay : (more : List Item) → Stays perform seen (layOut s t .state) items more
+  marks-and-outcomes-stay = staying.stays s t laid items
+
+  -- "the words of outcome, mark and note are 0 or 1".
+  pub outcomes-marks-and-notes-are-0-or-1 :
+      ((j : ℕ) → j < s .jobs → (view at-end .job OUTCOME j ≤ 1) × (view at-end .job MARK j ≤ 1))
+      × ((w : ℕ) → w < s .workers → view at-end .worker NOTE w ≤ 1)
+  outcomes-marks-and-notes-are-0-or-1 = (lifted.job-bits s t laid items, lifted.note-bit s t laid items)
+
+  -- A spoiled job "may only end as failed".
+  pub a-spoiled-job-ends-failed : (j : ℕ) → j < length (acceptedAdds (read .calls))
+      → seen at-end .job j .label ≡ labelNumber finished → seen at-end .job j .mark ≡ 1
+      → seen at-end .job j .outcome ≡ 1
+  a-spoiled-job-ends-failed = shown.demand s t laid items .ends-failed
+
+  -- "So, from a fresh graph, once no call is half done, a job whose prerequisites have all ended is spoiled exactly if
+  -- a chain of prerequisites leads to a job that failed without being spoiled."
+  pub a-job-is-spoiled-by-a-chain : Quiet read → (j : ℕ) → j < length (acceptedAdds (read .calls))
+      → PrerequisitesFinished (seen at-end) (acceptedAdds (read .calls)) j
+      → (seen at-end .job j .mark ≡ 1) ↔ Source (seen at-end) (acceptedAdds (read .calls)) j
+  a-job-is-spoiled-by-a-chain = shown.demand s t laid items .chains
 
   -- ---- a district's minutes. "A host may load sixteen minute values in place of the fixed ones, before the first job
   -- enters": a load is accepted exactly then, with the sizes laid out and values that rise;
@@ -305,12 +364,24 @@ module _ (s : Sizes) (t : Tables) (laid : layOut s t .answer ≡ Laid) (items : 
       (noMinutes wrongSizes)
   the-minutes-are-told-as-loaded = minutes-told s t laid items
 
-  -- ---- a worker that restarts is told what items and answers alone say: the job that was handed out to it last, under
-  -- the name of that job's add, unless a finish of it was accepted since, and then none; and its call half done, of an
-  -- add the name too. Whatever sizes and worker it asks with: 1 unless the sizes are those laid out, then 2 unless w is
-  -- below P.
+  -- ---- a worker that restarts is told what items and answers alone say: the job that was handed out to it last, with
+  -- the name and the mark that the get told, unless a finish of it was accepted since, and then none; and its call half
+  -- done, of an add the name too. Whatever sizes and worker it asks with: 1 unless the sizes are those laid out, then 2
+  -- unless w is below P.
   pub a-worker-is-told-what-it-holds : (q : Sizes) (w : ℕ) → heldWords q at-end w ≡ told q s read w
   a-worker-is-told-what-it-holds = state.held s t laid items
+
+  -- The name is that of the job's add, and the mark is the one that is seen now.
+  pub a-hand-out-still-holds : (w : ℕ) (o : HandOut) → w < s .workers → handedRead read w ≡ some o
+      → (o .job < length (acceptedAdds (read .calls)))
+      × (o .name ≡ addOf (acceptedAdds (read .calls)) (o .job) .name)
+      × (seen at-end .job (o .job) .mark ≡ bit (o .spoiled))
+  a-hand-out-still-holds = state.handed-shown s t laid items
+
+  -- The mark that it is told is complete: it says whether a prerequisite of the held job failed.
+  pub a-held-jobs-mark-is-complete : (w p : ℕ) → w < s .workers → seen at-end .held w ≡ some p
+      → (seen at-end .job p .mark ≡ 1) ↔ PrerequisiteFailed (seen at-end) (acceptedAdds (read .calls)) p
+  a-held-jobs-mark-is-complete = state.held-mark s t laid items
 
   -- What is seen of its hold is the same.
   pub a-hold-is-read-off-the-calls : (w : ℕ) → w < s .workers → seen at-end .held w ≡ heldRead read w
@@ -354,11 +425,11 @@ module _ (t : Tables) (i : Item) where
   none-ready-changes-nothing = refusals.none-ready t i
 
   -- "A call that ends puts the words of its call back to these values": an answer that ends an add or a finish leaves
-  -- all 42 words of its worker fresh but the hold, and no other worker's words changed.
+  -- all 43 words of its worker fresh but the hold, and no other worker's words changed.
   pub a-call-that-ends-is-put-back : ends (perform t i .answer) ≡ true
       → (perform t i .state .workers
-      ≡ putWorker (t .workers) (workerOf i) (bareWorker IDLE (holdAfter (view t) (workerOf i))))
-      × (wordsOf (workerOf i) (perform t i .state) ≡ bareWorker IDLE (holdAfter (view t) (workerOf i)))
+      ≡ putWorker (t .workers) (workerOf i) (bareWorker IDLE (holdAfter (view t) (workerOf i)) 0))
+      × (wordsOf (workerOf i) (perform t i .state) ≡ bareWorker IDLE (holdAfter (view t) (workerOf i)) 0)
   a-call-that-ends-is-put-back = refusals.ended t i
 
   -- "words past a table's need are never touched": an item does to the tables what it does to the words that its sizes
@@ -387,7 +458,7 @@ pub every-call-is-turned-away-by-1-2-9-first : (t : Tables) (i : Item) (n : ℕ)
     → TurnedAway (sizesOf i) t (workerOf i) n → perform t i ≡ outcome (Refused n 0) t
 every-call-is-turned-away-by-1-2-9-first = first-of-all
 
--- then a step by 4 or by 9 for the counters, a post by 3, by 5 or 11, and by 9 for the counters (a get: below).
+-- then a step by 4 or by 9 for the counters, the post of an add by 3, by 5, and by 9 for the counters (a get: below).
 pub a-step-is-refused-by-4-then-9 : (s : Sizes) (t : Tables) (w : ℕ) → Admitted s t w → (n : ℕ) → StepRefused s t w n
     → perform t (step s w) ≡ outcome (Refused n 0) t
 a-step-is-refused-by-4-then-9 = step-refused
@@ -396,20 +467,39 @@ pub an-add-is-refused-by-3-5-then-9 : (s : Sizes) (t : Tables) (w : ℕ) → Adm
     → AddRefused s t w a n → perform t (postAdd s w a) ≡ outcome (Refused n 0) t
 an-add-is-refused-by-3-5-then-9 = add-is-refused
 
-pub a-finish-is-refused-by-3-11-then-9 : (s : Sizes) (t : Tables) (w : ℕ) → Admitted s t w → (f : Finish) (n : ℕ)
-    → FinishRefused s t w (f .name) n → perform t (postFinish s w f) ≡ outcome (Refused n 0) t
-a-finish-is-refused-by-3-11-then-9 = finish-is-refused
-
 -- What none of them refuses is posted: the worker's words are written, and nothing else.
 pub an-add-is-posted-else : (s : Sizes) (t : Tables) (w : ℕ) → Admitted s t w → view t .worker words.PHASE w ≡ IDLE
     → Counters s (view t) → (a : Arguments) → argumentsWrong a ≡ false
     → perform t (postAdd s w a) ≡ outcome Posted (withWorker t w (by-words.addingWorker (view t .worker HELD w) a))
 an-add-is-posted-else = add-is-posted
 
-pub a-finish-is-posted-else : (s : Sizes) (t : Tables) (w : ℕ) → Admitted s t w → view t .worker words.PHASE w ≡ IDLE
-    → Counters s (view t) → (f : Finish) → Holds (view t) w (f .name)
-    → perform t (postFinish s w f) ≡ outcome Posted (withWorker t w (bareWorker words.MARKING (view t .worker HELD w)))
-a-finish-is-posted-else = finish-is-posted
+-- The post of a finish, by the words of the tables: 3, 11, 9 for a counter or the mark of the held job, and then "19,
+-- good for a spoiled job", each "with nothing changed"; else it is posted, and its outcome is the worker's note.
+pub a-finish-is-answered-exactly : (s : Sizes) (t : Tables) (w : ℕ) (f : Finish)
+    → FinishesExactly (λ q u v x. perform u (postFinish q v x)) s t w f
+a-finish-is-answered-exactly = item-finishes-exactly
+
+-- "marked spoiled, which the get's answer tells": the mark of a job that is handed out is 0 or 1, and is told; any
+-- other is 9, with nothing changed.
+pub a-get-tells-the-mark : (s : Sizes) (t : Tables) (w : ℕ) → TellsMark (λ q u v. perform u (get q v)) s t w
+a-get-tells-the-mark = item-tells-mark
+
+-- A link, by the words of the tables: each refusal by 9 with its condition and nothing changed; a finished prerequisite
+-- is tallied, and one that failed noted beside the tally; any other "gets the arc appended to its list".
+pub a-link-is-made-exactly : (s : Sizes) (t : Tables) (w : ℕ)
+    → LinksExactly (λ q u v. perform u (step q v)) s t w
+a-link-is-made-exactly = item-links-exactly
+
+-- The mark of a finish: it reads the hold, the held job's label and its first arc, and not the job's mark; it keeps the
+-- outcome.
+pub a-mark-is-made-exactly : (s : Sizes) (t : Tables) (w : ℕ)
+    → MarksExactly (λ q u v. perform u (step q v)) s t w
+a-mark-is-made-exactly = item-marks-exactly
+
+-- Which items write the words of outcome, mark and note, and what: no others do, and these do. "A link to a failed job
+-- is noted beside the tally, and settling spoils; a failed finish's step for an arc spoils that arc's dependent".
+pub outcomes-marks-and-notes-are-written-so : WritesOutcomes perform
+outcomes-marks-and-notes-are-written-so = writes-outcomes
 
 -- "`taken` and `put` are read only where the table below names them": a post, and a step that neither settles nor goes
 -- along an arc, do with any queue of the same length what they do with this one, and leave it as it is.
@@ -463,8 +553,8 @@ pub held-and-drained-read-no-minutes : (s : Sizes) (t : Tables) (m : List ℕ) �
 held-and-drained-read-no-minutes s t m e = (held-apart s t m e, drained-apart s t m e)
 
 -- The board over the graph, on ALL tables: 1, then 9 for a counter over R, for stored minutes that do not rise or leave
--- their limits, and for a wrong label or class wherever it stands; else it is served, by the stored minutes. Who asks for
--- the minutes alone is refused by 1, then by 9, and else told the words.
+-- their limits, and for a wrong label or class wherever it stands; else it is served, by the stored minutes. Who asks
+-- for the minutes alone is refused by 1, then by 9, and else told the words.
 pub the-board-is-answered-exactly : (s : Sizes) (jobs : List ℕ) → BoardsExactly graphTotals s jobs
 the-board-is-answered-exactly = boards-exactly
 
@@ -472,8 +562,8 @@ pub the-minutes-are-told-exactly : (s : Sizes) (jobs : List ℕ) → MinutesExac
 the-minutes-are-told-exactly = minutes-exactly
 
 -- The board on a lent row by lent minutes: 1 for more than 4,096 records, then 17 for the minutes, then 9 for a wrong
--- label or class wherever it stands; else the counts and the sums by these minutes. By the fixed minutes it is the board
--- that takes none.
+-- label or class wherever it stands; else the counts and the sums by these minutes. By the fixed minutes it is the
+-- board that takes none.
 pub a-row-is-answered-exactly : (table : List ℕ) (rows : List JobRecord) → RowsExactly totalsBy table rows
 a-row-is-answered-exactly = rows-exactly
 
@@ -495,12 +585,12 @@ pub a-refusal-has-its-number : (n : ℕ)
 a-refusal-has-its-number n = (refl, refl)
 
 -- Of a job and of the header the board reads these words.
-pub a-job-is-read-by-its-words : (jobs : List ℕ) (j k : ℕ) → k < 8
-    → (columns jobShape jobs k j ≡ getD jobs (21 + 8 * j + k) 0) × (header jobs k ≡ getD jobs k 0)
+pub a-job-is-read-by-its-words : (jobs : List ℕ) (j k : ℕ) → k < 10
+    → (columns jobShape jobs k j ≡ getD jobs (21 + 10 * j + k) 0) × (header jobs k ≡ getD jobs k 0)
 a-job-is-read-by-its-words = job-by-words
 
 -- What these three tests mean, both ways: "the sizes: their limits, the tables' lengths, the four sizes in the jobs
--- header"; "the worker's words 0, 1 and 3 to 9, its places against `made`, `reserved`, R and A"; "`made`, at most R,
+-- header"; "the worker's words 0, 1 and 3 to 10, its places against `made`, `reserved`, R and A"; "`made`, at most R,
 -- and `reserved`, at most A".
 pub the-sizes-are-judged-exactly : (s : Sizes) (t : Tables) → (words.sizesFit s t ≡ true) ↔ Sized s t
 the-sizes-are-judged-exactly = sized-means
@@ -558,9 +648,9 @@ module _ (s : Sizes) (t : Tables) (w : ℕ) where
     a-get-takes-the-indexs-first = first-got s t w comes
 
     pub slots-that-wait-are-trusted : ((k : ℕ) → k < filled (view t) → waits (view t) k ≡ true)
-        → view t .job LABEL (nextJob (view t)) ≡ 0
+        → view t .job LABEL (nextJob (view t)) ≡ 0 → view t .job MARK (nextJob (view t)) ≤ 1
         → GetsFirst t w (getWords s t w)
-    slots-that-wait-are-trusted h e = first-got s t w comes (looked.trusted-at-index s t w comes h e)
+    slots-that-wait-are-trusted h e m = first-got s t w comes (looked.trusted-at-index s t w comes h e m)
 
   -- No get hands out another job, and none says "none ready" over a filled queue.
   pub only-the-indexs-first-is-handed-out : (h : HandOut) → getWords s t w .answer ≡ Handed h → FirstTaken (view t) h
@@ -596,7 +686,7 @@ module _ (s : Sizes) (t : Tables) (w : ℕ) where
   -- and none is refused that has a seat.
   pub a-settling-job-with-a-seat-is-queued : ComesToSettle s t w → (c : ℕ) (e : Seat) → Settles (view t) job tally c
       → settles c tally d ≡ true → seatFor s (view t) job ≡ Seated e
-      → stepWords s t w ≡ outcome Ended (counted t job c (putSeat (t .queue) e job) (putBack t w))
+      → stepWords s t w ≡ outcome Ended (counted t w job c (putSeat (t .queue) e job) (putBack t w))
   a-settling-job-with-a-seat-is-queued = settles-seated s t w
 
   -- The same of an arc's step: it "lowers that dependent's count by 1; a count that reaches 0 puts that job in the
@@ -617,7 +707,7 @@ module _ (s : Sizes) (t : Tables) (w : ℕ) where
   pub a-notified-job-with-a-seat-is-queued : Comes s t w NOTIFYING → (e : Seat) → Lowers s (view t) arc 0
       → seatFor s (view t) dependent ≡ Seated e
       → (a : Answer) (r : List ℕ) → Onward t w (view t .arc AFTER arc) a r
-      → stepWords s t w ≡ outcome a (counted t dependent 0 (putSeat (t .queue) e dependent) r)
+      → stepWords s t w ≡ outcome a (counted t w dependent 0 (putSeat (t .queue) e dependent) r)
   a-notified-job-with-a-seat-is-queued = notifies-seated s t w
 
 module _ (v : View) where
@@ -669,11 +759,11 @@ module _ (v : View) where
   no-other-word-tells-the-seat u = seat-same u v
 
   -- Nor does another word tell of a get whether it takes the first, and how the places move then, than these counters,
-  -- the four words of each slot that it looks at, and the label of the first job.
+  -- the four words of each slot that it looks at, and the label and the mark of the first job.
   pub no-other-word-tells-what-is-taken : (u : View) → SameCounters u v → SameSlots u v (lookedByGet v)
-      → u .job LABEL (nextJob v) ≡ v .job LABEL (nextJob v)
+      → u .job LABEL (nextJob v) ≡ v .job LABEL (nextJob v) → u .job MARK (nextJob v) ≡ v .job MARK (nextJob v)
       → (firstSeat u ≡ firstSeat v) × (takesFirst u ≡ takesFirst v)
-  no-other-word-tells-what-is-taken u C A e = (first-seat-same u v C A, takes-same u v C A e)
+  no-other-word-tells-what-is-taken u C A e m = (first-seat-same u v C A, takes-same u v C A e m)
 
   -- None is without a seat in an index whose filled slots all wait, whatever their order.
   pub slots-that-wait-are-trusted-by-entries : (s : Sizes) (j : ℕ) → mayEnter s v j ≡ true
@@ -700,6 +790,15 @@ module _ (s : Sizes) (t : Tables) where
   pub drained-is-refused-by-1-or-9 : contains (drainedWords s t .number) (0 ∷ wrongSizes ∷ damaged ∷ []) ≡ true
   drained-is-refused-by-1-or-9 = state-numbers.drained-number s t
 
+  -- What a worker is told, exactly, by the words of the tables: which number refuses it, and else each field.
+  pub a-worker-is-told-exactly : (w : ℕ) → HeldExactly heldWords s t w
+  a-worker-is-told-exactly = held-exactly s t
+
+  -- So is a host that wants to stop: 1, then 9 for any worker's own words, the counters or those of the queue; else 1
+  -- exactly if the queue is empty and every worker is idle and holds nothing.
+  pub drained-is-told-exactly : DrainedExactly drainedWords s t
+  drained-is-told-exactly = drained-exactly-told s t
+
   -- A refusal has 0 in all else, and drained is 0 or 1.
   pub held-refused-tells-nothing : (w : ℕ) → heldWords s t w .number ≢ 0
       → heldWords s t w ≡ turnedAway (heldWords s t w .number)
@@ -719,12 +818,13 @@ module _ (s : Sizes) (t : Tables) where
       → (heldWords s t w .call ≢ 0) ↔ (getWords s t w .answer ≡ Refused halfDone 0)
   a-call-is-told-where-a-get-is-refused-by-3 = state-agrees.get-by-3 s t
 
-  -- a worker told idle with a job of a name is one whose finish of that name is taken;
-  pub the-name-told-is-the-one-that-finishes : (w name : ℕ)
+  -- a worker told idle with a job of a name is one whose finish of that name is taken, as failed if it is told spoiled;
+  pub the-name-told-is-the-one-that-finishes : (w : ℕ) (f : Finish)
       → ((heldWords s t w .number ≡ 0) × (heldWords s t w .call ≡ 0)
       × (heldWords s t w .holds ≡ 1)
-      × (heldWords s t w .name ≡ name))
-      ↔ (finishWords s t w name .answer ≡ Posted)
+      × (heldWords s t w .name ≡ f .name)
+      × (heldWords s t w .spoiled ≡ 1 → f .failed ≡ true))
+      ↔ (finishWords s t w f .answer ≡ Posted)
   the-name-told-is-the-one-that-finishes = state-agrees.finish-taken s t
 
   -- and the graph is told drained exactly if a get of every worker says "none ready".
@@ -736,6 +836,16 @@ module _ (s : Sizes) (t : Tables) where
   pub held-and-drained-read-within-the-need : (u : Tables) (w : ℕ) → needed s t ≡ needed s u
       → (heldWords s t w ≡ heldWords s u w) × (drainedWords s t ≡ drainedWords s u)
   held-and-drained-read-within-the-need u = state-need.not-read s t u
+
+-- No other function tells a worker exactly so, and none a host.
+pub told-exactly-by-one-function-alone : (held : Ask)
+    → ((s : Sizes) (t : Tables) (w : ℕ) → HeldExactly held s t w) → (s : Sizes) (t : Tables) (w : ℕ)
+    → held s t w ≡ heldWords s t w
+told-exactly-by-one-function-alone = only-held-words
+
+pub drained-exactly-by-one-function-alone : (ask : AskDrained)
+    → ((s : Sizes) (t : Tables) → DrainedExactly ask s t) → (s : Sizes) (t : Tables) → ask s t ≡ drainedWords s t
+drained-exactly-by-one-function-alone = only-drained-words
 
 -- Laying out succeeds exactly if the sizes lie in their limits and each table is long enough; then the words needed are
 -- a fresh graph, the fixed minutes in it, whatever they were, and the rest is as it was. Else it is refused by 1, and
@@ -757,8 +867,13 @@ module _ (workers : ℕ) (some : 1 ≤ workers) (few : workers ≤ mostWorkers) 
 
   pub no-finish-is-cut-short : {t : Tables} → Begins s limits js t
       → (hs : List Holder) (x : Holder) (rest : List Holder) → getRound s t .holders ≡ hs ++ (x ∷ rest)
-      → wholeFinish s (finishAll s hs (getRound s t .state)) (x .worker) (x .name) .answer ≡ Ended
+      → wholeFinish s (finishAll s hs (getRound s t .state)) (x .worker) (finishOf (x .name) false) .answer ≡ Ended
   no-finish-is-cut-short = ends-of-day.no-finish-is-cut-short s limits js
+
+  -- each finish brings good, and no job is spoiled;
+  pub no-job-of-the-day-fails : (j : ℕ) → j < view (afterRounds s limits js) .made
+      → (view (afterRounds s limits js) .job OUTCOME j ≡ 0) × (view (afterRounds s limits js) .job MARK j ≡ 0)
+  no-job-of-the-day-fails = ends-of-day.none-failed-or-is-spoiled s limits js
 
   pub the-rounds-suffice : (k : ℕ)
       → rounds (k + (s .jobs + 1)) s (afterAdds s limits js) ≡ runDay s (afterAdds s limits js)

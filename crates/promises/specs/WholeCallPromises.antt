@@ -8,7 +8,7 @@
 --   numbers, what is left     whole_answers: specs/Numbers.antt, specs/Left.antt, specs/Worker.antt
 --   no minutes are read       whole_answers: specs/MinutesApart.antt
 -- Follows docs/RULES.md, "Whole calls". Assumes nothing.
-use mathlib.Core.Path.{_≡_, refl}
+use mathlib.Core.Path.{_≡_, refl, sym, _∙_}
 use mathlib.Core.Logic.{_↔_, _≢_, _⊎_}
 use mathlib.Core.Bool.{true, false}
 use mathlib.Core.List.{List, [], map}
@@ -25,7 +25,8 @@ use Rattle.words.specs.Layout.{Tables, none, storedMinutes}
 use Rattle.words.specs.Words.{perform, addWords, layOut}
 use Rattle.words.specs.Observed.{waiting, indexed, seen}
 use Rattle.linearization.specs.Calls.{idle, reading, acceptedAdds, acceptedFinishes}
-use Rattle.linearizability.specs.Demand.{handedOut}
+use Rattle.linearizability.specs.Demand.{handedOut, PrerequisitesFinished, Source}
+use Rattle.linearizability.specs.Stays.{Stays}
 use Rattle.linearizability.specs.LongFirst.{TakesLongest, ByCount}
 use Rattle.graph_board.specs.Board.{graphTotals}
 use Rattle.graph_board.specs.Accounted.{Accounted}
@@ -104,6 +105,23 @@ module _ (s : Sizes) (t : Tables) (laid : layOut s t .answer ≡ Laid) (calls : 
   the-index-holds-the-waiting-jobs-after-calls =
       rw (calls-demand s t laid calls .leaves) (of-items.the-index-holds-the-waiting-jobs s t laid worthOf .jobs)
 
+  -- A failed job spreads to all that rests on it: after such calls, none of them half done, a job whose prerequisites
+  -- have all ended is spoiled exactly if a chain of them leads to a job that failed without being spoiled.
+  pub a-job-is-spoiled-by-a-chain-after-calls : ((w : ℕ) → told s t laid calls .pending w ≡ idle)
+      → (j : ℕ) → j < length (acceptedAdds (told s t laid calls .calls))
+      → PrerequisitesFinished (seen after-calls) (acceptedAdds (told s t laid calls .calls)) j
+      → (seen after-calls .job j .mark ≡ 1) ↔ Source (seen after-calls) (acceptedAdds (told s t laid calls .calls)) j
+  a-job-is-spoiled-by-a-chain-after-calls quiet =
+      rw (calls-demand s t laid calls .leaves, calls-demand s t laid calls .reads .calls)
+      (of-items.a-job-is-spoiled-by-a-chain s t laid worthOf
+      (λ w. sym (calls-demand s t laid calls .reads .pending w) ∙ quiet w))
+
+  -- No later item takes a mark away, changes the mark of a job that has entered the queue, or the outcome of a finished
+  -- job. (Later whole calls count as the items that they are worth.)
+  pub marks-and-outcomes-stay-after-calls : (more : List Item)
+      → Stays perform seen (layOut s t .state) worthOf more
+  marks-and-outcomes-stay-after-calls = of-items.marks-and-outcomes-stay s t laid worthOf
+
   -- The minutes are those of the last load among the calls that was accepted, and the board's three sums are together
   -- the minutes, by them, of all jobs that ever entered.
   abbrev pub minutesByCalls : List ℕ
@@ -125,8 +143,8 @@ module _ (s : Sizes) (t : Tables) (laid : layOut s t .answer ≡ Laid) (calls : 
       )
       (of-items.the-board-accounts-for-every-job s t laid worthOf)
 
-  -- No call is cut short: to an idle worker an add replies that it ended, or 5 to 8; a finish that it ended, or 11; a
-  -- sheet of up to 64 entries has such an answer for each.
+  -- No call is cut short: to an idle worker an add replies that it ended, or 5 to 8; a finish that it ended, or 11 or
+  -- 19; a sheet of up to 64 entries has such an answer for each.
   module _ (w : ℕ) (there : w < s .workers) (free : told s t laid calls .pending w ≡ idle) where
     pub a-whole-add-ends : (a : Arguments)
         → (x : Answer) × (answerWords (now s t laid calls) (host.wholeAdd s w a) .reply ≡ one x) × ends.AddAnswer x
@@ -152,7 +170,7 @@ a-call-is-its-posts-and-steps = whole-is-worth
 -- No whole call reads or changes the minutes that are stored: with any sixteen in their place it answers the same, and
 -- leaves the same but for them.
 pub whole-calls-leave-the-minutes-alone : (s : Sizes) (w : ℕ)
-    → ((a : Arguments) → CallApart (λ t. wholeAdd s t w a)) × ((name : ℕ) → CallApart (λ t. wholeFinish s t w name))
+    → ((a : Arguments) → CallApart (λ t. wholeAdd s t w a)) × ((f : Finish) → CallApart (λ t. wholeFinish s t w f))
     × ((l : List Arguments) → SheetApart (λ t. sheetWords s t w l))
 whole-calls-leave-the-minutes-alone s w = (add-apart s w, finish-apart s w, sheet-apart s w)
 
@@ -181,25 +199,25 @@ module _ (s : Sizes) (t : Tables) (w : ℕ) (a : Arguments) where
   a-whole-add-that-ends-is-put-back = left.add-ended s t w a
 
 -- The same of a finish run whole, which may go on where its budget is used up, half done.
-module _ (s : Sizes) (t : Tables) (w name : ℕ) where
-  pub a-whole-finish-is-answered : FinishAnswer (wholeFinish s t w name .answer)
-  a-whole-finish-is-answered = numbers.finish-answer s t w name
+module _ (s : Sizes) (t : Tables) (w : ℕ) (f : Finish) where
+  pub a-whole-finish-is-answered : FinishAnswer (wholeFinish s t w f .answer)
+  a-whole-finish-is-answered = numbers.finish-answer s t w f
 
   pub a-whole-finish-turned-away-changes-nothing : (n i : ℕ) → contains n finishKeeps ≡ true
-      → wholeFinish s t w name .answer ≡ Refused n i → wholeFinish s t w name .state ≡ t
-  a-whole-finish-turned-away-changes-nothing = left.finish-turned-away s t w name
+      → wholeFinish s t w f .answer ≡ Refused n i → wholeFinish s t w f .state ≡ t
+  a-whole-finish-turned-away-changes-nothing = left.finish-turned-away s t w f
 
-  pub a-whole-finish-damaged-is-half-done : (i : ℕ) → wholeFinish s t w name .answer ≡ Refused damaged i
-      → (wholeFinish s t w name .state ≡ t) ⊎ (isIdle (wholeFinish s t w name .state) w ≡ false)
-  a-whole-finish-damaged-is-half-done = left.finish-damaged s t w name
+  pub a-whole-finish-damaged-is-half-done : (i : ℕ) → wholeFinish s t w f .answer ≡ Refused damaged i
+      → (wholeFinish s t w f .state ≡ t) ⊎ (isIdle (wholeFinish s t w f .state) w ≡ false)
+  a-whole-finish-damaged-is-half-done = left.finish-damaged s t w f
 
-  pub a-whole-finish-that-goes-on-is-half-done : wholeFinish s t w name .answer ≡ Going
-      → isIdle (wholeFinish s t w name .state) w ≡ false
-  a-whole-finish-that-goes-on-is-half-done = left.finish-going s t w name
+  pub a-whole-finish-that-goes-on-is-half-done : wholeFinish s t w f .answer ≡ Going
+      → isIdle (wholeFinish s t w f .state) w ≡ false
+  a-whole-finish-that-goes-on-is-half-done = left.finish-going s t w f
 
-  pub a-whole-finish-that-ends-is-put-back : wholeFinish s t w name .answer ≡ Ended
-      → Back t w none (wholeFinish s t w name .state)
-  a-whole-finish-that-ends-is-put-back = left.finish-ended s t w name
+  pub a-whole-finish-that-ends-is-put-back : wholeFinish s t w f .answer ≡ Ended
+      → Back t w none (wholeFinish s t w f .state)
+  a-whole-finish-that-ends-is-put-back = left.finish-ended s t w f
 
 -- A sheet is served exactly if its worker passes the tests that come first and is idle, and it has at most 64 entries;
 module _ (s : Sizes) (t : Tables) (w : ℕ) (l : List Arguments) where
@@ -286,7 +304,7 @@ a-sheet-that-was-read-is-added = read.read-sheet
 pub a-whole-add-keeps-to-the-need : (s : Sizes) (w : ℕ) (a : Arguments) → CallWithin s (λ t. wholeAdd s t w a)
 a-whole-add-keeps-to-the-need = within.add-within
 
-pub a-whole-finish-keeps-to-the-need : (s : Sizes) (w name : ℕ) → CallWithin s (λ t. wholeFinish s t w name)
+pub a-whole-finish-keeps-to-the-need : (s : Sizes) (w : ℕ) (f : Finish) → CallWithin s (λ t. wholeFinish s t w f)
 a-whole-finish-keeps-to-the-need = within.finish-within
 
 pub a-sheet-keeps-to-the-need : (s : Sizes) (w : ℕ) (l : List Arguments) → SheetWithin s (λ t. sheetWords s t w l)

@@ -1,6 +1,6 @@
 -- The relation between the words of the tables and the graph of the rules. Assumes nothing.
 use mathlib.Core.Path.{_≡_}
-use mathlib.Core.Bool.{true, _&&_}
+use mathlib.Core.Bool.{Bool, true, false, _&&_}
 use mathlib.Core.List.{List, [], _∷_, _++_}
 use mathlib.Core.Option.{Option, none, some}
 use Prim.Native.Nat.{ℕ, zero, suc, _+_, _-_, _^_, _≤_, _<_}
@@ -10,11 +10,12 @@ use Rattle.basics.specs.Limits.{mostNames}
 use Rattle.basics.specs.Base.{pick, update}
 use Rattle.bucket.specs.Bucket.{bucketOf}
 use Rattle.heap.specs.Heap.{Heap, count}
-use Rattle.terms.specs.Terms.{labelNumber, Arguments, listed, withinLimits}
+use Rattle.terms.specs.Terms.{labelNumber, Arguments, listed, withinLimits, bit, Tally, noTally}
 use Rattle.terms.specs.declared.Sizes.{Sizes}
 use Rattle.words.specs.Columns.{Rows}
-use Rattle.words.specs.Layout.{jobShape, NAME, LABEL, COUNT, CLASS, GROWER, FIRST, LAST, NEXT, arcShape, DEPENDENT}
-use Rattle.words.specs.Layout.{AFTER, bucketShape, queueShape, workerShape, PHASE, HELD, OWN-NAME, LIST-COUNT}
+use Rattle.words.specs.Layout.{jobShape, NAME, LABEL, COUNT, CLASS, GROWER, FIRST, LAST, NEXT, OUTCOME, MARK}
+use Rattle.words.specs.Layout.{arcShape, DEPENDENT, NOTE, AFTER, bucketShape, queueShape, workerShape, PHASE, HELD}
+use Rattle.words.specs.Layout.{OWN-NAME, LIST-COUNT}
 use Rattle.words.specs.Layout.{OWN-CLASS, OWN-GROWER, TALLY, PLACE, OWN-JOB, OWN-ARC, NAMES, IDLE, LOOKING, LINKING}
 use Rattle.words.specs.Layout.{MARKING, NOTIFYING, CELL, SLOT, POSITION, view, sizesKept, storedMinutes, Tables, View}
 use Rattle.words.specs.Layout as words
@@ -81,6 +82,8 @@ pub record Row (f : ℕ → ℕ → ℕ) (j : ℕ) (l : List ℕ) (x : Job) : Ty
   pub grower : f GROWER j ≡ x .grower
   pub first : f FIRST j ≡ getD l 0 words.none
   pub last : f LAST j ≡ getD l (length l - 1) words.none
+  pub outcome : f OUTCOME j ≡ bit (x .failed)
+  pub mark : f MARK j ≡ bit (x .spoiled)
 
 -- the i-th arc a of p's list, whose next is n and dependent d
 pub record Linked (f : ℕ → ℕ → ℕ) (G : Ghost) (reserved p i a n d : ℕ) : Type 0 where
@@ -129,37 +132,39 @@ holdWord none = words.none
 holdWord (some j) = j
 
 -- the words of an add; the listed names end at the count, so that the names past it are kept as 0
-pub record AddWords (f : ℕ → ℕ → ℕ) (w : ℕ) (a : Arguments) (ph ta pl jo ar : ℕ) : Type 0 where
+pub record AddWords (f : ℕ → ℕ → ℕ) (w : ℕ) (a : Arguments) (ph : ℕ) (ta : Tally) (pl jo ar : ℕ) : Type 0 where
   pub phase : f PHASE w ≡ ph
   pub name : f OWN-NAME w ≡ a .name
   pub count : f LIST-COUNT w ≡ a .count
   pub class : f OWN-CLASS w ≡ a .class
   pub grower : f OWN-GROWER w ≡ a .grower
-  pub tally : f TALLY w ≡ ta
+  pub tally : f TALLY w ≡ ta .count
+  pub note : f NOTE w ≡ bit (ta .noted)
   pub place : f PLACE w ≡ pl
   pub job : f OWN-JOB w ≡ jo
   pub arc : f OWN-ARC w ≡ ar
   pub names : (q : ℕ) → q < mostNames → f (NAMES + q) w ≡ getD (listed a) q 0
 
--- the words of a call with no arguments, of which arc is the next arc
-pub record BareWords (f : ℕ → ℕ → ℕ) (w ph ar : ℕ) : Type 0 where
+-- the words of a call with no list, of which arc is the next arc, and which brings failed or not
+pub record BareWords (f : ℕ → ℕ → ℕ) (w ph ar : ℕ) (fa : Bool) : Type 0 where
   pub phase : f PHASE w ≡ ph
   pub name : f OWN-NAME w ≡ 0
   pub count : f LIST-COUNT w ≡ 0
   pub class : f OWN-CLASS w ≡ 0
   pub grower : f OWN-GROWER w ≡ 0
   pub tally : f TALLY w ≡ 0
+  pub note : f NOTE w ≡ bit fa
   pub place : f PLACE w ≡ 0
   pub job : f OWN-JOB w ≡ words.none
   pub arc : f OWN-ARC w ≡ ar
   pub names : (q : ℕ) → q < mostNames → f (NAMES + q) w ≡ 0
 
 abbrev pub CallRep : (ℕ → ℕ → ℕ) → Ghost → ℕ → Call → Type 0
-CallRep f G w idle = BareWords f w IDLE words.none
-CallRep f G w (looking a i) = AddWords f w a LOOKING 0 i words.none words.none
+CallRep f G w idle = BareWords f w IDLE words.none false
+CallRep f G w (looking a i) = AddWords f w a LOOKING noTally i words.none words.none
 CallRep f G w (linking a j i t) = AddWords f w a LINKING t i j (firstArc (a .count) (G .base j)) × (G .linked j ≡ i)
-CallRep f G w marking = BareWords f w MARKING words.none
-CallRep f G w (notifying p k) = BareWords f w NOTIFYING (getD (G .via p) k words.none)
+CallRep f G w (marking fa) = BareWords f w MARKING words.none fa
+CallRep f G w (notifying p k fa) = BareWords f w NOTIFYING (getD (G .via p) k words.none) fa
 
 pub record WorkerRep (f : ℕ → ℕ → ℕ) (G : Ghost) (w : ℕ) (x : Worker) : Type 0 where
   pub held : f HELD w ≡ holdWord (x .held)

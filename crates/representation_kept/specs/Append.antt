@@ -10,7 +10,7 @@ use lib.Dec.{eqb}
 use lib.ListN.{length, getD, List·getD-eq-default}
 use borrow.Author.Tests.{eq-eqb, ne-eqb, lt-ltb}
 use Rattle.basics.specs.Base.{pick}
-use Rattle.terms.specs.Terms.{Arguments}
+use Rattle.terms.specs.Terms.{Arguments, Tally}
 use Rattle.terms.specs.declared.Sizes.{Sizes}
 use Rattle.terms.specs.declared.Answer.the-variants.{Going}
 use Rattle.words.specs.Columns.{columns-put, stores}
@@ -60,7 +60,7 @@ module _ (s : Sizes) (t : Tables) (g : Graph) (G : Ghost) (S : Stands s t g G) (
         arc-ok s t g G S O p (length (G .via p) - 1),
       )
 
-  module _ (w : ℕ) (a : Arguments) (j i u p : ℕ) (hj : j < length (g .jobs))
+  module _ (w : ℕ) (a : Arguments) (j i : ℕ) (u : Tally) (p : ℕ) (hj : j < length (g .jobs))
       (hi : G .linked j < length (job g j .list)) (hp : p < length (g .jobs)) where
     p-fits : p < s .jobs
     p-fits = omega (arith, O .jobs)

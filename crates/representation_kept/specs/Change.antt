@@ -3,18 +3,21 @@
 -- laid out and the minutes. Follows docs/RULES.md, "Tables and their measures". Assumes nothing.
 use mathlib.Core.Path.{_≡_, refl, sym, ap, _∙_}
 use mathlib.Core.Logic.{_≢_}
+use mathlib.Core.Bool.{true}
 use mathlib.Core.List.{List, [], _∷_, _++_}
 use Prim.Native.Nat.{ℕ, zero, suc, _+_, _<_}
 use native.Mathlib.Omega.{arith}
 use native.Mathlib.Decide.{ℕ-discrete}
+use lib.Dec.{ltb}
 use borrow.Author.Tests.{eq-eqb, ne-eqb, lt-ltb}
 use lib.ListN.{length, getD, set, length-set}
 use Rattle.basics.specs.Laws.{set-all, update-other}
 use Rattle.minutes.specs.Minutes.{classes}
 use Rattle.terms.specs.declared.Sizes.{Sizes}
-use Rattle.words.specs.Columns.{put, store, Rows, rows-put, header, header-put, stores}
+use Rattle.words.specs.Columns.{columns, columns-put, put, store, Rows, rows-put, header, header-put, stores}
 use Rattle.words.specs.Layout.{jobShape, NAME, LABEL, COUNT, CLASS, GROWER, FIRST, LAST, NEXT, queueShape, CELL}
-use Rattle.words.specs.Layout.{MINUTES, sizesKept, storedMinutes, Tables, tables, view, View}
+use Rattle.words.specs.Layout.{OUTCOME, MARK, MADE, TAKEN, PUT, workerShape, MINUTES, sizesKept, storedMinutes}
+use Rattle.words.specs.Layout.{Tables, tables, view, View}
 use Rattle.words.specs.Observed.{jobsIn}
 use Rattle.rules.specs.Rules.{Job, Worker, Graph, noJob, job, withJobs, withQueue, withWorkers}
 use Rattle.rules.specs.Sound.{started, startedBy}
@@ -52,23 +55,51 @@ row-other f j q x k h o =
       grower = same GROWER ∙ o .grower;
       first = same FIRST ∙ o .first;
       last = same LAST ∙ o .last;
+      outcome = same OUTCOME ∙ o .outcome;
+      mark = same MARK ∙ o .mark;
     }
 
--- the tables after a store of x in field k of job j, and with another queue q
+-- the jobs table n after stores in the records of jobs, f being its columns then: what is not in a record stays
+pub record JobsAfter (s : Sizes) (l n : List ℕ) (f : ℕ → ℕ → ℕ) : Type 0 where
+  pub kept : sizesKept s n ≡ sizesKept s l
+  pub minutes : storedMinutes n ≡ storedMinutes l
+  pub made : header n MADE ≡ header l MADE
+  pub rows : Rows jobShape (s .jobs) n
+  pub columns : columns jobShape n ≡ f
+
+-- none, and one more
+pub no-store : (s : Sizes) (l : List ℕ) → Rows jobShape (s .jobs) l → JobsAfter s l l (columns jobShape l)
+no-store s l r = record { kept = refl; minutes = refl; made = refl; rows = r; columns = refl }
+
+pub one-store : {s : Sizes} {l n : List ℕ} {f : ℕ → ℕ → ℕ} (i k x : ℕ) → ltb k (jobShape .width) ≡ true → i < s .jobs
+    → JobsAfter s l n f → JobsAfter s l (put jobShape n i k x) (store f i k x)
+one-store {s} {l} {n} {f} i k x e h N = record {
+  kept = kept-put s n i k x ∙ N .kept;
+  minutes = minutes-put n i k x ∙ N .minutes;
+  made = header-put jobShape n i k x MADE refl ∙ N .made;
+  rows = rows-put jobShape (s .jobs) n i k x ∙ N .rows;
+  columns = columns-put jobShape (s .jobs) n i k x e (N .rows) h ∙ ap (λ c. store c i k x) (N .columns);
+}
+
+-- the tables after such stores, and with another queue q
 pub job-stands : (s : Sizes) (t : Tables) (g : Graph) (G : Ghost) → Stands s t g G
-    → (j k x : ℕ) (q l : List ℕ) (h : Graph)
+    → {n : List ℕ} {f : ℕ → ℕ → ℕ} → JobsAfter s (t .jobs) n f → (q l : List ℕ) (h : Graph)
     → Rows queueShape (s .jobs) q
-    → TablesRep s (view (tables (put jobShape (t .jobs) j k x) (t .arcs) (t .buckets) q l)) h G
+    → TablesRep s
+    (viewOf (view t .made) (view t .reserved) (header q TAKEN) (header q PUT) f (view t .arc) (view t .bucket)
+    (columns queueShape q) (columns workerShape l))
+    h
+    G
     → h .minutes ≡ g .minutes
-    → TablesStand s (tables (put jobShape (t .jobs) j k x) (t .arcs) (t .buckets) q l) h G
-job-stands s t g G S j k x q l h queue rep same = record {
-  kept = kept-put s (t .jobs) j k x ∙ S .kept;
-  minutes = minutes-put (t .jobs) j k x ∙ S .minutes ∙ sym same;
-  jobs = rows-put jobShape (s .jobs) (t .jobs) j k x ∙ S .jobs;
+    → TablesStand s (tables n (t .arcs) (t .buckets) q l) h G
+job-stands s t g G S N q l h queue rep same = record {
+  kept = N .kept ∙ S .kept;
+  minutes = N .minutes ∙ S .minutes ∙ sym same;
+  jobs = N .rows;
   arcs = S .arcs;
   buckets = S .buckets;
   queue = queue;
-  rep = rep;
+  rep = rw (N .made, N .columns) rep;
 }
 
 -- ---- the jobs started

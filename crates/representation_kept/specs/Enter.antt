@@ -17,13 +17,13 @@ use Rattle.basics.specs.Laws.{update-same, update-at, update-other, length-pref
 use Rattle.bucket.specs.Bucket.{bucketOf}
 use Rattle.bucket.specs.Laws.{below}
 use Rattle.minutes.specs.Minutes.{classes}
-use Rattle.terms.specs.Terms.{Arguments}
+use Rattle.terms.specs.Terms.{Arguments, Tally}
 use Rattle.terms.specs.declared.Sizes.{Sizes}
 use Rattle.words.specs.Columns.{place, Rows, columns, columns-put, put, store}
 use Rattle.words.specs.Columns.{header, putHeader, header-putHeader, header-other, rows-putHeader, stores}
 use Rattle.words.specs.Layout.{none, jobShape, JOBS, ARCS, BITS, WORKERS, MADE, NAME, LABEL, COUNT, CLASS, GROWER}
 use Rattle.words.specs.Layout.{FIRST, LAST, NEXT, arcShape, bucketShape, CELL, LIST-COUNT, view, sizesKept, Tables}
-use Rattle.words.specs.Layout.{MINUTES, storedMinutes, View}
+use Rattle.words.specs.Layout.{OUTCOME, MARK, MINUTES, storedMinutes, View}
 use Rattle.words.specs.Words.{applied, enteredJob}
 use Rattle.words.specs.declared.Plan.the-variants.{Enter}
 use Rattle.rules.specs.Rules.{Job, Graph, noJob, job, newJob, entered}
@@ -62,6 +62,8 @@ pub record NewRow (f : ℕ → ℕ → ℕ) (n head : ℕ) (a : Arguments) : Typ
   pub first : f FIRST n ≡ none
   pub last : f LAST n ≡ none
   pub next : f NEXT n ≡ head
+  pub outcome : f OUTCOME n ≡ 0
+  pub mark : f MARK n ≡ 0
 
 -- ---- over the maps: f the jobs' columns after
 module _ (s : Sizes) (v : View) (g : Graph) (G : Ghost) (R : TablesRep s v g G) (w : ℕ) (a : Arguments)
@@ -107,6 +109,8 @@ module _ (s : Sizes) (v : View) (g : Graph) (G : Ghost) (R : TablesRep s v g G) 
         grower = new .grower;
         first = new .first ∙ sym (List·getD-eq-default (G .via n) none {n = 0} (omega (arith, bare)));
         last = new .last ∙ sym (List·getD-eq-default (G .via n) none {n = length (G .via n) - 1} (omega (arith, bare)));
+        outcome = new .outcome;
+        mark = new .mark;
       })
       (λ k e b. let o = R .rows k b in
       record {
@@ -117,6 +121,8 @@ module _ (s : Sizes) (v : View) (g : Graph) (G : Ghost) (R : TablesRep s v g G) 
         grower = old GROWER k e ∙ o .grower;
         first = old FIRST k e ∙ o .first;
         last = old LAST k e ∙ o .last;
+        outcome = old OUTCOME k e ∙ o .outcome;
+        mark = old MARK k e ∙ o .mark;
       })
 
   abbrev Chain : ℕ → ℕ → Type 0
@@ -216,7 +222,7 @@ minutes-record l i x r h =
     ∙ header-record jobShape 0 l i r h q (omega arith))
 
 module _ (s : Sizes) (t : Tables) (g : Graph) (G : Ghost) (S : Stands s t g G) (w : ℕ) (a : Arguments)
-    (ph ta pl jo ar : ℕ)
+    (ph : ℕ) (ta : Tally) (pl jo ar : ℕ)
     (own : AddWords (view t .worker) w a ph ta pl jo ar) (room : length (g .jobs) < s .jobs)
     (queued : (j : ℕ) → 0 < occurrences j (g .queue) → j < length (g .jobs)) where
   abbrev N : ℕ
@@ -244,6 +250,8 @@ module _ (s : Sizes) (t : Tables) (g : Graph) (G : Ghost) (S : Stands s t g G) (
     first = word FIRST (omega arith);
     last = word LAST (omega arith);
     next = word NEXT (omega arith);
+    outcome = word OUTCOME (omega arith);
+    mark = word MARK (omega arith);
   }
 
   enter-all : TablesStand s (applied (Enter N (bucketOf (a .name) (s .bits)) head (g .reserved)) t w) (entered g w a)
@@ -278,7 +286,8 @@ module _ (s : Sizes) (t : Tables) (g : Graph) (G : Ghost) (S : Stands s t g G) (
       }
 
 module _ (s : Sizes) (t : Tables) (g : Graph) (G : Ghost) (S : Stands s t g G) (O : Sound s g) where
-  pub enter-stands : (w : ℕ) (a : Arguments) (ph ta pl jo ar : ℕ) → AddWords (view t .worker) w a ph ta pl jo ar
+  pub enter-stands : (w : ℕ) (a : Arguments) (ph : ℕ) (ta : Tally) (pl jo ar : ℕ)
+      → AddWords (view t .worker) w a ph ta pl jo ar
       → length (g .jobs) < s .jobs
       → g .reserved + a .count ≤ s .arcs
       → TablesStand s

@@ -23,7 +23,7 @@ use Rattle.words.specs.Layout.{LAST, arcShape, RESERVED, bucketShape, queueShap
 use Rattle.words.specs.Layout.{OWN-NAME, LIST-COUNT, OWN-CLASS, OWN-GROWER, TALLY, PLACE, OWN-JOB, OWN-ARC, IDLE, need}
 use Rattle.words.specs.Layout.{longEnough, sizesKept, roomFor, freshJob, freshArc, freshPlace, bareWorker, freshJobs}
 use Rattle.words.specs.Layout.{freshArcs, freshBuckets, freshQueue, freshWorkers, freshTables, tables, view, Tables}
-use Rattle.words.specs.Layout.{MINUTES, NAMES, CELL, SLOT, POSITION, storedMinutes}
+use Rattle.words.specs.Layout.{MINUTES, NAMES, CELL, SLOT, POSITION, storedMinutes, OUTCOME, MARK, NOTE}
 use Rattle.words.specs.Observed.{jobsIn}
 use Rattle.rules.specs.Rules.{idle, noJob, empty}
 use Rattle.rules.specs.Sound.{started}
@@ -119,8 +119,8 @@ module _ (s : Sizes) (t : Tables) (L : Long s t) where
   place-word p q = laid-at queueShape (s .jobs) (t .queue) (0 ∷ 0 ∷ []) freshPlace refl refl (L .queue) p q
 
   worker-word : (w q : ℕ) → w < s .workers → q < workerShape .width
-      → columns workerShape W q w ≡ getD (bareWorker IDLE words.none) q 0
-  worker-word w q = laid-at workerShape (s .workers) (t .workers) [] (bareWorker IDLE words.none) refl refl
+      → columns workerShape W q w ≡ getD (bareWorker IDLE words.none 0) q 0
+  worker-word w q = laid-at workerShape (s .workers) (t .workers) [] (bareWorker IDLE words.none 0) refl refl
       (L .workers) w q
 
   -- ---- what they stand for
@@ -153,6 +153,8 @@ module _ (s : Sizes) (t : Tables) (L : Long s t) where
     grower = job-word j GROWER h (omega arith);
     first = job-word j FIRST h (omega arith);
     last = job-word j LAST h (omega arith);
+    outcome = job-word j OUTCOME h (omega arith);
+    mark = job-word j MARK h (omega arith);
   }
 
   idle-worker : (w : ℕ) → w < s .workers
@@ -166,10 +168,11 @@ module _ (s : Sizes) (t : Tables) (L : Long s t) where
       class = worker-word w OWN-CLASS h (omega arith);
       grower = worker-word w OWN-GROWER h (omega arith);
       tally = worker-word w TALLY h (omega arith);
+      note = worker-word w NOTE h (omega arith);
       place = worker-word w PLACE h (omega arith);
       job = worker-word w OWN-JOB h (omega arith);
       arc = worker-word w OWN-ARC h (omega arith);
-      names = λ q b. worker-word w (NAMES + q) h (omega arith) ∙ bare-name IDLE words.none q b;
+      names = λ q b. worker-word w (NAMES + q) h (omega arith) ∙ bare-name IDLE words.none 0 q b;
     };
   }
 

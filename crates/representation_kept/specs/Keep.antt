@@ -38,9 +38,10 @@ module _ (s : Sizes) (t : Tables) (g : Graph) (G : Ghost) (S : Stands s t g G) w
   unfolding applied
   pass-stands w c = frame s t g G T _ _
 
-  pub tally-stands : (w j : ℕ) (c : Call) → TablesStand s (applied Tally t w) (withCall g w c) (tallyGhost G j)
+  pub tally-stands : (w j o : ℕ) (c : Call)
+      → TablesStand s (applied (Tally o) t w) (withCall g w c) (tallyGhost G j)
   unfolding applied
-  tally-stands w j c = frame s t g (tallyGhost G j)
+  tally-stands w j o c = frame s t g (tallyGhost G j)
       (record {
         kept = T .kept;
         minutes = T .minutes;

@@ -1,28 +1,29 @@
--- Marking and getting: a label stored, and for a get the next job taken from the queue. Follows docs/RULES.md,
--- "Steps": the mark of a finish, and get. Assumes nothing.
+-- Marking and getting: a label stored, with the outcome for a mark; for a get the next job taken from the queue.
+-- Follows docs/RULES.md, "Steps": the mark of a finish, and get. Assumes nothing.
 use mathlib.Core.Path.{_≡_, refl, ap}
 use mathlib.Core.Logic.{_≢_}
+use mathlib.Core.Bool.{Bool}
 use mathlib.Core.List.{List}
 use Prim.Native.Nat.{ℕ, suc, _+_, _<_}
 use native.Mathlib.Omega.{arith}
 use lib.ListN.{length, set}
 use Rattle.basics.specs.Laws.{update-same}
-use Rattle.terms.specs.Terms.{Label, executing, finished, labelNumber}
+use Rattle.terms.specs.Terms.{Label, executing, labelNumber, bit}
 use Rattle.terms.specs.Order.{without}
 use Rattle.terms.specs.declared.Sizes.{Sizes}
-use Rattle.words.specs.Columns.{columns-put, put, store, stores}
-use Rattle.words.specs.Layout.{jobShape, LABEL, CELL, SLOT, view, Tables, View}
+use Rattle.words.specs.Columns.{store}
+use Rattle.words.specs.Layout.{LABEL, OUTCOME, CELL, SLOT, NOTE, view, Tables, View}
 use Rattle.words.specs.Index.{levels}
 use Rattle.words.specs.Observed.{jobsIn}
 use Rattle.words.specs.Words.{applied, appliedGet}
 use Rattle.words.specs.declared.Plan.the-variants.{Mark}
 use Rattle.words.specs.declared.GetPlan.the-variants.{Take}
-use Rattle.rules.specs.Rules.{Call, Worker, Graph, job, withLabel, marked, handOut, handedOut, withJobs, withQueue}
-use Rattle.rules.specs.Rules.{withWorkers}
+use Rattle.rules.specs.Rules.{Call, Worker, Graph, job, withLabel, ended, marked, handOut, handedOut, withJobs}
+use Rattle.rules.specs.Rules.{withQueue, withWorkers}
 use Rattle.rules.specs.Sound.{Sound, startedBy}
 use Rattle.representation.specs.Rep.{Ghost, Row, Index, Unused, TablesRep, Stands}
 use Rattle.representation_kept.specs.Stand.{TablesStand, viewOf, limits-of}
-use Rattle.representation_kept.specs.Change.{started-set, change-rep, row-other, job-stands}
+use Rattle.representation_kept.specs.Change.{started-set, change-rep, row-other, no-store, one-store, job-stands}
 use Rattle.representation_kept.specs.Places.{slot-has, index-kept}
 use Rattle.representation_kept.specs.Unused.{unused-take}
 use Rattle.representation_kept.specs.Slots.{seat-take}
@@ -51,23 +52,12 @@ module _ (s : Sizes) (v : View) (g : Graph) (G : Ghost) (R : TablesRep s v g G) 
         grower = o .grower;
         first = o .first;
         last = o .last;
+        outcome = o .outcome;
+        mark = o .mark;
       }
 
   there : (k : ℕ) → k ≢ j → k < s .jobs → Row f k (G .via k) (job g k)
   there k e b = row-other (v .job) j LABEL (labelNumber l) k e (R .rows k b)
-
-  -- a label that was started, and stays so
-  label-rep : startedBy (job g j .label) ≡ startedBy l
-      → TablesRep s (viewOf (v .made) (v .reserved) (v .taken) (v .put) f (v .arc) (v .bucket) (v .cell) r)
-      (labelled g j l (g .queue) h) G
-  label-rep e =
-      change-rep s v g G R j hj (withLabel (job g j) l) refl refl f (v .cell) refl refl (v .taken) (v .put)
-      (g .queue) r h here there
-      (omega (arith, R .taken, started-set (g .jobs) j (withLabel (job g j) l) hj))
-      (R .put)
-      (R .queue)
-      (index-kept v (length (g .queue)) (R .index) _ _ _ f _ _ r (λ p b e. refl))
-      (R .unused)
 
   -- a job that is started, and no more in the queue, which then is q
   take-rep : (taken puts : ℕ) (k : ℕ → ℕ → ℕ) (q : List ℕ) → taken ≡ v .taken + 1 → puts ≡ v .put
@@ -84,20 +74,61 @@ module _ (s : Sizes) (v : View) (g : Graph) (G : Ghost) (R : TablesRep s v g G) 
       I
       (rw b U)
 
+-- the job p, which was handed out, ends: failed, or good
+module _ (s : Sizes) (v : View) (g : Graph) (G : Ghost) (R : TablesRep s v g G) (p : ℕ) (hp : p < length (g .jobs))
+    (fa : Bool) (r : ℕ → ℕ → ℕ) (h : ℕ → Worker) where
+  abbrev label : ℕ → ℕ → ℕ
+  label = store (v .job) p LABEL 2
+
+  abbrev outcomes : ℕ → ℕ → ℕ
+  outcomes = store label p OUTCOME (bit fa)
+
+  ended-here : p < s .jobs → Row outcomes p (G .via p) (ended (job g p) fa)
+  ended-here b =
+      let o = R .rows p b in
+      record {
+        name = o .name;
+        label = update-same (v .job LABEL) p 2;
+        count = o .count;
+        class = o .class;
+        grower = o .grower;
+        first = o .first;
+        last = o .last;
+        outcome = update-same (v .job OUTCOME) p (bit fa);
+        mark = o .mark;
+      }
+
+  ended-rep : job g p .label ≡ executing
+      → TablesRep s (viewOf (v .made) (v .reserved) (v .taken) (v .put) outcomes (v .arc) (v .bucket) (v .cell) r)
+      (withJobs (withWorkers g h) (set (g .jobs) p (ended (job g p) fa))) G
+  ended-rep e =
+      change-rep s v g G R p hp (ended (job g p) fa) refl refl outcomes (v .cell) refl refl (v .taken) (v .put)
+      (g .queue) r h ended-here
+      (λ k n b. row-other label p OUTCOME (bit fa) k n (row-other (v .job) p LABEL 2 k n (R .rows k b)))
+      (omega (arith, R .taken, started-set (g .jobs) p (ended (job g p) fa) hp, ap startedBy e))
+      (R .put)
+      (R .queue)
+      (index-kept v (length (g .queue)) (R .index) _ _ _ outcomes _ _ r (λ p b e. refl))
+      (R .unused)
+
 -- ---- over the words
 module _ (s : Sizes) (t : Tables) (g : Graph) (G : Ghost) (S : Stands s t g G) (O : Sound s g) where
   abbrev R : TablesRep s (view t) g G
   R = S .rep
 
-  pub mark-stands : (w p x : ℕ) (c : Call) → p < length (g .jobs) → job g p .label ≡ executing
-      → TablesStand s (applied (Mark p x) t w) (marked g w p c) G
+  -- the note of the worker is the outcome
+  pub mark-stands : (w p x : ℕ) (f : Bool) (c : Call) → view t .worker NOTE w ≡ bit f → p < length (g .jobs)
+      → job g p .label ≡ executing
+      → TablesStand s (applied (Mark p x) t w) (marked g w p f c) G
   unfolding applied
-  mark-stands w p x c hp e =
+  mark-stands w p x f c n hp e =
       let b : p < s .jobs = omega (arith, O .jobs) in
-      job-stands s t g G S p LABEL 2 (t .queue) _ _ (S .queue)
-      (simp (stores, columns-put jobShape (s .jobs), S .jobs)
-      (label-rep s (view t) g G R p hp finished _ _ (ap startedBy e)))
-      refl
+      rw n
+      (job-stands s t g G S
+      (one-store p OUTCOME (bit f) refl b (one-store p LABEL 2 refl b (no-store s (t .jobs) (S .jobs))))
+      (t .queue) _ _ (S .queue)
+      (ended-rep s (view t) g G R p hp f _ _ e)
+      refl)
 
   pub get-stands : (w n : ℕ) (full : length (g .queue) ≡ suc n)
       → let j = view t .cell CELL (view t .cell SLOT 0) in
@@ -114,8 +145,7 @@ module _ (s : Sizes) (t : Tables) (g : Graph) (G : Ghost) (S : Stands s t g G) (
       let q = seat-take (s .jobs) (t .queue) (S .queue) (view t .cell SLOT 0) n (leaving s t g G S O n full .at)
       (fits .0) (fits .1) (leaving s t g G S O n full .within)
       (rw full at (slots-within s t g G S O)) in
-      job-stands s t g G S j LABEL 1 _ _ _ (q .rows)
-      (simp (stores, columns-put jobShape (s .jobs), S .jobs)
+      job-stands s t g G S (one-store j LABEL 1 refl b (no-store s (t .jobs) (S .jobs))) _ _ _ (q .rows)
       (take-rep s (view t) g G R j there executing _ _ _ _ _ (without j (g .queue)) (q .taken) (q .puts)
       (omega arith)
       (ap startedBy (O .queue-unexecuted j (next-waits s t g G S O n full)))
@@ -125,5 +155,5 @@ module _ (s : Sizes) (t : Tables) (g : Graph) (G : Ghost) (S : Stands s t g G) (
       (rw left (unused-take (s .jobs) (view t .put) (omega (arith, limits-of s (S .limits) .jobs)) (view t .cell) _ n
       (leaving s t g G S O n full .at) levels (view t .cell SLOT 0) (rw full at (R .unused))
       (leaving s t g G S O n full .within) (rw full at (slot-has (view t) (length (g .queue)) (R .index)))
-      (q .cells) (q .slots) (q .positions)))))
+      (q .cells) (q .slots) (q .positions))))
       refl

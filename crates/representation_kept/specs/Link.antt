@@ -13,7 +13,7 @@ use Rattle.basics.specs.Laws.{update-same, update-at, update-other, set-all}
 use Rattle.terms.specs.declared.Sizes.{Sizes}
 use Rattle.words.specs.Columns.{store}
 use Rattle.words.specs.Layout.{none, NAME, LABEL, COUNT, CLASS, GROWER, FIRST, LAST, NEXT, DEPENDENT, AFTER}
-use Rattle.words.specs.Layout.{CELL, View}
+use Rattle.words.specs.Layout.{OUTCOME, MARK, CELL, View}
 use Rattle.rules.specs.Rules.{Job, Worker, Graph, noJob, job, withDependent, withJobs, withWorkers}
 use Rattle.representation.specs.Rep.{Ghost, linkGhost, Row, Linked, TablesRep}
 use Rattle.representation_kept.specs.Stand.{viewOf}
@@ -83,6 +83,7 @@ module _ (s : Sizes) (v : View) (g : Graph) (G : Ghost) (R : TablesRep s v g G) 
   module _ (f a : ℕ → ℕ → ℕ) (names : f NAME ≡ v .job NAME) (labels : f LABEL ≡ v .job LABEL)
       (counts : f COUNT ≡ v .job COUNT)
       (classes : f CLASS ≡ v .job CLASS) (growers : f GROWER ≡ v .job GROWER) (nexts : f NEXT ≡ v .job NEXT)
+      (outcomes : f OUTCOME ≡ v .job OUTCOME) (marks : f MARK ≡ v .job MARK)
       (firsts : (q : ℕ) → q < s .jobs → f FIRST q ≡ getD (H .via q) 0 none) (lasts : f LAST ≡ update (v .job LAST) p x)
       (ends : a DEPENDENT ≡ update (v .arc DEPENDENT) x j) (last : a AFTER x ≡ none)
       (afters : (q i : ℕ) → i < length (G .via q) → a AFTER (getD (G .via q) i none) ≡ getD (H .via q) (suc i) none)
@@ -98,6 +99,8 @@ module _ (s : Sizes) (v : View) (g : Graph) (G : Ghost) (R : TablesRep s v g G) 
             grower = z .grower;
             list = z .list;
             dependents = d;
+            failed = z .failed;
+            spoiled = z .spoiled;
           })
       row q z d b o e = record {
         name = ap (λ c. c q) names ∙ o .name;
@@ -107,6 +110,8 @@ module _ (s : Sizes) (v : View) (g : Graph) (G : Ghost) (R : TablesRep s v g G) 
         grower = ap (λ c. c q) growers ∙ o .grower;
         first = firsts q b;
         last = e;
+        outcome = ap (λ c. c q) outcomes ∙ o .outcome;
+        mark = ap (λ c. c q) marks ∙ o .mark;
       }
 
       rows : (q : ℕ) → q < s .jobs → Row f q (H .via q) (job (linkedTo g p j h) q)
@@ -201,7 +206,7 @@ module _ (s : Sizes) (v : View) (g : Graph) (G : Ghost) (R : TablesRep s v g G) 
       → TablesRep s (viewOf (v .made) (v .reserved) (v .taken) (v .put) firstJobs newArcs (v .bucket) (v .cell) r)
       (linkedTo g p j h) H
   first-rep z =
-      link-rep firstJobs newArcs refl refl refl refl refl refl
+      link-rep firstJobs newArcs refl refl refl refl refl refl refl refl
       (λ q b. elim (ℕ-discrete q p) [
         | yes e ↦ rw (e, via-p, update-same (v .job FIRST) p x) (sym (getD-at l x [] none 0 z))
         | no e ↦ rw (via-q q e, update-other (v .job FIRST) p x q e) (R .rows q b .first)
@@ -253,7 +258,7 @@ module _ (s : Sizes) (v : View) (g : Graph) (G : Ghost) (R : TablesRep s v g G) 
     pub after-rep : TablesRep s (viewOf (v .made) (v .reserved) (v .taken) (v .put) lastJobs moreArcs (v .bucket)
         (v .cell) r) (linkedTo g p j h) H
     after-rep =
-        link-rep lastJobs moreArcs refl refl refl refl refl refl
+        link-rep lastJobs moreArcs refl refl refl refl refl refl refl refl
         (λ q b. elim (ℕ-discrete q p) [
           | yes e ↦ rw (e, via-p, List·getD-append l (x ∷ []) none 0 z) (R .rows p fits .first)
           | no e ↦ rw (via-q q e) (R .rows q b .first)

@@ -44,7 +44,7 @@ repeated-one zero x = refl
 repeated-one (suc n) x = ap {B = List ℕ} (λ l. x ∷ l) (repeated-one n x)
 
 -- ---- the names of a call that has no arguments are 0
-pub bare-name : (phase held q : ℕ) → q < mostNames → getD (bareWorker phase held) (NAMES + q) 0 ≡ 0
-bare-name phase held q h =
-    getD-past (take NAMES (bareWorker phase held)) (replicate mostNames 0) q
+pub bare-name : (phase held note q : ℕ) → q < mostNames → getD (bareWorker phase held note) (NAMES + q) 0 ≡ 0
+bare-name phase held note q h =
+    getD-past (take NAMES (bareWorker phase held note)) (replicate mostNames 0) q
     ∙ getD-replicate mostNames q 0 0 h

@@ -1,6 +1,6 @@
 -- What is seen in a graph of the rules. Assumes nothing.
 use lib.ListN.{length, drop}
-use Rattle.terms.specs.Terms.{labelNumber}
+use Rattle.terms.specs.Terms.{labelNumber, bit}
 use Rattle.terms.specs.Seen.{request, CallSeen, JobSeen, Seen}
 use Rattle.terms.specs.Seen as seen-as
 use Rattle.rules.specs.Rules.{Job, Call, idle, looking, linking, marking, notifying, Graph, job}
@@ -13,14 +13,16 @@ jobSeen x = record {
   class = x .class;
   grower = x .grower;
   arcs = x .dependents;
+  outcome = bit (x .failed);
+  mark = bit (x .spoiled);
 }
 
 abbrev pub callSeen : Graph → Call → CallSeen
 callSeen g idle = seen-as.idle
 callSeen g (looking a i) = seen-as.looking (request a) i
-callSeen g (linking a j i t) = seen-as.linking (request a) j i t
-callSeen g marking = seen-as.marking
-callSeen g (notifying p k) = seen-as.notifying (drop k (job g p .dependents))
+callSeen g (linking a j i t) = seen-as.linking (request a) j i (t .count) (bit (t .noted))
+callSeen g (marking f) = seen-as.marking (bit f)
+callSeen g (notifying p k f) = seen-as.notifying (bit f) (drop k (job g p .dependents))
 
 abbrev pub seen : Graph → Seen
 seen g = record {

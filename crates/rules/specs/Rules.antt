@@ -1,6 +1,6 @@
 -- The rules of Johnson's dynamic task graph, as corrected in docs/RULES.md ("Steps", "Turned-away calls"): jobs with
 -- their dependents, a queue, and workers with the call that each is in. No words, no damage. Assumes nothing.
-use mathlib.Core.Bool.{Bool, true, false, _||_}
+use mathlib.Core.Bool.{Bool, true, false, _&&_, _||_, not}
 use mathlib.Core.List.{List, [], _∷_, _++_}
 use mathlib.Core.Option.{Option, none, some}
 use Prim.Native.Nat.{ℕ, suc, _+_, _-_}
@@ -12,7 +12,7 @@ use Rattle.minutes.specs.Rising.{isRising}
 use Rattle.terms.specs.Terms.{settles, Label, unexecuted, executing, finished, Arguments, listed, argumentsWrong}
 use Rattle.terms.specs.Terms.{sameSizes, wrongSizes, noSuchWorker, halfDone, nothingToStep, wrongArguments, unknownName}
 use Rattle.terms.specs.Terms.{namePresent, tablesFull, damaged, alreadyHolding, notHeld, wrongMinutes}
-use Rattle.terms.specs.Terms.{jobsEntered, Finish}
+use Rattle.terms.specs.Terms.{jobsEntered, goodForSpoiled, Finish, Tally, noTally, tallyOne}
 use Rattle.terms.specs.Order.{Order, heavierFirst, firstBy, without}
 use Rattle.terms.specs.Runs.{Item, postAdd, postFinish, step, get, load, Outcome, outcome}
 use Rattle.terms.specs.declared.Sizes.{Sizes}
@@ -20,7 +20,8 @@ use Rattle.terms.specs.declared.HandOut.{HandOut}
 use Rattle.terms.specs.declared.Answer.the-variants.{Loaded, Posted, Going, Ended, NoneReady, Handed, Refused}
 
 -- ---- the graph
--- a job; its dependents, by number, are the jobs that its finish notifies, oldest first
+-- a job; its dependents, by number, are the jobs that its finish notifies, oldest first. Its outcome is failed, or
+-- good, which is also that of a job not finished; spoiled is its mark
 pub record Job : Type 0 where
   pub name : ℕ
   pub label : Label
@@ -29,16 +30,18 @@ pub record Job : Type 0 where
   pub grower : ℕ
   pub list : List ℕ
   pub dependents : List ℕ
+  pub failed : Bool
+  pub spoiled : Bool
 
 -- the call half done: an add looking up its i-th listed name, or (all looked up) about to enter; an add whose job j
--- entered, linking its i-th name, with t finished prerequisites tallied, or (all linked) about to settle; a finish
--- about to mark; a finish of job p that has notified k dependents
+-- entered, linking its i-th name, with its tally t of finished prerequisites, or (all linked) about to settle; a finish
+-- about to mark, failed or good; a finish of job p, failed or good, that has notified k dependents
 pub data Call : Type 0 where
   idle : Call
   looking : Arguments → ℕ → Call
-  linking : Arguments → ℕ → ℕ → ℕ → Call
-  marking : Call
-  notifying : ℕ → ℕ → Call
+  linking : Arguments → ℕ → ℕ → Tally → Call
+  marking : Bool → Call
+  notifying : ℕ → ℕ → Bool → Call
 
 pub record Worker : Type 0 where
   pub held : Option ℕ
@@ -53,7 +56,17 @@ pub record Graph : Type 0 where
   pub minutes : List ℕ
 
 abbrev pub noJob : Job
-noJob = record { name = 0; label = unexecuted; count = 0; class = 0; grower = 0; list = []; dependents = [] }
+noJob = record {
+  name = 0;
+  label = unexecuted;
+  count = 0;
+  class = 0;
+  grower = 0;
+  list = [];
+  dependents = [];
+  failed = false;
+  spoiled = false;
+}
 
 abbrev pub job : Graph → ℕ → Job
 job g j = getD (g .jobs) j noJob
@@ -137,10 +150,28 @@ withLabel x l =
       grower = x .grower;
       list = x .list;
       dependents = x .dependents;
+      failed = x .failed;
+      spoiled = x .spoiled;
     }
 
-abbrev pub withCount : Job → ℕ → Job
-withCount x c =
+-- a job that is finished, with its outcome
+abbrev pub ended : Job → Bool → Job
+ended x failed =
+    record {
+      name = x .name;
+      label = finished;
+      count = x .count;
+      class = x .class;
+      grower = x .grower;
+      list = x .list;
+      dependents = x .dependents;
+      failed = failed;
+      spoiled = x .spoiled;
+    }
+
+-- a job whose count becomes c, and which is spoiled if the test holds; a spoiled job stays so
+abbrev pub lowered : Job → ℕ → Bool → Job
+lowered x c spoils =
     record {
       name = x .name;
       label = x .label;
@@ -149,6 +180,8 @@ withCount x c =
       grower = x .grower;
       list = x .list;
       dependents = x .dependents;
+      failed = x .failed;
+      spoiled = x .spoiled || spoils;
     }
 
 abbrev pub withDependent : Job → ℕ → Job
@@ -161,6 +194,8 @@ withDependent x j =
       grower = x .grower;
       list = x .list;
       dependents = x .dependents ++ (j ∷ []);
+      failed = x .failed;
+      spoiled = x .spoiled;
     }
 
 abbrev pub newJob : Arguments → Job
@@ -173,6 +208,8 @@ newJob a =
       grower = a .grower;
       list = listed a;
       dependents = [];
+      failed = false;
+      spoiled = false;
     }
 
 -- a worker's call becomes c, and its hold stays
@@ -196,7 +233,7 @@ lookUp g w a i missing = outcome (Refused unknownName i) (withCall g w idle)
 -- entering: "makes the job with remaining count d, and reserves the next d arcs"
 abbrev pub entered : Graph → ℕ → Arguments → Graph
 entered g w a =
-    withJobs (withReserved (withCall g w (linking a (length (g .jobs)) 0 0)) (g .reserved + a .count))
+    withJobs (withReserved (withCall g w (linking a (length (g .jobs)) 0 noTally)) (g .reserved + a .count))
     (g .jobs ++ (newJob a ∷ []))
 
 unfoldable pub enter : Sizes → Graph → ℕ → Arguments → Found → Outcome Graph
@@ -206,52 +243,58 @@ enter s g w a missing =
     (outcome (Refused tablesFull 0) (withCall g w idle))
     (outcome Going (entered g w a))
 
--- one link: "a finished prerequisite adds 1 to the worker's tally, any other gets the arc appended to its list"
-abbrev pub linked : Graph → ℕ → Arguments → ℕ → ℕ → ℕ → ℕ → Graph
+-- one link: "a finished prerequisite adds 1 to the worker's tally, any other gets the arc appended to its list"; "A
+-- link to a failed job is noted beside the tally"
+abbrev pub linked : Graph → ℕ → Arguments → ℕ → ℕ → Tally → ℕ → Graph
 linked g w a j i t p =
     withJobs (withCall g w (linking a j (suc i) t)) (set (g .jobs) p (withDependent (job g p) j))
 
-unfoldable pub linkTo : Graph → ℕ → Arguments → ℕ → ℕ → ℕ → ℕ → Label → Outcome Graph
-linkTo g w a j i t p finished = outcome Going (withCall g w (linking a j (suc i) (suc t)))
+unfoldable pub linkTo : Graph → ℕ → Arguments → ℕ → ℕ → Tally → ℕ → Label → Outcome Graph
+linkTo g w a j i t p finished = outcome Going (withCall g w (linking a j (suc i) (tallyOne t (job g p .failed))))
 linkTo g w a j i t p unexecuted = outcome Going (linked g w a j i t p)
 linkTo g w a j i t p executing = outcome Going (linked g w a j i t p)
 
-unfoldable pub link : Graph → ℕ → Arguments → ℕ → ℕ → ℕ → Found → Outcome Graph
+unfoldable pub link : Graph → ℕ → Arguments → ℕ → ℕ → Tally → Found → Outcome Graph
 link g w a j i t (at p) = linkTo g w a j i t p (job g p .label)
 link g w a j i t missing = outcome (Refused damaged 0) g
 
--- settling: "the remaining count falls by the tally, and the job enters the queue if" it settles
-abbrev pub settled : Graph → ℕ → ℕ → ℕ → ℕ → Graph
+-- settling: "the remaining count falls by the tally, and the job enters the queue if" it settles; where a failed job
+-- was noted, "settling spoils"
+abbrev pub settled : Graph → ℕ → ℕ → Tally → ℕ → Graph
 settled g w j t d =
-    withJobs (withQueue (withCall g w idle) (enqueue (settles (job g j .count - t) t d) (g .queue) j))
-    (set (g .jobs) j (withCount (job g j) (job g j .count - t)))
+    let left = job g j .count - t .count in
+    withJobs (withQueue (withCall g w idle) (enqueue (settles left (t .count) d) (g .queue) j))
+    (set (g .jobs) j (lowered (job g j) left (t .noted)))
 
 -- ---- the steps of a finish
--- the mark: "labels the job finished and frees the worker's hold"; with no dependents the call ends
-abbrev pub marked : Graph → ℕ → ℕ → Call → Graph
-marked g w p c =
+-- the mark: "labels the job finished and frees the worker's hold", and keeps the outcome f; with no dependents the call
+-- ends
+abbrev pub marked : Graph → ℕ → ℕ → Bool → Call → Graph
+marked g w p f c =
     withJobs (withWorkers g (update (g .workers) w (record { held = none; call = c })))
-    (set (g .jobs) p (withLabel (job g p) finished))
+    (set (g .jobs) p (ended (job g p) f))
 
-unfoldable pub markDependents : Graph → ℕ → ℕ → List ℕ → Outcome Graph
-markDependents g w p [] = outcome Ended (marked g w p idle)
-markDependents g w p (j ∷ l) = outcome Going (marked g w p (notifying p 0))
+unfoldable pub markDependents : Graph → ℕ → ℕ → Bool → List ℕ → Outcome Graph
+markDependents g w p f [] = outcome Ended (marked g w p f idle)
+markDependents g w p f (j ∷ l) = outcome Going (marked g w p f (notifying p 0 f))
 
-unfoldable pub mark : Graph → ℕ → Option ℕ → Outcome Graph
-mark g w (some p) = markDependents g w p (job g p .dependents)
-mark g w none = outcome (Refused damaged 0) g
+unfoldable pub mark : Graph → ℕ → Bool → Option ℕ → Outcome Graph
+mark g w f (some p) = markDependents g w p f (job g p .dependents)
+mark g w f none = outcome (Refused damaged 0) g
 
--- one arc: "lowers that dependent's count by 1; a count that reaches 0 puts that job in the queue"
-abbrev pub notified : Graph → ℕ → ℕ → Call → Graph
-notified g w j c =
-    withJobs (withQueue (withCall g w c) (enqueue (eqb (job g j .count - 1) 0) (g .queue) j))
-    (set (g .jobs) j (withCount (job g j) (job g j .count - 1)))
+-- one arc: "lowers that dependent's count by 1; a count that reaches 0 puts that job in the queue"; "a failed finish's
+-- step for an arc spoils that arc's dependent"
+abbrev pub notified : Graph → ℕ → ℕ → Bool → Call → Graph
+notified g w j f c =
+    let left = job g j .count - 1 in
+    withJobs (withQueue (withCall g w c) (enqueue (eqb left 0) (g .queue) j))
+    (set (g .jobs) j (lowered (job g j) left f))
 
-unfoldable pub notify : Graph → ℕ → ℕ → ℕ → Outcome Graph
-notify g w p k =
+unfoldable pub notify : Graph → ℕ → ℕ → ℕ → Bool → Outcome Graph
+notify g w p k f =
     pick (ltb (suc k) (length (job g p .dependents)))
-    (outcome Going (notified g w (getD (job g p .dependents) k 0) (notifying p (suc k))))
-    (outcome Ended (notified g w (getD (job g p .dependents) k 0) idle))
+    (outcome Going (notified g w (getD (job g p .dependents) k 0) f (notifying p (suc k) f)))
+    (outcome Ended (notified g w (getD (job g p .dependents) k 0) f idle))
 
 -- ---- one step of the call that a worker is in
 unfoldable pub stepCall : Sizes → Graph → ℕ → Call → Outcome Graph
@@ -261,25 +304,31 @@ stepCall s g w (looking a i) =
 stepCall s g w (linking a j i t) =
     pick (ltb i (a .count)) (link g w a j i t (find g (getD (listed a) i 0)))
     (outcome Ended (settled g w j t (a .count)))
-stepCall s g w marking = mark g w (g .workers w .held)
-stepCall s g w (notifying p k) = notify g w p k
+stepCall s g w (marking f) = mark g w f (g .workers w .held)
+stepCall s g w (notifying p k f) = notify g w p k f
 
 -- ---- posts and gets, which only an idle worker may make
 unfoldable pub whenIdle : Graph → Call → Outcome Graph → Outcome Graph
 whenIdle g idle r = r
 whenIdle g (looking a i) r = outcome (Refused halfDone 0) g
 whenIdle g (linking a j i t) r = outcome (Refused halfDone 0) g
-whenIdle g marking r = outcome (Refused halfDone 0) g
-whenIdle g (notifying p k) r = outcome (Refused halfDone 0) g
+whenIdle g (marking f) r = outcome (Refused halfDone 0) g
+whenIdle g (notifying p k f) r = outcome (Refused halfDone 0) g
 
 unfoldable pub addPosted : Graph → ℕ → Arguments → Outcome Graph
 addPosted g w a =
     pick (argumentsWrong a) (outcome (Refused wrongArguments 0) g) (outcome Posted (withCall g w (looking a 0)))
 
+-- "19, good for a spoiled job, after 11"
+abbrev pub endsGood : Graph → ℕ → Finish → Bool
+endsGood g p f = job g p .spoiled && not (f .failed)
+
 unfoldable pub finishPosted : Graph → ℕ → Finish → Option ℕ → Outcome Graph
 finishPosted g w f none = outcome (Refused notHeld 0) g
 finishPosted g w f (some p) =
-    pick (eqb (job g p .name) (f .name)) (outcome Posted (withCall g w marking)) (outcome (Refused notHeld 0) g)
+    pick (eqb (job g p .name) (f .name))
+    (pick (endsGood g p f) (outcome (Refused goodForSpoiled 0) g) (outcome Posted (withCall g w (marking (f .failed)))))
+    (outcome (Refused notHeld 0) g)
 
 -- a get takes a job out of the queue, "labels it executing and records it as held"
 abbrev pub handedOut : Graph → ℕ → ℕ → List ℕ → Graph
@@ -289,7 +338,7 @@ handedOut g w j q =
 
 -- what it answers of that job
 abbrev pub handOut : Graph → ℕ → HandOut
-handOut g j = record { job = j; name = job g j .name }
+handOut g j = record { job = j; name = job g j .name; spoiled = job g j .spoiled }
 
 -- the order of hand-outs: "the waiting job with the most minutes, equal minutes by earlier entry into the queue"; and
 -- the job that is next by it

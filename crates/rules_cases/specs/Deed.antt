@@ -11,14 +11,16 @@ use lib.ListN.{length, getD}
 use Rattle.minutes.specs.Rising.{isRising}
 use Rattle.terms.specs.Terms.{finished, Arguments, listed, argumentsWrong, sameSizes, wrongSizes, noSuchWorker}
 use Rattle.terms.specs.Terms.{halfDone, nothingToStep, wrongArguments, unknownName, namePresent, tablesFull, damaged}
-use Rattle.terms.specs.Terms.{alreadyHolding, notHeld, wrongMinutes, jobsEntered, Finish}
+use Rattle.terms.specs.Terms.{alreadyHolding, notHeld, goodForSpoiled, wrongMinutes, jobsEntered, Finish, Tally}
+use Rattle.terms.specs.Terms.{tallyOne}
 use Rattle.terms.specs.Order.{without}
 use Rattle.terms.specs.Runs.{Item, postAdd, postFinish, step, get, load, sizesOf, workerOf, isLoad}
 use Rattle.terms.specs.declared.Sizes.{Sizes}
 use Rattle.terms.specs.declared.Answer.{Answer}
 use Rattle.terms.specs.declared.Answer.the-variants.{Loaded, Posted, Going, Ended, NoneReady, Handed, Refused}
 use Rattle.rules.specs.Rules.{Call, idle, looking, linking, marking, notifying, Graph, job, find, at, missing, withCall}
-use Rattle.rules.specs.Rules.{entered, linked, settled, marked, notified, handedOut, handOut, nextOut, withMinutes}
+use Rattle.rules.specs.Rules.{entered, linked, settled, marked, notified, endsGood, handedOut, handOut, nextOut}
+use Rattle.rules.specs.Rules.{withMinutes}
 
 -- ---- the facts
 -- the item, which is no load, came with the sizes laid out, from a worker that there is
@@ -47,10 +49,10 @@ noPlace s g a = leb (s .jobs) (length (g .jobs)) || ltb (s .arcs) (g .reserved +
 -- number 9 by the rules, which a sound graph excludes: a listed name that is gone, a mark with nothing held
 abbrev pub Broken : Graph → Option ℕ → Call → Type 0
 Broken g h (linking a j i t) = (i < a .count) × (find g (getD (listed a) i 0) ≡ missing)
-Broken g h marking = h ≡ none
+Broken g h (marking f) = h ≡ none
 Broken g h idle = ⊥
 Broken g h (looking a i) = ⊥
-Broken g h (notifying p k) = ⊥
+Broken g h (notifying p k f) = ⊥
 
 -- ---- a step of worker w, by the call that it is in
 pub data Stepped (s : Sizes) (g : Graph) (w : ℕ) : Call → Answer → Graph → Type 0 where
@@ -69,24 +71,25 @@ pub data Stepped (s : Sizes) (g : Graph) (w : ℕ) : Call → Answer → Graph �
   jobEntered : {a : Arguments} {i : ℕ} → a .count ≤ i → find g (a .name) ≡ missing → noPlace s g a ≡ false
       → Stepped s g w (looking a i) Going (entered g w a)
   -- the links and the settling of an add
-  tallied : {a : Arguments} {j i t : ℕ} (p : ℕ) → i < a .count → find g (getD (listed a) i 0) ≡ at p
+  tallied : {a : Arguments} {j i : ℕ} {t : Tally} (p : ℕ) → i < a .count → find g (getD (listed a) i 0) ≡ at p
       → job g p .label ≡ finished
-      → Stepped s g w (linking a j i t) Going (withCall g w (linking a j (suc i) (suc t)))
-  arcAppended : {a : Arguments} {j i t : ℕ} (p : ℕ) → i < a .count → find g (getD (listed a) i 0) ≡ at p
+      → Stepped s g w (linking a j i t) Going (withCall g w (linking a j (suc i) (tallyOne t (job g p .failed))))
+  arcAppended : {a : Arguments} {j i : ℕ} {t : Tally} (p : ℕ) → i < a .count → find g (getD (listed a) i 0) ≡ at p
       → job g p .label ≢ finished
       → Stepped s g w (linking a j i t) Going (linked g w a j i t p)
-  jobSettled : {a : Arguments} {j i t : ℕ} → a .count ≤ i
+  jobSettled : {a : Arguments} {j i : ℕ} {t : Tally} → a .count ≤ i
       → Stepped s g w (linking a j i t) Ended (settled g w j t (a .count))
   -- the mark of a finish
-  markedLast : (p : ℕ) → g .workers w .held ≡ some p → job g p .dependents ≡ []
-      → Stepped s g w marking Ended (marked g w p idle)
-  markedGoing : (p : ℕ) → g .workers w .held ≡ some p → 0 < length (job g p .dependents)
-      → Stepped s g w marking Going (marked g w p (notifying p 0))
+  markedLast : {f : Bool} (p : ℕ) → g .workers w .held ≡ some p → job g p .dependents ≡ []
+      → Stepped s g w (marking f) Ended (marked g w p f idle)
+  markedGoing : {f : Bool} (p : ℕ) → g .workers w .held ≡ some p → 0 < length (job g p .dependents)
+      → Stepped s g w (marking f) Going (marked g w p f (notifying p 0 f))
   -- the arcs of a finish
-  arcNotified : {p k : ℕ} → suc k < length (job g p .dependents)
-      → Stepped s g w (notifying p k) Going (notified g w (getD (job g p .dependents) k 0) (notifying p (suc k)))
-  lastNotified : {p k : ℕ} → length (job g p .dependents) ≤ suc k
-      → Stepped s g w (notifying p k) Ended (notified g w (getD (job g p .dependents) k 0) idle)
+  arcNotified : {p k : ℕ} {f : Bool} → suc k < length (job g p .dependents)
+      → Stepped s g w (notifying p k f) Going
+      (notified g w (getD (job g p .dependents) k 0) f (notifying p (suc k) f))
+  lastNotified : {p k : ℕ} {f : Bool} → length (job g p .dependents) ≤ suc k
+      → Stepped s g w (notifying p k f) Ended (notified g w (getD (job g p .dependents) k 0) f idle)
 
 -- ---- a post or a get of an idle worker
 pub data Made (s : Sizes) (g : Graph) : Item → Answer → Graph → Type 0 where
@@ -96,8 +99,12 @@ pub data Made (s : Sizes) (g : Graph) : Item → Answer → Graph → Type 0 whe
       → Made s g (postAdd t w a) Posted (withCall g w (looking a 0))
   finishWrong : {t : Sizes} {w : ℕ} {f : Finish} → HoldsNot g (f .name) (g .workers w .held)
       → Made s g (postFinish t w f) (Refused notHeld 0) g
+  finishGood : {t : Sizes} {w : ℕ} {f : Finish} (p : ℕ) → g .workers w .held ≡ some p → job g p .name ≡ f .name
+      → endsGood g p f ≡ true
+      → Made s g (postFinish t w f) (Refused goodForSpoiled 0) g
   finishPosted : {t : Sizes} {w : ℕ} {f : Finish} (p : ℕ) → g .workers w .held ≡ some p → job g p .name ≡ f .name
-      → Made s g (postFinish t w f) Posted (withCall g w marking)
+      → endsGood g p f ≡ false
+      → Made s g (postFinish t w f) Posted (withCall g w (marking (f .failed)))
   getHolding : {t : Sizes} {w : ℕ} (j : ℕ) → g .workers w .held ≡ some j
       → Made s g (get t w) (Refused alreadyHolding 0) g
   getNone : {t : Sizes} {w : ℕ} → g .workers w .held ≡ none → g .queue ≡ [] → Made s g (get t w) NoneReady g

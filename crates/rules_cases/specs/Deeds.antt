@@ -1,6 +1,6 @@
 -- Every item ends by the rules in one of the ways of `Deed`: the one case analysis of the rules. Assumes nothing.
 use mathlib.Core.Path.{_≡_, refl, ap}
-use mathlib.Core.Bool.{false}
+use mathlib.Core.Bool.{Bool, false}
 use mathlib.Core.List.{List, [], _∷_}
 use mathlib.Core.Option.{Option, none, some}
 use Prim.Native.Nat.{ℕ, suc, _≤_, _<_}
@@ -11,13 +11,14 @@ use borrow.Author.Tests.{ltb-true, ltb-false, eqb-true, eqb-false}
 use Rattle.basics.specs.Laws.{never, pick-by}
 use Rattle.minutes.specs.Rising.{isRising}
 use Rattle.terms.specs.Terms.{Label, unexecuted, executing, finished, Arguments, listed, argumentsWrong, sameSizes}
-use Rattle.terms.specs.Terms.{Finish}
+use Rattle.terms.specs.Terms.{Finish, Tally}
 use Rattle.terms.specs.OrderLaws.{none-first}
 use Rattle.terms.specs.Runs.{Item, postAdd, postFinish, step, get, load, Outcome, sizesOf, workerOf, isLoad}
 use Rattle.terms.specs.declared.Sizes.{Sizes}
 use Rattle.rules.specs.Rules.{Found, at, missing, Call, idle, looking, linking, marking, notifying, Graph, job, find}
 use Rattle.rules.specs.Rules.{lookUp, enter, link, linkTo, markDependents, mark, notify, stepCall, whenIdle}
-use Rattle.rules.specs.Rules.{addPosted, finishPosted, takeNext, getJob, admitted, perform, nextOut, order, loadMinutes}
+use Rattle.rules.specs.Rules.{addPosted, endsGood, finishPosted, takeNext, getJob, admitted, perform, nextOut, order}
+use Rattle.rules.specs.Rules.{loadMinutes}
 use Rattle.rules.specs.Sound.{CallSound}
 use Rattle.rules_cases.specs.Deed as to
 use Rattle.rules_cases.specs.Deed.{Admitted, isStep, noPlace, Broken, Stepped, Made, Loading, Deed}
@@ -40,7 +41,7 @@ module _ (s : Sizes) (g : Graph) (w : ℕ) where
   enters a i h missing e =
       pick-by (By (looking a i)) (noPlace s g a) (λ z. to.roomLacking h e z) (λ z. to.jobEntered h e z)
 
-  module _ (a : Arguments) (j i t : ℕ) (h : i < a .count) where
+  module _ (a : Arguments) (j i : ℕ) (t : Tally) (h : i < a .count) where
     links-to : (p : ℕ) → find g (getD (listed a) i 0) ≡ at p → (l : Label) → job g p .label ≡ l
         → By (linking a j i t) (linkTo g w a j i t p l)
     unfolding linkTo
@@ -53,16 +54,16 @@ module _ (s : Sizes) (g : Graph) (w : ℕ) where
     links (at p) e = links-to p e (job g p .label) refl
     links missing e = to.broken {c = linking a j i t} (h, e)
 
-  marks-dependents : (p : ℕ) → g .workers w .held ≡ some p → (l : List ℕ) → job g p .dependents ≡ l
-      → By marking (markDependents g w p l)
+  marks-dependents : (f : Bool) (p : ℕ) → g .workers w .held ≡ some p → (l : List ℕ) → job g p .dependents ≡ l
+      → By (marking f) (markDependents g w p f l)
   unfolding markDependents
-  marks-dependents p e [] z = to.markedLast p e z
-  marks-dependents p e (j ∷ l) z = to.markedGoing p e (omega (arith, ap length z))
+  marks-dependents f p e [] z = to.markedLast p e z
+  marks-dependents f p e (j ∷ l) z = to.markedGoing p e (omega (arith, ap length z))
 
-  marks : (h : Option ℕ) → g .workers w .held ≡ h → By marking (mark g w h)
+  marks : (f : Bool) (h : Option ℕ) → g .workers w .held ≡ h → By (marking f) (mark g w f h)
   unfolding mark
-  marks none e = to.broken {c = marking} e
-  marks (some p) e = marks-dependents p e (job g p .dependents) refl
+  marks f none e = to.broken {c = marking f} e
+  marks f (some p) e = marks-dependents f p e (job g p .dependents) refl
 
   steps : (c : Call) → By c (stepCall s g w c)
   unfolding stepCall notify
@@ -73,8 +74,8 @@ module _ (s : Sizes) (g : Graph) (w : ℕ) where
   steps (linking a j i t) = pick-by (By (linking a j i t)) (ltb i (a .count))
       (λ z. links a j i t (ltb-true i (a .count) z) (find g (getD (listed a) i 0)) refl)
       (λ z. to.jobSettled (ltb-false i (a .count) z))
-  steps marking = marks (g .workers w .held) refl
-  steps (notifying p k) = pick-by (By (notifying p k)) (ltb (suc k) (length (job g p .dependents)))
+  steps (marking f) = marks f (g .workers w .held) refl
+  steps (notifying p k f) = pick-by (By (notifying p k f)) (ltb (suc k) (length (job g p .dependents)))
       (λ z. to.arcNotified (ltb-true (suc k) (length (job g p .dependents)) z))
       (λ z. to.lastNotified (ltb-false (suc k) (length (job g p .dependents)) z))
 
@@ -93,7 +94,10 @@ module _ (s : Sizes) (g : Graph) where
     unfolding finishPosted
     posts-finish f none e = to.finishWrong {w = w} {f = f} (rw e tt)
     posts-finish f (some p) e = pick-by (By-made (postFinish t w f)) (eqb (job g p .name) (f .name))
-        (λ z. to.finishPosted p e (eqb-true (job g p .name) (f .name) z)) (λ z. to.finishWrong {w = w} {f = f} (rw e z))
+        (λ z. let named = eqb-true (job g p .name) (f .name) z in
+        pick-by (By-made (postFinish t w f)) (endsGood g p f)
+        (λ y. to.finishGood p e named y) (λ y. to.finishPosted p e named y))
+        (λ z. to.finishWrong {w = w} {f = f} (rw e z))
 
     takes : g .workers w .held ≡ none → (o : Option ℕ) → nextOut g ≡ o → By-made (get t w) (takeNext g w o)
     unfolding takeNext
@@ -139,8 +143,8 @@ module _ (s : Sizes) (g : Graph) where
   when-idle i n A idle e M = to.made A e M
   when-idle i n A (looking a k) e M = to.callHalfDone A n (λ z. never (cc))
   when-idle i n A (linking a j k t) e M = to.callHalfDone A n (λ z. never (cc))
-  when-idle i n A marking e M = to.callHalfDone A n (λ z. never (cc))
-  when-idle i n A (notifying p k) e M = to.callHalfDone A n (λ z. never (cc))
+  when-idle i n A (marking f) e M = to.callHalfDone A n (λ z. never (cc))
+  when-idle i n A (notifying p k f) e M = to.callHalfDone A n (λ z. never (cc))
 
   pub deed : (i : Item) → Deed s g i (perform s g i .answer) (perform s g i .state)
   unfolding perform
@@ -159,6 +163,6 @@ pub unbroken : (g : Graph) (h : Option ℕ) (c : Call) → CallSound g h c → B
 unbroken g h idle S b = b
 unbroken g h (looking a i) S b = b
 unbroken g h (linking a j i t) S b = let n = S .found i (b .0) in never (cc (n .found, b .1))
-unbroken g none marking S b = S
-unbroken g (some p) marking S b = never (cc)
-unbroken g h (notifying p k) S b = b
+unbroken g none (marking f) S b = S
+unbroken g (some p) (marking f) S b = never (cc)
+unbroken g h (notifying p k f) S b = b

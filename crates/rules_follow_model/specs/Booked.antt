@@ -1,31 +1,31 @@
 -- The plain book, fed the calls read so far in the order of their deciding steps, has each end as it did, and has the
--- graph's jobs, labels and holds ("The plain book", demand 3), in every history. Assumes that every history's graph is
--- sound.
+-- graph's jobs, labels, outcomes and holds ("The plain book", demand 3), in every history. Assumes that every history's
+-- graph is sound.
 use mathlib.Core.Path.{_≡_, refl, sym, ap, _∙_, fun-ext}
 use mathlib.Core.Bool.{Bool, true, false}
 use mathlib.Core.List.{[], _∷_, _++_, map}
 use mathlib.Core.Option.{Option, none, some}
-use Prim.Native.Nat.{ℕ, _≤_}
+use Prim.Native.Nat.{ℕ, _≤_, _<_}
 use native.Mathlib.Omega.{arith}
 use lib.Dec.{eqb}
 use native.Mathlib.Decide.{ℕ-discrete}
 use lib.ListN.{length, getD, set, length-map, List·getD-map}
-use Rattle.basics.specs.Base.{pick, update, prefix}
+use Rattle.basics.specs.Base.{pick, update, prefix, occurrences}
 use Rattle.basics.specs.Laws.{update-at, update-other}
 use Rattle.terms.specs.Terms.{noArguments, Label, Arguments, wrongArguments, unknownName, namePresent, tablesFull}
-use Rattle.terms.specs.Terms.{alreadyHolding, notHeld, finished, executing, finishOf}
+use Rattle.terms.specs.Terms.{alreadyHolding, notHeld, goodForSpoiled, finished, executing, finishOf, noTally}
 use Rattle.terms.specs.Order.{without}
 use Rattle.terms.specs.OrderLaws.{first-occurs}
 use Rattle.terms.specs.Runs.{Item}
 use Rattle.terms.specs.declared.Sizes.{Sizes}
 use Rattle.terms.specs.declared.Answer.{Answer}
-use Rattle.rules.specs.Rules.{Call, idle, looking, linking, notifying, Worker, Graph, empty, job, withLabel}
-use Rattle.rules.specs.Rules.{newJob, turn, withCall, entered, marked, handedOut, nextOut, handOut, order}
+use Rattle.rules.specs.Rules.{Call, idle, looking, linking, marking, notifying, Worker, Graph, empty, job, withLabel}
+use Rattle.rules.specs.Rules.{ended, newJob, turn, withCall, entered, marked, handedOut, nextOut, handOut, order}
 use Rattle.rules.specs.Sound.{Looking, Sound}
 use Rattle.rules_cases.specs.Deed as by
 use Rattle.rules_cases.specs.Deed.{Deed}
 use Rattle.rules_cases.specs.Deeds.{deed}
-use Rattle.sequential_model.specs.Book.{noEntry, Book, blank, labelled, finishedBy, next, Ends, Follows, done}
+use Rattle.sequential_model.specs.Book.{noEntry, Book, blank, entry, labelled, finishedBy, next, Ends, Follows, done}
 use Rattle.sequential_model.specs.Book.{listedNames}
 use Rattle.sequential_model.specs.Book.{addEnd, add, get, finish, accepted, noneReady, handed, refused, holding, taken}
 use Rattle.sequential_model.specs.Book as book
@@ -37,9 +37,10 @@ use Rattle.rules_follow_model.specs.Paced.{paced, read}
 use Rattle.rules_follow_model.specs.Entries.{entry-at, entries-length, entries-append, entries-set, entries-kept}
 use Rattle.rules_follow_model.specs.Entries.{listed-append, listed-kept, listed-length}
 use Rattle.rules_follow_model.specs.Feeding.{follows-then, Asked, askedOf, asks, accepted-asked}
-use Rattle.rules_follow_model.specs.Ends.{bookOf, name-at, finish-not, finish-held, add-wrong, add-unknown}
-use Rattle.rules_follow_model.specs.Ends.{add-there}
-use Rattle.rules_follow_model.specs.Ends.{add-no-room, add-accepted, queued-ready}
+use Rattle.rules_follow_model.specs.Ends.{bookOf, name-at, finish-not, finish-good, finish-held, add-wrong}
+use Rattle.rules_follow_model.specs.Ends.{add-unknown, add-there}
+use Rattle.rules_follow_model.specs.Ends.{add-no-room, add-accepted, spoiled-at, queued-ready}
+use Rattle.rules_follow_model.specs.Ending.{EndsRight, ends-right}
 
 -- what is kept: the book of the graph is reached, and the reserved arcs are the names in the jobs' lists
 pub record Kept (s : Sizes) (g : Graph) (r : Reading) : Type 0 where
@@ -70,15 +71,21 @@ next-refused b (add w a) n i = refl
 next-refused b (get w) n i = refl
 next-refused b (finish w f) n i = refl
 
-labelled-same : (g : Graph) (j : ℕ) (l : Label)
-    → entriesOf (set (g .jobs) j (withLabel (job g j) l)) ≡ labelled (bookOf g) j l
-labelled-same g j l = entries-set (g .jobs) j (withLabel (job g j) l) ∙ rw (entry-at (g .jobs) j)
+-- one job is labelled
+ended-same : (g : Graph) (j : ℕ) (f : Bool)
+    → entriesOf (set (g .jobs) j (ended (job g j) f)) ≡ labelled (bookOf g) j finished f
+ended-same g j f = entries-set (g .jobs) j (ended (job g j) f) ∙ rw (entry-at (g .jobs) j)
 
-labelled-listed : (g : Graph) (j : ℕ) (l : Label) → listedNames (entriesOf (g .jobs)) ≡ g .reserved
-    → listedNames (entriesOf (set (g .jobs) j (withLabel (job g j) l))) ≡ g .reserved
-labelled-listed g j l e = ap listedNames (labelled-same g j l) ∙ listed-kept (entriesOf (g .jobs)) j _ refl ∙ e
+executing-same : (g : Graph) (j : ℕ)
+    → entriesOf (set (g .jobs) j (withLabel (job g j) executing))
+    ≡ labelled (bookOf g) j executing (entry (bookOf g) j .failed)
+executing-same g j = entries-set (g .jobs) j (withLabel (job g j) executing) ∙ rw (entry-at (g .jobs) j)
 
-module _ (s : Sizes) (g : Graph) (r : Reading) (S : Sound s g) (K : Kept s g r) where
+labelled-listed : (g : Graph) (j : ℕ) (l : Label) (f : Bool) → listedNames (entriesOf (g .jobs)) ≡ g .reserved
+    → listedNames (labelled (bookOf g) j l f) ≡ g .reserved
+labelled-listed g j l f e = listed-kept (entriesOf (g .jobs)) j _ refl ∙ e
+
+module _ (s : Sizes) (g : Graph) (r : Reading) (S : Sound s g) (E : EndsRight g) (K : Kept s g r) where
   same-book : (after : Graph) → entriesOf (after .jobs) ≡ entriesOf (g .jobs)
       → ((v : ℕ) → after .workers v .held ≡ g .workers v .held)
       → bookOf after ≡ bookOf g
@@ -129,27 +136,30 @@ module _ (s : Sizes) (g : Graph) (r : Reading) (S : Sound s g) (K : Kept s g r) 
   enters w a later c z = fed (entered g w a) later (add w a) accepted c z
       (λ i. record {
         jobs = entries-append (g .jobs) (newJob a) i;
-        held = λ v. turned w (linking a (length (g .jobs)) 0 0) v i;
+        held = λ v. turned w (linking a (length (g .jobs)) 0 noTally) v i;
       })
       (rw (entries-append, listed-append) (omega (arith, K .reserved, listed-length a)))
 
-  marks : (w p : ℕ) (c : Call) (later : Reading)
-      → later .calls ≡ r .calls ++ (record { call = finish w (finishOf (job g p .name)); end = accepted } ∷ [])
-      → g .workers w .held ≡ some p → Kept s (marked g w p c) later
+  marks : (w p : ℕ) (f : Bool) (c : Call) (later : Reading)
+      → later .calls ≡ r .calls ++ (record { call = finish w (finishOf (job g p .name) f); end = accepted } ∷ [])
+      → g .workers w .call ≡ marking f → g .workers w .held ≡ some p → Kept s (marked g w p f c) later
   unfolding next finishedBy
-  marks w p c later l h = fed (marked g w p c) later (finish w (finishOf (job g p .name))) accepted l
-      (rw h (finish-held g p))
-      (rw (h, labelled-same g p finished, held-after (g .workers) w none c))
-      (labelled-listed g p finished (K .reserved))
+  marks w p f c later l m h = fed (marked g w p f c) later (finish w (finishOf (job g p .name) f)) accepted l
+      (rw h (finish-held S w p h f (E w p f (record { call = m; held = h }))))
+      (rw (h, ended-same g p f, held-after (g .workers) w none c))
+      (rw (ended-same g p f) (labelled-listed g p finished f (K .reserved)))
 
   hands : (w j : ℕ) → g .workers w .held ≡ none → nextOut g ≡ some j
       → Kept s (handedOut g w j (without j (g .queue))) (decided r (get w) (handed (handOut g j)))
   unfolding next
   hands w j h z = fed (handedOut g w j (without j (g .queue))) (decided r (get w) (handed (handOut g j))) (get w)
       (handed (handOut g j)) refl
-      (rw h (rw (name-at g j) at (taken j (queued-ready S j (first-occurs (order g) (g .queue) j z)))))
-      (rw (labelled-same g j executing, held-after (g .workers) w (some j) idle))
-      (labelled-listed g j executing (K .reserved))
+      (rw h (rw (name-at g j, spoiled-at S j (omega (arith, queued))) at (taken j (queued-ready S j queued))))
+      (rw (executing-same g j, held-after (g .workers) w (some j) idle))
+      (rw (executing-same g j) (labelled-listed g j executing (entry (bookOf g) j .failed) (K .reserved)))
+    where
+      queued : 0 < occurrences j (g .queue)
+      queued = first-occurs (order g) (g .queue) j z
 
   finds-none : (w : ℕ) → g .workers w .held ≡ none → Kept s g (decided r (get w) noneReady)
   unfolding next
@@ -164,7 +174,9 @@ module _ (s : Sizes) (g : Graph) (r : Reading) (S : Sound s g) (K : Kept s g r) 
   kept-on (by.made A c (by.addPosted e)) = unseen _ _ refl (turned _ _) refl refl
   kept-on (by.made A c (by.finishWrong {w} {f} e)) =
       refused-now (finish w f) notHeld 0 (finish-not g f (g .workers w .held) e)
-  kept-on (by.made A c (by.finishPosted p e n)) = unseen _ _ refl (turned _ _) refl refl
+  kept-on (by.made A c (by.finishGood {w} {f} p e n u)) =
+      refused-now (finish w f) goodForSpoiled 0 (rw e (finish-good S w p e f n u))
+  kept-on (by.made A c (by.finishPosted p e n u)) = unseen _ _ refl (turned _ _) refl refl
   kept-on (by.made A c (by.getHolding {w} j e)) = refused-now (get w) alreadyHolding 0 (rw e holding)
   kept-on (by.made A c (by.getNone {w} e f)) = finds-none w e
   kept-on (by.made A c (by.getHanded {w} e j f)) = hands w j e f
@@ -184,8 +196,8 @@ module _ (s : Sizes) (g : Graph) (r : Reading) (S : Sound s g) (K : Kept s g r) 
       unseen _ _ (entries-kept (g .jobs) p _ refl) (turned _ _) refl refl
   kept-on (by.stepped A c (by.jobSettled {j} l)) =
       unseen _ _ (entries-kept (g .jobs) j _ refl) (turned _ _) refl refl
-  kept-on (by.stepped {w} A c (by.markedLast p e f)) = marks w p idle _ refl e
-  kept-on (by.stepped {w} A c (by.markedGoing p e f)) = marks w p (notifying p 0) _ refl e
+  kept-on (by.stepped {w} A c (by.markedLast {f} p e d)) = marks w p f idle _ refl c e
+  kept-on (by.stepped {w} A c (by.markedGoing {f} p e d)) = marks w p f (notifying p 0 f) _ refl c e
   kept-on (by.stepped A c (by.arcNotified l)) = unseen _ _ (entries-kept (g .jobs) _ _ refl) (turned _ _) refl refl
   kept-on (by.stepped A c (by.lastNotified l)) = unseen _ _ (entries-kept (g .jobs) _ _ refl) (turned _ _) refl refl
   kept-on (by.loading e (by.notRising u)) = K
@@ -224,7 +236,8 @@ module _ {s : Sizes} (sound : (g : Graph) (r : Reading) (e : ℕ → ℕ) → Hi
   kept start = record { follows = done; reserved = refl }
   kept (then {g} {r} {e} history i) =
       let S = sound g r e history in
-      rw (read r S (paced sound history) (deed s g i)) (kept-on s g r S (kept history) (deed s g i))
+      rw (read r S (paced sound history) (deed s g i))
+      (kept-on s g r S (ends-right sound history) (kept history) (deed s g i))
 
   pub booked : {g : Graph} {r : Reading} {e : ℕ → ℕ} → History s g r e → Booked s g r
   booked {g} {r} history = adds-booked g r (kept history .follows)

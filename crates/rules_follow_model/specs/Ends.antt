@@ -1,25 +1,26 @@
 -- The plain book of a graph has each call end as the rules have it end ("The plain book", "Turned-away calls"). Assumes
 -- that the graph is sound and that its reserved arcs are the names in its jobs' lists.
 use mathlib.Core.Path.{_≡_, refl, ap, _∙_}
-use mathlib.Core.Bool.{true, false}
+use mathlib.Core.Bool.{Bool, true, false, _&&_, not}
 use mathlib.Core.Option.{Option, none, some}
-use Prim.Native.Nat.{ℕ, _<_}
+use Prim.Native.Nat.{ℕ, _+_, _<_}
 use native.Mathlib.Omega.{arith}
 use lib.ListN.{getD}
 use borrow.Author.Tests.{eq-eqb}
 use Rattle.basics.specs.Base.{pick, occurrences}
 use Rattle.terms.specs.Terms.{unexecuted, Arguments, listed, argumentsWrong, wrongArguments, unknownName, namePresent}
-use Rattle.terms.specs.Terms.{tablesFull, notHeld, finishOf, Finish}
+use Rattle.terms.specs.Terms.{tablesFull, notHeld, goodForSpoiled, finishOf, Finish}
 use Rattle.terms.specs.declared.Sizes.{Sizes}
-use Rattle.rules.specs.Rules.{Graph, job, find, at, missing}
-use Rattle.rules.specs.Sound.{Looking, Sound}
+use Rattle.rules.specs.Rules.{Graph, job, find, at, missing, endsGood}
+use Rattle.rules.specs.Sound.{startedBy, Looking, Sound}
 use Rattle.rules_cases.specs.Deed.{HoldsNot, noPlace}
 use Rattle.sequential_model.specs.Book.{Entry, noEntry, Book, known, Ready, accepted, refused, firstUnknown, nowhere}
-use Rattle.sequential_model.specs.Book.{listedNames, full, addKnown, addEnd, finishEnd}
+use Rattle.sequential_model.specs.Book.{listedNames, full, addKnown, addEnd, spoiled, finishEnd}
 use Rattle.sequential_model.specs.Book as book
 use Rattle.rules_history.specs.History.{entriesOf}
 use Rattle.rules_follow_model.specs.Entries.{entry-at, entries-length, listed-length, known-found, unknown-at}
 use Rattle.rules_follow_model.specs.Entries.{unknown-nowhere, none-awaited, finished-not-awaited}
+use Rattle.rules_follow_model.specs.Marks.{mark-shown}
 
 -- the graph as the book has it
 abbrev pub bookOf : Graph → Book
@@ -35,9 +36,32 @@ unfolding finishEnd
 finish-not g f none e = refl
 finish-not g f (some p) e = rw (name-at g p, e)
 
-pub finish-held : (g : Graph) (p : ℕ) → accepted ≡ finishEnd (bookOf g) (finishOf (job g p .name)) (some p)
-unfolding finishEnd
-finish-held g p = rw (name-at g p, eq-eqb (job g p .name) (job g p .name) refl)
+-- a job that waits or was handed out is spoiled in the book exactly if it is marked so
+pub spoiled-at : {s : Sizes} {g : Graph} → Sound s g → (j : ℕ)
+    → 0 < occurrences j (g .queue) + startedBy (job g j .label) → spoiled (bookOf g) j ≡ job g j .spoiled
+spoiled-at {g} S j h = rw (ap (λ (x : Entry). x .list) (entry-at (g .jobs) j)) (mark-shown S j h)
+
+module _ {s : Sizes} {g : Graph} (S : Sound s g) (w p : ℕ) (h : g .workers w .held ≡ some p) where
+  held-spoiled : spoiled (bookOf g) p ≡ job g p .spoiled
+  held-spoiled = spoiled-at S p (omega (arith, ap startedBy (S .held-executing w p h)))
+
+  pub finish-good : (f : Finish) → job g p .name ≡ f .name → endsGood g p f ≡ true
+      → refused goodForSpoiled 0 ≡ finishEnd (bookOf g) f (some p)
+  unfolding finishEnd
+  finish-good f e n = rw (name-at g p, eq-eqb (job g p .name) (f .name) e, held-spoiled, n)
+
+  pub finish-taken : (f : Finish) → job g p .name ≡ f .name → endsGood g p f ≡ false
+      → accepted ≡ finishEnd (bookOf g) f (some p)
+  unfolding finishEnd
+  finish-taken f e n = rw (name-at g p, eq-eqb (job g p .name) (f .name) e, held-spoiled, n)
+
+  pub finish-held : (f : Bool) → (job g p .spoiled ≡ true → f ≡ true)
+      → accepted ≡ finishEnd (bookOf g) (finishOf (job g p .name) f) (some p)
+  finish-held f e = finish-taken (finishOf (job g p .name) f) refl (none-good (job g p .spoiled) f e)
+    where
+      none-good : (m f : Bool) → (m ≡ true → f ≡ true) → (m && not f) ≡ false
+      none-good true f e = rw (e refl)
+      none-good false f e = refl
 
 -- ---- an add
 pub add-wrong : (s : Sizes) (g : Graph) (a : Arguments) → argumentsWrong a ≡ true

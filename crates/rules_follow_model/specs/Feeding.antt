@@ -1,11 +1,12 @@
 -- Laws of the plain book's feeding ("The plain book"): a call more at the end, and the accepted adds are those of the
 -- jobs, in order. Assumes nothing.
 use mathlib.Core.Path.{_≡_, refl, sym, ap, _∙_}
+use mathlib.Core.Bool.{Bool}
 use mathlib.Core.List.{List, [], _∷_, _++_, map, append-assoc, append-nil}
 use mathlib.Core.Option.{Option, none, some}
 use Prim.Native.Nat.{ℕ}
 use lib.Seq.{map-set-same}
-use Rattle.terms.specs.Terms.{Arguments, listed, finished, executing}
+use Rattle.terms.specs.Terms.{Label, Arguments, listed, finished, executing}
 use Rattle.terms.specs.declared.Sizes.{Sizes}
 use Rattle.sequential_model.specs.Book.{Entry, noEntry, Book, blank, Call, add, get, finish, End, accepted, noneReady}
 use Rattle.sequential_model.specs.Book.{handed}
@@ -33,14 +34,14 @@ askedOf x = record { name = x .name; list = x .list; class = x .class }
 abbrev pub asks : Arguments → Asked
 asks a = record { name = a .name; list = listed a; class = a .class }
 
-labelled-asked : (b : Book) (j : ℕ) (l : Rattle.terms.specs.Terms.Label)
-    → map askedOf (labelled b j l) ≡ map askedOf (b .jobs)
-labelled-asked b j l = map-set-same askedOf (b .jobs) j _ noEntry refl
+labelled-asked : (b : Book) (j : ℕ) (l : Label) (f : Bool) → map askedOf (labelled b j l f) ≡ map askedOf (b .jobs)
+labelled-asked b j l f = map-set-same askedOf (b .jobs) j _ noEntry refl
 
-finished-asked : (b : Book) (w : ℕ) (h : Option ℕ) → map askedOf (finishedBy b w h .jobs) ≡ map askedOf (b .jobs)
+finished-asked : (b : Book) (w : ℕ) (f : Bool) (h : Option ℕ)
+    → map askedOf (finishedBy b w f h .jobs) ≡ map askedOf (b .jobs)
 unfolding finishedBy
-finished-asked b w none = refl
-finished-asked b w (some j) = labelled-asked b j finished
+finished-asked b w f none = refl
+finished-asked b w f (some j) = labelled-asked b j finished f
 
 map-snoc : {A B : Type 0} (f : A → B) (l : List A) (x : A) → map f (l ++ (x ∷ [])) ≡ map f l ++ (f x ∷ [])
 map-snoc f [] x = refl
@@ -57,9 +58,9 @@ fed-call b (add w a) (handed h) l m z = z
 fed-call b (add w a) (refused n p) l m z = z
 fed-call b (get w) accepted l m z = z
 fed-call b (get w) noneReady l m z = z
-fed-call b (get w) (handed h) l m z = rw (labelled-asked b (h .job) executing) at z
+fed-call b (get w) (handed h) l m z = rw (labelled-asked b (h .job) executing _) at z
 fed-call b (get w) (refused n p) l m z = z
-fed-call b (finish w f) accepted l m z = rw (finished-asked b w (b .held w)) at z
+fed-call b (finish w f) accepted l m z = rw (finished-asked b w (f .failed) (b .held w)) at z
 fed-call b (finish w f) noneReady l m z = z
 fed-call b (finish w f) (handed h) l m z = z
 fed-call b (finish w f) (refused n p) l m z = z

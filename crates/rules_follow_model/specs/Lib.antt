@@ -1,7 +1,10 @@
-pub mod Paced
 pub mod Entries
 pub mod Feeding
+pub mod Marks
 pub mod Ends
+pub mod Paced
+pub mod Ending
 pub mod Booked
 pub mod Settled
 pub mod Steps
+pub mod Posts

@@ -11,7 +11,7 @@ use lib.ListN.{length, getD, set, List·getD-append}
 use lib.Seq.{getD-append-seam}
 use Rattle.basics.specs.Base.{update}
 use Rattle.basics.specs.Laws.{update-same, update-other}
-use Rattle.terms.specs.Terms.{Arguments, finishOf}
+use Rattle.terms.specs.Terms.{Arguments, finishOf, Tally}
 use Rattle.terms.specs.Runs.{Item, workerOf}
 use Rattle.terms.specs.declared.Sizes.{Sizes}
 use Rattle.terms.specs.declared.Answer.{Answer}
@@ -38,9 +38,9 @@ call-kept : (g after : Graph) → SameNames g after → (h : Option ℕ) (c : Ca
 call-kept g after n h idle p there S P = P
 call-kept g after n h (looking a i) p there S P = P
 call-kept g after n h (linking a j i t) p there S P = (P .0, P .1 ∙ sym (n j (S .there)))
-call-kept g after n none marking p there S P = P
-call-kept g after n (some j) marking p there S P = rw (n j (there j refl)) P
-call-kept g after n h (notifying j k) p there S P = rw (n j (S .there)) P
+call-kept g after n none (marking f) p there S P = P
+call-kept g after n (some j) (marking f) p there S P = rw (n j (there j refl)) P
+call-kept g after n h (notifying j k f) p there S P = rw (n j (S .there)) P
 
 -- ---- only a worker below P is in a call: 2, "worker number not below P", comes first
 record PacedOn (s : Sizes) (g : Graph) (r : Reading) : Type 0 where
@@ -75,7 +75,8 @@ module _ (s : Sizes) (g : Graph) (r : Reading) (S : Sound s g) (P : PacedOn s g 
       → getD (set (g .jobs) p y) j noJob .name ≡ job g j .name
   same-names p y e j = kept-field (λ (x : Job). x .name) (g .jobs) p y noJob e j
 
-  linked-name : {w : ℕ} {a : Arguments} {j i t : ℕ} → g .workers w .call ≡ linking a j i t → a .name ≡ job g j .name
+  linked-name : {w : ℕ} {a : Arguments} {j i : ℕ} {t : Tally} → g .workers w .call ≡ linking a j i t
+      → a .name ≡ job g j .name
   linked-name {w} {a} {j} {i} {t} e = let call : PacedCall g (g .workers w .held) (linking a j i t) (r .pending w) =
       rw e at (P .calls w) in call .1
 
@@ -90,7 +91,8 @@ module _ (s : Sizes) (g : Graph) (r : Reading) (S : Sound s g) (P : PacedOn s g 
   paced-on (by.made A c (by.addWrong e)) = same refl
   paced-on (by.made A c (by.addPosted e)) = moved A _ _ (λ j h. refl) refl refl refl
   paced-on (by.made A c (by.finishWrong e)) = same refl
-  paced-on (by.made A c (by.finishPosted p e n)) = moved A _ _ (λ j h. refl) refl refl (rw (e, n) refl)
+  paced-on (by.made A c (by.finishGood p e n u)) = same refl
+  paced-on (by.made A c (by.finishPosted p e n u)) = moved A _ _ (λ j h. refl) refl refl (rw (e, n) refl)
   paced-on (by.made A c (by.getHolding j e)) = same refl
   paced-on (by.made A c (by.getNone e f)) = same refl
   paced-on (by.made A c (by.getHanded {w} e j f)) =
@@ -109,10 +111,10 @@ module _ (s : Sizes) (g : Graph) (r : Reading) (S : Sound s g) (P : PacedOn s g 
       (refl, linked-name c ∙ sym (same-names p _ refl j))
   paced-on (by.stepped A c (by.jobSettled {j} l)) = moved A _ _ (λ i h. same-names j _ refl i) refl refl refl
   paced-on (by.stepped A c (by.markedLast p e f)) = moved A _ _ (λ j h. same-names p _ refl j) refl refl refl
-  paced-on (by.stepped A c (by.markedGoing p e f)) = moved A _ _ (λ j h. same-names p _ refl j) refl refl
-      (ap (λ n. finishing (finishOf n) 1) (sym (same-names p _ refl p)))
-  paced-on (by.stepped A c (by.arcNotified {p} {k} l)) = moved A _ _ (λ j h. same-names _ _ refl j) refl refl
-      (ap (λ n. finishing (finishOf n) (suc (suc k))) (sym (same-names _ _ refl p)))
+  paced-on (by.stepped A c (by.markedGoing {f} p e d)) = moved A _ _ (λ j h. same-names p _ refl j) refl refl
+      (ap (λ n. finishing (finishOf n f) 1) (sym (same-names p _ refl p)))
+  paced-on (by.stepped A c (by.arcNotified {p} {k} {f} l)) = moved A _ _ (λ j h. same-names _ _ refl j) refl refl
+      (ap (λ n. finishing (finishOf n f) (suc (suc k))) (sym (same-names _ _ refl p)))
   paced-on (by.stepped A c (by.lastNotified l)) = moved A _ _ (λ j h. same-names _ _ refl j) refl refl refl
   paced-on (by.loading e (by.notRising u)) = same refl
   paced-on (by.loading e (by.tooLate u l)) = same refl
@@ -149,9 +151,9 @@ call-idle : (g : Graph) (h : Option ℕ) (c : Call) (p : Pending) → PacedCall 
 call-idle g h idle p P e = refl
 call-idle g h (looking a i) p P e = cc
 call-idle g h (linking a j i t) p P e = cc (P .0)
-call-idle g none marking p P e = absurd P
-call-idle g (some j) marking p P e = cc
-call-idle g h (notifying j k) p P e = cc
+call-idle g none (marking f) p P e = absurd P
+call-idle g (some j) (marking f) p P e = cc
+call-idle g h (notifying j k f) p P e = cc
 
 pub worker-idle : (g : Graph) (r : Reading) → Paced g r → (w : ℕ) → r .pending w ≡ reading.idle
     → g .workers w .call ≡ idle

@@ -1,5 +1,6 @@
--- With no call half done: the graph's counts are the book's remaining counts, and the jobs in its queue are those ready
--- in the book ("The plain book", demand 3). Assumes that the graph is booked and balanced.
+-- With no call half done: the graph's counts are the book's remaining counts, its marks tell which jobs are spoiled in
+-- the book, and the jobs in its queue are those ready there ("The plain book", demand 3). Assumes that the graph is
+-- booked and balanced.
 use mathlib.Core.Path.{_≡_, refl, sym, ap, _∙_}
 use mathlib.Core.Option.{none, some}
 use mathlib.Core.Logic.{_↔_}
@@ -16,7 +17,7 @@ use Rattle.terms.specs.declared.Answer.the-variants.{NoneReady, Handed}
 use Rattle.rules.specs.Rules.{idle, Graph, job, perform, nextOut, handOut, order}
 use Rattle.rules_cases.specs.Deed as by
 use Rattle.rules_cases.specs.Deed.{Made}
-use Rattle.sequential_model.specs.Book.{entry, awaitedNames, remaining, Ready}
+use Rattle.sequential_model.specs.Book.{entry, awaitedNames, remaining, spoiled, Ready}
 use Rattle.linearization.specs.Calls.{Reading}
 use Rattle.rules_history.specs.History.{entryOf, entriesOf, Booked, Balanced, Free, AllIdle}
 use Rattle.rules_cases.specs.Own.{own-sizes, own-made}
@@ -61,6 +62,10 @@ module _ {s : Sizes} {g : Graph} {r : Reading} (K : Booked s g r) (B : Balanced 
   -- "the remaining counts"
   pub counts : (j : ℕ) → j < length (g .jobs) → job g j .count ≡ remaining (K .book) j
   counts j h = B .counts j h ∙ sym (awaited-here j)
+
+  -- the marks
+  pub marks : (j : ℕ) → j < length (g .jobs) → job g j .spoiled ≡ spoiled (K .book) j
+  marks j h = B .marks j h ∙ sym (rw (same-entry j, K .jobs))
 
   -- "the set of waiting jobs"
   pub waiting-ready : (j : ℕ) → (0 < occurrences j (g .queue)) ↔ Ready (K .book) j

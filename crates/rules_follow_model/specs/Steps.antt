@@ -2,6 +2,7 @@
 -- finish answers ("Steps"). Assumes that every history's graph is sound.
 use mathlib.Core.Path.{_≡_, refl}
 use mathlib.Core.Logic.{_≢_}
+use mathlib.Core.Bool.{Bool}
 use Prim.Native.Nat.{ℕ, suc, _+_, _*_, _<_}
 use native.Mathlib.Omega.{arith}
 use native.Mathlib.Decide.{decLt}
@@ -32,8 +33,8 @@ StepOf g (finishing f k) x = FinishOf (seen g) (f .name) k x
 
 -- ---- a step of the call that the worker is in
 module _ (s : Sizes) (g : Graph) (w : ℕ) (S : Sound s g) where
-  finish-of : {q : Pending} {x : Answer} (p : ℕ) {k : ℕ} → p < length (g .jobs)
-      → q ≡ finishing (finishOf (job g p .name)) k
+  finish-of : {q : Pending} {x : Answer} (p : ℕ) {f : Bool} {k : ℕ} → p < length (g .jobs)
+      → q ≡ finishing (finishOf (job g p .name) f) k
       → FinishStep (length (job g p .dependents)) k x → StepOf g q x
   finish-of p l e f = rw e (record { job = p; there = l; named = refl; step = f })
 

@@ -12,9 +12,10 @@ use Rattle.basics.specs.Base.{contains, occurrences}
 use Rattle.terms.specs.Terms.{noArguments, unexecuted, Arguments, listed, finishOf}
 use Rattle.terms.specs.Runs.{Item}
 use Rattle.terms.specs.declared.Sizes.{Sizes}
-use Rattle.rules.specs.Rules.{Job, Call, idle, looking, linking, marking, notifying, Graph, empty, job, perform}
+use Rattle.rules.specs.Rules.{Job, Call, idle, looking, linking, marking, notifying, Graph, empty, job, find, at}
+use Rattle.rules.specs.Rules.{perform}
 use Rattle.rules.specs.Sound.{Finished}
-use Rattle.sequential_model.specs.Book.{Book, blank, Entry, awaitedNames, Follows}
+use Rattle.sequential_model.specs.Book.{Book, blank, Entry, awaitedNames, anyFailed, Follows}
 use Rattle.linearization.specs.Calls.{Pending, adding, finishing, Reading, unread, note, acceptedAdds}
 
 -- a graph, its reading, and the entries of each job, after a list of items from the empty graph
@@ -23,6 +24,22 @@ pub data History (s : Sizes) : Graph → Reading → (ℕ → ℕ) → Type 0 wh
   then : {g : Graph} {r : Reading} {e : ℕ → ℕ} → History s g r e → (i : Item)
       → History s (perform s g i .state) (note r i (perform s g i .answer))
       (λ j. e j + (occurrences j (perform s g i .state .queue) - occurrences j (g .queue)))
+
+-- the graph's jobs as the book has them
+abbrev pub entryOf : Job → Entry
+entryOf x =
+    record {
+      name = x .name;
+      list = x .list;
+      class = x .class;
+      grower = x .grower;
+      label = x .label;
+      failed = x .failed;
+    }
+
+unfoldable pub entriesOf : List Job → List Entry
+entriesOf [] = []
+entriesOf (x ∷ l) = entryOf x ∷ entriesOf l
 
 -- ---- the entries
 pub record Counted (g : Graph) (r : Reading) (e : ℕ → ℕ) : Type 0 where
@@ -34,21 +51,21 @@ pub record Counted (g : Graph) (r : Reading) (e : ℕ → ℕ) : Type 0 where
       → ((i : ℕ) → i < length (job g j .list) → contains (getD (job g j .list) i 0) (r .finished) ≡ true)
       → e j ≡ 1
 
+-- a job is spoiled once its add and the failed finish of a prerequisite have ended
+abbrev pub Spoiled : Graph → Reading → Type 0
+Spoiled g r =
+    (j p i : ℕ) → j < length (g .jobs) → contains (job g j .name) (r .added) ≡ true → i < length (job g j .list)
+    → find g (getD (job g j .list) i 0) ≡ at p → contains (job g p .name) (r .finished) ≡ true
+    → job g p .failed ≡ true
+    → job g j .spoiled ≡ true
+
 -- the j-th accepted add is that of job j
 pub record Added (a : Arguments) (g : Graph) (j : ℕ) : Type 0 where
   pub name : a .name ≡ job g j .name
   pub list : listed a ≡ job g j .list
   pub class : a .class ≡ job g j .class
 
--- the graph's jobs as the book has them
-abbrev pub entryOf : Job → Entry
-entryOf x = record { name = x .name; list = x .list; class = x .class; grower = x .grower; label = x .label }
-
-unfoldable pub entriesOf : List Job → List Entry
-entriesOf [] = []
-entriesOf (x ∷ l) = entryOf x ∷ entriesOf l
-
--- the book that was fed the calls read so far has the graph's jobs, labels and holds
+-- the book that was fed the calls read so far has the graph's jobs, labels, outcomes and holds
 pub record Booked (s : Sizes) (g : Graph) (r : Reading) : Type 0 where
   pub adds : length (acceptedAdds (r .calls)) ≡ length (g .jobs)
   pub added : (j : ℕ) → j < length (g .jobs) → Added (getD (acceptedAdds (r .calls)) j noArguments) g j
@@ -67,10 +84,11 @@ pub record Free (g : Graph) (j : ℕ) : Type 0 where
   pub unexecuted : job g j .label ≡ unexecuted
   pub none-left : job g j .count ≡ 0
 
--- a job's count is how many of its listed names have jobs not finished, and the jobs in the queue are those that wait
--- for nothing
+-- a job's count is how many of its listed names have jobs not finished, its mark whether one of them has a job that
+-- failed, and the jobs in the queue are those that wait for nothing
 pub record Balanced (g : Graph) : Type 0 where
   pub counts : (j : ℕ) → j < length (g .jobs) → job g j .count ≡ awaitedNames (entriesOf (g .jobs)) (job g j .list)
+  pub marks : (j : ℕ) → j < length (g .jobs) → job g j .spoiled ≡ anyFailed (entriesOf (g .jobs)) (job g j .list)
   pub waits : (j : ℕ) → (0 < occurrences j (g .queue)) ↔ Free g j
 
 -- ---- the steps answered so far are those of the call that the worker is in
@@ -78,9 +96,9 @@ abbrev pub PacedCall : Graph → Option ℕ → Call → Pending → Type 0
 PacedCall g h idle p = p ≡ Pending.idle
 PacedCall g h (looking a i) p = p ≡ adding a i
 PacedCall g h (linking a j i t) p = (p ≡ adding a (a .count + 1 + i)) × (a .name ≡ job g j .name)
-PacedCall g none marking p = ⊥
-PacedCall g (some j) marking p = p ≡ finishing (finishOf (job g j .name)) 0
-PacedCall g h (notifying j k) p = p ≡ finishing (finishOf (job g j .name)) (suc k)
+PacedCall g none (marking f) p = ⊥
+PacedCall g (some j) (marking f) p = p ≡ finishing (finishOf (job g j .name) f) 0
+PacedCall g h (notifying j k f) p = p ≡ finishing (finishOf (job g j .name) f) (suc k)
 
 abbrev pub Paced : Graph → Reading → Type 0
 Paced g r = (w : ℕ) → PacedCall g (g .workers w .held) (g .workers w .call) (r .pending w)

@@ -6,7 +6,7 @@ use Prim.Native.Nat.{ℕ, suc, _+_, _≤_}
 use native.Mathlib.Omega.{arith}
 use borrow.Author.Tests.{eq-eqb, ne-eqb, le-ltb, lt-leb}
 use Rattle.terms.specs.Terms.{Arguments, wrongSizes, noSuchWorker, halfDone, wrongArguments, unknownName}
-use Rattle.terms.specs.Terms.{namePresent, tablesFull, damaged, alreadyHolding, notHeld, finishOf}
+use Rattle.terms.specs.Terms.{namePresent, tablesFull, damaged, alreadyHolding, notHeld, goodForSpoiled, finishOf}
 use Rattle.terms.specs.Runs.{Item, postAdd, postFinish, step, get, load, workerOf}
 use Rattle.terms.specs.declared.Sizes.{Sizes}
 use Rattle.terms.specs.declared.Answer.{Answer}
@@ -33,11 +33,12 @@ readsStep {w} r (by.jobEntered {a} l e f) = becomes (decided r (add w a) accepte
 readsStep {w} r (by.tallied {a} {j} {i} p l e f) = becomes r w (adding a (a .count + 1 + suc i))
 readsStep {w} r (by.arcAppended {a} {j} {i} p l e f) = becomes r w (adding a (a .count + 1 + suc i))
 readsStep {w} r (by.jobSettled {a} l) = becomes (addEnded r (a .name)) w idle
-readsStep {g} {w} r (by.markedLast p e f) =
-    becomes (finishEnded (decided r (finish w (finishOf (job g p .name))) accepted) (job g p .name)) w idle
-readsStep {g} {w} r (by.markedGoing p e f) =
-    becomes (decided r (finish w (finishOf (job g p .name))) accepted) w (finishing (finishOf (job g p .name)) 1)
-readsStep {g} {w} r (by.arcNotified {p} {k} l) = becomes r w (finishing (finishOf (job g p .name)) (suc (suc k)))
+readsStep {g} {w} r (by.markedLast {f} p e n) =
+    becomes (finishEnded (decided r (finish w (finishOf (job g p .name) f)) accepted) (job g p .name)) w idle
+readsStep {g} {w} r (by.markedGoing {f} p e n) =
+    becomes (decided r (finish w (finishOf (job g p .name) f)) accepted) w (finishing (finishOf (job g p .name) f) 1)
+readsStep {g} {w} r (by.arcNotified {p} {k} {f} l) =
+    becomes r w (finishing (finishOf (job g p .name) f) (suc (suc k)))
 readsStep {g} {w} r (by.lastNotified {p} l) = becomes (finishEnded r (job g p .name)) w idle
 
 abbrev pub reads : {s : Sizes} {g : Graph} {i : Item} {x : Answer} {h : Graph} → Reading → Deed s g i x h → Reading
@@ -47,7 +48,8 @@ reads r (by.callHalfDone A n c) = r
 reads r (by.made A c (by.addWrong {w} {a} e)) = decided r (add w a) (refused wrongArguments 0)
 reads r (by.made A c (by.addPosted {w} {a} e)) = becomes r w (adding a 0)
 reads r (by.made A c (by.finishWrong {w} {f} e)) = decided r (finish w f) (refused notHeld 0)
-reads r (by.made A c (by.finishPosted {w} {f} p e n)) = becomes r w (finishing f 0)
+reads r (by.made A c (by.finishGood {w} {f} p e n s)) = decided r (finish w f) (refused goodForSpoiled 0)
+reads r (by.made A c (by.finishPosted {w} {f} p e n s)) = becomes r w (finishing f 0)
 reads r (by.made A c (by.getHolding {w} j e)) = decided r (book.get w) (refused alreadyHolding 0)
 reads r (by.made A c (by.getNone {w} e f)) = decided r (book.get w) noneReady
 reads {g} r (by.made A c (by.getHanded {w} e j f)) = decided r (book.get w) (handed (handOut g j))
@@ -109,7 +111,8 @@ module _ {s : Sizes} {g : Graph} (r : Reading) where
   noted P I (by.made A c (by.addWrong e)) = refl
   noted P I (by.made A c (by.addPosted e)) = refl
   noted P I (by.made A c (by.finishWrong e)) = refl
-  noted P I (by.made A c (by.finishPosted p e n)) = refl
+  noted P I (by.made A c (by.finishGood p e n s)) = refl
+  noted P I (by.made A c (by.finishPosted p e n s)) = refl
   noted P I (by.made A c (by.getHolding j e)) = refl
   noted P I (by.made A c (by.getNone e f)) = refl
   noted P I (by.made A c (by.getHanded e j f)) = refl

@@ -1,33 +1,34 @@
--- With no call half done, each job's count is how many of its listed names have jobs not finished, and the jobs in the
--- queue are those that are unexecuted with count 0 (docs/RULES.md, "The plain book"). Assumes nothing.
+-- With no call half done, each job's count is how many of its listed names have jobs not finished, its mark whether one
+-- of them has a job that failed, and the jobs in the queue are those that are unexecuted with count 0 (docs/RULES.md,
+-- "The plain book"). Assumes nothing.
 use mathlib.Core.Path.{_≡_, refl, sym, ap, _∙_}
 use mathlib.Core.Logic.{_≢_}
-use mathlib.Core.Bool.{Bool, true, false, _&&_, _||_}
+use mathlib.Core.Bool.{Bool, true}
 use mathlib.Core.Option.{Option, none, some}
 use mathlib.Core.List.{List, [], _∷_}
-use Prim.Native.Nat.{ℕ, suc, _+_, _-_, _<_}
+use Prim.Native.Nat.{ℕ, suc, _+_, _<_}
 use native.Mathlib.Omega.{arith}
-use borrow.Author.Tests.{eq-eqb, eqb-true}
-use lib.Dec.{eqb}
 use lib.ListN.{length, getD}
 use lib.Seq.{take-all}
 use Rattle.basics.specs.Base.{pick, occurrences}
 use Rattle.terms.specs.Terms.{Label, unexecuted, executing, finished, Label-discrete}
 use Rattle.terms.specs.declared.Sizes.{Sizes}
-use Rattle.rules.specs.Rules.{Job, noJob, Graph, job, Found, at, missing, seek}
+use Rattle.rules.specs.Rules.{Job, noJob, Graph, job, at, seek}
 use Rattle.rules.specs.Sound.{startedBy}
-use Rattle.sequential_model.specs.Book.{unfinished, awaited, awaitedNames}
+use Rattle.sequential_model.specs.Book.{unfinished, awaitedNames, anyFailed}
 use Rattle.linearization.specs.Calls.{Reading}
 use Rattle.rules_history.specs.History.{History, AllIdle, Balanced, entriesOf}
 use Rattle.basics.specs.Counting.{hit, hit-same, hit-other, occurrences-nil, occurrences-cons, sum, sum-at}
 use Rattle.basics.specs.Counting.{sum-same, sum-zero}
+use Rattle.rules_invariant.specs.Tests.{same-test}
 use Rattle.rules_invariant.specs.State.{State, apart, tag}
-use Rattle.rules_invariant.specs.Invariant.{Invariant, Below, unserved, startedBy-none, once}
-use Rattle.rules_invariant.specs.Names.{at-injective, missing-not-at, sought}
+use Rattle.rules_invariant.specs.Invariant.{Invariant, Below, unserved, startedBy-none, once, prerequisites-there}
+use Rattle.rules_invariant.specs.Invariant.{spoiled-by}
 use Rattle.rules_invariant.specs.Relation.{Kept, stageOf}
 use Rattle.rules_invariant.specs.Start.{reached}
-use Rattle.rules_invariant.specs.Sound.{in-queue, queue-there}
+use Rattle.rules_invariant.specs.Sound.{in-queue, queue-there, spoiled-among}
 use Rattle.rules_invariant.specs.Counted.{all-served}
+use Rattle.rules_invariant.specs.NamedOnce.{Distinct, found-awaited, found-failed, any-place, any-at}
 
 -- ---- numbers that count only where a job is not finished
 abbrev live : Label → ℕ → ℕ
@@ -77,69 +78,11 @@ by-jobs label n (x ∷ l) b =
       ap (live (label x)) (hit-same x),
     )
 
--- ---- a name that is awaited, when names are not repeated
--- each job of the list is found at its place, from i on
-record Distinct (l : List Job) (i : ℕ) : Type 0 where
-  found : (k : ℕ) → k < length l → seek (getD l k noJob .name) l i ≡ at (i + k)
-
-distinct-rest : (x : Job) (l : List Job) (i : ℕ) → Distinct (x ∷ l) i → Distinct l (suc i)
-unfolding seek
-distinct-rest x l i d = record
-    { found = λ k h. go k (eqb (x .name) (getD l k noJob .name)) (d .found (suc k) (omega arith)) }
-  where
-    go : (k : ℕ) (b : Bool) → pick b (at i) (seek (getD l k noJob .name) l (suc i)) ≡ at (i + suc k)
-        → seek (getD l k noJob .name) l (suc i) ≡ at (suc i + k)
-    go k true e = absurd (omega (arith, at-injective i (i + suc k) e))
-    go k false e = e ∙ ap at (omega arith)
-
--- the rest of the list has not the first job's name
-first-only : (x : Job) (l : List Job) (i : ℕ) → Distinct (x ∷ l) i → (o : Found) → seek (x .name) l (suc i) ≡ o
-    → o ≡ missing
-unfolding seek
-first-only x l i d missing e = refl
-first-only x l i d (at p) e =
-    let o = sought (x .name) l (suc i) p e in
-    let k : ℕ = p - suc i in
-    let z : getD (x ∷ l) (suc k) noJob .name ≡ x .name = o .named in
-    let y : seek (x .name) (x ∷ l) i ≡ at (i + suc k) = rw z at (d .found (suc k) (omega (arith, o .low, o .high))) in
-    absurd (omega (arith, at-injective i (i + suc k) (sym (rw (eq-eqb (x .name) (x .name) refl)) ∙ y)))
-
-none-awaited : (name : ℕ) (l : List Job) (i : ℕ) → seek name l i ≡ missing → awaited name (entriesOf l) ≡ false
-unfolding seek awaited entriesOf
-none-awaited name [] i e = refl
-none-awaited name (x ∷ l) i e = go (eqb (x .name) name) e (none-awaited name l (suc i))
-  where
-    go : (b : Bool) → pick b (at i) (seek name l (suc i)) ≡ missing
-        → (seek name l (suc i) ≡ missing → awaited name (entriesOf l) ≡ false)
-        → (b && unfinished (x .label)) || awaited name (entriesOf l) ≡ false
-    go true z later = absurd (missing-not-at i (sym z))
-    go false z later = later z
-
-label-live : (l : Label) (b : Bool) → b ≡ false → pick (unfinished l || b) 1 0 ≡ live l 1
-label-live unexecuted b e = refl
-label-live executing b e = refl
-label-live finished b e = rw e refl
-
-found-awaited : (name : ℕ) (l : List Job) (i p : ℕ) → Distinct l i → seek name l i ≡ at p
-    → pick (awaited name (entriesOf l)) 1 0 ≡ live (getD l (p - i) noJob .label) 1
-unfolding seek awaited entriesOf
-found-awaited name [] i p d e = absurd (missing-not-at p e)
-found-awaited name (x ∷ l) i p d e =
-    go (eqb (x .name) name) refl e (found-awaited name l (suc i) p (distinct-rest x l i d))
-  where
-    go : (b : Bool) → eqb (x .name) name ≡ b → pick b (at i) (seek name l (suc i)) ≡ at p
-        → (seek name l (suc i) ≡ at p
-        → pick (awaited name (entriesOf l)) 1 0 ≡ live (getD l (p - suc i) noJob .label) 1)
-        → pick ((b && unfinished (x .label)) || awaited name (entriesOf l)) 1 0
-        ≡ live (getD (x ∷ l) (p - i) noJob .label) 1
-    go true t z later =
-        let here : p - i ≡ 0 = omega (arith, at-injective i p z) in
-        let gone : seek name l (suc i) ≡ missing =
-        rw (eqb-true (x .name) name t) at (first-only x l i d (seek (x .name) l (suc i)) refl) in
-        rw here (label-live (x .label) (awaited name (entriesOf l)) (none-awaited name l (suc i) gone))
-    go false t z later =
-        let there : p - i ≡ suc (p - suc i) = omega (arith, sought name l (suc i) p z .low) in
-        rw there (later z)
+-- ---- the names that are awaited
+label-live : (l : Label) → pick (unfinished l) 1 0 ≡ live l 1
+label-live unexecuted = refl
+label-live executing = refl
+label-live finished = refl
 
 awaited-names : (l : List Job) → Distinct l 0 → (names numbers : List ℕ) → length names ≡ length numbers
     → ((i : ℕ) → i < length names → seek (getD names i 0) l 0 ≡ at (getD numbers i 0))
@@ -149,11 +92,10 @@ awaited-names l d [] [] e f = refl
 awaited-names l d [] (q ∷ qs) e f = absurd (omega arith)
 awaited-names l d (n ∷ ns) [] e f = absurd (omega arith)
 awaited-names l d (n ∷ ns) (q ∷ qs) e f =
-    let here : q - 0 ≡ q = omega arith in
     omega (
       arith,
-      found-awaited n l 0 q d (f 0 (omega arith)),
-      ap (λ (p : ℕ). live (getD l p noJob .label) 1) here,
+      ap {B = ℕ} (λ (b : Bool). pick b 1 0) (found-awaited n l q d (f 0 (omega arith))),
+      label-live (getD l q noJob .label),
       awaited-names l d ns qs (omega arith) (λ i h. f (suc i) (omega arith)),
     )
 
@@ -193,7 +135,7 @@ module _ (s : Sizes) (g : Graph) (r : Reading) (x : State) (K : Kept s g r x) (I
         arith,
         I .counts .balance j,
         I .counts .adder-done j (no-adder j),
-        by-jobs (x .label) (x .size) (x .prerequisites j) (I .places .prerequisites-there j),
+        by-jobs (x .label) (x .size) (x .prerequisites j) (prerequisites-there x I j),
         sum-same (x .size) (λ p. live (x .label p) (occurrences p (x .prerequisites j))) (λ p. unserved x p j)
             (λ p h. all-linked p j),
       )
@@ -201,12 +143,34 @@ module _ (s : Sizes) (g : Graph) (r : Reading) (x : State) (K : Kept s g r x) (I
   all-distinct : Distinct (g .jobs) 0
   all-distinct = record { found = λ k h. K .jobs k .known .named (omega (arith, K .size)) ∙ ap at (omega arith) }
 
+  -- ---- the marks
+  mark-failed : (j : ℕ) → job g j .spoiled ≡ true → anyFailed (entriesOf (g .jobs)) (job g j .list) ≡ true
+  mark-failed j e =
+      let o = spoiled-among s g r x K I j e in
+      any-at (entriesOf (g .jobs)) (job g j .list) (o .place) (o .within)
+      (found-failed (getD (job g j .list) (o .place) 0) (g .jobs) (o .job) all-distinct (o .found) ∙ o .failed)
+
+  failed-mark : (j : ℕ) → anyFailed (entriesOf (g .jobs)) (job g j .list) ≡ true → job g j .spoiled ≡ true
+  failed-mark j e =
+      let o = any-place (entriesOf (g .jobs)) (job g j .list) e in
+      let i : ℕ = o .place in
+      let p : ℕ = getD (x .prerequisites j) i 0 in
+      let found = K .jobs j .known .found i (o .within) in
+      let failed : x .failed p ≡ true = sym (K .jobs p .failed)
+      ∙ sym (found-failed (getD (job g j .list) i 0) (g .jobs) p all-distinct found) ∙ o .there in
+      let done = I .counts .adder-done j (no-adder j) in
+      K .jobs j .spoiled
+      ∙ spoiled-by x I j (done .0) (done .1) i (omega (arith, o .within, K .jobs j .known .same-length))
+      (all-served s g r x K I p j (I .marks .failed-finished p failed) (no-finisher p)) failed
+
   pub is-balanced : Balanced g
   is-balanced = record {
     counts = λ j h. K .jobs j .count ∙ count-waited j
         ∙ sym (waited-same (λ p. job g p .label) (x .label) (λ p. K .jobs p .label) (x .prerequisites j))
         ∙ sym (awaited-names (g .jobs) all-distinct (job g j .list) (x .prerequisites j)
         (K .jobs j .known .same-length) (K .jobs j .known .found));
+    marks = λ j h. same-test (job g j .spoiled) (anyFailed (entriesOf (g .jobs)) (job g j .list))
+        (mark-failed j) (failed-mark j);
     waits = λ j. (
       λ h. record {
         there = queue-there s g r x K I j h;

@@ -1,6 +1,6 @@
 -- The entries of every history: at most one for each job, only after all its prerequisites are finished, and one once
--- its add and the finishes of its prerequisites have ended (docs/RULES.md, demand 3, "count of entries"). Assumes
--- nothing.
+-- its add and the finishes of its prerequisites have ended (docs/RULES.md, demand 3, "count of entries"). And a job is
+-- spoiled once its add and the failed finish of a prerequisite have ended. Assumes nothing.
 use mathlib.Core.Path.{_≡_, sym, ap, _∙_}
 use mathlib.Core.Bool.{true}
 use mathlib.Core.Option.{none}
@@ -11,14 +11,14 @@ use lib.ListN.{length, getD, drop-of-length-le}
 use Rattle.basics.specs.Base.{contains, occurrences}
 use Rattle.terms.specs.Terms.{finished}
 use Rattle.terms.specs.declared.Sizes.{Sizes}
-use Rattle.rules.specs.Rules.{Graph, job}
+use Rattle.rules.specs.Rules.{Graph, job, find, at}
 use Rattle.linearization.specs.Calls.{Reading}
 use Rattle.rules_history.specs.History as history
 use Rattle.rules_history.specs.History.{History}
 use Rattle.basics.specs.Counting.{occurrences-nil, place-of, sum-zero}
 use Rattle.rules_invariant.specs.State.{State}
-use Rattle.rules_invariant.specs.Invariant.{Invariant, unserved, once, entered-there}
-use Rattle.rules_invariant.specs.Names.{at-injective}
+use Rattle.rules_invariant.specs.Invariant.{Invariant, unserved, once, entered-there, spoiled-by}
+use Rattle.rules_invariant.specs.Names.{at-injective, sought-there}
 use Rattle.rules_invariant.specs.Relation.{Kept}
 use Rattle.rules_invariant.specs.Start.{reached}
 use Rattle.rules_invariant.specs.Sound.{prerequisites-finished}
@@ -30,8 +30,14 @@ module _ (s : Sizes) (g : Graph) (r : Reading) (x : State) (K : Kept s g r x) (I
       rw (drop-of-length-le (x .dependents p) {i = x .served p} (omega (arith, I .finisher-done p e f)))
       (occurrences-nil j)
 
-  module _ (j : ℕ) (there : j < length (g .jobs)) (added : contains (job g j .name) (r .added) ≡ true)
-      (ended : (i : ℕ) → i < length (job g j .list) → contains (getD (job g j .list) i 0) (r .finished) ≡ true) where
+  -- so has one that was read as ended, by the name of its job
+  finish-served : (name p j : ℕ) → find g name ≡ at p → contains name (r .finished) ≡ true → unserved x p j ≡ 0
+  finish-served name p j found ended =
+      let o = K .finished name ended in
+      let same : o .job ≡ p = at-injective (o .job) p (sym (o .found) ∙ found) in
+      all-served p j (ap (x .label) (sym same) ∙ o .finished) (ap (x .finisher) (sym same) ∙ o .ended)
+
+  module _ (j : ℕ) (there : j < length (g .jobs)) (added : contains (job g j .name) (r .added) ≡ true) where
     no-adder : x .adder j ≡ none
     no-adder =
         let o = K .added (job g j .name) added in
@@ -39,31 +45,49 @@ module _ (s : Sizes) (g : Graph) (r : Reading) (x : State) (K : Kept s g r x) (I
         (sym (o .found) ∙ K .jobs j .known .named (omega (arith, K .size))) in
         ap (x .adder) (sym same) ∙ o .ended
 
-    prerequisite-served : (i : ℕ) → i < length (x .prerequisites j) → unserved x (getD (x .prerequisites j) i 0) j ≡ 0
-    prerequisite-served i h =
-        let l : i < length (job g j .list) = omega (arith, K .jobs j .known .same-length) in
-        let o = K .finished (getD (job g j .list) i 0) (ended i l) in
-        let p : ℕ = getD (x .prerequisites j) i 0 in
-        let same : o .job ≡ p = at-injective (o .job) p (sym (o .found) ∙ K .jobs j .known .found i l) in
-        all-served p j (ap (x .label) (sym same) ∙ o .finished) (ap (x .finisher) (sym same) ∙ o .ended)
+    -- ---- the mark
+    module _ (p i : ℕ) (l : i < length (job g j .list)) (found : find g (getD (job g j .list) i 0) ≡ at p)
+        (ended : contains (job g p .name) (r .finished) ≡ true) (failed : job g p .failed ≡ true) where
+      ended-served : unserved x p j ≡ 0
+      ended-served =
+          let below : p < x .size = omega (arith, K .size, sought-there (getD (job g j .list) i 0) (g .jobs) p found) in
+          finish-served (job g p .name) p j (K .jobs p .known .named below) ended
 
-    none-unserved : (p : ℕ) → unserved x p j ≡ 0
-    none-unserved p = elim (decLt 0 (occurrences p (x .prerequisites j))) [
-      | yes h ↦ let o = place-of p (x .prerequisites j) h in
-          rw (← (o .there)) (prerequisite-served (o .place) (o .within))
-      | no h ↦ omega (arith, I .arcs-within p j)
-    ]
+      pub ended-spoiled : job g j .spoiled ≡ true
+      ended-spoiled =
+          let same : p ≡ getD (x .prerequisites j) i 0 =
+          at-injective p (getD (x .prerequisites j) i 0) (sym found ∙ K .jobs j .known .found i l) in
+          let done = I .counts .adder-done j no-adder in
+          K .jobs j .spoiled ∙ spoiled-by x I j (done .0) (done .1) i (omega (arith, K .jobs j .known .same-length))
+          (rw (← same) ended-served) (ap (x .failed) (sym same) ∙ sym (K .jobs p .failed) ∙ failed)
 
-    pub entered-once : x .entries j ≡ 1
-    entered-once =
-        omega (
-          arith,
-          I .gates .entry j,
-          I .counts .balance j,
-          I .counts .adder-done j no-adder,
-          I .gates .gate-settled j (omega (arith, K .size)) no-adder,
-          sum-zero (x .size) (λ p. unserved x p j) none-unserved,
-        )
+    -- ---- the entry
+    module _ (ended : (i : ℕ) → i < length (job g j .list)
+        → contains (getD (job g j .list) i 0) (r .finished) ≡ true) where
+      prerequisite-served : (i : ℕ) → i < length (x .prerequisites j)
+          → unserved x (getD (x .prerequisites j) i 0) j ≡ 0
+      prerequisite-served i h =
+          let l : i < length (job g j .list) = omega (arith, K .jobs j .known .same-length) in
+          finish-served (getD (job g j .list) i 0) (getD (x .prerequisites j) i 0) j (K .jobs j .known .found i l)
+          (ended i l)
+
+      none-unserved : (p : ℕ) → unserved x p j ≡ 0
+      none-unserved p = elim (decLt 0 (occurrences p (x .prerequisites j))) [
+        | yes h ↦ let o = place-of p (x .prerequisites j) h in
+            rw (← (o .there)) (prerequisite-served (o .place) (o .within))
+        | no h ↦ omega (arith, I .arcs-within p j)
+      ]
+
+      pub entered-once : x .entries j ≡ 1
+      entered-once =
+          omega (
+            arith,
+            I .gates .entry j,
+            I .counts .balance j,
+            I .counts .adder-done j no-adder,
+            I .gates .gate-settled j (omega (arith, K .size)) no-adder,
+            sum-zero (x .size) (λ p. unserved x p j) none-unserved,
+          )
 
 pub counted : {s : Sizes} {g : Graph} {r : Reading} {e : ℕ → ℕ} → History s g r e → history.Counted g r e
 counted {s} {g} {r} {e} told =
@@ -76,3 +100,8 @@ counted {s} {g} {r} {e} told =
           (omega (arith, o .entries j));
       when-ended = λ j h a f. o .entries j ∙ entered-once s g r x (o .kept) (o .invariant) j h a f;
     }
+
+pub spoiled-when-ended : {s : Sizes} {g : Graph} {r : Reading} {e : ℕ → ℕ} → History s g r e → history.Spoiled g r
+spoiled-when-ended {s} {g} {r} told j p i there added =
+    let o = reached told in
+    ended-spoiled s g r (o .state) (o .kept) (o .invariant) j there added p i

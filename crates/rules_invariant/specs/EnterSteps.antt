@@ -8,14 +8,16 @@ use Prim.Native.Nat.{ℕ, suc, _+_, _≤_, _<_}
 use native.Mathlib.Omega.{arith}
 use lib.ListN.{length, getD, length-append}
 use lib.Seq.{getD-append-seam}
-use Rattle.basics.specs.Laws.{update-same, update-other, length-prefix, snoc-all}
-use Rattle.terms.specs.Terms.{unexecuted, finished, Arguments, listed}
+use Rattle.basics.specs.Laws.{fails, update-same, update-other, length-prefix, snoc-all}
+use Rattle.terms.specs.Terms.{unexecuted, finished, Arguments, listed, noTally}
 use Rattle.terms.specs.declared.Sizes.{Sizes}
 use Rattle.rules.specs.Rules.{Job, looking, linking, Graph, noJob, job, find, at, missing, newJob, entered, linked}
 use Rattle.rules.specs.Sound.{Looking}
 use Rattle.linearization.specs.Calls.{Pending, Reading, becomes}
 use Rattle.rules_invariant.specs.State.{adding, State, enter}
-use Rattle.rules_invariant.specs.Invariant.{Invariant, Below, startedBy-none}
+use Rattle.rules_invariant.specs.Invariant.{Invariant, Below, startedBy-none, finished-not-unexecuted, unnoted}
+use Rattle.rules_invariant.specs.Invariant.{unfinished-good}
+use Rattle.rules_invariant.specs.Spoiling.{lasts-same}
 use Rattle.rules_invariant.specs.Entering.{enter-keeps}
 use Rattle.rules_invariant.specs.Names.{Extends, extends-append, Numbers, sought-there, seek-new}
 use Rattle.rules_invariant.specs.Names.{few, low}
@@ -62,6 +64,9 @@ module _ (s : Sizes) (g : Graph) (r : Reading) (x : State) (K : Kept s g r x) (I
     unstarted =
         startedBy-none (x .label n) (omega (arith, I .queued n, I .gates .entry n, I .gates .gate-new n (omega arith)))
 
+    new-settled : (x .linked n ≡ length (x .prerequisites n)) × (x .tally n ≡ 0)
+    new-settled = I .counts .adder-done n (I .places .new-adder n (omega arith))
+
     new-known : Known later (suc n) n ps (a .name) (listed a) (a .class)
     new-known = record {
       named = λ z. seek-new (a .name) (g .jobs) (newJob a) 0 refl fresh
@@ -77,6 +82,9 @@ module _ (s : Sizes) (g : Graph) (r : Reading) (x : State) (K : Kept s g r x) (I
       label = sym unstarted;
       count = omega (arith, long, N .same-length, update-same (x .count) n (length ps));
       dependents = sym (I .places .new-dependents n (omega arith));
+      failed = sym (unfinished-good x I n (λ z. finished-not-unexecuted (sym z ∙ unstarted)));
+      spoiled = sym (fails (x .spoiled n) (I .marks .spoiled-rightly n)
+          (λ o. omega (arith, o .within, ap length (I .places .new-prerequisites n (omega arith)))));
       known = rw (update-same (x .prerequisites) n ps) new-known;
     }
 
@@ -88,6 +96,8 @@ module _ (s : Sizes) (g : Graph) (r : Reading) (x : State) (K : Kept s g r x) (I
           label = o .label;
           count = o .count ∙ sym (update-other (x .count) n (length ps) k y);
           dependents = o .dependents;
+          failed = o .failed;
+          spoiled = o .spoiled;
           known = rw (update-other (x .prerequisites) n ps k y) (record {
             named = λ h. further .found _ _ (o .known .named (omega arith));
             same-length = o .known .same-length;
@@ -98,7 +108,7 @@ module _ (s : Sizes) (g : Graph) (r : Reading) (x : State) (K : Kept s g r x) (I
         }
 
     new-worker : WorkerRel (entered g w a) (enter x w ps) w (Pending.adding a (a .count + 1 + 0))
-        (record { held = g .workers w .held; call = linking a (length (g .jobs)) 0 0 })
+        (record { held = g .workers w .held; call = linking a (length (g .jobs)) 0 noTally })
     new-worker = record {
       held = K .workers w .held;
       stage = update-same (x .stage) w (adding n) ∙ ap adding (sym (K .size));
@@ -108,7 +118,8 @@ module _ (s : Sizes) (g : Graph) (r : Reading) (x : State) (K : Kept s g r x) (I
         list = ap (λ (y : Job). y .list) (getD-append-seam (g .jobs) (newJob a) [] noJob);
         place = rw (K .size)
             (omega (arith, I .counts .linked-within n, ap length (I .places .new-prerequisites n (omega arith))));
-        tallied = rw (K .size) (sym (I .counts .adder-done n (I .places .new-adder n (omega arith)) .1));
+        tallied = rw (K .size) (sym (new-settled .1));
+        noted = rw (K .size) (sym (unnoted x I n (new-settled .1)));
       };
       paced = (refl, sym (ap (λ (y : Job). y .name) (getD-append-seam (g .jobs) (newJob a) [] noJob)));
     }
@@ -117,6 +128,7 @@ module _ (s : Sizes) (g : Graph) (r : Reading) (x : State) (K : Kept s g r x) (I
     entering = record {
       state = enter x w ps;
       invariant = enter-keeps x I w ps (own-stage s g r x K I w (looking a i) f) below;
+      lasting = lasts-same x;
       grown = λ k. omega arith;
       kept = record {
         jobs-room = omega (arith, longer);
@@ -127,12 +139,13 @@ module _ (s : Sizes) (g : Graph) (r : Reading) (x : State) (K : Kept s g r x) (I
         jobs = snoc-all (λ k y. jobRel later (enter x w ps) k y) (g .jobs) (newJob a) noJob
             (rw (K .size) new-rel) old-rel;
         workers = workers-after s g r x K I w (entered g w a) (enter x w ps) (Pending.adding a (a .count + 1 + 0)) _
-            further (omega (arith, longer)) new-worker
+            further (omega (arith, longer)) (lasts-same x) new-worker
             (λ v z. record {
               held = refl;
               stage = sym (update-other (x .stage) w (adding n) v z);
               linked = λ j e. refl;
               tally = λ j e. refl;
+              noted = λ j e. refl;
               served = λ p e. refl;
               dependents = λ p. omega arith;
             });

@@ -13,6 +13,7 @@ use Rattle.basics.specs.Counting.{occurrences-nil, sum-suc}
 use Rattle.rules_invariant.specs.Own.{owns-frame, owns-take}
 use Rattle.rules_invariant.specs.State.{apart, adding, finishing, tag, State, enter}
 use Rattle.rules_invariant.specs.Invariant.{Invariant, unserved, Below, adding-injective}
+use Rattle.rules_invariant.specs.Spoiling.{fresh-list, fresh-linked, enter-marks}
 
 module _ (s : State) (I : Invariant s) where
   -- ---- entering
@@ -22,12 +23,6 @@ module _ (s : State) (I : Invariant s) where
 
     fresh-arcs : (k : ℕ) → unserved s fresh k ≡ 0
     fresh-arcs k = rw (I .places .new-dependents fresh (omega arith), drop-nil (s .served fresh)) (occurrences-nil k)
-
-    fresh-list : length (s .prerequisites fresh) ≡ 0
-    fresh-list = ap length (I .places .new-prerequisites fresh (omega arith))
-
-    fresh-linked : s .linked fresh ≡ 0
-    fresh-linked = omega (arith, I .counts .linked-within fresh, fresh-list)
 
     fresh-gate : (k : ℕ) → k ≡ fresh
         → update (s .gate) fresh (1 - length ps) k ≡ 1 - length (update (s .prerequisites) fresh ps k)
@@ -42,6 +37,7 @@ module _ (s : State) (I : Invariant s) where
       served-none = I .served-none;
       served-within = I .served-within;
       queued = I .queued;
+      marks = enter-marks s I w ps;
       counts = record {
         balance = λ k. elim (ℕ-discrete k fresh) [
           | yes e ↦ rw e (omega (
@@ -50,8 +46,8 @@ module _ (s : State) (I : Invariant s) where
             ap length (update-same (s .prerequisites) fresh ps),
             I .counts .balance fresh,
             I .counts .count-within fresh,
-            fresh-linked,
-            fresh-list,
+            fresh-linked s I,
+            fresh-list s I,
             sum-suc fresh (λ p. unserved s p fresh),
             fresh-arcs fresh,
           ))
@@ -78,7 +74,7 @@ module _ (s : State) (I : Invariant s) where
           )
         ];
         linked-within = λ k. elim (ℕ-discrete k fresh) [
-          | yes e ↦ rw e (omega (arith, fresh-linked))
+          | yes e ↦ rw e (omega (arith, fresh-linked s I))
           | no e ↦ omega (arith, ap length (update-other (s .prerequisites) fresh ps k e), I .counts .linked-within k)
         ];
         adder-done = λ k a. elim (ℕ-discrete k fresh) [
@@ -101,13 +97,10 @@ module _ (s : State) (I : Invariant s) where
       ];
       places = record {
         dependents-there = λ p. record { at = λ i l. omega (arith, I .places .dependents-there p .at i l) };
-        prerequisites-there = λ k. record {
-          at = λ i. elim (ℕ-discrete k fresh) [
-            | yes e ↦ rw (update-at (s .prerequisites) fresh ps k e) (λ l. omega (arith, there .at i l))
-            | no e ↦ rw (update-other (s .prerequisites) fresh ps k e)
-                (λ l. omega (arith, I .places .prerequisites-there k .at i l))
-          ];
-        };
+        prerequisites-earlier = λ k. elim (ℕ-discrete k fresh) [
+          | yes e ↦ rw (e, update-same (s .prerequisites) fresh ps) there
+          | no e ↦ rw (update-other (s .prerequisites) fresh ps k e) (I .places .prerequisites-earlier k)
+        ];
         new-dependents = λ k l. I .places .new-dependents k (omega arith);
         new-prerequisites = λ k l. update-other (s .prerequisites) fresh ps k (omega arith)
             ∙ I .places .new-prerequisites k (omega arith);
@@ -120,7 +113,7 @@ module _ (s : State) (I : Invariant s) where
       finishers = owns-frame finishing (s .stage) (s .finisher) (I .finishers) w (adding fresh)
           (λ i e. omega (arith, ap tag (sym f ∙ e))) (λ i e. omega (arith, ap tag e));
       arcs = λ p k u. elim (ℕ-discrete k fresh) [
-        | yes e ↦ rw (e, fresh-linked) (rw fresh-linked at (I .arcs p fresh u))
+        | yes e ↦ rw (e, fresh-linked s I) (rw (fresh-linked s I) at (I .arcs p fresh u))
         | no e ↦ rw (update-other (s .prerequisites) fresh ps k e) (I .arcs p k u)
       ];
       gates = record {

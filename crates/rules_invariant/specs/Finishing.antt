@@ -1,7 +1,7 @@
 -- Handing out, marking, notifying and ending a finish keep the invariant. Assumes nothing.
 use mathlib.Core.Path.{_≡_, refl, sym, ap, _∙_}
 use mathlib.Core.Logic.{_≢_}
-use mathlib.Core.Bool.{Bool}
+use mathlib.Core.Bool.{Bool, false}
 use mathlib.Core.Option.{none, some, Option·none-ne-some, Option·some-injective}
 use mathlib.Core.List.{List}
 use Prim.Native.Nat.{ℕ, suc, _+_, _-_, _≤_, _<_}
@@ -10,15 +10,16 @@ use native.Mathlib.Decide.{ℕ-discrete, decLt}
 use lib.ListN.{length, getD}
 use Rattle.basics.specs.Base.{update, occurrences}
 use Rattle.basics.specs.Laws.{update-same, update-at, update-other}
-use Rattle.terms.specs.Terms.{unexecuted, executing, finished}
+use Rattle.terms.specs.Terms.{unexecuted, executing, finished, bit}
 use Rattle.rules.specs.Sound.{startedBy}
 use Rattle.basics.specs.Counting.{hit, hit-same, hit-other}
 use Rattle.basics.specs.Counting.{occurrences-drop, sum, sum-at}
 use Rattle.rules_invariant.specs.Own.{owns-frame, owns-take, owns-drop}
-use Rattle.rules_invariant.specs.State.{apart, adding, finishing, tag, State, bit, hand, mark, serve, close}
+use Rattle.rules_invariant.specs.State.{apart, adding, finishing, tag, State, hand, mark, serve, close}
 use Rattle.rules_invariant.specs.Invariant.{Invariant, unserved, finishing-injective, finished-not-unexecuted}
 use Rattle.rules_invariant.specs.Invariant.{executing-not-unexecuted, executing-not-finished, startedBy-none}
 use Rattle.rules_invariant.specs.Invariant.{hitIf-same, hitIf-other, occurrences-enqueue, once}
+use Rattle.rules_invariant.specs.Spoiling.{hand-marks, mark-marks, serve-marks}
 
 module _ (s : State) (I : Invariant s) where
   -- ---- handing out
@@ -38,6 +39,7 @@ module _ (s : State) (I : Invariant s) where
 
     pub hand-keeps : Invariant (hand s w j q)
     hand-keeps = record {
+      marks = hand-marks s I w j q out-waits;
       adders = I .adders;
       finishers = I .finishers;
       served-within = I .served-within;
@@ -106,8 +108,9 @@ module _ (s : State) (I : Invariant s) where
           (o, λ z. y (cc (I .held-by v i o, I .held-by w p hw)))
     ]
 
-    pub mark-keeps : Invariant (mark s w p)
-    mark-keeps = record {
+    pub mark-keeps : (b : Bool) → (b ≡ false → s .spoiled p ≡ false) → Invariant (mark s w p b)
+    mark-keeps b right = record {
+      marks = mark-marks s I w p b marked-executing right;
       served-within = I .served-within;
       counts = I .counts;
       arcs-within = I .arcs-within;
@@ -148,7 +151,7 @@ module _ (s : State) (I : Invariant s) where
   module _ (w p j : ℕ) (b : Bool) (f : s .stage w ≡ finishing p) (h : s .served p < length (s .dependents p))
       (at-j : getD (s .dependents p) (s .served p) 0 ≡ j) where
     abbrev after : State
-    after = serve s p j b
+    after = serve s p j b (s .failed p)
 
     served-finished : s .label p ≡ finished
     served-finished = I .finisher-finished w p (I .finishers .to w p f)
@@ -176,8 +179,12 @@ module _ (s : State) (I : Invariant s) where
     pub served-counted : 0 < s .count j
     served-counted = omega (arith, I .counts .balance j, I .counts .linked-within j, arcs-sum j, hit-same j)
 
+    pub serve-waits : 0 < unserved s p j
+    serve-waits = omega (arith, arcs-at j, hit-same j)
+
     pub serve-keeps : s .entries j + bit b ≡ 1 - ((s .count j - 1) + s .gate j) → Invariant after
     serve-keeps hb = record {
+      marks = serve-marks s I p j b served-counted serve-waits arcs-at arcs-off;
       adders = I .adders;
       finishers = I .finishers;
       held-executing = I .held-executing;
@@ -222,6 +229,7 @@ module _ (s : State) (I : Invariant s) where
   pub close-keeps : (w p : ℕ) → s .stage w ≡ finishing p → length (s .dependents p) ≤ s .served p
       → Invariant (close s w p)
   close-keeps w p f h = record {
+    marks = I .marks;
     held-executing = I .held-executing;
     held-by = I .held-by;
     served-none = I .served-none;

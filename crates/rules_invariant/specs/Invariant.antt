@@ -1,5 +1,5 @@
 -- The invariant of the graph as maps: linear equations, for all jobs. How many arcs wait for a job, when it has entered
--- the queue, and who works on what. And what follows at once. Assumes nothing.
+-- the queue, whom a failed job spoils, and who works on what. And what follows at once. Assumes nothing.
 use mathlib.Core.Path.{_≡_, refl, ap}
 use mathlib.Core.Logic.{_≢_}
 use mathlib.Core.Bool.{Bool, true, false}
@@ -11,12 +11,14 @@ use native.Mathlib.Decide.{decLt}
 use lib.ListN.{length, getD, take, drop}
 use lib.Seq.{take-all}
 use Rattle.basics.specs.Base.{occurrences}
-use Rattle.terms.specs.Terms.{Label, unexecuted, executing, finished, Label-discrete}
+use Rattle.basics.specs.Laws.{fails}
+use Rattle.terms.specs.Terms.{Label, unexecuted, executing, finished, Label-discrete, bit}
 use Rattle.rules.specs.Rules.{enqueue}
 use Rattle.rules.specs.Sound.{startedBy}
 use Rattle.basics.specs.Counting.{hit-same, hit-other, occurrences-snoc, occurrences-getD, sum, sum-le}
+use Rattle.rules_invariant.specs.Tests.{lit, dark}
 use Rattle.rules_invariant.specs.Own.{Owns}
-use Rattle.rules_invariant.specs.State.{adding, finishing, State, bit, hitIf}
+use Rattle.rules_invariant.specs.State.{adding, finishing, State, hitIf}
 
 -- the arcs from p to j that are linked and not served
 abbrev waiting : (ℕ → ℕ) → (ℕ → List ℕ) → ℕ → ℕ → ℕ
@@ -39,7 +41,7 @@ pub record Counts (size : ℕ) (count linked tally served : ℕ → ℕ) (prereq
 
 -- numbers of jobs
 pub record Places (size : ℕ) (prerequisites dependents : ℕ → List ℕ) (adder : ℕ → Option ℕ) : Type 0 where
-  pub prerequisites-there : (j : ℕ) → Below size (prerequisites j)
+  pub prerequisites-earlier : (j : ℕ) → Below j (prerequisites j)
   pub dependents-there : (p : ℕ) → Below size (dependents p)
   pub new-dependents : (p : ℕ) → size ≤ p → dependents p ≡ []
   pub new-prerequisites : (j : ℕ) → size ≤ j → prerequisites j ≡ []
@@ -54,12 +56,34 @@ pub record Gates (size : ℕ) (count entries gate : ℕ → ℕ) (prerequisites 
   pub gate-adding : (j w : ℕ) → adder j ≡ some w → gate j ≡ 1 - length (prerequisites j)
   pub gate-settled : (j : ℕ) → j < size → adder j ≡ none → gate j ≡ 0
 
+-- one of these jobs failed
+pub record SomeFailed (failed : ℕ → Bool) (l : List ℕ) : Type 0 where
+  pub place : ℕ
+  pub within : place < length l
+  pub there : failed (getD l place 0) ≡ true
+
+-- outcomes, marks and notes: a failed job that was linked is not served, or it has spoiled the job, or it is noted
+pub record Marks (label : ℕ → Label) (failed spoiled noted : ℕ → Bool) (linked tally served : ℕ → ℕ)
+    (prerequisites dependents : ℕ → List ℕ) : Type 0 where
+  pub complete : (p j : ℕ) → failed p ≡ true → 0 < occurrences p (take (linked j) (prerequisites j))
+      → 0 < waiting served dependents p j + bit (spoiled j) + bit (noted j)
+  pub spoiled-rightly : (j : ℕ) → spoiled j ≡ true → SomeFailed failed (prerequisites j)
+  pub noted-rightly : (j : ℕ) → noted j ≡ true → SomeFailed failed (prerequisites j)
+  pub note-tallied : (j : ℕ) → bit (noted j) ≤ tally j
+  pub failed-finished : (p : ℕ) → failed p ≡ true → label p ≡ finished
+  pub spoiled-fails : (j : ℕ) → label j ≡ finished → spoiled j ≡ true → failed j ≡ true
+
+abbrev pub MarksOf : State → Type 0
+MarksOf s = Marks (s .label) (s .failed) (s .spoiled) (s .noted) (s .linked) (s .tally) (s .served) (s .prerequisites)
+    (s .dependents)
+
 -- Its parts are over the maps that they name, so that a step which changes none of these keeps the part as it is.
 pub record Invariant (s : State) : Type 0 where
   pub counts : Counts (s .size) (s .count) (s .linked) (s .tally) (s .served) (s .prerequisites) (s .dependents)
       (s .adder)
   pub places : Places (s .size) (s .prerequisites) (s .dependents) (s .adder)
   pub gates : Gates (s .size) (s .count) (s .entries) (s .gate) (s .prerequisites) (s .adder)
+  pub marks : MarksOf s
   -- who works on what
   pub adders : Owns adding (s .stage) (s .adder)
   pub finishers : Owns finishing (s .stage) (s .finisher)
@@ -138,10 +162,38 @@ module _ (s : State) (I : Invariant s) where
         | no z ↦ absurd (Option·none-ne-some w (cc (I .adders .to w j f, I .places .new-adder j (omega arith))))
       ]
 
-  pub held-there : (w j : ℕ) → s .held w ≡ some j → j < s .size
-  held-there w j e = entered-there j (omega (arith, ap startedBy (I .held-executing w j e), I .queued j))
+  pub held-entered : (w j : ℕ) → s .held w ≡ some j → 0 < s .entries j
+  held-entered w j e = omega (arith, ap startedBy (I .held-executing w j e), I .queued j)
 
-  -- of a job that has entered the queue nothing is left to wait for
+  pub held-there : (w j : ℕ) → s .held w ≡ some j → j < s .size
+  held-there w j e = entered-there j (held-entered w j e)
+
+  pub prerequisites-there : (j : ℕ) → Below (s .size) (s .prerequisites j)
+  prerequisites-there j = record {
+    at = λ i h. elim (decLt j (s .size)) [
+      | yes z ↦ omega (arith, I .places .prerequisites-earlier j .at i h)
+      | no z ↦ absurd (omega (arith, ap length (I .places .new-prerequisites j (omega arith))))
+    ];
+  }
+
+  -- of a job that has entered the queue all is linked and settled, and nothing is left to wait for
+  pub all-linked : (j : ℕ) → 0 < s .entries j → s .linked j ≡ length (s .prerequisites j)
+  all-linked j h = omega (arith, I .gates .entry j, I .counts .balance j, I .counts .linked-within j)
+
+  pub all-settled : (j : ℕ) → 0 < s .entries j → s .tally j ≡ 0
+  all-settled j h = omega (arith, I .gates .entry j, I .counts .balance j, I .counts .linked-within j)
+
+  pub none-waits : (j : ℕ) → 0 < s .entries j → (i : ℕ) → i < length (s .prerequisites j)
+      → unserved s (getD (s .prerequisites j) i 0) j ≡ 0
+  none-waits j h i l =
+      omega (
+        arith,
+        I .gates .entry j,
+        I .counts .balance j,
+        I .counts .linked-within j,
+        sum-le (s .size) (λ r. unserved s r j) (getD (s .prerequisites j) i 0) (prerequisites-there j .at i l),
+      )
+
   pub all-finished : (j : ℕ) → 0 < s .entries j → (i : ℕ) → i < length (s .prerequisites j)
       → s .label (getD (s .prerequisites j) i 0) ≡ finished
   all-finished j h i l =
@@ -150,13 +202,31 @@ module _ (s : State) (I : Invariant s) where
         | yes f ↦ f
         | no u ↦ absurd (omega (
           arith,
-          I .gates .entry j,
-          I .counts .balance j,
-          I .counts .linked-within j,
-          sum-le (s .size) (λ r. unserved s r j) p (I .places .prerequisites-there j .at i l),
+          none-waits j h i l,
           I .arcs p j u,
-          ap (occurrences p)
-              (take-all (s .linked j) (s .prerequisites j) (omega (arith, I .gates .entry j, I .counts .balance j))),
+          ap (occurrences p) (take-all (s .linked j) (s .prerequisites j) (omega (arith, all-linked j h))),
           occurrences-getD (s .prerequisites j) i l,
         ))
       ]
+
+  -- ---- outcomes, marks and notes
+  -- nothing is noted where nothing is tallied
+  pub unnoted : (j : ℕ) → s .tally j ≡ 0 → s .noted j ≡ false
+  unnoted j h = dark (s .noted j) (omega (arith, I .marks .note-tallied j))
+
+  -- the mark of a job is complete once all is linked, settled and served
+  pub spoiled-by : (j : ℕ) → s .linked j ≡ length (s .prerequisites j) → s .tally j ≡ 0
+      → (i : ℕ) → i < length (s .prerequisites j) → unserved s (getD (s .prerequisites j) i 0) j ≡ 0
+      → s .failed (getD (s .prerequisites j) i 0) ≡ true → s .spoiled j ≡ true
+  spoiled-by j full settled i l u f =
+      let p : ℕ = getD (s .prerequisites j) i 0 in
+      let all = take-all (s .linked j) (s .prerequisites j) (omega arith) in
+      lit (s .spoiled j) (omega (
+        arith,
+        I .marks .complete p j f (omega (arith, ap (occurrences p) all, occurrences-getD (s .prerequisites j) i l)),
+        I .marks .note-tallied j,
+      ))
+
+  -- a job that is not finished has not failed
+  pub unfinished-good : (j : ℕ) → s .label j ≢ finished → s .failed j ≡ false
+  unfinished-good j u = fails (s .failed j) (I .marks .failed-finished j) u

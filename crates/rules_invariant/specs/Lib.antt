@@ -1,6 +1,8 @@
+pub mod Tests
 pub mod Own
 pub mod State
 pub mod Invariant
+pub mod Spoiling
 pub mod Entering
 pub mod Linking
 pub mod Finishing
@@ -15,4 +17,6 @@ pub mod Steps
 pub mod Start
 pub mod Sound
 pub mod Counted
+pub mod NamedOnce
 pub mod Balanced
+pub mod Stays

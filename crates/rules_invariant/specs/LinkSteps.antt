@@ -1,7 +1,7 @@
 -- Linking and settling by the rules keep step with the maps. Assumes nothing.
 use mathlib.Core.Path.{_≡_, refl, sym, ap, _∙_}
 use mathlib.Core.Logic.{_≢_}
-use mathlib.Core.Bool.{Bool, true, false}
+use mathlib.Core.Bool.{Bool, true, false, _||_}
 use mathlib.Core.Option.{none}
 use mathlib.Core.List.{List, [], _∷_, _++_}
 use Prim.Native.Nat.{ℕ, suc, _+_, _-_, _≤_, _<_}
@@ -10,14 +10,15 @@ use native.Mathlib.Decide.{ℕ-discrete}
 use lib.ListN.{length, getD, set, length-set, length-append}
 use Rattle.basics.specs.Base.{update, contains, occurrences}
 use Rattle.basics.specs.Laws.{update-same, update-at, update-other, length-prefix, set-all}
-use Rattle.terms.specs.Terms.{settles, finished, Arguments, listed}
+use Rattle.terms.specs.Terms.{settles, finished, Arguments, listed, bit, Tally, tallyOne}
 use Rattle.terms.specs.declared.Sizes.{Sizes}
-use Rattle.rules.specs.Rules.{Job, idle, linking, Graph, noJob, job, find, at, withCall, withDependent, withCount}
+use Rattle.rules.specs.Rules.{Job, idle, linking, Graph, noJob, job, find, at, withCall, withDependent, lowered}
 use Rattle.rules.specs.Rules.{linked, settled, enqueue}
 use Rattle.linearization.specs.Calls.{Pending, Reading, becomes, addEnded}
 use Rattle.basics.specs.Counting.{hit, hit-same, hit-other}
-use Rattle.rules_invariant.specs.State.{apart, adding, State, bit, linkDependent, settle}
-use Rattle.rules_invariant.specs.Invariant.{Invariant, occurrences-enqueue}
+use Rattle.rules_invariant.specs.State.{apart, adding, State, also, linkDependent, settle}
+use Rattle.rules_invariant.specs.Invariant.{Invariant, occurrences-enqueue, prerequisites-there}
+use Rattle.rules_invariant.specs.Spoiling.{lasts-same, settle-lasts}
 use Rattle.rules_invariant.specs.Linking.{link-finished-keeps, link-dependent-keeps, settle-keeps, settles-right}
 use Rattle.rules_invariant.specs.Names.{Extends, extends-set, contains-snoc}
 use Rattle.rules_invariant.specs.Relation.{Kept, known-keeps, jobRel, LinkRel, AddEnded}
@@ -26,8 +27,8 @@ use Rattle.rules_invariant.specs.Turns.{Next, own-stage, own-call, other
 
 module _ (s : Sizes) (g : Graph) (r : Reading) (x : State) (K : Kept s g r x) (I : Invariant x) (w : ℕ) where
   -- ---- linking
-  module _ (a : Arguments) (j i t : ℕ) (f : g .workers w .call ≡ linking a j i t) where
-    own-link : LinkRel (g .jobs) (x .linked) (x .tally) a j i t
+  module _ (a : Arguments) (j i : ℕ) (t : Tally) (f : g .workers w .call ≡ linking a j i t) where
+    own-link : LinkRel (g .jobs) (x .linked) (x .tally) (x .noted) a j i t
     own-link = own-call s g r x K I w (linking a j i t) f
 
     at-stage : x .stage w ≡ adding j
@@ -63,11 +64,16 @@ module _ (s : Sizes) (g : Graph) (r : Reading) (x : State) (K : Kept s g r x) (I
       tally-else : (v k : ℕ) → v ≢ w → x .stage v ≡ adding k → x .tally k ≡ x .tally k + hit k j
       tally-else v k e z = omega (arith, hit-other k j (other-add s g r x K I w j v k e at-stage z))
 
+      noted-else : (v k : ℕ) (b : Bool) → v ≢ w → x .stage v ≡ adding k → x .noted k ≡ also (x .noted) j b k
+      noted-else v k b e z =
+          sym (update-other (x .noted) j (x .noted j || b) k (other-add s g r x K I w j v k e at-stage z))
+
       pub linking-finished : job g place .label ≡ finished
-          → Next s g x (withCall g w (linking a j (suc i) (suc t)))
+          → Next s g x (withCall g w (linking a j (suc i) (tallyOne t (job g place .failed))))
           (becomes r w (Pending.adding a (a .count + 1 + suc i)))
-      linking-finished e = called s g r x K I w (linking a j (suc i) (suc t)) (Pending.adding a (a .count + 1 + suc i))
-          (λ k. x .linked k + hit k j) (λ k. x .tally k + hit k j)
+      linking-finished e = called s g r x K I w (linking a j (suc i) (tallyOne t (job g place .failed)))
+          (Pending.adding a (a .count + 1 + suc i))
+          (λ k. x .linked k + hit k j) (λ k. x .tally k + hit k j) (also (x .noted) j (x .failed place))
           (link-finished-keeps x I w j at-stage room-left (sym (K .jobs place .label) ∙ e))
           (record {
             held = K .workers w .held;
@@ -78,6 +84,8 @@ module _ (s : Sizes) (g : Graph) (r : Reading) (x : State) (K : Kept s g r x) (I
               list = own-link .list;
               place = omega (arith, own-link .place, hit-same j);
               tallied = omega (arith, own-link .tallied, hit-same j);
+              noted = rw (own-link .noted, K .jobs place .failed)
+                  (sym (update-same (x .noted) j (x .noted j || x .failed place)));
             };
             paced = (refl, own-paced .1);
           })
@@ -86,6 +94,7 @@ module _ (s : Sizes) (g : Graph) (r : Reading) (x : State) (K : Kept s g r x) (I
             stage = refl;
             linked = λ k y. linked-else v k z y;
             tally = λ k y. tally-else v k z y;
+            noted = λ k y. noted-else v k (x .failed place) z y;
             served = λ p y. refl;
             dependents = λ p. omega arith;
           })
@@ -97,12 +106,13 @@ module _ (s : Sizes) (g : Graph) (r : Reading) (x : State) (K : Kept s g r x) (I
           let y : State = linkDependent x j p in
           let d : List ℕ = x .dependents p ++ (j ∷ []) in
           let there : p < length (g .jobs) =
-          omega (arith, K .size, I .places .prerequisites-there j .at (x .linked j) room-left) in
+          omega (arith, K .size, prerequisites-there x I j .at (x .linked j) room-left) in
           let z : Job = withDependent (job g p) j in
           let further : Extends (g .jobs) (set (g .jobs) p z) = extends-set (g .jobs) p z refl refl in
           let longer : length (set (g .jobs) p z) ≡ length (g .jobs) = length-set (g .jobs) p z in
           record {
             state = y;
+            lasting = lasts-same x;
             grown = λ k. omega arith;
             invariant = link-dependent-keeps x I w j at-stage room-left (λ u. e (K .jobs p .label ∙ u));
             kept = record {
@@ -117,16 +127,21 @@ module _ (s : Sizes) (g : Graph) (r : Reading) (x : State) (K : Kept s g r x) (I
                     count = o .count;
                     dependents = ap (λ (l : List ℕ). l ++ (j ∷ [])) (o .dependents)
                         ∙ sym (update-same (x .dependents) p d);
+                    failed = o .failed;
+                    spoiled = o .spoiled;
                     known = known-keeps further (o .known);
                   })
                   (λ k u. let o = K .jobs k in record {
                     label = o .label;
                     count = o .count;
                     dependents = o .dependents ∙ sym (update-other (x .dependents) p d k u);
+                    failed = o .failed;
+                    spoiled = o .spoiled;
                     known = known-keeps further (o .known);
                   });
               workers = workers-after s g r x K I w (linked g w a j i t p) y
                   (Pending.adding a (a .count + 1 + suc i)) _ further (omega (arith, longer))
+                  (lasts-same x)
                   (record {
                     held = K .workers w .held;
                     stage = at-stage;
@@ -136,6 +151,7 @@ module _ (s : Sizes) (g : Graph) (r : Reading) (x : State) (K : Kept s g r x) (I
                       list = further .list j (own-link .there) ∙ own-link .list;
                       place = omega (arith, own-link .place, hit-same j);
                       tallied = own-link .tallied;
+                      noted = own-link .noted;
                     };
                     paced = (refl, own-paced .1 ∙ sym (further .name j (own-link .there)));
                   })
@@ -144,6 +160,7 @@ module _ (s : Sizes) (g : Graph) (r : Reading) (x : State) (K : Kept s g r x) (I
                     stage = refl;
                     linked = λ k b. linked-else v k u b;
                     tally = λ k b. refl;
+                    noted = λ k b. refl;
                     served = λ q b. refl;
                     dependents = λ q. elim (ℕ-discrete q p) [
                       | yes b ↦ rw b (omega (
@@ -163,13 +180,13 @@ module _ (s : Sizes) (g : Graph) (r : Reading) (x : State) (K : Kept s g r x) (I
     pub settling : a .count ≤ i
         → Next s g x (settled g w j t (a .count)) (becomes (addEnded r (a .name)) w Pending.idle)
     settling h =
-        let b : Bool = settles (job g j .count - t) t (a .count) in
+        let b : Bool = settles (job g j .count - t .count) (t .count) (a .count) in
         let full : x .linked j ≡ length (x .prerequisites j) =
         omega (arith, own-link .place, long-list, I .counts .linked-within j) in
         let left : ℕ = x .count j - x .tally j in
         let y : State = settle x w j b in
-        let z : Job = withCount (job g j) (job g j .count - t) in
-        let left-eq : job g j .count - t ≡ left = omega (arith, K .jobs j .count, own-link .tallied) in
+        let z : Job = lowered (job g j) (job g j .count - t .count) (t .noted) in
+        let left-eq : job g j .count - t .count ≡ left = omega (arith, K .jobs j .count, own-link .tallied) in
         let further : Extends (g .jobs) (set (g .jobs) j z) = extends-set (g .jobs) j z refl refl in
         let longer : length (set (g .jobs) j z) ≡ length (g .jobs) = length-set (g .jobs) j z in
         let same-test : b ≡ settles left (x .tally j) (length (x .prerequisites j)) =
@@ -178,6 +195,7 @@ module _ (s : Sizes) (g : Graph) (r : Reading) (x : State) (K : Kept s g r x) (I
         record {
           state = y;
           invariant = settle-keeps x I w j b at-stage full test;
+          lasting = settle-lasts x I w j b;
           grown = λ k. omega (
             arith,
             ap (occurrences k) (K .queue),
@@ -195,22 +213,29 @@ module _ (s : Sizes) (g : Graph) (r : Reading) (x : State) (K : Kept s g r x) (I
                   label = o .label;
                   count = left-eq ∙ sym (update-same (x .count) j left);
                   dependents = o .dependents;
+                  failed = o .failed;
+                  spoiled = rw (o .spoiled, own-link .noted)
+                      (sym (update-same (x .spoiled) j (x .spoiled j || x .noted j)));
                   known = known-keeps further (o .known);
                 })
                 (λ k u. let o = K .jobs k in record {
                   label = o .label;
                   count = o .count ∙ sym (update-other (x .count) j left k u);
                   dependents = o .dependents;
+                  failed = o .failed;
+                  spoiled = o .spoiled ∙ sym (update-other (x .spoiled) j (x .spoiled j || x .noted j) k u);
                   known = known-keeps further (o .known);
                 });
             workers = workers-after s g r x K I w (settled g w j t (a .count)) y Pending.idle _ further
-                (omega (arith, longer))
+                (omega (arith, longer)) (settle-lasts x I w j b)
                 (record { held = K .workers w .held; stage = update-same (x .stage) w apart; call = tt; paced = refl })
                 (λ v u. record {
                   held = refl;
                   stage = sym (update-other (x .stage) w apart v u);
                   linked = λ k e. refl;
                   tally = λ k e. sym (update-other (x .tally) j 0 k (other-add s g r x K I w j v k u at-stage e));
+                  noted = λ k e.
+                      sym (update-other (x .noted) j false k (other-add s g r x K I w j v k u at-stage e));
                   served = λ p e. refl;
                   dependents = λ p. omega arith;
                 });

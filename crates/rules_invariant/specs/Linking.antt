@@ -16,15 +16,16 @@ use lib.ListN.{length, getD, take, length-append, List·getD-append}
 use lib.Seq.{getD-append-seam}
 use Rattle.basics.specs.Base.{occurrences}
 use Rattle.basics.specs.Laws.{update-same, update-at, update-other}
-use Rattle.terms.specs.Terms.{settles, finished}
+use Rattle.terms.specs.Terms.{settles, finished, bit}
 use Rattle.basics.specs.Counting.{hit, hit-same, hit-other}
 use Rattle.basics.specs.Counting.{occurrences-take}
 use Rattle.basics.specs.Counting.{occurrences-take-le, occurrences-drop-snoc, sum-at}
 use Rattle.rules_invariant.specs.Own.{owns-frame, owns-drop}
-use Rattle.rules_invariant.specs.State.{apart, adding, finishing, tag, State, bit, linkFinished, linkDependent}
+use Rattle.rules_invariant.specs.State.{apart, adding, finishing, tag, State, linkFinished, linkDependent}
 use Rattle.rules_invariant.specs.State.{settle}
 use Rattle.rules_invariant.specs.Invariant.{Invariant, unserved, Below, adding-injective, hitIf-same, hitIf-other}
-use Rattle.rules_invariant.specs.Invariant.{occurrences-enqueue, adding-there}
+use Rattle.rules_invariant.specs.Invariant.{occurrences-enqueue, adding-there, prerequisites-there}
+use Rattle.rules_invariant.specs.Spoiling.{link-finished-marks, link-dependent-marks, settle-marks}
 
 -- one more number that is below
 below-snoc : (n : ℕ) (l : List ℕ) (x : ℕ) → Below n l → x < n → (i : ℕ) → i < length (l ++ (x ∷ []))
@@ -62,8 +63,9 @@ module _ (s : State) (I : Invariant s) where
     busy k e z = Option·none-ne-some w (cc (I .adders .to w j f))
 
     -- the prerequisite is finished
-    pub link-finished-keeps : s .label place ≡ finished → Invariant (linkFinished s j)
+    pub link-finished-keeps : s .label place ≡ finished → Invariant (linkFinished s j (s .failed place))
     link-finished-keeps ready = record {
+      marks = link-finished-marks s I j h reach-at reach-off;
       adders = I .adders;
       finishers = I .finishers;
       held-executing = I .held-executing;
@@ -91,7 +93,7 @@ module _ (s : State) (I : Invariant s) where
     -- the prerequisite is not finished
     module _ (unready : s .label place ≢ finished) where
       below : place < s .size
-      below = I .places .prerequisites-there j .at (s .linked j) h
+      below = prerequisites-there s I j .at (s .linked j) h
 
       abbrev after : State
       after = linkDependent s j place
@@ -119,6 +121,7 @@ module _ (s : State) (I : Invariant s) where
 
       pub link-dependent-keeps : Invariant after
       link-dependent-keeps = record {
+        marks = link-dependent-marks s I j h reach-at reach-off unready arcs-off;
         adders = I .adders;
         finishers = I .finishers;
         held-executing = I .held-executing;
@@ -145,7 +148,7 @@ module _ (s : State) (I : Invariant s) where
           | no e ↦ omega (arith, arcs-off r k e, I .arcs-within r k)
         ];
         places = record {
-          prerequisites-there = I .places .prerequisites-there;
+          prerequisites-earlier = I .places .prerequisites-earlier;
           new-prerequisites = I .places .new-prerequisites;
           new-adder = I .places .new-adder;
           dependents-there = λ r. record {
@@ -176,6 +179,7 @@ module _ (s : State) (I : Invariant s) where
   pub settle-keeps : (w j : ℕ) (b : Bool) → s .stage w ≡ adding j → s .linked j ≡ length (s .prerequisites j)
       → s .entries j + bit b ≡ 1 - (s .count j - s .tally j) → Invariant (settle s w j b)
   settle-keeps w j b f full hb = record {
+    marks = settle-marks s I w j b;
     held-executing = I .held-executing;
     held-by = I .held-by;
     finisher-finished = I .finisher-finished;
@@ -215,7 +219,7 @@ module _ (s : State) (I : Invariant s) where
     arcs-within = I .arcs-within;
     places = record {
       dependents-there = I .places .dependents-there;
-      prerequisites-there = I .places .prerequisites-there;
+      prerequisites-earlier = I .places .prerequisites-earlier;
       new-dependents = I .places .new-dependents;
       new-prerequisites = I .places .new-prerequisites;
       new-adder = λ k e. elim (ℕ-discrete k j) [

@@ -14,7 +14,7 @@ use Rattle.terms.specs.Terms.{Label, executing, finished, finishOf}
 use Rattle.terms.specs.Order.{without}
 use Rattle.terms.specs.OrderLaws.{first-out}
 use Rattle.terms.specs.declared.Sizes.{Sizes}
-use Rattle.rules.specs.Rules.{Job, idle, marking, notifying, Graph, noJob, job, withLabel, marked, handedOut, nextOut}
+use Rattle.rules.specs.Rules.{Job, idle, marking, notifying, Graph, noJob, job, marked, handedOut, nextOut}
 use Rattle.rules.specs.Rules.{order}
 use Rattle.linearization.specs.Calls.{Pending, Reading, becomes, finishEnded}
 use Rattle.basics.specs.Counting.{hit, hit-same}
@@ -22,39 +22,60 @@ use Rattle.rules_invariant.specs.State.{apart, finishing, State, hand, m
 use Rattle.rules_invariant.specs.Invariant.{Invariant, finished-not-unexecuted, executing-not-finished}
 use Rattle.rules_invariant.specs.Invariant.{entered-there}
 use Rattle.rules_invariant.specs.Invariant.{held-there}
+use Rattle.rules_invariant.specs.Spoiling.{LastsFrom, hand-lasts, mark-lasts}
 use Rattle.rules_invariant.specs.Finishing.{out-waits, hand-keeps, mark-keeps, close-keeps}
 use Rattle.rules_invariant.specs.Names.{Extends, extends-set, contains-snoc}
-use Rattle.rules_invariant.specs.Relation.{Kept, known-keeps, JobRel, FinishEnded, added-keeps}
-use Rattle.rules_invariant.specs.Turns.{Next, own-stage, workers-after}
+use Rattle.rules_invariant.specs.Relation.{Kept, known-keeps, JobRel, jobRel, FinishEnded, added-keeps}
+use Rattle.rules_invariant.specs.Turns.{Next, own-stage, own-call, workers-after}
 
 module _ (s : Sizes) (g : Graph) (r : Reading) (x : State) (K : Kept s g r x) (I : Invariant x) (w : ℕ) where
-  -- ---- a job's label changes
-  module _ (j : ℕ) (there : j < length (g .jobs)) (l : Label) where
+  -- ---- a job's label and outcome change, and the outcomes are those of the map `to`
+  module _ (j : ℕ) (there : j < length (g .jobs)) (l : Label) (b : Bool) where
+    abbrev changed : Job
+    changed =
+        let y = job g j in
+        record {
+          name = y .name;
+          label = l;
+          count = y .count;
+          class = y .class;
+          grower = y .grower;
+          list = y .list;
+          dependents = y .dependents;
+          failed = b;
+          spoiled = y .spoiled;
+        }
+
     abbrev relabelled : List Job
-    relabelled = set (g .jobs) j (withLabel (job g j) l)
+    relabelled = set (g .jobs) j changed
 
     pub relabelled-extends : Extends (g .jobs) relabelled
-    relabelled-extends = extends-set (g .jobs) j (withLabel (job g j) l) refl refl
+    relabelled-extends = extends-set (g .jobs) j changed refl refl
 
     pub relabelled-length : length relabelled ≡ length (g .jobs)
-    relabelled-length = length-set (g .jobs) j (withLabel (job g j) l)
+    relabelled-length = length-set (g .jobs) j changed
 
-    pub relabelled-jobs : (k : ℕ)
+    pub relabelled-jobs : (to : ℕ → Bool) → to j ≡ b → ((k : ℕ) → k ≢ j → to k ≡ x .failed k) → (k : ℕ)
         → JobRel relabelled (x .size) k (update (x .label) j l k) (x .count k) (x .dependents k) (x .prerequisites k)
-        (getD relabelled k noJob)
-    relabelled-jobs = set-all (λ k u.
-        JobRel relabelled (x .size) k (update (x .label) j l k) (x .count k) (x .dependents k) (x .prerequisites k) u)
-        (g .jobs) j (withLabel (job g j) l) noJob there
+        (to k) (x .spoiled k) (getD relabelled k noJob)
+    relabelled-jobs to here else = set-all (λ k u.
+        JobRel relabelled (x .size) k (update (x .label) j l k) (x .count k) (x .dependents k) (x .prerequisites k)
+        (to k) (x .spoiled k) u)
+        (g .jobs) j changed noJob there
         (let o = K .jobs j in record {
           label = sym (update-same (x .label) j l);
           count = o .count;
           dependents = o .dependents;
+          failed = sym here;
+          spoiled = o .spoiled;
           known = known-keeps relabelled-extends (o .known);
         })
         (λ k u. let o = K .jobs k in record {
           label = o .label ∙ sym (update-other (x .label) j l k u);
           count = o .count;
           dependents = o .dependents;
+          failed = o .failed ∙ sym (else k u);
+          spoiled = o .spoiled;
           known = known-keeps relabelled-extends (o .known);
         })
 
@@ -76,12 +97,16 @@ module _ (s : Sizes) (g : Graph) (r : Reading) (x : State) (K : Kept s g r x) (I
             (omega (arith, has j, hit-same j, I .queued j, ap (occurrences j) (K .queue))),
       ) in
       let y : State = hand x w j q in
-      let further : Extends (g .jobs) (relabelled j there executing) = relabelled-extends j there executing in
-      let longer : length (relabelled j there executing) ≡ length (g .jobs) = relabelled-length j there executing in
+      let b : Bool = job g j .failed in
+      let further : Extends (g .jobs) (relabelled j there executing b) = relabelled-extends j there executing b in
+      let longer : length (relabelled j there executing b) ≡ length (g .jobs) =
+      relabelled-length j there executing b in
+      let last = hand-lasts x I w j q (out-waits x I w j q here) in
       let own : r .pending w ≡ Pending.idle = rw f at (K .workers w .paced) in
       record {
         state = y;
         invariant = hand-keeps x I w j q here;
+        lasting = last;
         grown = λ k. omega (arith, has k);
         kept = record {
           jobs-room = omega (arith, longer, K .jobs-room);
@@ -89,10 +114,10 @@ module _ (s : Sizes) (g : Graph) (r : Reading) (x : State) (K : Kept s g r x) (I
           minutes = K .minutes;
           size = longer ∙ K .size;
           queue = refl;
-          jobs = relabelled-jobs j there executing;
+          jobs = relabelled-jobs j there executing b (x .failed) (sym (K .jobs j .failed)) (λ k z. refl);
           workers = λ v. rw (← (same-pending v (r .pending w) refl))
               (workers-after s g r x K I w (handedOut g w j q) y (r .pending w) (record { held = some j; call = idle })
-              further (omega (arith, longer))
+              further (omega (arith, longer)) last
               (record {
                 held = sym (update-same (x .held) w (some j));
                 stage = own-stage s g r x K I w idle f;
@@ -104,6 +129,7 @@ module _ (s : Sizes) (g : Graph) (r : Reading) (x : State) (K : Kept s g r x) (I
                 stage = refl;
                 linked = λ k b. refl;
                 tally = λ k b. refl;
+                noted = λ k b. refl;
                 served = λ p b. refl;
                 dependents = λ p. omega arith;
               }) v);
@@ -127,7 +153,7 @@ module _ (s : Sizes) (g : Graph) (r : Reading) (x : State) (K : Kept s g r x) (I
       ]
 
   -- ---- the mark
-  module _ (p : ℕ) (f : g .workers w .call ≡ marking) (e : g .workers w .held ≡ some p) where
+  module _ (p : ℕ) (b : Bool) (f : g .workers w .call ≡ marking b) (e : g .workers w .held ≡ some p) where
     marked-held : x .held w ≡ some p
     marked-held = sym (K .workers w .held) ∙ e
 
@@ -135,26 +161,43 @@ module _ (s : Sizes) (g : Graph) (r : Reading) (x : State) (K : Kept s g r x) (I
     marked-there = omega (arith, K .size, held-there x I w p marked-held)
 
     marked-stage : x .stage w ≡ apart
-    marked-stage = own-stage s g r x K I w marking f
+    marked-stage = own-stage s g r x K I w (marking b) f
 
     marked-unserved : x .served p ≡ 0
     marked-unserved = I .served-none p (λ z. executing-not-finished (cc (I .held-executing w p marked-held)))
 
-    further : Extends (g .jobs) (relabelled p marked-there finished)
-    further = relabelled-extends p marked-there finished
+    -- good is brought only of a job that is not spoiled
+    marked-right : b ≡ false → x .spoiled p ≡ false
+    marked-right = own-call s g r x K I w (marking b) f p e
 
-    longer : length (relabelled p marked-there finished) ≡ length (g .jobs)
-    longer = relabelled-length p marked-there finished
+    marked-invariant : Invariant (mark x w p b)
+    marked-invariant = mark-keeps x I w p marked-stage marked-held b marked-right
+
+    marked-lasts : LastsFrom x (mark x w p b)
+    marked-lasts = mark-lasts x I w p b (I .held-executing w p marked-held) marked-right
+
+    further : Extends (g .jobs) (relabelled p marked-there finished b)
+    further = relabelled-extends p marked-there finished b
+
+    longer : length (relabelled p marked-there finished b) ≡ length (g .jobs)
+    longer = relabelled-length p marked-there finished b
+
+    marked-jobs : (k : ℕ)
+        → jobRel (relabelled p marked-there finished b) (mark x w p b) k
+        (getD (relabelled p marked-there finished b) k noJob)
+    marked-jobs = relabelled-jobs p marked-there finished b (update (x .failed) p b) (update-same (x .failed) p b)
+        (update-other (x .failed) p b)
 
     -- a finish that had ended is of another job
     another : (name : ℕ) (o : FinishEnded (g .jobs) (x .label) (x .finisher) name) → o .job ≢ p
     another name o z = executing-not-finished (cc (I .held-executing w p marked-held, o .finished))
 
     pub marking-on : 0 < length (job g p .dependents)
-        → Next s g x (marked g w p (notifying p 0)) (becomes r w (Pending.finishing (finishOf (job g p .name)) 1))
+        → Next s g x (marked g w p b (notifying p 0 b)) (becomes r w (Pending.finishing (finishOf (job g p .name) b) 1))
     marking-on h = record {
-      state = mark x w p;
-      invariant = mark-keeps x I w p marked-stage marked-held;
+      state = mark x w p b;
+      invariant = marked-invariant;
+      lasting = marked-lasts;
       grown = λ k. omega arith;
       kept = record {
         jobs-room = omega (arith, longer, K .jobs-room);
@@ -162,10 +205,10 @@ module _ (s : Sizes) (g : Graph) (r : Reading) (x : State) (K : Kept s g r x) (I
         minutes = K .minutes;
         size = longer ∙ K .size;
         queue = K .queue;
-        jobs = relabelled-jobs p marked-there finished;
-        workers = workers-after s g r x K I w (marked g w p (notifying p 0)) (mark x w p)
-            (Pending.finishing (finishOf (job g p .name)) 1) (record { held = none; call = notifying p 0 })
-            further (omega (arith, longer))
+        jobs = marked-jobs;
+        workers = workers-after s g r x K I w (marked g w p b (notifying p 0 b)) (mark x w p b)
+            (Pending.finishing (finishOf (job g p .name) b) 1) (record { held = none; call = notifying p 0 b })
+            further (omega (arith, longer)) marked-lasts
             (record {
               held = sym (update-same (x .held) w none);
               stage = update-same (x .stage) w (finishing p);
@@ -173,14 +216,16 @@ module _ (s : Sizes) (g : Graph) (r : Reading) (x : State) (K : Kept s g r x) (I
                 there = omega (arith, longer, marked-there);
                 place = sym marked-unserved;
                 left = omega (arith, ap length (K .jobs p .dependents));
+                outcome = sym (update-same (x .failed) p b);
               };
-              paced = ap (λ (z : ℕ). Pending.finishing (finishOf z) 1) (sym (further .name p marked-there));
+              paced = ap (λ (z : ℕ). Pending.finishing (finishOf z b) 1) (sym (further .name p marked-there));
             })
             (λ v z. record {
               held = sym (update-other (x .held) w none v z);
               stage = sym (update-other (x .stage) w (finishing p) v z);
               linked = λ k b. refl;
               tally = λ k b. refl;
+              noted = λ k b. refl;
               served = λ q b. refl;
               dependents = λ q. omega arith;
             });
@@ -197,12 +242,12 @@ module _ (s : Sizes) (g : Graph) (r : Reading) (x : State) (K : Kept s g r x) (I
     }
 
     abbrev ended-state : State
-    ended-state = close (mark x w p) w p
+    ended-state = close (mark x w p b) w p
 
     was-finished : (name : ℕ) (c : Bool) → contains name (r .finished) ≡ c
         → contains name (r .finished ++ (job g p .name ∷ [])) ≡ true
-        → FinishEnded (relabelled p marked-there finished) (ended-state .label) (ended-state .finisher) name
-    was-finished name true c b =
+        → FinishEnded (relabelled p marked-there finished b) (ended-state .label) (ended-state .finisher) name
+    was-finished name true c h =
         let o = K .finished name c in
         record {
           job = o .job;
@@ -211,8 +256,8 @@ module _ (s : Sizes) (g : Graph) (r : Reading) (x : State) (K : Kept s g r x) (I
           ended = update-other (update (x .finisher) p (some w)) p none (o .job) (another name o)
               ∙ update-other (x .finisher) p (some w) (o .job) (another name o) ∙ o .ended;
         }
-    was-finished name false c b =
-        let z : name ≡ job g p .name = contains-snoc name (job g p .name) (r .finished) b c in
+    was-finished name false c h =
+        let z : name ≡ job g p .name = contains-snoc name (job g p .name) (r .finished) h c in
         record {
           job = p;
           found = further .found name p (rw z (K .jobs p .known .named (omega (arith, K .size, marked-there))));
@@ -221,11 +266,12 @@ module _ (s : Sizes) (g : Graph) (r : Reading) (x : State) (K : Kept s g r x) (I
         }
 
     pub marking-end : length (job g p .dependents) ≡ 0
-        → Next s g x (marked g w p idle) (becomes (finishEnded r (job g p .name)) w Pending.idle)
+        → Next s g x (marked g w p b idle) (becomes (finishEnded r (job g p .name)) w Pending.idle)
     marking-end h = record {
       state = ended-state;
       grown = λ k. omega arith;
-      invariant = close-keeps (mark x w p) (mark-keeps x I w p marked-stage marked-held) w p
+      lasting = marked-lasts;
+      invariant = close-keeps (mark x w p b) marked-invariant w p
           (update-same (x .stage) w (finishing p))
           (omega (arith, ap length (K .jobs p .dependents)));
       kept = record {
@@ -234,9 +280,9 @@ module _ (s : Sizes) (g : Graph) (r : Reading) (x : State) (K : Kept s g r x) (I
         minutes = K .minutes;
         size = longer ∙ K .size;
         queue = K .queue;
-        jobs = relabelled-jobs p marked-there finished;
-        workers = workers-after s g r x K I w (marked g w p idle) ended-state Pending.idle
-            (record { held = none; call = idle }) further (omega (arith, longer))
+        jobs = marked-jobs;
+        workers = workers-after s g r x K I w (marked g w p b idle) ended-state Pending.idle
+            (record { held = none; call = idle }) further (omega (arith, longer)) marked-lasts
             (record {
               held = sym (update-same (x .held) w none);
               stage = update-same (update (x .stage) w (finishing p)) w apart;
@@ -249,6 +295,7 @@ module _ (s : Sizes) (g : Graph) (r : Reading) (x : State) (K : Kept s g r x) (I
                   ∙ update-other (x .stage) w (finishing p) v z);
               linked = λ k b. refl;
               tally = λ k b. refl;
+              noted = λ k b. refl;
               served = λ q b. refl;
               dependents = λ q. omega arith;
             });

@@ -1,7 +1,7 @@
 -- Notifying by the rules keeps step with the maps; the last dependent ends the finish. Assumes nothing.
 use mathlib.Core.Path.{_≡_, refl, sym, ap, _∙_}
 use mathlib.Core.Logic.{_≢_}
-use mathlib.Core.Bool.{Bool, true, false}
+use mathlib.Core.Bool.{Bool, true, false, _||_}
 use mathlib.Core.Option.{none}
 use mathlib.Core.List.{List, [], _∷_, _++_}
 use Prim.Native.Nat.{ℕ, suc, _+_, _-_, _≤_, _<_}
@@ -12,14 +12,15 @@ use lib.Dec.{eqb}
 use lib.ListN.{length, getD, set, length-set}
 use Rattle.basics.specs.Base.{update, contains, occurrences}
 use Rattle.basics.specs.Laws.{update-same, update-at, update-other, set-all}
-use Rattle.terms.specs.Terms.{finished, finishOf}
+use Rattle.terms.specs.Terms.{finished, finishOf, bit}
 use Rattle.terms.specs.declared.Sizes.{Sizes}
-use Rattle.rules.specs.Rules.{Job, idle, notifying, Graph, noJob, job, withCount, notified, enqueue}
+use Rattle.rules.specs.Rules.{Job, idle, notifying, Graph, noJob, job, lowered, notified, enqueue}
 use Rattle.linearization.specs.Calls.{Pending, Reading, becomes, finishEnded}
 use Rattle.basics.specs.Counting.{hit-same, hit-other}
-use Rattle.rules_invariant.specs.State.{apart, finishing, State, bit, hitIf, serve, close}
+use Rattle.rules_invariant.specs.State.{apart, finishing, State, hitIf, serve, close}
 use Rattle.rules_invariant.specs.Invariant.{Invariant, occurrences-enqueue, counted-there}
-use Rattle.rules_invariant.specs.Finishing.{served-counted, serve-keeps, close-keeps}
+use Rattle.rules_invariant.specs.Spoiling.{LastsFrom, serve-lasts}
+use Rattle.rules_invariant.specs.Finishing.{served-counted, serve-waits, serve-keeps, close-keeps}
 use Rattle.rules_invariant.specs.Names.{Extends, extends-set, contains-snoc}
 use Rattle.rules_invariant.specs.Relation.{Kept, known-keeps, jobRel, NotifyRel, FinishEnded}
 use Rattle.rules_invariant.specs.Relation.{added-keeps, finished-keeps}
@@ -38,12 +39,12 @@ module _ (x : State) (I : Invariant x) (j : ℕ) (some-left : 0 < x .count j) wh
 
 module _ (s : Sizes) (g : Graph) (r : Reading) (x : State) (K : Kept s g r x) (I : Invariant x) (w : ℕ) where
   -- ---- a dependent is notified
-  module _ (p k : ℕ) (f : g .workers w .call ≡ notifying p k) where
-    pub own-notify : NotifyRel (g .jobs) (x .served) (x .dependents) p k
-    own-notify = own-call s g r x K I w (notifying p k) f
+  module _ (p k : ℕ) (o : Bool) (f : g .workers w .call ≡ notifying p k o) where
+    pub own-notify : NotifyRel (g .jobs) (x .served) (x .dependents) (x .failed) p k o
+    own-notify = own-call s g r x K I w (notifying p k o) f
 
     pub own-finishing : x .stage w ≡ finishing p
-    own-finishing = own-stage s g r x K I w (notifying p k) f
+    own-finishing = own-stage s g r x K I w (notifying p k o) f
 
     abbrev j : ℕ
     j = getD (job g p .dependents) k 0
@@ -64,37 +65,46 @@ module _ (s : Sizes) (g : Graph) (r : Reading) (x : State) (K : Kept s g r x) (I
     notified-right = rw (K .jobs j .count) (serves-right x I j notify-counted)
 
     abbrev served-state : State
-    served-state = serve x p j test
+    served-state = serve x p j test (x .failed p)
 
     served-invariant : Invariant served-state
     served-invariant = serve-keeps x I w p j test own-finishing is-left at-served notified-right
 
-    abbrev lowered : Job
-    lowered = withCount (job g j) (job g j .count - 1)
+    served-lasts : LastsFrom x served-state
+    served-lasts = serve-lasts x I p j test notify-counted
+        (serve-waits x I w p j test own-finishing is-left at-served)
+
+    abbrev told : Job
+    told = lowered (job g j) (job g j .count - 1) o
 
     abbrev later : List Job
-    later = set (g .jobs) j lowered
+    later = set (g .jobs) j told
 
     later-extends : Extends (g .jobs) later
-    later-extends = extends-set (g .jobs) j lowered refl refl
+    later-extends = extends-set (g .jobs) j told refl refl
 
     later-length : length later ≡ length (g .jobs)
-    later-length = length-set (g .jobs) j lowered
+    later-length = length-set (g .jobs) j told
 
     later-jobs : (i : ℕ) → jobRel later served-state i (getD later i noJob)
-    later-jobs = set-all (λ i u. jobRel later served-state i u) (g .jobs) j lowered noJob
+    later-jobs = set-all (λ i u. jobRel later served-state i u) (g .jobs) j told noJob
         (omega (arith, K .size, counted-there x I j notify-counted))
-        (let o = K .jobs j in record {
-          label = o .label;
-          count = omega (arith, o .count, hit-same j);
-          dependents = o .dependents;
-          known = known-keeps later-extends (o .known);
+        (let y = K .jobs j in record {
+          label = y .label;
+          count = omega (arith, y .count, hit-same j);
+          dependents = y .dependents;
+          failed = y .failed;
+          spoiled = rw (y .spoiled, own-notify .outcome)
+              (sym (update-same (x .spoiled) j (x .spoiled j || x .failed p)));
+          known = known-keeps later-extends (y .known);
         })
-        (λ i u. let o = K .jobs i in record {
-          label = o .label;
-          count = omega (arith, o .count, hit-other i j u);
-          dependents = o .dependents;
-          known = known-keeps later-extends (o .known);
+        (λ i u. let y = K .jobs i in record {
+          label = y .label;
+          count = omega (arith, y .count, hit-other i j u);
+          dependents = y .dependents;
+          failed = y .failed;
+          spoiled = y .spoiled ∙ sym (update-other (x .spoiled) j (x .spoiled j || x .failed p) i u);
+          known = known-keeps later-extends (y .known);
         })
 
     grown-by : (i : ℕ)
@@ -108,11 +118,12 @@ module _ (s : Sizes) (g : Graph) (r : Reading) (x : State) (K : Kept s g r x) (I
         (other-finish s g r x K I w p v q z own-finishing b))
 
     pub notifying-on : suc k < length (job g p .dependents)
-        → Next s g x (notified g w j (notifying p (suc k)))
-        (becomes r w (Pending.finishing (finishOf (job g p .name)) (suc (suc k))))
+        → Next s g x (notified g w j o (notifying p (suc k) o))
+        (becomes r w (Pending.finishing (finishOf (job g p .name) o) (suc (suc k))))
     notifying-on h = record {
       state = served-state;
       invariant = served-invariant;
+      lasting = served-lasts;
       grown = grown-by;
       kept = record {
         jobs-room = omega (arith, later-length, K .jobs-room);
@@ -121,8 +132,9 @@ module _ (s : Sizes) (g : Graph) (r : Reading) (x : State) (K : Kept s g r x) (I
         size = later-length ∙ K .size;
         queue = ap (λ (l : List ℕ). enqueue test l j) (K .queue);
         jobs = later-jobs;
-        workers = workers-after s g r x K I w (notified g w j (notifying p (suc k))) served-state
-            (Pending.finishing (finishOf (job g p .name)) (suc (suc k))) _ later-extends (omega (arith, later-length))
+        workers = workers-after s g r x K I w (notified g w j o (notifying p (suc k) o)) served-state
+            (Pending.finishing (finishOf (job g p .name) o) (suc (suc k))) _ later-extends
+            (omega (arith, later-length)) served-lasts
             (record {
               held = K .workers w .held;
               stage = own-finishing;
@@ -130,8 +142,9 @@ module _ (s : Sizes) (g : Graph) (r : Reading) (x : State) (K : Kept s g r x) (I
                 there = omega (arith, later-length, own-notify .there);
                 place = ap suc (own-notify .place) ∙ sym (update-same (x .served) p (suc (x .served p)));
                 left = omega (arith, ap length (K .jobs p .dependents));
+                outcome = own-notify .outcome;
               };
-              paced = ap (λ (z : ℕ). Pending.finishing (finishOf z) (suc (suc k)))
+              paced = ap (λ (z : ℕ). Pending.finishing (finishOf z o) (suc (suc k)))
                   (sym (later-extends .name p (own-notify .there)));
             })
             (λ v z. record {
@@ -139,6 +152,7 @@ module _ (s : Sizes) (g : Graph) (r : Reading) (x : State) (K : Kept s g r x) (I
               stage = refl;
               linked = λ i b. refl;
               tally = λ i b. refl;
+              noted = λ i b. refl;
               served = λ q b. served-else v q z b;
               dependents = λ q. omega arith;
             });
@@ -172,9 +186,10 @@ module _ (s : Sizes) (g : Graph) (r : Reading) (x : State) (K : Kept s g r x) (I
         }
 
     pub notifying-end : length (job g p .dependents) ≤ suc k
-        → Next s g x (notified g w j idle) (becomes (finishEnded r (job g p .name)) w Pending.idle)
+        → Next s g x (notified g w j o idle) (becomes (finishEnded r (job g p .name)) w Pending.idle)
     notifying-end h = record {
       state = close served-state w p;
+      lasting = served-lasts;
       grown = grown-by;
       invariant = close-keeps served-state served-invariant w p own-finishing
           (omega (
@@ -190,14 +205,15 @@ module _ (s : Sizes) (g : Graph) (r : Reading) (x : State) (K : Kept s g r x) (I
         size = later-length ∙ K .size;
         queue = ap (λ (l : List ℕ). enqueue test l j) (K .queue);
         jobs = later-jobs;
-        workers = workers-after s g r x K I w (notified g w j idle)
-            (close served-state w p) Pending.idle _ later-extends (omega (arith, later-length))
+        workers = workers-after s g r x K I w (notified g w j o idle)
+            (close served-state w p) Pending.idle _ later-extends (omega (arith, later-length)) served-lasts
             (record { held = K .workers w .held; stage = update-same (x .stage) w apart; call = tt; paced = refl })
             (λ v z. record {
               held = refl;
               stage = sym (update-other (x .stage) w apart v z);
               linked = λ i b. refl;
               tally = λ i b. refl;
+              noted = λ i b. refl;
               served = λ q b. served-else v q z b;
               dependents = λ q. omega arith;
             });

@@ -1,7 +1,7 @@
 -- How the graph and its reading stand to the maps: what each job and each worker is there, and what follows when one of
 -- them changes. Assumes nothing.
 use mathlib.Core.Path.{_≡_, refl, sym, _∙_}
-use mathlib.Core.Bool.{true, false}
+use mathlib.Core.Bool.{Bool, true, false}
 use mathlib.Core.Option.{Option, none, some}
 use mathlib.Core.List.{List}
 use Prim.Native.Nat.{ℕ, _≤_, _<_}
@@ -10,7 +10,7 @@ use lib.ListN.{length, getD}
 use Rattle.basics.specs.Limits.{mostNames, mostClass}
 use Rattle.basics.specs.Base.{contains}
 use Rattle.minutes.specs.Rising.{isRising}
-use Rattle.terms.specs.Terms.{Label, finished, Arguments, listed, argumentsWrong}
+use Rattle.terms.specs.Terms.{Label, finished, Arguments, listed, argumentsWrong, Tally}
 use Rattle.terms.specs.declared.Sizes.{Sizes}
 use Rattle.rules.specs.Rules.{Job, Call, idle, looking, linking, marking, notifying, Worker, Graph, noJob, job, at}
 use Rattle.rules.specs.Rules.{seek}
@@ -18,7 +18,8 @@ use Rattle.rules.specs.Sound.{Looking}
 use Rattle.linearization.specs.Calls.{Pending, Reading}
 use Rattle.rules_history.specs.History.{PacedCall}
 use Rattle.rules_invariant.specs.State.{Stage, apart, adding, finishing, State}
-use Rattle.rules_invariant.specs.Invariant.{Invariant}
+use Rattle.rules_invariant.specs.Invariant.{Invariant, held-entered}
+use Rattle.rules_invariant.specs.Spoiling.{LastsFrom}
 use Rattle.rules_invariant.specs.Names.{Extends, looking-keeps}
 
 -- ---- a job
@@ -41,46 +42,55 @@ known-keeps x o = record {
   found = λ i r. x .found _ _ (o .found i r);
 }
 
-pub record JobRel (l : List Job) (n k : ℕ) (now : Label) (left : ℕ) (arcs numbers : List ℕ) (x : Job) : Type 0 where
+pub record JobRel (l : List Job) (n k : ℕ) (now : Label) (left : ℕ) (arcs numbers : List ℕ) (fails spoils : Bool)
+    (x : Job) : Type 0 where
   pub label : x .label ≡ now
   pub count : x .count ≡ left
   pub dependents : x .dependents ≡ arcs
+  pub failed : x .failed ≡ fails
+  pub spoiled : x .spoiled ≡ spoils
   pub known : Known l n k numbers (x .name) (x .list) (x .class)
 
 abbrev pub jobRel : List Job → State → ℕ → Job → Type 0
-jobRel l s k x = JobRel l (s .size) k (s .label k) (s .count k) (s .dependents k) (s .prerequisites k) x
+jobRel l s k x =
+    JobRel l (s .size) k (s .label k) (s .count k) (s .dependents k) (s .prerequisites k) (s .failed k) (s .spoiled k) x
 
 -- ---- a worker
 abbrev pub stageOf : Call → Stage
 stageOf idle = apart
 stageOf (looking a i) = apart
 stageOf (linking a j i t) = adding j
-stageOf marking = apart
-stageOf (notifying p k) = finishing p
+stageOf (marking f) = apart
+stageOf (notifying p k f) = finishing p
 
-pub record LinkRel (l : List Job) (done tallies : ℕ → ℕ) (a : Arguments) (j i t : ℕ) : Type 0 where
+pub record LinkRel (l : List Job) (done tallies : ℕ → ℕ) (notes : ℕ → Bool) (a : Arguments) (j i : ℕ) (t : Tally)
+    : Type 0 where
   pub right : argumentsWrong a ≡ false
   pub there : j < length l
   pub list : getD l j noJob .list ≡ listed a
   pub place : i ≡ done j
-  pub tallied : t ≡ tallies j
+  pub tallied : t .count ≡ tallies j
+  pub noted : t .noted ≡ notes j
 
-pub record NotifyRel (l : List Job) (done : ℕ → ℕ) (arcs : ℕ → List ℕ) (p k : ℕ) : Type 0 where
+pub record NotifyRel (l : List Job) (done : ℕ → ℕ) (arcs : ℕ → List ℕ) (outcomes : ℕ → Bool) (p k : ℕ) (f : Bool)
+    : Type 0 where
   pub there : p < length l
   pub place : k ≡ done p
   pub left : k < length (arcs p)
+  pub outcome : f ≡ outcomes p
 
-abbrev pub CallRel : Graph → State → Call → Type 0
-CallRel g s idle = Unit {0}
-CallRel g s (looking a i) = Looking g a i
-CallRel g s (linking a j i t) = LinkRel (g .jobs) (s .linked) (s .tally) a j i t
-CallRel g s marking = Unit {0}
-CallRel g s (notifying p k) = NotifyRel (g .jobs) (s .served) (s .dependents) p k
+-- of a worker's hold and call: a finish that brings good is of a job that is not spoiled
+abbrev pub CallRel : Graph → State → Option ℕ → Call → Type 0
+CallRel g s h idle = Unit {0}
+CallRel g s h (looking a i) = Looking g a i
+CallRel g s h (linking a j i t) = LinkRel (g .jobs) (s .linked) (s .tally) (s .noted) a j i t
+CallRel g s h (marking f) = (p : ℕ) → h ≡ some p → f ≡ false → s .spoiled p ≡ false
+CallRel g s h (notifying p k f) = NotifyRel (g .jobs) (s .served) (s .dependents) (s .failed) p k f
 
 pub record WorkerRel (g : Graph) (s : State) (v : ℕ) (p : Pending) (x : Worker) : Type 0 where
   pub held : x .held ≡ s .held v
   pub stage : s .stage v ≡ stageOf (x .call)
-  pub call : CallRel g s (x .call)
+  pub call : CallRel g s (x .held) (x .call)
   pub paced : PacedCall g (x .held) (x .call) p
 
 -- what another worker's call rests on is the same in two states
@@ -89,43 +99,46 @@ pub record Same (s t : State) (v : ℕ) : Type 0 where
   pub stage : s .stage v ≡ t .stage v
   pub linked : (j : ℕ) → s .stage v ≡ adding j → s .linked j ≡ t .linked j
   pub tally : (j : ℕ) → s .stage v ≡ adding j → s .tally j ≡ t .tally j
+  pub noted : (j : ℕ) → s .stage v ≡ adding j → s .noted j ≡ t .noted j
   pub served : (p : ℕ) → s .stage v ≡ finishing p → s .served p ≡ t .served p
   pub dependents : (p : ℕ) → length (s .dependents p) ≤ length (t .dependents p)
 
 module _ (g h : Graph) (s t : State) (x : Extends (g .jobs) (h .jobs)) (longer : length (g .jobs) ≤ length (h .jobs))
-    (v : ℕ) (same : Same s t v) where
-  call-keeps : (c : Call) → s .stage v ≡ stageOf c → CallRel g s c → CallRel h t c
-  call-keeps idle e r = tt
-  call-keeps (looking a i) e r = looking-keeps g h x a i r
-  call-keeps (linking a j i u) e r = record {
+    (v : ℕ) (same : Same s t v) (last : LastsFrom s t) (I : Invariant s) where
+  call-keeps : (o : Option ℕ) (c : Call) → o ≡ s .held v → s .stage v ≡ stageOf c → CallRel g s o c → CallRel h t o c
+  call-keeps o idle d e r = tt
+  call-keeps o (looking a i) d e r = looking-keeps g h x a i r
+  call-keeps o (linking a j i u) d e r = record {
     right = r .right;
     there = omega (arith, r .there);
     list = x .list j (r .there) ∙ r .list;
     place = r .place ∙ same .linked j e;
     tallied = r .tallied ∙ same .tally j e;
+    noted = r .noted ∙ same .noted j e;
   }
-  call-keeps marking e r = tt
-  call-keeps (notifying p k) e r = record {
+  call-keeps o (marking f) d e r = λ p z good. last .marks p (held-entered s I v p (sym d ∙ z)) ∙ r p z good
+  call-keeps o (notifying p k f) d e r = record {
     there = omega (arith, r .there);
     place = r .place ∙ same .served p e;
     left = omega (arith, r .left, same .dependents p);
+    outcome = r .outcome ∙ sym (last .outcomes p (I .finisher-finished v p (I .finishers .to v p e)));
   }
 
-  paced-keeps : (o : Option ℕ) (c : Call) (p : Pending) → ((j : ℕ) → o ≡ some j → j < length (g .jobs)) → CallRel g s c
-      → PacedCall g o c p → PacedCall h o c p
+  paced-keeps : (o : Option ℕ) (c : Call) (p : Pending) → ((j : ℕ) → o ≡ some j → j < length (g .jobs))
+      → CallRel g s o c → PacedCall g o c p → PacedCall h o c p
   paced-keeps o idle p there r e = e
   paced-keeps o (looking a i) p there r e = e
   paced-keeps o (linking a j i u) p there r e = (e .0, e .1 ∙ sym (x .name j (r .there)))
-  paced-keeps none marking p there r e = e
-  paced-keeps (some j) marking p there r e = rw (x .name j (there j refl)) e
-  paced-keeps o (notifying q k) p there r e = rw (x .name q (r .there)) e
+  paced-keeps none (marking f) p there r e = e
+  paced-keeps (some j) (marking f) p there r e = rw (x .name j (there j refl)) e
+  paced-keeps o (notifying q k f) p there r e = rw (x .name q (r .there)) e
 
   pub worker-keeps : (p : Pending) (y : Worker) → ((j : ℕ) → y .held ≡ some j → j < length (g .jobs))
       → WorkerRel g s v p y → WorkerRel h t v p y
   worker-keeps p y there o = record {
     held = o .held ∙ same .held;
     stage = sym (same .stage) ∙ o .stage;
-    call = call-keeps (y .call) (o .stage) (o .call);
+    call = call-keeps (y .held) (y .call) (o .held) (o .stage) (o .call);
     paced = paced-keeps (y .held) (y .call) p there (o .call) (o .paced);
   }
 

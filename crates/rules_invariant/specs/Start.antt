@@ -1,7 +1,7 @@
 -- Every history is reached: the empty graph stands for the empty maps, and every item keeps step. Assumes nothing.
 use mathlib.Core.Path.{_≡_, refl, ap}
 use mathlib.Core.Logic.{_≢_}
-use mathlib.Core.Bool.{true}
+use mathlib.Core.Bool.{true, false, false≢true}
 use mathlib.Core.Option.{none, Option·none-ne-some}
 use mathlib.Core.List.{[]}
 use Prim.Native.Nat.{ℕ}
@@ -39,6 +39,9 @@ blank = record {
   adder = λ j. none;
   finisher = λ j. none;
   holder = λ j. 0;
+  failed = λ j. false;
+  spoiled = λ j. false;
+  noted = λ j. false;
 }
 
 blank-invariant : Invariant blank
@@ -61,7 +64,7 @@ blank-invariant = record {
   arcs-within = λ p j. omega (arith, occurrences-nil j);
   arcs = λ p j u. simp occurrences-nil;
   places = record {
-    prerequisites-there = λ j. record { at = λ i h. omega arith };
+    prerequisites-earlier = λ j. record { at = λ i h. omega arith };
     dependents-there = λ p. record { at = λ i h. omega arith };
     new-dependents = λ p h. refl;
     new-prerequisites = λ j h. refl;
@@ -73,6 +76,14 @@ blank-invariant = record {
     gate-new = λ j h. refl;
     gate-adding = λ j w e. absurd (Option·none-ne-some w e);
     gate-settled = λ j h e. absurd (omega arith);
+  };
+  marks = record {
+    complete = λ p j e h. absurd (false≢true e);
+    spoiled-rightly = λ j e. absurd (false≢true e);
+    noted-rightly = λ j e. absurd (false≢true e);
+    note-tallied = λ j. omega arith;
+    failed-finished = λ p e. absurd (false≢true e);
+    spoiled-fails = λ j l e. absurd (false≢true e);
   };
   queued = λ j. omega (arith, occurrences-nil j);
 }
@@ -97,6 +108,8 @@ reached {s} start = record {
       label = refl;
       count = refl;
       dependents = refl;
+      failed = refl;
+      spoiled = refl;
       known = record {
         named = λ h. absurd (omega arith);
         same-length = refl;

@@ -1,7 +1,7 @@
 -- The graph as total maps, with what the rules do not keep: the prerequisites by number, how far each call has come,
 -- and who works on what. Only one call at a time works on a job, so that its registers stand with the job
 -- (docs/RULES.md, "Steps"). Assumes nothing.
-use mathlib.Core.Bool.{Bool, true, false}
+use mathlib.Core.Bool.{Bool, true, false, _||_}
 use mathlib.Core.Option.{Option, none, some}
 use mathlib.Core.List.{List, [], _∷_, _++_}
 use Prim.Native.Nat.{ℕ, suc, _+_, _-_}
@@ -25,7 +25,8 @@ tag (finishing p) = 2
 -- linked or tallied. tally: those found finished by the add that is under way. served: how many dependents the finish
 -- has notified. entries: into the queue. gate: 1 while something else than its count keeps a job from the queue, that
 -- it is not there or that it lists nothing and is not settled. adder, finisher: the worker whose add or finish works on
--- the job. holder: the last worker that was handed the job.
+-- the job. holder: the last worker that was handed the job. failed, spoiled: its outcome and its mark. noted: the add
+-- that is under way found a failed prerequisite.
 pub record State : Type 0 where
   pub size : ℕ
   pub label : ℕ → Label
@@ -43,15 +44,18 @@ pub record State : Type 0 where
   pub adder : ℕ → Option ℕ
   pub finisher : ℕ → Option ℕ
   pub holder : ℕ → ℕ
+  pub failed : ℕ → Bool
+  pub spoiled : ℕ → Bool
+  pub noted : ℕ → Bool
 
--- what a job that is queued if b adds to the entries
-abbrev pub bit : Bool → ℕ
-bit true = 1
-bit false = 0
-
+-- what a job j that is queued if the test holds adds to the entries of k
 abbrev pub hitIf : Bool → ℕ → ℕ → ℕ
 hitIf true k j = hit k j
 hitIf false k j = 0
+
+-- what was so of j stays so, and becomes so if b
+abbrev pub also : (ℕ → Bool) → ℕ → Bool → ℕ → Bool
+also m j b = update m j (m j || b)
 
 -- ---- the atomic actions, each with no test of its own
 abbrev pub enter : State → ℕ → List ℕ → State
@@ -72,11 +76,14 @@ enter s w ps = record {
   adder = update (s .adder) (s .size) (some w);
   finisher = s .finisher;
   holder = s .holder;
+  failed = s .failed;
+  spoiled = s .spoiled;
+  noted = s .noted;
 }
 
--- a link to a finished prerequisite, which is tallied
-abbrev pub linkFinished : State → ℕ → State
-linkFinished s j = record {
+-- a link to a finished prerequisite, which is tallied, and noted if it failed
+abbrev pub linkFinished : State → ℕ → Bool → State
+linkFinished s j f = record {
   size = s .size;
   label = s .label;
   count = s .count;
@@ -93,6 +100,9 @@ linkFinished s j = record {
   adder = s .adder;
   finisher = s .finisher;
   holder = s .holder;
+  failed = s .failed;
+  spoiled = s .spoiled;
+  noted = also (s .noted) j f;
 }
 
 -- a link to any other prerequisite p, whose dependents the job becomes one of
@@ -114,6 +124,9 @@ linkDependent s j p = record {
   adder = s .adder;
   finisher = s .finisher;
   holder = s .holder;
+  failed = s .failed;
+  spoiled = s .spoiled;
+  noted = s .noted;
 }
 
 abbrev pub settle : State → ℕ → ℕ → Bool → State
@@ -134,6 +147,9 @@ settle s w j b = record {
   adder = update (s .adder) j none;
   finisher = s .finisher;
   holder = s .holder;
+  failed = s .failed;
+  spoiled = also (s .spoiled) j (s .noted j);
+  noted = update (s .noted) j false;
 }
 
 -- a get hands the job j out, and leaves the queue q
@@ -155,10 +171,13 @@ hand s w j q = record {
   adder = s .adder;
   finisher = s .finisher;
   holder = update (s .holder) j w;
+  failed = s .failed;
+  spoiled = s .spoiled;
+  noted = s .noted;
 }
 
-abbrev pub mark : State → ℕ → ℕ → State
-mark s w p = record {
+abbrev pub mark : State → ℕ → ℕ → Bool → State
+mark s w p f = record {
   size = s .size;
   label = update (s .label) p finished;
   count = s .count;
@@ -175,11 +194,14 @@ mark s w p = record {
   adder = s .adder;
   finisher = update (s .finisher) p (some w);
   holder = s .holder;
+  failed = update (s .failed) p f;
+  spoiled = s .spoiled;
+  noted = s .noted;
 }
 
--- a finish of p notifies the dependent j
-abbrev pub serve : State → ℕ → ℕ → Bool → State
-serve s p j b = record {
+-- a finish of p, with the outcome f, notifies the dependent j
+abbrev pub serve : State → ℕ → ℕ → Bool → Bool → State
+serve s p j b f = record {
   size = s .size;
   label = s .label;
   count = λ k. s .count k - hit k j;
@@ -196,6 +218,9 @@ serve s p j b = record {
   adder = s .adder;
   finisher = s .finisher;
   holder = s .holder;
+  failed = s .failed;
+  spoiled = also (s .spoiled) j f;
+  noted = s .noted;
 }
 
 -- a finish that has notified all dependents is over
@@ -217,4 +242,7 @@ close s w p = record {
   adder = s .adder;
   finisher = update (s .finisher) p none;
   holder = s .holder;
+  failed = s .failed;
+  spoiled = s .spoiled;
+  noted = s .noted;
 }

@@ -1,7 +1,8 @@
 -- Every item keeps the graph and its reading in step with the maps, by the ways in which an item can end. Assumes
 -- nothing.
-use mathlib.Core.Path.{_≡_, refl, ap}
-use mathlib.Core.Bool.{Bool, true, false, _||_, true≢false}
+use mathlib.Core.Path.{_≡_, refl, sym, ap, _∙_}
+use mathlib.Core.Bool.{Bool, true, false, _&&_, _||_, not, true≢false}
+use mathlib.Core.Option.{Option·some-injective}
 use Prim.Native.Nat.{ℕ, suc, _+_, _≤_, _<_}
 use native.Mathlib.Omega.{arith}
 use native.Mathlib.Decide.{ℕ-discrete}
@@ -9,12 +10,12 @@ use borrow.Author.Tests.{ltb-false, leb-false}
 use lib.Dec.{ltb, leb}
 use lib.ListN.{length, getD}
 use Rattle.basics.specs.Laws.{length-prefix}
-use Rattle.terms.specs.Terms.{Arguments, listed}
+use Rattle.terms.specs.Terms.{Arguments, listed, Tally}
 use Rattle.terms.specs.Runs.{Item, workerOf}
 use Rattle.terms.specs.declared.Sizes.{Sizes}
 use Rattle.terms.specs.declared.Answer.{Answer}
 use Rattle.rules.specs.Rules.{Call, idle, looking, linking, marking, Graph, at, missing, find, withCall, entered}
-use Rattle.rules.specs.Rules.{perform}
+use Rattle.rules.specs.Rules.{job, perform}
 use Rattle.rules.specs.Sound.{Looking}
 use Rattle.rules_cases.specs.Deed as by
 use Rattle.rules_cases.specs.Deed.{noPlace, Stepped, Deed}
@@ -34,6 +35,12 @@ use Rattle.rules_invariant.specs.NotifySteps.{notifying-on, notifying-en
 neither : (b c : Bool) → (b || c) ≡ false → (b ≡ false) × (c ≡ false)
 neither true c e = absurd (true≢false e)
 neither false c e = (refl, e)
+
+-- a finish that is accepted and brings good is of a job that is not spoiled
+not-good : (spoiled failed : Bool) → (spoiled && not failed) ≡ false → failed ≡ false → spoiled ≡ false
+not-good spoiled true d e = absurd (true≢false e)
+not-good true false d e = d
+not-good false false d e = refl
 
 module _ (s : Sizes) (g : Graph) (r : Reading) (x : State) (K : Kept s g r x) (I : Invariant x) where
   -- ---- looking up and entering
@@ -70,8 +77,8 @@ module _ (s : Sizes) (g : Graph) (r : Reading) (x : State) (K : Kept s g r x) (I
         (leb-false (s .jobs) (length (g .jobs)) (n .0)) (ltb-false (s .arcs) (g .reserved + a .count) (n .1))
 
   -- the prerequisite that is linked is the one that the maps have
-  same-place : (w : ℕ) {a : Arguments} {j i t : ℕ} → g .workers w .call ≡ linking a j i t → i < a .count → (p : ℕ)
-      → find g (getD (listed a) i 0) ≡ at p → getD (x .prerequisites j) (x .linked j) 0 ≡ p
+  same-place : (w : ℕ) {a : Arguments} {j i : ℕ} {t : Tally} → g .workers w .call ≡ linking a j i t → i < a .count
+      → (p : ℕ) → find g (getD (listed a) i 0) ≡ at p → getD (x .prerequisites j) (x .linked j) 0 ≡ p
   same-place w {a} {j} {i} {t} c l p e = cc (listed-found s g r x K I w a j i t c l)
 
   -- ---- each way in which an item can end
@@ -85,15 +92,16 @@ module _ (s : Sizes) (g : Graph) (r : Reading) (x : State) (K : Kept s g r x) (I
   stepping {w} c (by.roomLacking {a} {i} l e f) = decided-too _ (refused w a i c)
   stepping {w} c (by.jobEntered {a} {i} l e f) = decided-too _ (enters w a i c l e f)
   stepping {w} c (by.tallied {a} {j} {i} {t} p l e f) =
-      linking-finished s g r x K I w a j i t c l (rw (same-place w c l p e) f)
+      let same = same-place w c l p e in
+      rw (← same) (linking-finished s g r x K I w a j i t c l (rw same f))
   stepping {w} c (by.arcAppended {a} {j} {i} {t} p l e f) =
       let same = same-place w c l p e in
       rw (← same) (linking-dependent s g r x K I w a j i t c l (rw same f))
   stepping {w} c (by.jobSettled {a} {j} {i} {t} l) = settling s g r x K I w a j i t c l
-  stepping {w} c (by.markedLast p e f) = decided-too _ (marking-end s g r x K I w p c e (ap length f))
-  stepping {w} c (by.markedGoing p e f) = decided-too _ (marking-on s g r x K I w p c e f)
-  stepping {w} c (by.arcNotified {p} {k} l) = notifying-on s g r x K I w p k c l
-  stepping {w} c (by.lastNotified {p} {k} l) = notifying-end s g r x K I w p k c l
+  stepping {w} c (by.markedLast {f = b} p e f) = decided-too _ (marking-end s g r x K I w p b c e (ap length f))
+  stepping {w} c (by.markedGoing {f = b} p e f) = decided-too _ (marking-on s g r x K I w p b c e f)
+  stepping {w} c (by.arcNotified {p} {k} {f} l) = notifying-on s g r x K I w p k f c l
+  stepping {w} c (by.lastNotified {p} {k} {f} l) = notifying-end s g r x K I w p k f c l
 
   keeps : {i : Item} {y : Answer} {h : Graph} (d : Deed s g i y h) → Next s g x h (reads r d)
   keeps (by.otherSizes e) = stays s g r x K I
@@ -104,8 +112,12 @@ module _ (s : Sizes) (g : Graph) (r : Reading) (x : State) (K : Kept s g r x) (I
       turned s g r x K I w (looking a 0) (Pending.adding a 0) (own-stage s g r x K I w idle c) refl
       (record { right = e; within = omega arith; found = λ q h. absurd (omega arith) }) refl
   keeps (by.made A c (by.finishWrong e)) = decided-too _ (stays s g r x K I)
-  keeps (by.made A c (by.finishPosted {w} {f} p e n)) =
-      turned s g r x K I w marking (Pending.finishing f 0) (own-stage s g r x K I w idle c) refl tt (rw (e, n) refl)
+  keeps (by.made A c (by.finishGood p e n d)) = decided-too _ (stays s g r x K I)
+  keeps (by.made A c (by.finishPosted {w} {f} p e n d)) =
+      turned s g r x K I w (marking (f .failed)) (Pending.finishing f 0) (own-stage s g r x K I w idle c) refl
+      (λ q z good. rw (sym (Option·some-injective p q (sym e ∙ z)))
+      (sym (K .jobs p .spoiled) ∙ not-good (job g p .spoiled) (f .failed) d good))
+      (rw (e, n) refl)
   keeps (by.made A c (by.getHolding j e)) = decided-too _ (stays s g r x K I)
   keeps (by.made A c (by.getNone e f)) = decided-too _ (stays s g r x K I)
   keeps (by.made A c (by.getHanded {w} e j f)) = decided-too _ (handing s g r x K I w j c f)

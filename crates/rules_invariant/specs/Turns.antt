@@ -2,7 +2,7 @@
 -- nothing.
 use mathlib.Core.Path.{_≡_, refl, sym, ap, _∙_}
 use mathlib.Core.Logic.{_≢_}
-use mathlib.Core.Bool.{true}
+use mathlib.Core.Bool.{Bool, true}
 use mathlib.Core.List.{List}
 use mathlib.Core.Option.{Option·some-injective}
 use Prim.Native.Nat.{ℕ, _+_, _-_, _≤_}
@@ -19,6 +19,7 @@ use Rattle.linearization.specs.Calls.{Pending, Reading, becomes}
 use Rattle.rules_history.specs.History.{PacedCall}
 use Rattle.rules_invariant.specs.State.{apart, adding, finishing, State}
 use Rattle.rules_invariant.specs.Invariant.{Invariant, held-there}
+use Rattle.rules_invariant.specs.Spoiling.{LastsFrom, lasts-same}
 use Rattle.rules_invariant.specs.Names.{Extends, extends-same}
 use Rattle.rules_invariant.specs.Relation.{Kept, WorkerRel, CallRel, stageOf, Same, worker-keeps}
 
@@ -27,6 +28,7 @@ pub record Next (s : Sizes) (g : Graph) (x : State) (h : Graph) (q : Reading) : 
   pub state : State
   pub invariant : Invariant state
   pub kept : Kept s h q state
+  pub lasting : LastsFrom x state
   pub grown : (k : ℕ) → state .entries k ≡ x .entries k + (occurrences k (h .queue) - occurrences k (g .queue))
 
 -- the calls decided so far do not matter
@@ -37,6 +39,7 @@ decided-too l n =
     record {
       state = n .state;
       invariant = n .invariant;
+      lasting = n .lasting;
       grown = n .grown;
       kept = record {
         jobs-room = k .jobs-room;
@@ -57,6 +60,7 @@ same-state x v = record {
   stage = refl;
   linked = λ j e. refl;
   tally = λ j e. refl;
+  noted = λ j e. refl;
   served = λ p e. refl;
   dependents = λ p. omega arith;
 }
@@ -64,13 +68,14 @@ same-state x v = record {
 module _ (s : Sizes) (g : Graph) (r : Reading) (x : State) (K : Kept s g r x) (I : Invariant x) where
   -- nothing changes
   pub stays : Next s g x g r
-  stays = record { state = x; invariant = I; kept = K; grown = λ k. omega arith }
+  stays = record { state = x; invariant = I; kept = K; lasting = lasts-same x; grown = λ k. omega arith }
 
   -- other minutes are loaded
   pub loads : (m : List ℕ) → isRising m ≡ true → Next s g x (withMinutes g m) r
   loads m rising = record {
     state = x;
     invariant = I;
+    lasting = lasts-same x;
     grown = λ k. omega arith;
     kept = record {
       jobs-room = K .jobs-room;
@@ -82,9 +87,9 @@ module _ (s : Sizes) (g : Graph) (r : Reading) (x : State) (K : Kept s g r x) (I
       added = K .added;
       finished = K .finished;
       workers = λ v.
-          worker-keeps g (withMinutes g m) x x (extends-same (g .jobs)) (omega arith) v (same-state x v) (r .pending v)
-          (g .workers v) (λ j u. omega (arith, K .size, held-there x I v j (sym (K .workers v .held) ∙ u)))
-          (K .workers v);
+          worker-keeps g (withMinutes g m) x x (extends-same (g .jobs)) (omega arith) v (same-state x v)
+          (lasts-same x) I (r .pending v) (g .workers v)
+          (λ j u. omega (arith, K .size, held-there x I v j (sym (K .workers v .held) ∙ u))) (K .workers v);
     };
   }
 
@@ -92,7 +97,7 @@ module _ (s : Sizes) (g : Graph) (r : Reading) (x : State) (K : Kept s g r x) (I
     pub own-stage : (c : Call) → g .workers w .call ≡ c → x .stage w ≡ stageOf c
     own-stage c f = K .workers w .stage ∙ ap stageOf f
 
-    pub own-call : (c : Call) → g .workers w .call ≡ c → CallRel g x c
+    pub own-call : (c : Call) → g .workers w .call ≡ c → CallRel g x (g .workers w .held) c
     own-call c f = rw f at (K .workers w .call)
 
     pub other-add : (j v i : ℕ) → v ≢ w → x .stage w ≡ adding j → x .stage v ≡ adding i → i ≢ j
@@ -103,19 +108,19 @@ module _ (s : Sizes) (g : Graph) (r : Reading) (x : State) (K : Kept s g r x) (I
 
     -- the workers after a change of w's
     pub workers-after : (h : Graph) (y : State) (p : Pending) (z : Worker) → Extends (g .jobs) (h .jobs)
-        → length (g .jobs) ≤ length (h .jobs)
+        → length (g .jobs) ≤ length (h .jobs) → LastsFrom x y
         → WorkerRel h y w p z → ((v : ℕ) → v ≢ w → Same x y v) → (v : ℕ)
         → WorkerRel h y v (update (r .pending) w p v) (update (g .workers) w z v)
-    workers-after h y p z e l own same v = elim (ℕ-discrete v w) [
+    workers-after h y p z e l last own same v = elim (ℕ-discrete v w) [
       | yes q ↦ rw (q, update-same (r .pending) w p, update-same (g .workers) w z) own
       | no q ↦ rw (update-other (r .pending) w p v q, update-other (g .workers) w z v q)
-          (worker-keeps g h x y e l v (same v q) (r .pending v) (g .workers v)
+          (worker-keeps g h x y e l v (same v q) last I (r .pending v) (g .workers v)
           (λ j u. omega (arith, K .size, held-there x I v j (sym (K .workers v .held) ∙ u))) (K .workers v))
     ]
 
     -- a call that becomes another, with other registers of the adds
-    abbrev pub relinked : (ℕ → ℕ) → (ℕ → ℕ) → State
-    relinked linked tally = record {
+    abbrev pub relinked : (ℕ → ℕ) → (ℕ → ℕ) → (ℕ → Bool) → State
+    relinked linked tally noted = record {
       size = x .size;
       label = x .label;
       count = x .count;
@@ -132,14 +137,19 @@ module _ (s : Sizes) (g : Graph) (r : Reading) (x : State) (K : Kept s g r x) (I
       adder = x .adder;
       finisher = x .finisher;
       holder = x .holder;
+      failed = x .failed;
+      spoiled = x .spoiled;
+      noted = noted;
     }
 
-    pub called : (c : Call) (p : Pending) (linked tally : ℕ → ℕ) → Invariant (relinked linked tally)
-        → WorkerRel (withCall g w c) (relinked linked tally) w p (record { held = g .workers w .held; call = c })
-        → ((v : ℕ) → v ≢ w → Same x (relinked linked tally) v) → Next s g x (withCall g w c) (becomes r w p)
-    called c p linked tally kept own same = record {
-      state = relinked linked tally;
+    pub called : (c : Call) (p : Pending) (linked tally : ℕ → ℕ) (noted : ℕ → Bool)
+        → Invariant (relinked linked tally noted)
+        → WorkerRel (withCall g w c) (relinked linked tally noted) w p (record { held = g .workers w .held; call = c })
+        → ((v : ℕ) → v ≢ w → Same x (relinked linked tally noted) v) → Next s g x (withCall g w c) (becomes r w p)
+    called c p linked tally noted kept own same = record {
+      state = relinked linked tally noted;
       invariant = kept;
+      lasting = lasts-same x;
       grown = λ k. omega arith;
       kept = record {
         jobs-room = K .jobs-room;
@@ -150,13 +160,15 @@ module _ (s : Sizes) (g : Graph) (r : Reading) (x : State) (K : Kept s g r x) (I
         queue = K .queue;
         added = K .added;
         finished = K .finished;
-        workers = workers-after (withCall g w c) (relinked linked tally) p
-            (record { held = g .workers w .held; call = c }) (extends-same (g .jobs)) (omega arith) own same;
+        workers = workers-after (withCall g w c) (relinked linked tally noted) p
+            (record { held = g .workers w .held; call = c }) (extends-same (g .jobs)) (omega arith) (lasts-same x) own
+            same;
       };
     }
 
     -- a call that works on no job becomes another
-    pub turned : (c : Call) (p : Pending) → x .stage w ≡ apart → stageOf c ≡ apart → CallRel (withCall g w c) x c
+    pub turned : (c : Call) (p : Pending) → x .stage w ≡ apart → stageOf c ≡ apart
+        → CallRel (withCall g w c) x (g .workers w .held) c
         → PacedCall (withCall g w c) (g .workers w .held) c p → Next s g x (withCall g w c) (becomes r w p)
-    turned c p f e d q = called c p (x .linked) (x .tally) I
+    turned c p f e d q = called c p (x .linked) (x .tally) (x .noted) I
         (record { held = K .workers w .held; stage = f ∙ sym e; call = d; paced = q }) (λ v z. same-state x v)

@@ -1,7 +1,7 @@
 -- The reference model: docs/RULES.md's plain book, which is fed whole calls, one after another. It keeps the jobs in
 -- order of entry and each worker's hold; counts and readiness are worked out from the labels. Assumes nothing.
 use mathlib.Core.Path.{_≡_}
-use mathlib.Core.Bool.{Bool, true, false, _&&_, _||_}
+use mathlib.Core.Bool.{Bool, true, false, _&&_, _||_, not}
 use mathlib.Core.List.{List, [], _∷_, _++_}
 use mathlib.Core.Option.{Option, none, some}
 use Prim.Native.Nat.{ℕ, suc, _+_, _<_}
@@ -9,17 +9,20 @@ use lib.Dec.{ltb, leb, eqb}
 use lib.ListN.{length, getD, set}
 use Rattle.basics.specs.Base.{pick, update}
 use Rattle.terms.specs.Terms.{Label, unexecuted, executing, finished, Arguments, listed, argumentsWrong, wrongArguments}
-use Rattle.terms.specs.Terms.{unknownName, namePresent, tablesFull, alreadyHolding, notHeld, Finish}
+use Rattle.terms.specs.Terms.{unknownName, namePresent, tablesFull, alreadyHolding, notHeld, goodForSpoiled}
+use Rattle.terms.specs.Terms.{Finish}
 use Rattle.terms.specs.declared.Sizes.{Sizes}
 use Rattle.terms.specs.declared.HandOut.{HandOut}
 
--- "the jobs in order of entry (name, list, class, grower, label)"
+-- "the jobs in order of entry (name, list, class, grower, label)"; the book "is fed the outcome and keeps it with the
+-- label": failed, or good, which is also that of a job not finished
 pub record Entry : Type 0 where
   pub name : ℕ
   pub list : List ℕ
   pub class : ℕ
   pub grower : ℕ
   pub label : Label
+  pub failed : Bool
 
 -- "and each worker's hold": a job, by its number in order of entry, or none
 pub record Book : Type 0 where
@@ -30,7 +33,7 @@ unfoldable pub blank : Book
 blank = record { jobs = []; held = λ w. none }
 
 abbrev pub noEntry : Entry
-noEntry = record { name = 0; list = []; class = 0; grower = 0; label = unexecuted }
+noEntry = record { name = 0; list = []; class = 0; grower = 0; label = unexecuted; failed = false }
 
 abbrev pub entry : Book → ℕ → Entry
 entry b j = getD (b .jobs) j noEntry
@@ -58,6 +61,19 @@ awaitedNames jobs (x ∷ l) = pick (awaited x jobs) 1 0 + awaitedNames jobs l
 -- "A job's remaining count is how many listed names have jobs not finished"
 abbrev pub remaining : Book → ℕ → ℕ
 remaining b j = awaitedNames (b .jobs) (entry b j .list)
+
+-- the name has a job that failed
+unfoldable pub hasFailed : ℕ → List Entry → Bool
+hasFailed name [] = false
+hasFailed name (x ∷ l) = (eqb (x .name) name && x .failed) || hasFailed name l
+
+unfoldable pub anyFailed : List Entry → List ℕ → Bool
+anyFailed jobs [] = false
+anyFailed jobs (x ∷ l) = hasFailed x jobs || anyFailed jobs l
+
+-- "has a job spoiled if a prerequisite failed"
+abbrev pub spoiled : Book → ℕ → Bool
+spoiled b j = anyFailed (b .jobs) (entry b j .list)
 
 -- "it is ready, and waits, if unexecuted with count 0"
 pub record Ready (b : Book) (j : ℕ) : Type 0 where
@@ -105,17 +121,20 @@ unfoldable pub addEnd : Sizes → Book → Arguments → End
 addEnd s b a =
     pick (argumentsWrong a) (refused wrongArguments 0) (addKnown s b a (firstUnknown (b .jobs) (listed a) 0))
 
--- "Finish: 11 unless the worker holds a job of that name"
+-- "Finish: 11 unless the worker holds a job of that name"; "19, good for a spoiled job, after 11"
 unfoldable pub finishEnd : Book → Finish → Option ℕ → End
 finishEnd b f none = refused notHeld 0
-finishEnd b f (some j) = pick (eqb (entry b j .name) (f .name)) accepted (refused notHeld 0)
+finishEnd b f (some j) =
+    pick (eqb (entry b j .name) (f .name))
+    (pick (spoiled b j && not (f .failed)) (refused goodForSpoiled 0) accepted)
+    (refused notHeld 0)
 
 -- a job as it is handed out
 abbrev pub handOut : Book → ℕ → HandOut
-handOut b j = record { job = j; name = entry b j .name }
+handOut b j = record { job = j; name = entry b j .name; spoiled = spoiled b j }
 
 -- "Get: 10 exactly if the worker holds a job. Else the answer is none ready, or a job ready in the book", under its own
--- name
+-- name and with its mark
 pub data GetEnd (b : Book) : Option ℕ → End → Type 0 where
   holding : {j : ℕ} → GetEnd b (some j) (refused alreadyHolding 0)
   nothing : GetEnd b none noneReady
@@ -128,26 +147,37 @@ Ends s b (get w) e = GetEnd b (b .held w) e
 Ends s b (finish w f) e = e ≡ finishEnd b f (b .held w)
 
 -- ---- what a call leaves; "A refused call changes nothing"
-abbrev pub labelled : Book → ℕ → Label → List Entry
-labelled b j l =
+-- a job's label becomes l and its outcome f
+abbrev pub labelled : Book → ℕ → Label → Bool → List Entry
+labelled b j l f =
     let x = entry b j in
-    set (b .jobs) j (record { name = x .name; list = x .list; class = x .class; grower = x .grower; label = l })
+    set (b .jobs) j
+    (record { name = x .name; list = x .list; class = x .class; grower = x .grower; label = l; failed = f })
 
--- "Otherwise that job becomes finished and the hold ends"
-unfoldable pub finishedBy : Book → ℕ → Option ℕ → Book
-finishedBy b w none = b
-finishedBy b w (some j) = record { jobs = labelled b j finished; held = update (b .held) w none }
+-- "Otherwise that job becomes finished and the hold ends", with the outcome f
+unfoldable pub finishedBy : Book → ℕ → Bool → Option ℕ → Book
+finishedBy b w f none = b
+finishedBy b w f (some j) = record { jobs = labelled b j finished f; held = update (b .held) w none }
 
 unfoldable pub next : Book → Call → End → Book
 next b (add w a) accepted =
     record {
-      jobs = b .jobs ++ (record
-          { name = a .name; list = listed a; class = a .class; grower = a .grower; label = unexecuted } ∷ []);
+      jobs = b .jobs ++ (record {
+        name = a .name;
+        list = listed a;
+        class = a .class;
+        grower = a .grower;
+        label = unexecuted;
+        failed = false;
+      } ∷ []);
       held = b .held;
     }
 next b (get w) (handed h) =
-    record { jobs = labelled b (h .job) executing; held = update (b .held) w (some (h .job)) }
-next b (finish w f) accepted = finishedBy b w (b .held w)
+    record {
+      jobs = labelled b (h .job) executing (entry b (h .job) .failed);
+      held = update (b .held) w (some (h .job));
+    }
+next b (finish w f) accepted = finishedBy b w (f .failed) (b .held w)
 next b (add w a) noneReady = b
 next b (add w a) (handed h) = b
 next b (add w a) (refused n p) = b

@@ -13,7 +13,7 @@ use Rattle.terms.specs.declared.Sizes.{Sizes}
 use Rattle.words.specs.Layout.{Tables, view, PHASE, IDLE, sizesFit}
 use Rattle.words.specs.Words.{admitted, ownOk}
 use Rattle.sheet_format.specs.Decode.{rowWords}
-use Rattle.sheet_format.specs.Write.{entriesFrom, entriesOf}
+use Rattle.sheet_format.specs.Write.{entriesFrom}
 use Rattle.whole_words.specs.Sheet.{sheetOutcome, judgedSheet, sheetWords}
 use Rattle.fused_add_laws.specs.Sheets.{addEachIfIdle, servedIfIdle, whole-sheet}
 use Rattle.sheet_rows.specs.Arguments.{argumentsOf}

@@ -1,24 +1,27 @@
 -- What is told agrees with what the calls answer, for ALL tables, damaged ones too: with a call of 0 a step is refused
--- by 4, with another a get by 3; the name told is the one whose finish is taken; and drained is what a get of every
--- worker says. Follows docs/RULES.md, "Steps" and "Turned-away calls". Assumes nothing.
+-- by 4, with another a get by 3; the name told is the one whose finish is taken, which must be failed where spoiled is
+-- told; and drained is what a get of every worker says. Follows docs/RULES.md, "Steps" and "Turned-away calls". Assumes
+-- nothing.
 use mathlib.Core.Path.{_≡_, refl, sym, ap, _∙_}
 use mathlib.Core.Logic.{_↔_, _≢_}
-use mathlib.Core.Bool.{Bool, true, false, _&&_, _||_}
+use mathlib.Core.Bool.{Bool, true, false, _&&_, _||_, not, and-false}
 use Prim.Native.Nat.{ℕ, _≤_, _<_}
 use native.Mathlib.Omega.{arith}
 use lib.Dec.{ltb, leb, eqb}
-use borrow.Author.Tests.{eq-eqb, lt-ltb, eqb-true}
+use borrow.Author.Tests.{eq-eqb, ne-eqb, lt-ltb, eqb-true}
 use Rattle.basics.specs.Base.{pick}
 use Rattle.basics.specs.Laws.{never}
 use Rattle.terms.specs.Terms.{wrongSizes, noSuchWorker, halfDone, nothingToStep, damaged, alreadyHolding, notHeld}
+use Rattle.terms.specs.Terms.{goodForSpoiled, Finish}
 use Rattle.terms.specs.declared.Sizes.{Sizes}
 use Rattle.terms.specs.declared.HandOut.{HandOut}
 use Rattle.terms.specs.declared.Answer.{Answer}
 use Rattle.terms.specs.declared.Answer.the-variants.{Laid, Loaded, Posted, Going, Ended, NoneReady, Handed, Refused}
-use Rattle.words.specs.Layout.{none, NAME, LABEL, PHASE, HELD, IDLE, LOOKING, LINKING, Tables, View, view}
+use Rattle.words.specs.Layout.{none, NAME, LABEL, MARK, PHASE, HELD, IDLE, LOOKING, LINKING, Tables, View, view}
 use Rattle.words.specs.Layout.{sizesFit}
 use Rattle.words.specs.Index.{seatFor, firstSeat}
-use Rattle.words.specs.Words.{isPlace, countersOk, ownOk, planLookUp, planEnter, planAppend, planLink, inSeat, withSeat}
+use Rattle.words.specs.Words.{isPlace, countersOk, markOk, ownOk, planLookUp, planEnter, planAppend, planTally}
+use Rattle.words.specs.Words.{planLink, inSeat, withSeat}
 use Rattle.words.specs.Words.{planSettle, planMark, planNotify, planAdd, planLinks, planCall, planPhase, admitted}
 use Rattle.words.specs.Words.{goingUnless, answerOf, stepWords, nextJob, takeFrom, planTake, planQueue}
 use Rattle.words.specs.Words.{planGet, answerGet, getWords}
@@ -85,7 +88,7 @@ module _ (s : Sizes) (v : View) where
   enter name d Damaged = not-by refl
 
   link : (x j : ℕ) (f : Found) → Not4 (planLink s v x j f)
-  unfolding planLink planAppend
+  unfolding planLink planTally planAppend
   link x j (At p) = search answers depth 9
   link x j Missing = not-by refl
   link x j Damaged = not-by refl
@@ -141,13 +144,21 @@ module _ (s : Sizes) (t : Tables) (w : ℕ) where
     known : ltb w (s .workers) ≡ true
     own : ownOk s v w ≡ true
     counters : countersOk s v ≡ true
+    marks : isPlace (v .worker HELD w) ≡ true → markOk v (v .worker HELD w) ≡ true
 
   served : heldWords s t w .number ≡ 0 → Served
-  unfolding heldWords admitted counted
+  unfolding heldWords admitted counted holdingOf
   served e = test (sizesFit s t)
       (λ a. test (ltb w (s .workers))
       (λ b. test (ownOk s v w)
-      (λ c. test (countersOk s v) (λ d. record { fits = a; known = b; own = c; counters = d })
+      (λ c. test (countersOk s v) (λ d. record {
+        fits = a;
+        known = b;
+        own = c;
+        counters = d;
+        marks = λ p. test (markOk v (v .worker HELD w)) (λ m. m)
+            (λ m. let z : _≡_ {A = ℕ} damaged 0 = rw (a, b, c, d, p, m) at e in absurd (omega arith));
+      })
       (λ d. let z : _≡_ {A = ℕ} damaged 0 = rw (a, b, c, d) at e in absurd (omega arith)))
       (λ c. let z : _≡_ {A = ℕ} damaged 0 = rw (a, b, c) at e in absurd (omega arith)))
       (λ b. let z : _≡_ {A = ℕ} noSuchWorker 0 = rw (a, b) at e in absurd (omega arith)))
@@ -157,12 +168,12 @@ module _ (s : Sizes) (t : Tables) (w : ℕ) where
   unfolding heldWords admitted counted
   told S = rw (S .fits, S .known, S .own, S .counters)
 
-  called : holdingOf v w .call ≡ callOf (v .worker PHASE w)
+  called : Served → holdingOf v w .call ≡ callOf (v .worker PHASE w)
   unfolding holdingOf
-  called = test (isPlace (v .worker HELD w)) (λ e. rw e) (λ e. rw e)
+  called S = test (isPlace (v .worker HELD w)) (λ e. rw (e, S .marks e)) (λ e. rw e)
 
   call-told : Served → heldWords s t w .call ≡ callOf (v .worker PHASE w)
-  call-told S = ap (λ (h : Holding). h .call) (told S) ∙ called
+  call-told S = ap (λ (h : Holding). h .call) (told S) ∙ called S
 
   idle : Served → heldWords s t w .call ≡ 0 → atRest ≡ true
   idle S e = none-called atRest (eqb (v .worker PHASE w) LOOKING || eqb (v .worker PHASE w) LINKING)
@@ -210,14 +221,18 @@ module _ (s : Sizes) (t : Tables) (w : ℕ) where
   no-post : {A : Type 0} (n : ℕ) → Refused n 0 ≡ Posted → A
   no-post n e = let z : _≡_ {A = ℕ} 0 1 = cc in never z
 
-  -- the name is that of the held job
-  abbrev Holds : ℕ → Type 0
-  Holds name = (heldWords s t w .number ≡ 0) × (heldWords s t w .call ≡ 0)
+  -- the name is that of the held job, which is not spoiled or ends failed
+  abbrev Holds : Finish → Type 0
+  Holds f = (heldWords s t w .number ≡ 0) × (heldWords s t w .call ≡ 0)
       × (heldWords s t w .holds ≡ 1)
-      × (heldWords s t w .name ≡ name)
+      × (heldWords s t w .name ≡ f .name)
+      × (heldWords s t w .spoiled ≡ 1 → f .failed ≡ true)
 
   abbrev nameHeld : ℕ
   nameHeld = v .job NAME (v .worker HELD w)
+
+  abbrev markHeld : ℕ
+  markHeld = v .job MARK (v .worker HELD w)
 
   place-told : Served → heldWords s t w .holds ≡ 1 → isPlace (v .worker HELD w) ≡ true
   unfolding holdingOf
@@ -225,39 +240,65 @@ module _ (s : Sizes) (t : Tables) (w : ℕ) where
       (λ p. let z : _≡_ {A = ℕ} 0 1 = rw p at (sym (ap (λ (h : Holding). h .holds) (told S)) ∙ e) in never z)
 
   job-told : Served → isPlace (v .worker HELD w) ≡ true
-      → (heldWords s t w .holds ≡ 1) × (heldWords s t w .name ≡ nameHeld)
+      → (heldWords s t w .holds ≡ 1) × (heldWords s t w .name ≡ nameHeld) × (heldWords s t w .spoiled ≡ markHeld)
   unfolding holdingOf
-  job-told S p = rw (told S, p) (refl, refl)
+  job-told S p = rw (told S, p, S .marks p) (refl, refl, refl)
 
-  posts : (name : ℕ) → Holds name → finishWords s t w name .answer ≡ Posted
+  -- the test of number 19
+  not-good : (failed : Bool) → (markHeld ≡ 1 → failed ≡ true) → (eqb markHeld 1 && not failed) ≡ false
+  not-good true may = and-false (eqb markHeld 1)
+  not-good false may = rw (ne-eqb markHeld 1 (λ e. never (cc (may e))))
+
+  good-not : (failed : Bool) → (eqb markHeld 1 && not failed) ≡ false → markHeld ≡ 1 → failed ≡ true
+  good-not true e m = refl
+  good-not false e m = never (cc (rw (eq-eqb markHeld 1 m) at e))
+
+  posts : (f : Finish) → Holds f → finishWords s t w f .answer ≡ Posted
   unfolding finishWords admitted posted
-  posts name h =
+  posts f h =
       let S = served (h .0) in
       let p = place-told S (h .2) in
-      let same : nameHeld ≡ name = sym (job-told S p .1) ∙ h .3 in
-      rw (S .fits, S .known, S .own, idle S (h .1), p, eq-eqb nameHeld name same, S .counters)
-
-  holder : Served → atRest ≡ true → isPlace (v .worker HELD w) ≡ true → (name : ℕ) → eqb nameHeld name ≡ true
-      → Holds name
-  unfolding holdingOf
-  holder S i p name n =
-      let j = job-told S p in (
-        rw (told S, p) refl,
-        rests S i,
-        j .0,
-        j .1 ∙ eqb-true nameHeld name n,
+      let j = job-told S p in
+      let same : nameHeld ≡ f .name = sym (j .1) ∙ h .3 in
+      rw (
+        S .fits,
+        S .known,
+        S .own,
+        idle S (h .1),
+        p,
+        eq-eqb nameHeld (f .name) same,
+        S .counters,
+        S .marks p,
+        not-good (f .failed) (λ e. h .4 (j .2 ∙ e)),
       )
 
-  posted-holds : (name : ℕ) → finishWords s t w name .answer ≡ Posted → Holds name
+  holder : Served → atRest ≡ true → isPlace (v .worker HELD w) ≡ true → (f : Finish) → eqb nameHeld (f .name) ≡ true
+      → (eqb markHeld 1 && not (f .failed)) ≡ false
+      → Holds f
+  unfolding holdingOf
+  holder S i p f n g =
+      let j = job-told S p in (
+        rw (told S, p, S .marks p) refl,
+        rests S i,
+        j .0,
+        j .1 ∙ eqb-true nameHeld (f .name) n,
+        (λ e. good-not (f .failed) g (sym (j .2) ∙ e)),
+      )
+
+  posted-holds : (f : Finish) → finishWords s t w f .answer ≡ Posted → Holds f
   unfolding finishWords admitted posted
-  posted-holds name e = test (sizesFit s t)
+  posted-holds f e = test (sizesFit s t)
       (λ a. test (ltb w (s .workers))
       (λ b. test (ownOk s v w)
       (λ c. test atRest
       (λ i. test (isPlace (v .worker HELD w))
-      (λ p. test (eqb nameHeld name)
+      (λ p. test (eqb nameHeld (f .name))
       (λ n. test (countersOk s v)
-      (λ d. holder (record { fits = a; known = b; own = c; counters = d }) i p name n)
+      (λ d. test (markOk v (v .worker HELD w))
+      (λ m. test (eqb markHeld 1 && not (f .failed))
+      (λ g. no-post goodForSpoiled (rw (a, b, c, i, p, n, d, m, g) at e))
+      (λ g. holder (record { fits = a; known = b; own = c; counters = d; marks = λ q. m }) i p f n g))
+      (λ m. no-post damaged (rw (a, b, c, i, p, n, d, m) at e)))
       (λ d. no-post damaged (rw (a, b, c, i, p, n, d) at e)))
       (λ n. no-post notHeld (rw (a, b, c, i, p, n) at e)))
       (λ p. no-post notHeld (rw (a, b, c, i, p) at e)))
@@ -266,8 +307,8 @@ module _ (s : Sizes) (t : Tables) (w : ℕ) where
       (λ b. no-post noSuchWorker (rw (a, b) at e)))
       (λ a. no-post wrongSizes (rw a at e))
 
-  pub finish-taken : (name : ℕ) → Holds name ↔ (finishWords s t w name .answer ≡ Posted)
-  finish-taken name = (posts name, posted-holds name)
+  pub finish-taken : (f : Finish) → Holds f ↔ (finishWords s t w f .answer ≡ Posted)
+  finish-taken f = (posts f, posted-holds f)
 
   -- ---- a get that finds nothing
   no-none : {A : Type 0} (n : ℕ) → Refused n 0 ≡ NoneReady → A
@@ -290,7 +331,7 @@ module _ (s : Sizes) (t : Tables) (w : ℕ) where
   not-taken = of (firstSeat v)
     where
       of : {A : Type 0} (x : Seating) → answerGet (takeFrom v x) ≡ NoneReady → A
-      of (Seated e) z = test (eqb (v .job LABEL (nextJob v)) 0) (λ h. no-job _ (rw h at z))
+      of (Seated e) z = test (eqb (v .job LABEL (nextJob v)) 0 && markOk v (nextJob v)) (λ h. no-job _ (rw h at z))
           (λ h. no-none damaged (rw h at z))
       of Unseated z = no-none damaged z
 

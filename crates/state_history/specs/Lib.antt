@@ -1,8 +1,13 @@
 pub mod Told
 pub mod Hold
+pub mod HandOuts
 pub mod Numbers
 pub mod Need
 pub mod Theorem
 pub mod Agrees
 pub mod Wrong
 pub mod MinutesApart
+pub mod HeldExactly
+pub mod WrongHeld
+pub mod DrainedExactly
+pub mod WrongDrained

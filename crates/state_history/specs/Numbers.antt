@@ -12,7 +12,7 @@ use Rattle.basics.specs.Base.{pick, contains}
 use Rattle.terms.specs.Terms.{wrongSizes, noSuchWorker, damaged}
 use Rattle.terms.specs.declared.Sizes.{Sizes}
 use Rattle.words.specs.Layout.{HELD, Tables, view, sizesFit}
-use Rattle.words.specs.Words.{isPlace, countersOk, ownOk, admitted}
+use Rattle.words.specs.Words.{isPlace, countersOk, markOk, ownOk, admitted}
 use Rattle.worker_state.specs.Held.{refused, holdingOf, counted, heldWords}
 use Rattle.worker_state.specs.Drained.{wordsOk, isDrained, judged, drainedWords}
 use Rattle.worker_state.specs.Drained as drained
@@ -20,10 +20,16 @@ use Rattle.worker_state.specs.declared.Holding.{Holding}
 use Rattle.worker_state.specs.declared.Drained.{Drained}
 use Rattle.state_history.specs.Told.{turnedAway}
 
--- what is told without a refusal has number 0
-served : (b : Bool) (x y : Holding) → x .number ≡ 0 → y .number ≡ 0 → pick b x y .number ≡ 0
-served true x y e f = e
-served false x y e f = f
+-- what is told of a hold is told without a refusal, or refused by 9: by its number, and by all of it
+data Answers : Holding → Type 0 where
+  told : {h : Holding} → h .number ≡ 0 → Answers h
+  off : Answers (refused damaged)
+
+answers : (b c : Bool) (x y : Holding) → x .number ≡ 0 → y .number ≡ 0
+    → Answers (pick b (pick c x (refused damaged)) y)
+answers true true x y e f = told e
+answers true false x y e f = off
+answers false c x y e f = told f
 
 -- the two questions, by the outcome of each test
 abbrev asked : Bool → Bool → Bool → Bool → Holding → Holding
@@ -39,11 +45,12 @@ module _ (s : Sizes) (t : Tables) where
   unfolding heldWords admitted counted holdingOf contains
   held-number w =
       go (sizesFit s t) (ltb w (s .workers)) (ownOk s (view t) w) (countersOk s (view t)) (holdingOf (view t) w)
-      (served (isPlace (view t .worker HELD w)) _ _ refl refl)
+      (answers (isPlace (view t .worker HELD w)) (markOk (view t) (view t .worker HELD w)) _ _ refl refl)
     where
-      go : (a b c d : Bool) (h : Holding) → h .number ≡ 0
+      go : (a b c d : Bool) (h : Holding) → Answers h
           → contains (asked a b c d h .number) (0 ∷ wrongSizes ∷ noSuchWorker ∷ damaged ∷ []) ≡ true
-      go true true true true h e = rw e
+      go true true true true h (told e) = rw e
+      go true true true true h off = refl
       go true true true false h e = refl
       go true true false d h e = refl
       go true false c d h e = refl
@@ -63,11 +70,12 @@ module _ (s : Sizes) (t : Tables) where
   unfolding heldWords admitted counted holdingOf
   held-refused w =
       go (sizesFit s t) (ltb w (s .workers)) (ownOk s (view t) w) (countersOk s (view t)) (holdingOf (view t) w)
-      (served (isPlace (view t .worker HELD w)) _ _ refl refl)
+      (answers (isPlace (view t .worker HELD w)) (markOk (view t) (view t .worker HELD w)) _ _ refl refl)
     where
-      go : (a b c d : Bool) (h : Holding) → h .number ≡ 0 → asked a b c d h .number ≢ 0
+      go : (a b c d : Bool) (h : Holding) → Answers h → asked a b c d h .number ≢ 0
           → asked a b c d h ≡ turnedAway (asked a b c d h .number)
-      go true true true true h e n = absurd (n e)
+      go true true true true h (told e) n = absurd (n e)
+      go true true true true h off n = refl
       go true true true false h e n = refl
       go true true false d h e n = refl
       go true false c d h e n = refl

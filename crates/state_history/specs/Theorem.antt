@@ -9,28 +9,29 @@ use mathlib.Core.Option.{Option, none, some}
 use Prim.Native.Nat.{ℕ, zero, suc, _+_, _<_}
 use native.Mathlib.Omega.{arith}
 use native.Mathlib.Decide.{decLt}
-use lib.Dec.{ltb, eqb}
+use lib.Dec.{ltb, leb, eqb}
 use lib.ListN.{length}
 use borrow.Author.Tests.{eq-eqb, le-leb, ltb-true, eqb-true}
 use Rattle.basics.specs.Base.{pick}
 use Rattle.basics.specs.Laws.{never}
-use Rattle.terms.specs.Terms.{Arguments, sameSizes}
+use Rattle.terms.specs.Terms.{sameSizes, damaged, bit}
 use Rattle.terms.specs.Runs.{Item, after, events}
 use Rattle.terms.specs.Seen.{JobSeen, Same}
 use Rattle.terms.specs.declared.Sizes.{Sizes}
+use Rattle.terms.specs.declared.HandOut.{HandOut}
 use Rattle.terms.specs.declared.Answer.the-variants.{Laid}
-use Rattle.words.specs.Layout.{Tables, view, NAME, PHASE, HELD, IDLE, LOOKING, LINKING}
+use Rattle.words.specs.Layout.{Tables, view, PHASE, HELD, IDLE, LOOKING, LINKING}
 use Rattle.words.specs.Layout as words
-use Rattle.words.specs.Words.{countersOk, ownOk, admitted, perform, layOut}
+use Rattle.words.specs.Words.{countersOk, markOk, ownOk, admitted, perform, layOut}
 use Rattle.words.specs.Observed.{seen}
-use Rattle.rules.specs.Rules.{Call, idle, looking, linking, marking, notifying, Graph, empty}
+use Rattle.rules.specs.Rules.{Call, idle, looking, linking, marking, notifying, Graph, empty, job}
 use Rattle.rules.specs.Rules as rules
 use Rattle.rules.specs.Observed as rules-seen
-use Rattle.rules.specs.Sound.{started}
+use Rattle.rules.specs.Sound.{started, startedBy}
 use Rattle.sequential_model.specs.Book.{blank}
 use Rattle.linearization.specs.Calls.{Pending, adding, finishing, Reading, reading, Quiet, acceptedAdds}
 use Rattle.linearization.specs.Calls as reading
-use Rattle.linearizability.specs.Demand.{addOf, JobFinished}
+use Rattle.linearizability.specs.Demand.{addOf, PrerequisiteFailed, entriesInto, JobFinished}
 use Rattle.rules_history.specs.History.{History, start, PacedCall}
 use Rattle.rules_history.specs.Onward.{entriesBy, onward}
 use Rattle.rules_invariant.specs.Sound.{sound, soundly}
@@ -40,15 +41,18 @@ use Rattle.locality.specs.Parts.{test}
 use Rattle.representation.specs.Rep.{Ghost, CallRep}
 use Rattle.representation_kept.specs.Stand.{both}
 use Rattle.representation_kept.specs.Queue.{waiting-queue, put-there, queue-end}
-use Rattle.words_refine_rules.specs.Own.{and-true, same-sizes, sizes-fit, sizes-decide, counters-ok, own-ok}
-use Rattle.words_history.specs.Theorem.{Reached, after-items, same-events, demand}
+use Rattle.words_refine_rules.specs.Own.{and-true, bit-ok, same-sizes, sizes-fit, sizes-decide, counters-ok, own-ok}
+use Rattle.audit.specs.Marks.{entered-is}
+use Rattle.words_history.specs.Theorem.{Reached, after-items, same-events, same-entries, demand}
 use Rattle.words_history.specs.Lifted as lifted
-use Rattle.worker_state.specs.Held.{callOf, addsAt, holdingOf, counted, heldWords, holdingJob, holdingNone}
+use Rattle.worker_state.specs.Held.{callOf, addsAt, holdingOf, counted, heldWords, holdingJob, holdingNone, refused}
 use Rattle.worker_state.specs.Drained.{every, queueOk, wordsOk, free, isDrained, drainedWords}
 use Rattle.worker_state.specs.declared.Holding.{Holding}
-use Rattle.state_history.specs.Told.{heldRead, callRead, addsRead, holdingRead, turnedAway}
+use Rattle.state_history.specs.Told.{handedRead, jobOf, heldRead, callRead, addsRead, holdingRead}
+use Rattle.state_history.specs.Told.{turnedAway}
 use Rattle.state_history.specs.Told as Told
 use Rattle.state_history.specs.Hold.{held-follows}
+use Rattle.state_history.specs.HandOuts.{handed-out}
 
 -- ---- a test of every number below n
 pub every-true : (f : ℕ → Bool) (n : ℕ) → ((i : ℕ) → i < n → f i ≡ true) → every f n ≡ true
@@ -64,12 +68,21 @@ every-at f (suc n) e i h = elim (decLt i n) [
   | no l ↦ let same : n ≡ i = omega arith in rw same at (both (every f n) (f n) e .1)
 ]
 
+some-held : (p j : ℕ) (b : Bool) → pick {A = Option ℕ} b none (some p) ≡ some j → p ≡ j
+some-held p j true e = never (cc)
+some-held p j false e = cc
+
 -- ---- a hold, as it is told: b says that the place p is none
-held-told : (adds : List Arguments) (p name c a : ℕ) (q : Pending) (b : Bool) → c ≡ callRead q → a ≡ addsRead q
-    → (b ≡ false → name ≡ addOf adds p .name)
-    → pick {A = Holding} (not b) (holdingJob p name c a) (holdingNone c a) ≡ holdingRead adds (pick b none (some p)) q
-held-told adds p name c a q true e f n = rw (e, f)
-held-told adds p name c a q false e f n = rw (e, f, n refl)
+held-told : (p name mark c a : ℕ) (q : Pending) (b ok : Bool) (o : Option HandOut) → c ≡ callRead q → a ≡ addsRead q
+    → pick {A = Option ℕ} b none (some p) ≡ jobOf o
+    → ((h : HandOut) → o ≡ some h → (name ≡ h .name) × (mark ≡ bit (h .spoiled)) × (ok ≡ true))
+    → pick {A = Holding} (not b) (pick ok (holdingJob p name mark c a) (refused damaged)) (holdingNone c a)
+    ≡ holdingRead o q
+held-told p name mark c a q true ok none e f z n = rw (e, f)
+held-told p name mark c a q true ok (some h) e f z n = never (cc)
+held-told p name mark c a q false ok none e f z n = never (cc)
+held-told p name mark c a q false ok (some h) e f z n =
+    let here = n h refl in let same = some-held p (h .job) false z in rw (e, f, same, here .0, here .1, here .2)
 
 seen-none : (p : ℕ) (b : Bool) → pick {A = Option ℕ} b none (some p) ≡ none → b ≡ true
 seen-none p true e = refl
@@ -92,9 +105,9 @@ phase-tells : (f : ℕ → ℕ → ℕ) (G : Ghost) (w : ℕ) (g : Graph) (h : O
 phase-tells f G w g h idle p r e = rw (r .phase, e)
 phase-tells f G w g h (looking a i) p r e = rw (r .phase, e)
 phase-tells f G w g h (linking a j i u) p r e = rw (r .0 .phase, e .0)
-phase-tells f G w g none marking p r e = absurd e
-phase-tells f G w g (some j) marking p r e = rw (r .phase, e)
-phase-tells f G w g h (notifying j k) p r e = rw (r .phase, e)
+phase-tells f G w g none (marking fa) p r e = absurd e
+phase-tells f G w g (some j) (marking fa) p r e = rw (r .phase, e)
+phase-tells f G w g h (notifying j k fa) p r e = rw (r .phase, e)
 
 -- and of an add its name
 name-tells : (f : ℕ → ℕ → ℕ) (G : Ghost) (w : ℕ) (g : Graph) (h : Option ℕ) (c : Call) (p : Pending)
@@ -102,9 +115,9 @@ name-tells : (f : ℕ → ℕ → ℕ) (G : Ghost) (w : ℕ) (g : Graph) (h : Op
 name-tells f G w g h idle p r e = rw (r .phase, e)
 name-tells f G w g h (looking a i) p r e = rw (r .phase, r .name, e)
 name-tells f G w g h (linking a j i u) p r e = rw (r .0 .phase, r .0 .name, e .0)
-name-tells f G w g none marking p r e = absurd e
-name-tells f G w g (some j) marking p r e = rw (r .phase, e)
-name-tells f G w g h (notifying j k) p r e = rw (r .phase, e)
+name-tells f G w g none (marking fa) p r e = absurd e
+name-tells f G w g (some j) (marking fa) p r e = rw (r .phase, e)
+name-tells f G w g h (notifying j k fa) p r e = rw (r .phase, e)
 
 module _ (s : Sizes) (t : Tables) (laid : layOut s t .answer ≡ Laid) (items : List Item) where
   abbrev T : Tables
@@ -151,26 +164,60 @@ module _ (s : Sizes) (t : Tables) (laid : layOut s t .answer ≡ Laid) (items : 
   -- ---- what a worker holds: as it is seen, and as it is read off the calls
   pub hold : (w : ℕ) → w < s .workers → seen T .held w ≡ heldRead read w
   unfolding blank
-  hold w h = does .held w h ∙ sym (R .booked .held w) ∙ held-follows (R .booked .follows) w
+  hold w h = does .held w h ∙ sym (R .booked .held w) ∙ held-follows (R .booked .follows) w none refl
 
-  -- the name of a held job is that of its add
-  held-name : (w p : ℕ) → w < s .workers → seen T .held w ≡ some p
-      → view T .job NAME p ≡ addOf (acceptedAdds (read .calls)) p .name
-  held-name w p h e =
+  -- what the get told of a held job, which is seen of it now: its name and its mark
+  held-job : (w p : ℕ) → w < s .workers → seen T .held w ≡ some p → (o : HandOut) → handedRead read w ≡ some o
+      → o .job ≡ p
+      → (seen T .job p .name ≡ o .name) × (seen T .job p .mark ≡ bit (o .spoiled))
+  held-job w p h e o z same =
       let there = R .sound .held-there w p (sym (does .held w h) ∙ e) in
-      ap (λ (x : JobSeen). x .name) (does .jobs p there) ∙ sym (R .booked .added p there .name)
+      let row = does .jobs p there in
+      let said = rw same at (handed-out history w o (rw told at z)) in (
+        ap (λ (x : JobSeen). x .name) row ∙ sym (ap (λ (x : HandOut). x .name) said),
+        ap (λ (x : JobSeen). x .mark) row ∙ sym (ap (λ (x : HandOut). bit (x .spoiled)) said),
+      )
 
-  held-of-known : (w : ℕ) → w < s .workers
-      → holdingOf (view T) w ≡ holdingRead (acceptedAdds (read .calls)) (heldRead read w) (read .pending w)
+  -- the name is that of the job's add
+  pub handed-shown : (w : ℕ) (o : HandOut) → w < s .workers → handedRead read w ≡ some o
+      → (o .job < length (acceptedAdds (read .calls)))
+      × (o .name ≡ addOf (acceptedAdds (read .calls)) (o .job) .name)
+      × (seen T .job (o .job) .mark ≡ bit (o .spoiled))
+  handed-shown w o h z =
+      let e = hold w h ∙ ap jobOf z in
+      let there = R .sound .held-there w (o .job) (sym (does .held w h) ∙ e) in
+      let said = held-job w (o .job) h e o z refl in (
+        omega (arith, there, R .booked .adds),
+        sym (said .0) ∙ ap (λ (x : JobSeen). x .name) (does .jobs (o .job) there)
+            ∙ sym (R .booked .added (o .job) there .name),
+        said .1,
+      )
+
+  -- the mark tells whether a prerequisite of the job failed: it was handed out, so its mark is complete
+  pub held-mark : (w p : ℕ) → w < s .workers → seen T .held w ≡ some p
+      → (seen T .job p .mark ≡ 1) ↔ PrerequisiteFailed (seen T) (acceptedAdds (read .calls)) p
+  held-mark w p h e =
+      let running = R .sound .held-executing w p (sym (does .held w h) ∙ e) in
+      let queued : 0 < entriesInto perform seen s (layOut s t .state) items p =
+      omega (arith, same-entries s t laid items p, entered-is history p, ap startedBy running) in (
+        demand s t laid items .marks p (demand s t laid items .after-prerequisites p queued .0) .spoiled,
+        demand s t laid items .marked-once-queued p queued,
+      )
+
+  held-of-known : (w : ℕ) → w < s .workers → holdingOf (view T) w ≡ holdingRead (handedRead read w) (read .pending w)
   unfolding holdingOf
   held-of-known w h =
-      rw (← hold w h)
-      (held-told (acceptedAdds (read .calls)) (view T .worker HELD w) _ _ _ (read .pending w)
-      (eqb (view T .worker HELD w) words.none) (called w h) (named w h)
-      (λ e. held-name w (view T .worker HELD w) h (rw e)))
+      let p = view T .worker HELD w in
+      held-told p _ _ _ _ (read .pending w) (eqb p words.none) (markOk (view T) p) (handedRead read w) (called w h)
+      (named w h) (hold w h)
+      (λ o z.
+      let e = hold w h ∙ ap jobOf z in
+      let same = some-held p (o .job) (eqb p words.none) e in
+      let said = held-job w p h (e ∙ ap some (sym same)) o z (sym same) in
+      (said .0, said .1, ap (λ m. leb m 1) (said .1) ∙ bit-ok (o .spoiled)))
 
-  held-of-any : (w : ℕ) → heldWords s T w ≡ pick (ltb w (s .workers))
-      (holdingRead (acceptedAdds (read .calls)) (heldRead read w) (read .pending w)) (turnedAway 2)
+  held-of-any : (w : ℕ) → heldWords s T w
+      ≡ pick (ltb w (s .workers)) (holdingRead (handedRead read w) (read .pending w)) (turnedAway 2)
   unfolding heldWords admitted counted
   held-of-any w = test (ltb w (s .workers))
       (λ e. let h = ltb-true w (s .workers) e in rw (fits, e, owned w h, counted-ok) (held-of-known w h))

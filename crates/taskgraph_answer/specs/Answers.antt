@@ -2,6 +2,7 @@
 -- docs/RULES.md, "Turned-away calls" and "Steps", has for it. What does not belong to a case is 0. Assumes nothing.
 use mathlib.Core.Path.{_≡_}
 use Prim.Native.Nat.{ℕ}
+use Rattle.terms.specs.Terms.{bit}
 use Rattle.terms.specs.Runs.{Outcome}
 use Rattle.terms.specs.declared.Answer.{Answer}
 use Rattle.words.specs.Layout.{Tables}
@@ -38,9 +39,10 @@ kindLoaded = 7
 
 -- an answer that has nothing but its kind
 abbrev pub plain : ℕ → GraphAnswer
-plain kind = record { kind = kind; number = accepted; place = 0; job = 0; name = 0 }
+plain kind = record { kind = kind; number = accepted; place = 0; job = 0; name = 0; spoiled = 0 }
 
--- a get hands out a job's place and name. A refusal has its number, and 6 also the "place in the list from 0"
+-- a get hands out a job's place and name, and 1 for a spoiled one. A refusal has its number, and 6 also the "place in
+-- the list from 0"
 abbrev pub graphAnswer : Answer → GraphAnswer
 graphAnswer Answer.Laid = plain kindLaidOut
 graphAnswer Answer.Loaded = plain kindLoaded
@@ -49,9 +51,16 @@ graphAnswer Answer.Going = plain kindGoingOn
 graphAnswer Answer.Ended = plain kindEnded
 graphAnswer Answer.NoneReady = plain kindNoneReady
 graphAnswer (Answer.Handed h) =
-    record { kind = kindHandedOut; number = accepted; place = 0; job = h .job; name = h .name }
+    record {
+      kind = kindHandedOut;
+      number = accepted;
+      place = 0;
+      job = h .job;
+      name = h .name;
+      spoiled = bit (h .spoiled);
+    }
 graphAnswer (Answer.Refused number place) =
-    record { kind = kindRefused; number = number; place = place; job = 0; name = 0 }
+    record { kind = kindRefused; number = number; place = place; job = 0; name = 0; spoiled = 0 }
 
 -- a call answers so and leaves these tables: those of a definition's outcome, as C has them
 abbrev pub Gives : GraphAnswer → Tables → Outcome Tables → Type 0

@@ -3,6 +3,7 @@
 ghost use mathlib.Core.Path.{_≡_};
 ghost use Rattle.taskgraph_answer.specs.Answers.{plain, graphAnswer};
 use terms::Answer;
+use terms::bit;
 
 // The kinds of answers.
 const REFUSED: u32 = 0;
@@ -22,7 +23,7 @@ const HANDED_OUT: u32 = 6;
 const LOADED: u32 = 7;
 
 // What a call or a step answers. A refusal has its number, 6 also the place in the list; a job handed out has its place
-// and its name. What does not belong to a kind is 0.
+// and its name, and 1 where it is spoiled. What does not belong to a kind is 0.
 #[repr(C)]
 pub struct GraphAnswer {
     pub kind: u32,
@@ -30,6 +31,7 @@ pub struct GraphAnswer {
     pub place: u32,
     pub job: u32,
     pub name: u32,
+    pub spoiled: u32,
 }
 
 // An answer that has nothing but its kind.
@@ -42,6 +44,7 @@ fn plain(kind: u32) -> GraphAnswer
         place: 0,
         job: 0,
         name: 0,
+        spoiled: 0,
     }
 }
 
@@ -62,6 +65,7 @@ pub fn answered(answer: Answer) -> GraphAnswer
             place: 0,
             job: out.job,
             name: out.name,
+            spoiled: bit(out.spoiled),
         },
         Answer::Refused { number, place } => GraphAnswer {
             kind: REFUSED,
@@ -69,6 +73,7 @@ pub fn answered(answer: Answer) -> GraphAnswer
             place,
             job: 0,
             name: 0,
+            spoiled: 0,
         },
     }
 }

@@ -1,7 +1,10 @@
-// The post of a finish as C has it: the sizes, the five lent tables, then the worker and the name of its job. A slice
-// is a pointer and a count of elements in C; answers are structs by value. include/taskgraph.h declares all of this.
-// Follows docs/RULES.md, "Steps" and "Turned-away calls". Assumes nothing but that a pointer with a count points to
-// that many elements.
+// The post of a finish as C has it: the sizes, the five lent tables, then the worker, the name of its job and its
+// outcome, 0 for good and any other number for failed. A slice is a pointer and a count of elements in C; answers are
+// structs by value. include/taskgraph.h declares all of this. Follows docs/RULES.md, "Steps" and "Turned-away calls".
+// Assumes nothing but that a pointer with a count points to that many elements.
+ghost use mathlib.Core.Bool.{not};
+ghost use lib.Dec.{eqb};
+ghost use Rattle.terms.specs.Terms.{finishOf};
 ghost use Rattle.words.specs.Layout.{atEntry, atExit};
 ghost use Rattle.words.specs.Words.{finishWords};
 ghost use Rattle.taskgraph_answer.specs.Answers.{Gives};
@@ -9,7 +12,7 @@ use taskgraph_answer::GraphAnswer;
 use taskgraph_answer::answered;
 use terms::Sizes;
 
-// Posts a finish of the held job of this name.
+// Posts a finish of the held job of this name with its outcome.
 #[no_mangle]
 pub extern "C" fn tg_post_finish(
     sizes: Sizes,
@@ -20,9 +23,11 @@ pub extern "C" fn tg_post_finish(
     workers: &mut [u32],
     worker: u32,
     name: u32,
+    outcome: u32,
 ) -> GraphAnswer
     ensures { λ r. ⌜ Gives r (atExit jobs arcs buckets queue workers)
-        (finishWords sizes (atEntry jobs arcs buckets queue workers) worker name) ⌝ }
+        (finishWords sizes (atEntry jobs arcs buckets queue workers) worker
+        (finishOf name (not (eqb outcome 0)))) ⌝ }
 {
     answered(graph_post_finish::post_finish(
         sizes,
@@ -33,5 +38,6 @@ pub extern "C" fn tg_post_finish(
         workers,
         worker,
         name,
+        outcome != 0,
     ))
 }

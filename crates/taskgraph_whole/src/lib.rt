@@ -1,6 +1,9 @@
 // An add and a finish run whole as C has them: posted, and stepped to the end, in one call. A slice is a pointer and a
 // count of elements in C; answers are structs by value. include/taskgraph.h declares all of this. Follows
 // docs/RULES.md, "Whole calls". Assumes nothing but that a pointer with a count points to that many elements.
+ghost use mathlib.Core.Bool.{not};
+ghost use lib.Dec.{eqb};
+ghost use Rattle.terms.specs.Terms.{finishOf};
 ghost use Rattle.words.specs.Layout.{atEntry, atExit};
 ghost use Rattle.whole_words.specs.Whole.{wholeAdd, wholeFinish};
 ghost use Rattle.taskgraph_answer.specs.Answers.{Gives};
@@ -28,7 +31,7 @@ pub extern "C" fn tg_add(
     answered(whole_add::add_whole(sizes, jobs, arcs, buckets, queue, workers, worker, entry))
 }
 
-// Finishes the held job of a name.
+// Finishes the held job of a name with its outcome, 0 for good and any other number for failed.
 #[no_mangle]
 pub extern "C" fn tg_finish(
     sizes: Sizes,
@@ -39,9 +42,21 @@ pub extern "C" fn tg_finish(
     workers: &mut [u32],
     worker: u32,
     name: u32,
+    outcome: u32,
 ) -> GraphAnswer
     ensures { λ r. ⌜ Gives r (atExit jobs arcs buckets queue workers)
-        (wholeFinish sizes (atEntry jobs arcs buckets queue workers) worker name) ⌝ }
+        (wholeFinish sizes (atEntry jobs arcs buckets queue workers) worker
+        (finishOf name (not (eqb outcome 0)))) ⌝ }
 {
-    answered(whole_finish::finish_whole(sizes, jobs, arcs, buckets, queue, workers, worker, name))
+    answered(whole_finish::finish_whole(
+        sizes,
+        jobs,
+        arcs,
+        buckets,
+        queue,
+        workers,
+        worker,
+        name,
+        outcome != 0,
+    ))
 }

@@ -5,6 +5,7 @@ use mathlib.Core.Path.{_≡_}
 use mathlib.Core.List.{List}
 use mathlib.Core.Option.{Option}
 use Prim.Native.Nat.{ℕ, _<_}
+use lib.Dec.{eqb}
 use Rattle.terms.specs.Terms.{Arguments, listed}
 use Rattle.terms.specs.declared.Sizes.{Sizes}
 use Rattle.terms.specs.declared.HandOut.{HandOut}
@@ -20,16 +21,17 @@ abbrev pub request : Arguments → Request
 request a = record { name = a .name; list = listed a; class = a .class; grower = a .grower }
 
 -- "the call half done": an add before its entering step, at a place of its list; an add of the job that it entered, at
--- a place of its list, with its tally; a finish before its mark; a finish after it, with the dependents whose counts
--- are yet to be lowered, in order
+-- a place of its list, with its tally and its note; a finish with its outcome before its mark; a finish with its
+-- outcome after it, with the dependents whose counts are yet to be lowered, in order
 pub data CallSeen : Type 0 where
   idle : CallSeen
   looking : Request → ℕ → CallSeen
-  linking : Request → ℕ → ℕ → ℕ → CallSeen
-  marking : CallSeen
-  notifying : List ℕ → CallSeen
+  linking : Request → ℕ → ℕ → ℕ → ℕ → CallSeen
+  marking : ℕ → CallSeen
+  notifying : ℕ → List ℕ → CallSeen
 
--- a job, with the dependents of its arcs, oldest first
+-- a job, with the dependents of its arcs, oldest first; its outcome, which is 0 while it is not finished and 1 for
+-- failed, and its mark, which is 1 for spoiled
 pub record JobSeen : Type 0 where
   pub name : ℕ
   pub label : ℕ
@@ -37,6 +39,8 @@ pub record JobSeen : Type 0 where
   pub class : ℕ
   pub grower : ℕ
   pub arcs : List ℕ
+  pub outcome : ℕ
+  pub mark : ℕ
 
 -- how many jobs were made and arcs reserved, the minutes by class, each job by its number, the queue in order, and of
 -- each worker its hold and its call
@@ -51,7 +55,7 @@ pub record Seen : Type 0 where
 
 -- a job as it is handed out
 abbrev pub handOut : Seen → ℕ → HandOut
-handOut x j = record { job = j; name = x .job j .name }
+handOut x j = record { job = j; name = x .job j .name; spoiled = eqb (x .job j .mark) 1 }
 
 -- the same is seen: of all jobs that were made and of all workers
 pub record Same (s : Sizes) (x y : Seen) : Type 0 where

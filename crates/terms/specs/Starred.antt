@@ -1,6 +1,7 @@
 -- The cases of docs/RULES.md, "Checked by hand", that concern the graph, as rows: a list of items from a fresh graph,
 -- with the answers, the jobs that wait at the end, and the entries of jobs 0 to 3 into the queue. Any machine that
 -- answers items can be held to them. Assumes nothing.
+use mathlib.Core.Bool.{false}
 use mathlib.Core.List.{List, [], _∷_, _++_}
 use Prim.Native.Nat.{ℕ, zero, suc, _+_}
 use lib.ListN.{length}
@@ -59,16 +60,16 @@ steps (suc k) s w = step s w ∷ steps k s w
 abbrev pub add : Sizes → ℕ → ℕ → List ℕ → ℕ → List Item
 add s w name list k = postAdd s w (job name list) ∷ steps k s w
 
--- a job is handed out, by its number and name
+-- a job that is not spoiled is handed out, by its number and name
 abbrev pub hands : ℕ → ℕ → Answer
-hands j name = Handed (record { job = j; name = name })
+hands j name = Handed (record { job = j; name = name; spoiled = false })
 
 abbrev pub added : List Answer
 added = Posted ∷ Going ∷ Ended ∷ []
 
 -- job 1 is added and held by worker 0, whose finish is posted; worker 1 enters 4 needing 1
 abbrev pub prepared : List Item
-prepared = add S 0 1 [] 2 ++ (get S 0 ∷ postFinish S 0 (finishOf 1) ∷ add S 1 4 (1 ∷ []) 2)
+prepared = add S 0 1 [] 2 ++ (get S 0 ∷ postFinish S 0 (finishOf 1 false) ∷ add S 1 4 (1 ∷ []) 2)
 
 abbrev pub preparing : List Answer
 preparing = added ++ (hands 0 1 ∷ Posted ∷ Posted ∷ Going ∷ Going ∷ [])
@@ -136,14 +137,15 @@ starred =
 unfoldable pub oneOfTwo : List Row
 oneOfTwo =
     row S (twoNeeded ++ finished 0 1) (told (told-twoNeeded ++ (Going ∷ Ended ∷ [])) (1 ∷ []) (1 ∷ 1 ∷ 0 ∷ 0 ∷ []))
-    ∷ row S (twoNeeded ++ (finished 0 1 ++ (get S 1 ∷ postFinish S 1 (finishOf 2) ∷ finished 1 2)))
+    ∷ row S (twoNeeded ++ (finished 0 1 ++ (get S 1 ∷ postFinish S 1 (finishOf 2 false) ∷ finished 1 2)))
     (told (told-twoNeeded ++ (Going ∷ Ended ∷ hands 1 2 ∷ Posted ∷ Going ∷ Ended ∷ [])) (2 ∷ []) (1 ∷ 1 ∷ 1 ∷ 0 ∷ []))
     ∷ []
   where
     -- jobs 1 and 2, then 3 needing both; worker 0 holds 1 and has posted its finish
     twoNeeded : List Item
     twoNeeded =
-        add S 0 1 [] 2 ++ (add S 0 2 [] 2 ++ (add S 1 3 (1 ∷ 2 ∷ []) 6 ++ (get S 0 ∷ postFinish S 0 (finishOf 1) ∷ [])))
+        add S 0 1 [] 2 ++ (add S 0 2 [] 2 ++ (add S 1 3 (1 ∷ 2 ∷ []) 6
+        ++ (get S 0 ∷ postFinish S 0 (finishOf 1 false) ∷ [])))
 
     told-twoNeeded : List Answer
     told-twoNeeded = added ++ (added

@@ -1,8 +1,8 @@
 -- The terms of docs/RULES.md that every level shares: limits, refusals, labels, and the arguments of an add. Assumes
 -- nothing.
-use mathlib.Core.Bool.{Bool, _&&_, _||_}
+use mathlib.Core.Bool.{Bool, true, false, _&&_, _||_}
 use mathlib.Core.List.{List, []}
-use Prim.Native.Nat.{ℕ}
+use Prim.Native.Nat.{ℕ, suc}
 use lib.Dec.{ltb, leb, eqb}
 use Rattle.basics.specs.Limits.{mostNames, mostClass, mostGrower}
 use Rattle.basics.specs.Base.{contains, repeats, prefix}
@@ -80,6 +80,10 @@ wrongMinutes = 17
 abbrev pub jobsEntered : ℕ
 jobsEntered = 18
 
+-- "good for a spoiled job"
+abbrev pub goodForSpoiled : ℕ
+goodForSpoiled = 19
+
 -- ---- a job's label
 pub data Label : Type 0 where
   unexecuted executing finished : Label
@@ -103,12 +107,31 @@ pub record Arguments : Type 0 where
 abbrev pub listed : Arguments → List ℕ
 listed a = prefix (a .count) (a .names)
 
--- ---- what a finish brings: the name of the job
+-- ---- what a finish brings: the name of the job, and "an outcome, good or failed"
 pub record Finish : Type 0 where
   pub name : ℕ
+  pub failed : Bool
 
-abbrev pub finishOf : ℕ → Finish
-finishOf name = record { name = name }
+abbrev pub finishOf : ℕ → Bool → Finish
+finishOf name failed = record { name = name; failed = failed }
+
+-- "the words of outcome, mark and note are 0 or 1"
+abbrev pub bit : Bool → ℕ
+bit true = 1
+bit false = 0
+
+-- ---- an add's tally of finished prerequisites, and the note beside it: "A link to a failed job is noted beside the
+-- tally"
+pub record Tally : Type 0 where
+  pub count : ℕ
+  pub noted : Bool
+
+abbrev pub noTally : Tally
+noTally = record { count = 0; noted = false }
+
+-- with one finished prerequisite more, which failed or not
+abbrev pub tallyOne : Tally → Bool → Tally
+tallyOne t failed = record { count = suc (t .count); noted = t .noted || failed }
 
 -- number 5: "a class over 15, a grower over 65,535, or a list over 32, holding its own job's name or a name twice"
 unfoldable pub argumentsWrong : Arguments → Bool

@@ -1,4 +1,13 @@
 // The vocabulary of the task graph: sizes and answers. What a call's arguments mean stands in specs/.
+ghost use mathlib.Core.Path.{_≡_};
+ghost use Rattle.terms.specs.Terms.{bit};
+
+// The word of a truth value: an outcome, a mark or a note.
+pub fn bit(test: bool) -> u32
+    ensures { λ r. ⌜ r ≡ bit test ⌝ }
+{
+    if test { 1 } else { 0 }
+}
 
 // R jobs, A arcs, b bucket bits and P workers of docs/RULES.md.
 #[repr(C)]
@@ -9,10 +18,11 @@ pub struct Sizes {
     pub workers: u32,
 }
 
-// What a get hands out: the job's number and its name.
+// What a get hands out: the job's number and its name, and whether it is spoiled.
 pub struct HandOut {
     pub job: u32,
     pub name: u32,
+    pub spoiled: bool,
 }
 
 // What a call or a step answers.

@@ -44,7 +44,8 @@ jobsAt rows l = overJobs (λ k. pick (eqb (getD rows k noRecord .label) l) 1 0) 
 
 abbrev pub minutesAt : List ℕ → List JobRecord → ℕ → ℕ
 minutesAt table rows l =
-    overJobs (λ k. pick (eqb (getD rows k noRecord .label) l) (getD table (getD rows k noRecord .class) 0) 0) (length rows)
+    overJobs (λ k. pick (eqb (getD rows k noRecord .label) l) (getD table (getD rows k noRecord .class) 0) 0)
+    (length rows)
 
 -- 1 for more than 4,096 records; values that "are not sixteen, do not rise strictly or leave 1 to 1,440" are "turned
 -- away by 17, after 1 and before 9"; 9 for "a wrong label or class", "wherever it stands in the row"; else the jobs and

@@ -17,7 +17,7 @@ use Rattle.terms.specs.declared.Sizes.{Sizes}
 use Rattle.terms.specs.declared.Answer.{Answer}
 use Rattle.terms.specs.declared.Answer.the-variants.{Ended, Refused}
 use Rattle.words.specs.Layout.{Tables, View, view, none, IDLE, LOOKING, LINKING}
-use Rattle.words.specs.Words.{countersOk, findOf, planLink, firstArc}
+use Rattle.words.specs.Words.{countersOk, findOf, planLink, firstArc, noted}
 use Rattle.words.specs.declared.Found.{Found}
 use Rattle.words.specs.declared.Found.the-variants.{At, Missing, Damaged}
 use Rattle.words.specs.Index.{seatFor}
@@ -55,29 +55,29 @@ pub data AddEnds (t : Tables) (w : ℕ) (a : Arguments) : Answer → Tables → 
   half-done : {u : Tables} → isIdle u w ≡ false → AddEnds t w a (Refused damaged 0) u
 
 -- ---- the links store no worker's words
-link-workers : (p : Plan) (t : Tables) (i k : ℕ) (next : Tables → ℕ → Links)
-    → ((u : Tables) (q : ℕ) → next u q .state .workers ≡ u .workers)
-    → linkBy p t i k next .state .workers ≡ t .workers
-link-workers Tally t i k next h = h t (suc k)
-link-workers (LinkFirst p x j) t i k next h = h _ k
-link-workers (LinkAfter p l x j) t i k next h = h _ k
-link-workers (Refuse n) t i k next h = refl
-link-workers (Quit n q) t i k next h = refl
-link-workers Pass t i k next h = refl
-link-workers (Enter j b x y) t i k next h = refl
-link-workers (Settle j c) t i k next h = refl
-link-workers (SettleQueue j c e) t i k next h = refl
-link-workers (Mark p x) t i k next h = refl
-link-workers (Notify j c x) t i k next h = refl
-link-workers (NotifyQueue j c x e) t i k next h = refl
+link-workers : (p : Plan) (t : Tables) (i k n : ℕ) (next : Tables → ℕ → ℕ → Links)
+    → ((u : Tables) (q m : ℕ) → next u q m .state .workers ≡ u .workers)
+    → linkBy p t i k n next .state .workers ≡ t .workers
+link-workers (Tally o) t i k n next h = h t (suc k) (noted o n)
+link-workers (LinkFirst p x j) t i k n next h = h _ k n
+link-workers (LinkAfter p l x j) t i k n next h = h _ k n
+link-workers (Refuse m) t i k n next h = refl
+link-workers (Quit m q) t i k n next h = refl
+link-workers Pass t i k n next h = refl
+link-workers (Enter j b x y) t i k n next h = refl
+link-workers (Settle j c) t i k n next h = refl
+link-workers (SettleQueue j c e) t i k n next h = refl
+link-workers (Mark p x) t i k n next h = refl
+link-workers (Notify j c x) t i k n next h = refl
+link-workers (NotifyQueue j c x e) t i k n next h = refl
 
-links-workers : (s : Sizes) (j x : ℕ) (l : List ℕ) (i : ℕ) (t : Tables) (k : ℕ)
-    → links s j x l i t k .state .workers ≡ t .workers
+links-workers : (s : Sizes) (j x : ℕ) (l : List ℕ) (i : ℕ) (t : Tables) (k n : ℕ)
+    → links s j x l i t k n .state .workers ≡ t .workers
 unfolding links
-links-workers s j x [] i t k = refl
-links-workers s j x (p ∷ l) i t k =
-    link-workers (planLink s (view t) (x + i) j (At p)) t i k (links s j x l (suc i))
-    (λ u q. links-workers s j x l (suc i) u q)
+links-workers s j x [] i t k n = refl
+links-workers s j x (p ∷ l) i t k n =
+    link-workers (planLink s (view t) (x + i) j (At p)) t i k n (links s j x l (suc i))
+    (λ u q m. links-workers s j x l (suc i) u q m)
 
 -- ---- a name that is not found is one of the list
 looks-below : (s : Sizes) (v : View) (l : List ℕ) (i p : ℕ) → lookUps s v l i ≡ Unknown p → p < i + length l
@@ -103,37 +103,37 @@ module _ (s : Sizes) (t : Tables) (w : ℕ) (a : Arguments) (A : Admitted s t w)
   idle-again : Back t w (holdOf t w) (idledWith t w (holdOf t w))
   idle-again = back s t w A t refl (holdOf t w)
 
-  stops-in : (ph k i j x : ℕ) (u : Tables) → eqb ph IDLE ≡ false → u .workers ≡ t .workers
-      → Ends (halted u w (addWorker ph (holdOf t w) a k i j x))
-  stops-in ph k i j x u b e =
-      half-done (busy s t w A u e (addWorker ph (holdOf t w) a k i j x) (add-whole ph (holdOf t w) a k i j x) b)
+  stops-in : (ph k i j x n : ℕ) (u : Tables) → eqb ph IDLE ≡ false → u .workers ≡ t .workers
+      → Ends (halted u w (addWorker ph (holdOf t w) a k i j x n))
+  stops-in ph k i j x n u b e =
+      half-done (busy s t w A u e (addWorker ph (holdOf t w) a k i j x n) (add-whole ph (holdOf t w) a k i j x n) b)
 
-  queued : (u : Tables) (j c : ℕ) → u .workers ≡ t .workers → (o : Outcome Tables) → Ends o → (r : Seating)
-      → Ends (queueIn r u w (holdOf t w) j c o)
-  queued u j c e o stops (Seated d) = ends-in (queuedTables u j c d) e
-  queued u j c e o stops Unseated = stops
+  queued : (u : Tables) (j c n : ℕ) → u .workers ≡ t .workers → (o : Outcome Tables) → Ends o → (r : Seating)
+      → Ends (queueIn r u w (holdOf t w) j c n o)
+  queued u j c n e o stops (Seated d) = ends-in (queuedTables u j c n d) e
+  queued u j c n e o stops Unseated = stops
 
   settled : (j x : ℕ) (r : Links) → r .state .workers ≡ t .workers → Ends (settleIn s w a (holdOf t w) j x r)
   unfolding settleIn
   settled j x r e =
       let u = r .state in
       let c = a .count - r .tally in
-      let stops = stops-in LINKING (r .tally) (r .place) j (firstArc (a .count) x) u refl e in
+      let stops = stops-in LINKING (r .tally) (r .place) j (firstArc (a .count) x) (r .note) u refl e in
       pick-by Ends (r .sound)
       (λ _. pick-by Ends (settles c (r .tally) (a .count))
-      (λ _. queued u j c e _ stops (seatFor s (view u) j))
-      (λ _. ends-in (settledTables u j c) e))
+      (λ _. queued u j c (r .note) e _ stops (seatFor s (view u) j))
+      (λ _. ends-in (settledTables u j c (r .note)) e))
       (λ _. stops)
 
   entered : (f : Found) → Ends (enterIn s t w a f)
   unfolding enterIn contains
   entered (At j) = unfit refl idle-again
-  entered Damaged = stops-in LOOKING 0 (a .count) none none t refl refl
+  entered Damaged = stops-in LOOKING 0 (a .count) none none 0 t refl refl
   entered Missing =
       let v = view t in
       pick-by Ends (leb (s .jobs) (v .made) || ltb (s .arcs) (v .reserved + a .count)) (λ _. unfit refl idle-again)
       (λ _. settled (v .made) (v .reserved) _
-      (links-workers s (v .made) (v .reserved) (jobsFound s v (listed a)) 0 (enteredTables s t a) 0))
+      (links-workers s (v .made) (v .reserved) (jobsFound s v (listed a)) 0 (enteredTables s t a) 0 0))
 
   looked : (x : LookUps) → lookUps s (view t) (listed a) 0 ≡ x → Ends (lookIn s t w a x)
   unfolding lookIn
@@ -141,7 +141,7 @@ module _ (s : Sizes) (t : Tables) (w : ℕ) (a : Arguments) (A : Admitted s t w)
   looked (Unknown i) e =
       unknown {i = i} (omega (arith, looks-below s (view t) (listed a) 0 i e, length-prefix (a .count) (a .names)))
       idle-again
-  looked (Broken i) e = stops-in LOOKING 0 i none none t refl refl
+  looked (Broken i) e = stops-in LOOKING 0 i none none 0 t refl refl
 
   if-idle : Ends (addIfIdle s t w a)
   unfolding addIfIdle addIn contains

@@ -10,7 +10,7 @@ use borrow.Author.Tests.{eqb-true}
 use Rattle.basics.specs.Base.{contains}
 use Rattle.basics.specs.Laws.{never, or-left, or-right}
 use Rattle.terms.specs.Terms.{Arguments, wrongSizes, noSuchWorker, halfDone, wrongArguments, unknownName, namePresent}
-use Rattle.terms.specs.Terms.{tablesFull, damaged, notHeld}
+use Rattle.terms.specs.Terms.{tablesFull, damaged, notHeld, goodForSpoiled, Finish}
 use Rattle.terms.specs.declared.Sizes.{Sizes}
 use Rattle.terms.specs.declared.Answer.{Answer}
 use Rattle.terms.specs.declared.Answer.the-variants.{Going, Ended, Refused}
@@ -106,14 +106,14 @@ module _ (s : Sizes) (t : Tables) (w : ℕ) (a : Arguments) where
 
 -- ---- a finish
 abbrev pub finishKeeps : List ℕ
-finishKeeps = wrongSizes ∷ noSuchWorker ∷ halfDone ∷ notHeld ∷ []
+finishKeeps = wrongSizes ∷ noSuchWorker ∷ halfDone ∷ notHeld ∷ goodForSpoiled ∷ []
 
-module _ (s : Sizes) (t : Tables) (w name : ℕ) where
-  -- 1, 2, 3 and 11: "nothing changed"
-  pub finish-turned-away : (n i : ℕ) → contains n finishKeeps ≡ true → wholeFinish s t w name .answer ≡ Refused n i
-      → wholeFinish s t w name .state ≡ t
+module _ (s : Sizes) (t : Tables) (w : ℕ) (f : Finish) where
+  -- 1, 2, 3, 11 and 19: "nothing changed"
+  pub finish-turned-away : (n i : ℕ) → contains n finishKeeps ≡ true → wholeFinish s t w f .answer ≡ Refused n i
+      → wholeFinish s t w f .state ≡ t
   unfolding contains shares
-  finish-turned-away n i c = go (finish-ends s t w name)
+  finish-turned-away n i c = go (finish-ends s t w f)
     where
       go : {x : Answer} {u : Tables} → FinishEnds t w x u → x ≡ Refused n i → u ≡ t
       go (finish.ended b) e = never (cc)
@@ -122,9 +122,9 @@ module _ (s : Sizes) (t : Tables) (w name : ℕ) where
       go (finish.half-done h) e = clash damaged n 0 i (damaged ∷ []) finishKeeps refl refl c e
 
   -- 9: nothing changed, or the finish is half done
-  pub finish-damaged : (i : ℕ) → wholeFinish s t w name .answer ≡ Refused damaged i
-      → (wholeFinish s t w name .state ≡ t) ⊎ (isIdle (wholeFinish s t w name .state) w ≡ false)
-  finish-damaged i = go (finish-ends s t w name)
+  pub finish-damaged : (i : ℕ) → wholeFinish s t w f .answer ≡ Refused damaged i
+      → (wholeFinish s t w f .state ≡ t) ⊎ (isIdle (wholeFinish s t w f .state) w ≡ false)
+  finish-damaged i = go (finish-ends s t w f)
     where
       go : {x : Answer} {u : Tables} → FinishEnds t w x u → x ≡ Refused damaged i → (u ≡ t) ⊎ (isIdle u w ≡ false)
       go (finish.ended b) e = never (cc)
@@ -133,8 +133,8 @@ module _ (s : Sizes) (t : Tables) (w name : ℕ) where
       go (finish.half-done h) e = inr h
 
   -- "then it answers "going on" and is half done"
-  pub finish-going : wholeFinish s t w name .answer ≡ Going → isIdle (wholeFinish s t w name .state) w ≡ false
-  finish-going = go (finish-ends s t w name)
+  pub finish-going : wholeFinish s t w f .answer ≡ Going → isIdle (wholeFinish s t w f .state) w ≡ false
+  finish-going = go (finish-ends s t w f)
     where
       go : {x : Answer} {u : Tables} → FinishEnds t w x u → x ≡ Going → isIdle u w ≡ false
       go (finish.ended b) e = never (cc)
@@ -143,8 +143,8 @@ module _ (s : Sizes) (t : Tables) (w name : ℕ) where
       go (finish.half-done h) e = never (cc)
 
   -- the worker's words put back, and it holds none
-  pub finish-ended : wholeFinish s t w name .answer ≡ Ended → Back t w none (wholeFinish s t w name .state)
-  finish-ended = go (finish-ends s t w name)
+  pub finish-ended : wholeFinish s t w f .answer ≡ Ended → Back t w none (wholeFinish s t w f .state)
+  finish-ended = go (finish-ends s t w f)
     where
       go : {x : Answer} {u : Tables} → FinishEnds t w x u → x ≡ Ended → Back t w none u
       go (finish.ended b) e = b

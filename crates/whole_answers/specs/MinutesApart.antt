@@ -8,7 +8,7 @@ use lib.Dec.{leb, eqb}
 use lib.ListN.{length}
 use Rattle.basics.specs.Base.{pick}
 use Rattle.minutes.specs.Minutes.{classes}
-use Rattle.terms.specs.Terms.{Arguments, finishOf, mostEntries, tooManyEntries, halfDone}
+use Rattle.terms.specs.Terms.{Arguments, Finish, mostEntries, tooManyEntries, halfDone}
 use Rattle.terms.specs.Runs.{Item, postAdd, postFinish, step, isLoad, Outcome, outcome}
 use Rattle.terms.specs.declared.Sizes.{Sizes}
 use Rattle.terms.specs.declared.Answer.{Answer}
@@ -78,11 +78,11 @@ add-apart s w a =
     then-apart (λ t. addWords s t w a) (stepsOf (2 * a .count + 2) s w) (item-apart (postAdd s w a) refl)
     (steps-apart (2 * a .count + 2) s w)
 
-pub finish-apart : (s : Sizes) (w name : ℕ) → CallApart (λ t. wholeFinish s t w name)
+pub finish-apart : (s : Sizes) (w : ℕ) (f : Finish) → CallApart (λ t. wholeFinish s t w f)
 unfolding wholeFinish perform
-finish-apart s w name =
-    then-apart (λ t. finishWords s t w name) (stepsOf (s .arcs + 1) s w)
-    (item-apart (postFinish s w (finishOf name)) refl)
+finish-apart s w f =
+    then-apart (λ t. finishWords s t w f) (stepsOf (s .arcs + 1) s w)
+    (item-apart (postFinish s w f) refl)
     (steps-apart (s .arcs + 1) s w)
 
 -- ---- the sheet

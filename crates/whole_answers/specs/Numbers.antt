@@ -10,7 +10,7 @@ use lib.ListN.{length}
 use Rattle.basics.specs.Base.{contains}
 use Rattle.basics.specs.Laws.{never, pick-by}
 use Rattle.terms.specs.Terms.{Arguments, mostEntries, wrongSizes, noSuchWorker, halfDone, wrongArguments, unknownName}
-use Rattle.terms.specs.Terms.{namePresent, tablesFull, damaged, notHeld, tooManyEntries}
+use Rattle.terms.specs.Terms.{namePresent, tablesFull, damaged, notHeld, tooManyEntries, goodForSpoiled, Finish}
 use Rattle.terms.specs.declared.Sizes.{Sizes}
 use Rattle.terms.specs.declared.Answer.{Answer}
 use Rattle.terms.specs.declared.Answer.the-variants.{Going, Ended, Refused}
@@ -60,7 +60,7 @@ add-accepted s t w a = (go (add-answer s t w a), λ e. ap numberOf e)
 
 -- ---- a finish
 abbrev pub finishNumbers : List ℕ
-finishNumbers = wrongSizes ∷ noSuchWorker ∷ damaged ∷ halfDone ∷ notHeld ∷ []
+finishNumbers = wrongSizes ∷ noSuchWorker ∷ damaged ∷ halfDone ∷ notHeld ∷ goodForSpoiled ∷ []
 
 -- "going on" where a list of arcs runs in a circle
 pub data FinishAnswer : Answer → Type 0 where
@@ -68,9 +68,9 @@ pub data FinishAnswer : Answer → Type 0 where
   going : FinishAnswer Going
   refused : {n : ℕ} → contains n finishNumbers ≡ true → FinishAnswer (Refused n 0)
 
-pub finish-answer : (s : Sizes) (t : Tables) (w name : ℕ) → FinishAnswer (wholeFinish s t w name .answer)
+pub finish-answer : (s : Sizes) (t : Tables) (w : ℕ) (f : Finish) → FinishAnswer (wholeFinish s t w f .answer)
 unfolding contains
-finish-answer s t w name = go (finish-ends s t w name)
+finish-answer s t w f = go (finish-ends s t w f)
   where
     go : {x : Answer} {u : Tables} → FinishEnds t w x u → FinishAnswer x
     go (finish.ended b) = ended

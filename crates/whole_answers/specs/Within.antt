@@ -3,7 +3,7 @@
 -- nothing.
 use mathlib.Core.Path.{_≡_, refl, ap, _∙_}
 use Prim.Native.Nat.{ℕ, zero, suc, _+_, _*_}
-use Rattle.terms.specs.Terms.{Arguments, finishOf}
+use Rattle.terms.specs.Terms.{Arguments, Finish}
 use Rattle.terms.specs.Runs.{Item, postAdd, postFinish, step, sizesOf, Outcome}
 use Rattle.terms.specs.declared.Sizes.{Sizes}
 use Rattle.terms.specs.declared.Answer.{Answer}
@@ -105,9 +105,9 @@ add-within s w a =
     then-within s (λ t. addWords s t w a) (stepsOf (2 * a .count + 2) s w) (item-within (postAdd s w a))
     (steps-within (2 * a .count + 2) s w)
 
-pub finish-within : (s : Sizes) (w name : ℕ) → CallWithin s (λ t. wholeFinish s t w name)
+pub finish-within : (s : Sizes) (w : ℕ) (f : Finish) → CallWithin s (λ t. wholeFinish s t w f)
 unfolding wholeFinish perform
-finish-within s w name =
-    then-within s (λ t. finishWords s t w name) (stepsOf (s .arcs + 1) s w)
-    (item-within (postFinish s w (finishOf name)))
+finish-within s w f =
+    then-within s (λ t. finishWords s t w f) (stepsOf (s .arcs + 1) s w)
+    (item-within (postFinish s w f))
     (steps-within (s .arcs + 1) s w)

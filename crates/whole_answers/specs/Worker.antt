@@ -19,12 +19,12 @@ use Rattle.fused_laws.specs.Records.{record-word}
 use Rattle.fused_laws.specs.Steps.{room-for-workers}
 
 -- "A call that ends puts the words of its call back": worker w of the tables t is idle in the tables u and holds
--- `held`, all its 42 words are so, and no other worker's words changed
+-- `held`, all its 43 words are so, and no other worker's words changed
 pub record Back (t : Tables) (w held : ℕ) (u : Tables) : Type 0 where
   pub idle : isIdle u w ≡ true
   pub hold : holdOf u w ≡ held
-  pub words : wordsOf w u ≡ bareWorker IDLE held
-  pub workers : u .workers ≡ putWorker (t .workers) w (bareWorker IDLE held)
+  pub words : wordsOf w u ≡ bareWorker IDLE held 0
+  pub workers : u .workers ≡ putWorker (t .workers) w (bareWorker IDLE held 0)
 
 -- the words r of worker w, stored in tables u with the workers of t
 module _ (s : Sizes) (t : Tables) (w : ℕ) (A : Admitted s t w) (u : Tables) (same : u .workers ≡ t .workers) where
@@ -34,13 +34,13 @@ module _ (s : Sizes) (t : Tables) (w : ℕ) (A : Admitted s t w) (u : Tables) (s
 
   pub back : (held : ℕ) → Back t w held (idledWith u w held)
   back held = record {
-    idle = ap (λ p. eqb p IDLE) (word (bareWorker IDLE held) refl PHASE);
-    hold = word (bareWorker IDLE held) refl HELD;
+    idle = ap (λ p. eqb p IDLE) (word (bareWorker IDLE held 0) refl PHASE);
+    hold = word (bareWorker IDLE held 0) refl HELD;
     words =
         rw same
-        (put-back (s .workers) (t .workers) w (bareWorker IDLE held) (room-for-workers s t (A .sizes))
+        (put-back (s .workers) (t .workers) w (bareWorker IDLE held 0) (room-for-workers s t (A .sizes))
         (lt-ltb w (s .workers) (A .worker)) refl);
-    workers = ap (λ l. putWorker l w (bareWorker IDLE held)) same;
+    workers = ap (λ l. putWorker l w (bareWorker IDLE held 0)) same;
   }
 
   pub busy : (r : List ℕ) → length r ≡ workerShape .width → eqb (getD r PHASE 0) IDLE ≡ false

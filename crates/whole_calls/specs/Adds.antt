@@ -5,7 +5,7 @@ use mathlib.Core.List.{[], _∷_}
 use Prim.Native.Nat.{ℕ, zero, suc, _+_, _≤_, _<_}
 use native.Mathlib.Omega.{arith}
 use lib.ListN.{length, length-append}
-use Rattle.terms.specs.Terms.{Arguments, wrongArguments, unknownName, namePresent, tablesFull}
+use Rattle.terms.specs.Terms.{Arguments, wrongArguments, unknownName, namePresent, tablesFull, noTally}
 use Rattle.terms.specs.Runs.{postAdd, step, Outcome, outcome, after, events}
 use Rattle.terms.specs.declared.Sizes.{Sizes}
 use Rattle.terms.specs.declared.Answer.{Answer}
@@ -18,7 +18,7 @@ use Rattle.rules_history.specs.History.{History, then}
 use Rattle.rules_cases.specs.Own.{own-sizes, own-step, own-made}
 use Rattle.whole_calls.specs.Whole.{stepsOf, answers, through, goingTo, Kept, Unchanged, AddLeft, WholeAdd}
 use Rattle.whole_calls.specs.Whole.{AddEnd, accepted, wrong, unknown, present, no-room}
-use Rattle.whole_calls.specs.Kept.{grown-same, entered-labels, kept-same, kept-on, turned, call-turned, with-call}
+use Rattle.whole_calls.specs.Kept.{grown-same, entered-alike, kept-same, kept-on, turned, call-turned, with-call}
 use Rattle.whole_calls.specs.Last.{links-end}
 
 -- ---- where nothing changes at first
@@ -65,10 +65,11 @@ module _ (s : Sizes) {w : ℕ} (h : w < s .workers) (a : Arguments) where
       → (i : ℕ) → i ≡ a .count → perform s g (step s w) ≡ outcome Going (entered g w a) → FromLook g i
   unfolding after events
   entering {g} history i all E =
-      let T = links-end s h (a .count) (then history (step s w)) a (length (g .jobs)) 0 0
-      (rw E (call-turned g w (linking a (length (g .jobs)) 0 0))) (omega arith) in
+      let T = links-end s h (a .count) (then history (step s w)) a (length (g .jobs)) 0 noTally
+      (rw E (call-turned g w (linking a (length (g .jobs)) 0 noTally))) (omega arith) in
       let K : Kept w g (perform s g (step s w) .state) =
-      rw E (turned g w (entered g w a) _ refl (entered-labels (g .jobs) (newJob a) refl) (grown-same (g .queue))) in
+      rw E (turned g w (entered g w a) _ refl
+      (entered-alike (g .jobs) (newJob a) (record { label = refl; outcome = refl })) (grown-same (g .queue))) in
       let made : length (perform s g (step s w) .state .jobs) ≡ suc (length (g .jobs)) =
       rw (E, length-append (g .jobs) (newJob a ∷ [])) (omega arith) in
       record {

@@ -3,16 +3,19 @@
 -- alone. Assumes nothing.
 use mathlib.Core.Path.{_≡_}
 use mathlib.Core.Logic.{_≢_}
+use mathlib.Core.Bool.{Bool, true, false}
 use mathlib.Core.List.{List, [], _∷_, _++_, map}
-use mathlib.Core.Option.{none}
+use mathlib.Core.Option.{none, some}
 use Prim.Native.Nat.{ℕ, zero, suc, _+_, _*_, _<_}
 use lib.ListN.{length, replicate}
-use Rattle.terms.specs.Terms.{Arguments, finished, wrongArguments, unknownName, namePresent, tablesFull, finishOf}
+use Rattle.terms.specs.Terms.{Arguments, finished, wrongArguments, unknownName, namePresent, tablesFull, notHeld}
+use Rattle.terms.specs.Terms.{goodForSpoiled, Finish}
 use Rattle.terms.specs.Runs.{Item, postAdd, postFinish, step, Event, after, events}
 use Rattle.terms.specs.declared.Sizes.{Sizes}
 use Rattle.terms.specs.declared.Answer.{Answer}
 use Rattle.terms.specs.declared.Answer.the-variants.{Posted, Going, Ended, Refused}
-use Rattle.rules.specs.Rules.{idle, Graph, job, perform}
+use Rattle.rules.specs.Rules.{idle, Graph, job, endsGood, perform}
+use Rattle.rules_cases.specs.Deed.{HoldsNot}
 
 -- ---- a list of items by the rules
 abbrev pub stepsOf : Sizes → ℕ → ℕ → List Item
@@ -39,12 +42,13 @@ pub record Grown (q l : List ℕ) : Type 0 where
   pub more : List ℕ
   pub so : l ≡ q ++ more
 
--- the holds, the calls of the other workers and the labels are as they were, and no job has left the queue (a job that
--- is not there is unexecuted, as is one that enters)
+-- the holds, the calls of the other workers, the labels and the outcomes are as they were, and no job has left the
+-- queue (a job that is not there is unexecuted, as is one that enters)
 pub record Kept (w : ℕ) (g later : Graph) : Type 0 where
   pub held : later .workers w .held ≡ g .workers w .held
   pub others : (v : ℕ) → v ≢ w → later .workers v ≡ g .workers v
   pub labels : (j : ℕ) → job later j .label ≡ job g j .label
+  pub outcomes : (j : ℕ) → job later j .failed ≡ job g j .failed
   pub queue : Grown (g .queue) (later .queue)
 
 -- "nothing else changed"
@@ -76,20 +80,37 @@ pub record WholeAdd (s : Sizes) (g : Graph) (w : ℕ) (a : Arguments) : Type 0 w
   pub answered : answers s g (addItems s w a steps) ≡ wholly steps answer
   pub left : AddLeft w a g (through s g (addItems s w a steps)) steps answer
 
--- ---- a finish of the held job p: "It takes 1 step more than it has arcs"; it "labels the job finished and frees the
--- worker's hold"
-pub record FinishLeft (w p : ℕ) (g later : Graph) : Type 0 where
+-- ---- a finish, with its outcome: "It takes 1 step more than it has arcs"; of the held job p it "labels the job
+-- finished and frees the worker's hold". 11 and 19 refuse its post
+pub record FinishLeft (w p : ℕ) (outcome : Bool) (g later : Graph) : Type 0 where
   pub idle : later .workers w .call ≡ idle
   pub held : later .workers w .held ≡ none
   pub others : (v : ℕ) → v ≢ w → later .workers v ≡ g .workers v
   pub finished : job later p .label ≡ finished
+  pub failed : job later p .failed ≡ outcome
   pub labels : (j : ℕ) → j ≢ p → job later j .label ≡ job g j .label
+  pub outcomes : (j : ℕ) → j ≢ p → job later j .failed ≡ job g j .failed
   pub jobs : length (later .jobs) ≡ length (g .jobs)
   pub queue : Grown (g .queue) (later .queue)
 
-abbrev pub finishItems : Sizes → Graph → ℕ → ℕ → List Item
-finishItems s g w p = postFinish s w (finishOf (job g p .name)) ∷ stepsOf s w (suc (length (job g p .dependents)))
+-- the worker holds the job p of the name
+pub record Holds (g : Graph) (w name p : ℕ) : Type 0 where
+  pub held : g .workers w .held ≡ some p
+  pub named : job g p .name ≡ name
 
-pub record WholeFinish (s : Sizes) (g : Graph) (w p : ℕ) : Type 0 where
-  pub answered : answers s g (finishItems s g w p) ≡ wholly (suc (length (job g p .dependents))) Ended
-  pub left : FinishLeft w p g (through s g (finishItems s g w p))
+pub data FinishEnd (w : ℕ) (f : Finish) (g later : Graph) (steps : ℕ) : Answer → Type 0 where
+  accepted : (p : ℕ) → Holds g w (f .name) p → endsGood g p f ≡ false → steps ≡ suc (length (job g p .dependents))
+      → FinishLeft w p (f .failed) g later → FinishEnd w f g later steps Ended
+  not-held : HoldsNot g (f .name) (g .workers w .held) → steps ≡ 0 → later ≡ g
+      → FinishEnd w f g later steps (Refused notHeld 0)
+  good-for-spoiled : (p : ℕ) → Holds g w (f .name) p → endsGood g p f ≡ true → steps ≡ 0 → later ≡ g
+      → FinishEnd w f g later steps (Refused goodForSpoiled 0)
+
+abbrev pub finishItems : Sizes → ℕ → Finish → ℕ → List Item
+finishItems s w f steps = postFinish s w f ∷ stepsOf s w steps
+
+pub record WholeFinish (s : Sizes) (g : Graph) (w : ℕ) (f : Finish) : Type 0 where
+  pub steps : ℕ
+  pub answer : Answer
+  pub answered : answers s g (finishItems s w f steps) ≡ wholly steps answer
+  pub end : FinishEnd w f g (through s g (finishItems s w f steps)) steps answer

@@ -1,5 +1,6 @@
 // A finish run whole: posted, and stepped to its end, in one go. Follows docs/RULES.md, "Whole calls". Assumes nothing.
 ghost use mathlib.Core.Path.{_≡_};
+ghost use Rattle.terms.specs.Terms.{finishOf};
 ghost use Rattle.terms.specs.Runs.{outcome};
 ghost use Rattle.words.specs.Layout.{atEntry, atExit};
 ghost use Rattle.whole_words.specs.Whole.{wholeFinish};
@@ -20,9 +21,10 @@ pub fn finish_whole(
     workers: &mut [u32],
     worker: u32,
     name: u32,
+    failed: bool,
 ) -> Answer
     ensures { λ r. ⌜ outcome r (atExit jobs arcs buckets queue workers)
-        ≡ wholeFinish sizes (atEntry jobs arcs buckets queue workers) worker name ⌝ }
+        ≡ wholeFinish sizes (atEntry jobs arcs buckets queue workers) worker (finishOf name failed) ⌝ }
 {
     let fit = sizes_fit(sizes, jobs, arcs, buckets, queue, workers);
     if fit {
@@ -30,7 +32,17 @@ pub fn finish_whole(
         if known {
             let sound = own_ok(sizes, jobs, arcs, workers, worker);
             if sound {
-                finish_if_idle(sizes, jobs, arcs, buckets, queue, workers, worker, name)
+                finish_if_idle(
+                    sizes,
+                    jobs,
+                    arcs,
+                    buckets,
+                    queue,
+                    workers,
+                    worker,
+                    name,
+                    failed,
+                )
             } else {
                 Answer::Refused {
                     number: DAMAGED,

@@ -2,7 +2,7 @@
 -- Assumes nothing.
 use mathlib.Core.List.{List, [], _∷_}
 use Prim.Native.Nat.{ℕ, _≤_}
-use Rattle.terms.specs.Terms.{wrongArguments, tablesFull, notHeld}
+use Rattle.terms.specs.Terms.{wrongArguments, tablesFull, notHeld, goodForSpoiled}
 use Rattle.terms.specs.declared.Answer.{Answer}
 use Rattle.terms.specs.declared.Answer.the-variants.{Ended, Refused}
 
@@ -11,10 +11,11 @@ pub data AddAnswer : Answer → Type 0 where
   accepted : AddAnswer Ended
   refused : (n i : ℕ) → wrongArguments ≤ n → n ≤ tablesFull → AddAnswer (Refused n i)
 
--- a finish is accepted, or refused by 11
+-- a finish is accepted, or refused by 11 or 19
 pub data FinishAnswer : Answer → Type 0 where
   accepted : FinishAnswer Ended
   not-held : FinishAnswer (Refused notHeld 0)
+  good-for-spoiled : FinishAnswer (Refused goodForSpoiled 0)
 
 -- a sheet has an answer for each entry
 pub data AddAnswers {A : Type 0} : List A → List Answer → Type 0 where

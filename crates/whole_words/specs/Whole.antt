@@ -1,6 +1,6 @@
 -- A call run whole: posted, and stepped until it does not go on ("each run whole"). Assumes nothing.
 use Prim.Native.Nat.{ℕ, zero, suc, _+_, _*_}
-use Rattle.terms.specs.Terms.{Arguments}
+use Rattle.terms.specs.Terms.{Arguments, Finish}
 use Rattle.terms.specs.Runs.{Outcome, outcome}
 use Rattle.terms.specs.declared.Sizes.{Sizes}
 use Rattle.terms.specs.declared.Answer.{Answer}
@@ -30,6 +30,6 @@ unfoldable pub wholeAdd : Sizes → Tables → ℕ → Arguments → Outcome Tab
 wholeAdd s t w a =
     andThen (addWords s t w a .answer) (addWords s t w a .state) (stepsOf (2 * a .count + 2) s w)
 
-unfoldable pub wholeFinish : Sizes → Tables → ℕ → ℕ → Outcome Tables
-wholeFinish s t w name =
-    andThen (finishWords s t w name .answer) (finishWords s t w name .state) (stepsOf (s .arcs + 1) s w)
+unfoldable pub wholeFinish : Sizes → Tables → ℕ → Finish → Outcome Tables
+wholeFinish s t w f =
+    andThen (finishWords s t w f .answer) (finishWords s t w f .state) (stepsOf (s .arcs + 1) s w)

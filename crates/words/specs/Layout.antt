@@ -21,7 +21,7 @@ none = 4294967295
 -- ---- the jobs table: the sizes laid out, the number of jobs made, the minutes of each class; then a record for each
 -- job
 abbrev pub jobShape : Shape
-jobShape = record { head = 21; width = 8 }
+jobShape = record { head = 21; width = 10 }
 
 abbrev pub JOBS : ℕ
 JOBS = 0
@@ -66,6 +66,14 @@ LAST = 6
 abbrev pub NEXT : ℕ
 NEXT = 7
 
+-- 0 for good and for a job not finished, 1 for failed
+abbrev pub OUTCOME : ℕ
+OUTCOME = 8
+
+-- 1 for a spoiled job
+abbrev pub MARK : ℕ
+MARK = 9
+
 -- ---- the arcs table: the number of arcs reserved; then a record for each arc
 abbrev pub arcShape : Shape
 arcShape = record { head = 1; width = 2 }
@@ -108,7 +116,7 @@ POSITION = 2
 
 -- ---- a worker: its phase, its held job, and the call half done with its list of names
 abbrev pub workerShape : Shape
-workerShape = record { head = 0; width = 42 }
+workerShape = record { head = 0; width = 43 }
 
 abbrev pub PHASE : ℕ
 PHASE = 0
@@ -142,8 +150,12 @@ OWN-JOB = 8
 abbrev pub OWN-ARC : ℕ
 OWN-ARC = 9
 
+-- 1 once the add has linked to a failed job, or where the finish brings failed
+abbrev pub NOTE : ℕ
+NOTE = 10
+
 abbrev pub NAMES : ℕ
-NAMES = 10
+NAMES = 11
 
 -- the phases: an add that looks up (or enters) and one that links (or settles), a finish that marks and one that
 -- notifies
@@ -253,7 +265,7 @@ repeated zero r = []
 repeated (suc n) r = r ++ repeated n r
 
 abbrev pub freshJob : List ℕ
-freshJob = 0 ∷ 0 ∷ 0 ∷ 0 ∷ 0 ∷ none ∷ none ∷ none ∷ []
+freshJob = 0 ∷ 0 ∷ 0 ∷ 0 ∷ 0 ∷ none ∷ none ∷ none ∷ 0 ∷ 0 ∷ []
 
 abbrev pub freshArc : List ℕ
 freshArc = none ∷ none ∷ []
@@ -261,10 +273,10 @@ freshArc = none ∷ none ∷ []
 abbrev pub freshPlace : List ℕ
 freshPlace = none ∷ none ∷ none ∷ []
 
--- a worker's words with a call that has no arguments, in a phase, and a hold
-abbrev pub bareWorker : ℕ → ℕ → List ℕ
-bareWorker phase held =
-    phase ∷ held ∷ 0 ∷ 0 ∷ 0 ∷ 0 ∷ 0 ∷ 0 ∷ none ∷ none ∷ replicate mostNames 0
+-- a worker's words with a call that has no list, in a phase, with a hold and a note
+abbrev pub bareWorker : ℕ → ℕ → ℕ → List ℕ
+bareWorker phase held note =
+    phase ∷ held ∷ 0 ∷ 0 ∷ 0 ∷ 0 ∷ 0 ∷ 0 ∷ none ∷ none ∷ note ∷ replicate mostNames 0
 
 abbrev pub freshJobs : Sizes → List ℕ
 freshJobs s =
@@ -280,7 +292,7 @@ abbrev pub freshQueue : Sizes → List ℕ
 freshQueue s = 0 ∷ 0 ∷ repeated (s .jobs) freshPlace
 
 abbrev pub freshWorkers : Sizes → List ℕ
-freshWorkers s = repeated (s .workers) (bareWorker IDLE none)
+freshWorkers s = repeated (s .workers) (bareWorker IDLE none 0)
 
 -- words past a table's need stay
 unfoldable pub freshTables : Sizes → Tables → Tables

@@ -8,10 +8,10 @@ use lib.Dec.{ltb, eqb}
 use Rattle.basics.specs.Base.{pick}
 use Rattle.terms.specs.Seen.{Request, CallSeen, idle, looking, linking, marking, notifying, JobSeen, Seen}
 use Rattle.words.specs.Columns.{cells}
-use Rattle.words.specs.Layout.{none, NAME, LABEL, COUNT, CLASS, GROWER, FIRST, NEXT, DEPENDENT, AFTER, PHASE}
+use Rattle.words.specs.Layout.{none, NAME, LABEL, COUNT, CLASS, GROWER, FIRST, NEXT, OUTCOME, MARK, DEPENDENT}
 use Rattle.words.specs.Layout.{HELD, OWN-NAME, LIST-COUNT, OWN-CLASS, OWN-GROWER, TALLY, PLACE, OWN-JOB, OWN-ARC}
 use Rattle.words.specs.Layout.{NAMES, IDLE, LOOKING, LINKING, MARKING, CELL, SLOT, Tables, View, view}
-use Rattle.words.specs.Layout.{storedMinutes}
+use Rattle.words.specs.Layout.{storedMinutes, AFTER, PHASE, NOTE}
 use Rattle.words.specs.Index.{filled}
 
 -- the jobs in n cells from the i-th on; a job that was taken is there no more
@@ -62,6 +62,8 @@ jobSeen v j = record {
   class = v .job CLASS j;
   grower = v .job GROWER j;
   arcs = arcsFrom v (v .job FIRST j);
+  outcome = v .job OUTCOME j;
+  mark = v .job MARK j;
 }
 
 -- a place, or none
@@ -82,8 +84,9 @@ callSeen v w =
     pick (eqb (v .worker PHASE w) IDLE) idle
     (pick (eqb (v .worker PHASE w) LOOKING) (looking (requestSeen v w) (v .worker PLACE w))
     (pick (eqb (v .worker PHASE w) LINKING)
-    (linking (requestSeen v w) (v .worker OWN-JOB w) (v .worker PLACE w) (v .worker TALLY w))
-    (pick (eqb (v .worker PHASE w) MARKING) marking (notifying (arcsFrom v (v .worker OWN-ARC w))))))
+    (linking (requestSeen v w) (v .worker OWN-JOB w) (v .worker PLACE w) (v .worker TALLY w) (v .worker NOTE w))
+    (pick (eqb (v .worker PHASE w) MARKING) (marking (v .worker NOTE w))
+    (notifying (v .worker NOTE w) (arcsFrom v (v .worker OWN-ARC w))))))
 
 abbrev pub seen : Tables → Seen
 seen t = record {

@@ -1,5 +1,5 @@
--- The stored minutes, and a job's fields, by the words of the jobs table. Follows docs/TABLES.md: "Word 5 + c has the minutes of class c".
--- Assumes nothing.
+-- The stored minutes, and a job's fields, by the words of the jobs table. Follows docs/TABLES.md: "Word 5 + c has the
+-- minutes of class c". Assumes nothing.
 use mathlib.Core.Path.{_≡_, refl, ap, _∙_}
 use mathlib.Core.List.{List}
 use Prim.Native.Nat.{ℕ, zero, suc, _+_, _*_, _<_}
@@ -28,7 +28,7 @@ unfolding header
 minutes-by-words jobs = (length-cells (header jobs) MINUTES 16, λ c h. getD-cells (header jobs) MINUTES 16 c h)
 
 -- and a job's words, and those of the header
-pub job-by-words : (jobs : List ℕ) (j k : ℕ) → k < 8
-    → (columns jobShape jobs k j ≡ getD jobs (21 + 8 * j + k) 0) × (header jobs k ≡ getD jobs k 0)
+pub job-by-words : (jobs : List ℕ) (j k : ℕ) → k < 10
+    → (columns jobShape jobs k j ≡ getD jobs (21 + 10 * j + k) 0) × (header jobs k ≡ getD jobs k 0)
 unfolding columns header
-job-by-words jobs j k h = (rw (lt-ltb k 8 h), refl)
+job-by-words jobs j k h = (rw (lt-ltb k 10 h), refl)

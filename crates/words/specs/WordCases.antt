@@ -15,7 +15,8 @@ use Rattle.terms.specs.declared.Sizes.{Sizes}
 use Rattle.words.specs.Columns.{columns, header, put, putHeader}
 use Rattle.words.specs.Layout.{Tables, tables, need, jobShape, arcShape, bucketShape, queueShape, workerShape}
 use Rattle.words.specs.Layout.{longEnough, sizesKept, repeated, freshTables}
-use Rattle.words.specs.Words.{perform, ownOk, walk, findOf, planLookUp, planEnter, planAppend, planLink, withSeat}
+use Rattle.words.specs.Words.{perform, ownOk, walk, findOf, planLookUp, planEnter, planAppend, planTally}
+use Rattle.words.specs.Words.{planLink, withSeat}
 use Rattle.words.specs.Words.{planSettle, planMark, planNotify, planAdd, planLinks, planCall, planPhase, admitted}
 use Rattle.words.specs.Words.{applied, stepWords, planTake, planQueue, planGet, appliedGet, getWords, posted}
 use Rattle.words.specs.Words.{addWords, finishWords, layOut}
@@ -36,16 +37,16 @@ tells r = telling perform waiting (layOut (r .sizes) (old (r .sizes)) .state) (r
 pub starred-rows : map tells starred ≡ map (λ r. r .tells) starred
 unfolding contains repeats occurrences prefix argumentsWrong withinLimits after events entries answersOf steps
     before orders rowsOf starred fixedMinutes productOf bucketOf columns header put putHeader longEnough sizesKept
-    repeated freshTables perform ownOk walk findOf planLookUp planEnter planAppend planLink withSeat planSettle
-    planMark planNotify planAdd planLinks planCall planPhase admitted applied stepWords planTake planQueue planGet
-    appliedGet getWords posted addWords finishWords layOut jobsIn siftUp siftDown waits seatFor firstSeatBy
+    repeated freshTables perform ownOk walk findOf planLookUp planEnter planAppend planTally planLink withSeat
+    planSettle planMark planNotify planAdd planLinks planCall planPhase admitted applied stepWords planTake planQueue
+    planGet appliedGet getWords posted addWords finishWords layOut jobsIn siftUp siftDown waits seatFor firstSeatBy
     shiftedDown shiftedUp putSeat takeSeat
 starred-rows = refl
 
 pub one-of-two-rows : map tells oneOfTwo ≡ map (λ r. r .tells) oneOfTwo
 unfolding contains repeats occurrences prefix argumentsWrong withinLimits after events entries answersOf steps
     oneOfTwo productOf bucketOf fixedMinutes columns header put putHeader longEnough sizesKept repeated freshTables
-    perform ownOk walk findOf planLookUp planEnter planAppend planLink withSeat planSettle planMark planNotify
+    perform ownOk walk findOf planLookUp planEnter planAppend planTally planLink withSeat planSettle planMark planNotify
     planAdd planLinks planCall planPhase admitted applied stepWords planTake planQueue planGet appliedGet getWords
     posted addWords finishWords layOut jobsIn siftUp siftDown waits seatFor firstSeatBy shiftedDown shiftedUp
     putSeat takeSeat

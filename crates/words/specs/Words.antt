@@ -12,7 +12,7 @@ use Rattle.bucket.specs.Bucket.{bucketOf}
 use Rattle.minutes.specs.Rising.{isRising}
 use Rattle.terms.specs.Terms.{settles, Arguments, listed, argumentsWrong, wrongSizes, noSuchWorker, halfDone}
 use Rattle.terms.specs.Terms.{nothingToStep, wrongArguments, unknownName, namePresent, tablesFull, damaged}
-use Rattle.terms.specs.Terms.{alreadyHolding, notHeld, wrongMinutes, jobsEntered}
+use Rattle.terms.specs.Terms.{alreadyHolding, notHeld, wrongMinutes, jobsEntered, goodForSpoiled, Finish, bit}
 use Rattle.terms.specs.Runs.{Item, postAdd, postFinish, step, get, load, Outcome, outcome}
 use Rattle.terms.specs.declared.Sizes.{Sizes}
 use Rattle.terms.specs.declared.HandOut.{HandOut}
@@ -20,11 +20,11 @@ use Rattle.terms.specs.declared.Answer.{Answer}
 use Rattle.terms.specs.declared.Answer.the-variants.{Laid, Loaded, Posted, Going, Ended, NoneReady, Handed}
 use Rattle.terms.specs.declared.Answer.the-variants.{Refused}
 use Rattle.words.specs.Columns.{place, put, putHeader}
-use Rattle.words.specs.Layout.{none, jobShape, MADE, NAME, LABEL, COUNT, FIRST, LAST, NEXT, arcShape, RESERVED}
-use Rattle.words.specs.Layout.{DEPENDENT, AFTER, bucketShape, CELL, workerShape, PHASE, HELD}
+use Rattle.words.specs.Layout.{none, jobShape, MADE, NAME, LABEL, COUNT, FIRST, LAST, NEXT, OUTCOME, MARK}
+use Rattle.words.specs.Layout.{arcShape, RESERVED, DEPENDENT, AFTER, bucketShape, CELL, workerShape, PHASE, HELD}
 use Rattle.words.specs.Layout.{OWN-NAME, LIST-COUNT, OWN-CLASS, OWN-GROWER, TALLY, PLACE, OWN-JOB, OWN-ARC, NAMES}
 use Rattle.words.specs.Layout.{IDLE, LOOKING, LINKING, MARKING, NOTIFYING, tables, view, roomFor, sizesFit}
-use Rattle.words.specs.Layout.{bareWorker, freshTables, putMinutes, Tables, View}
+use Rattle.words.specs.Layout.{NOTE, bareWorker, freshTables, putMinutes, Tables, View}
 use Rattle.words.specs.Index.{seatFor, firstPlace, firstSeat, putSeat, takeSeat}
 use Rattle.words.specs.declared.Seat.{Seat}
 use Rattle.words.specs.declared.Seating.{Seating}
@@ -65,6 +65,7 @@ ownOk s v w =
     && leb (v .worker PLACE w) (v .worker LIST-COUNT w)
     && placeOk (v .worker OWN-JOB w) (v .made) (s .jobs)
     && placeOk (v .worker OWN-ARC w) (v .reserved) (s .arcs)
+    && leb (v .worker NOTE w) 1
 
 -- ---- the job of a name: the walk along its bucket, which passes at most as many jobs as were made
 unfoldable pub walk : ℕ → (ℕ → ℕ → ℕ) → ℕ → ℕ → ℕ → Found
@@ -98,9 +99,14 @@ planAppend s v p x j =
     (pick (eqb (v .job LAST p) none) (LinkFirst p x j) (LinkAfter p (v .job LAST p) x j))
     (Refuse damaged)
 
+-- a link to the finished job p reads its outcome
+unfoldable pub planTally : View → ℕ → Plan
+planTally v p = pick (leb (v .job OUTCOME p) 1) (Tally (v .job OUTCOME p)) (Refuse damaged)
+
 unfoldable pub planLink : Sizes → View → ℕ → ℕ → Found → Plan
 planLink s v x j (At p) =
-    pick (leb (v .job LABEL p) 2) (pick (eqb (v .job LABEL p) 2) Tally (planAppend s v p x j)) (Refuse damaged)
+    pick (leb (v .job LABEL p) 2) (pick (eqb (v .job LABEL p) 2) (planTally v p) (planAppend s v p x j))
+    (Refuse damaged)
 planLink s v x j Missing = Refuse damaged
 planLink s v x j Damaged = Refuse damaged
 
@@ -188,7 +194,7 @@ answerOf (Refuse n) = Refused n 0
 answerOf (Quit n i) = Refused n i
 answerOf Pass = Going
 answerOf (Enter j k h x) = Going
-answerOf Tally = Going
+answerOf (Tally o) = Going
 answerOf (LinkFirst p x j) = Going
 answerOf (LinkAfter p l x j) = Going
 answerOf (Settle j c) = Ended
@@ -204,7 +210,7 @@ putWorker l w r = sets l (place workerShape w 0) r
 
 -- "A call that ends puts the words of its call back": the worker is idle, and its hold stays
 abbrev pub idleWorker : View → ℕ → List ℕ → List ℕ
-idleWorker v w l = putWorker l w (bareWorker IDLE (v .worker HELD w))
+idleWorker v w l = putWorker l w (bareWorker IDLE (v .worker HELD w) 0)
 
 abbrev pub putField : List ℕ → ℕ → ℕ → ℕ → List ℕ
 putField l w k x = put workerShape l w k x
@@ -213,7 +219,7 @@ putField l w k x = put workerShape l w k x
 abbrev pub enteredJob : View → ℕ → ℕ → List ℕ
 enteredJob v w head =
     v .worker OWN-NAME w ∷ 0 ∷ v .worker LIST-COUNT w ∷ v .worker OWN-CLASS w ∷ v .worker OWN-GROWER w ∷ none ∷ none
-    ∷ head ∷ []
+    ∷ head ∷ 0 ∷ 0 ∷ []
 
 -- "With d = 0" no arc is reserved, and the first reserved arc is none
 abbrev pub firstArc : ℕ → ℕ → ℕ
@@ -227,8 +233,25 @@ enteredWorker v w j x l =
 abbrev pub nextPlace : View → ℕ → List ℕ → List ℕ
 nextPlace v w l = putField l w PLACE (v .worker PLACE w + 1)
 
-abbrev pub putCount : List ℕ → ℕ → ℕ → List ℕ
-putCount l j c = put jobShape l j COUNT c
+-- the note after a link to a finished job of outcome o
+abbrev pub noted : ℕ → ℕ → ℕ
+noted o note = pick (eqb o 1) 1 note
+
+-- the job j is spoiled where the note is 1: "settling spoils", and "a failed finish's step for an arc spoils that arc's
+-- dependent". The mark is not read
+abbrev pub spoiledBy : ℕ → List ℕ → ℕ → List ℕ
+spoiledBy note l j = pick (eqb note 1) (put jobShape l j MARK 1) l
+
+abbrev pub putCount : List ℕ → ℕ → ℕ → ℕ → List ℕ
+putCount l j c note = spoiledBy note (put jobShape l j COUNT c) j
+
+-- by the note of the worker w
+abbrev pub lowered : View → ℕ → List ℕ → ℕ → ℕ → List ℕ
+lowered v w l j c = putCount l j c (v .worker NOTE w)
+
+-- a job that is finished, with its outcome
+abbrev pub putOutcome : List ℕ → ℕ → ℕ → List ℕ
+putOutcome l p o = put jobShape (put jobShape l p LABEL 2) p OUTCOME o
 
 abbrev pub newArc : List ℕ → ℕ → ℕ → List ℕ
 newArc l x j = put arcShape (put arcShape l x DEPENDENT j) x AFTER none
@@ -239,7 +262,7 @@ arcsFrom x v w l = pick (eqb x none) (idleWorker v w l) (putField l w OWN-ARC x)
 
 abbrev pub markedWorker : ℕ → ℕ → List ℕ → List ℕ
 markedWorker x w l =
-    pick (eqb x none) (putWorker l w (bareWorker IDLE none))
+    pick (eqb x none) (putWorker l w (bareWorker IDLE none 0))
     (putField (putField (putField l w PHASE NOTIFYING) w HELD none) w OWN-ARC x)
 
 unfoldable pub applied : Plan → Tables → ℕ → Tables
@@ -252,9 +275,10 @@ applied (Enter j k h x) t w =
     (put bucketShape (t .buckets) k 0 j)
     (t .queue)
     (enteredWorker (view t) w j x (t .workers))
-applied Tally t w =
+applied (Tally o) t w =
     tables (t .jobs) (t .arcs) (t .buckets) (t .queue)
-    (putField (nextPlace (view t) w (t .workers)) w TALLY (view t .worker TALLY w + 1))
+    (putField (putField (nextPlace (view t) w (t .workers)) w TALLY (view t .worker TALLY w + 1)) w NOTE
+    (noted o (view t .worker NOTE w)))
 applied (LinkFirst p x j) t w =
     tables (put jobShape (put jobShape (t .jobs) p FIRST x) p LAST x) (newArc (t .arcs) x j) (t .buckets) (t .queue)
     (nextPlace (view t) w (t .workers))
@@ -262,15 +286,18 @@ applied (LinkAfter p l x j) t w =
     tables (put jobShape (t .jobs) p LAST x) (put arcShape (newArc (t .arcs) x j) l AFTER x) (t .buckets) (t .queue)
     (nextPlace (view t) w (t .workers))
 applied (Settle j c) t w =
-    tables (putCount (t .jobs) j c) (t .arcs) (t .buckets) (t .queue) (idleWorker (view t) w (t .workers))
+    tables (lowered (view t) w (t .jobs) j c) (t .arcs) (t .buckets) (t .queue) (idleWorker (view t) w (t .workers))
 applied (SettleQueue j c e) t w =
-    tables (putCount (t .jobs) j c) (t .arcs) (t .buckets) (putSeat (t .queue) e j) (idleWorker (view t) w (t .workers))
+    tables (lowered (view t) w (t .jobs) j c) (t .arcs) (t .buckets) (putSeat (t .queue) e j)
+    (idleWorker (view t) w (t .workers))
 applied (Mark p x) t w =
-    tables (put jobShape (t .jobs) p LABEL 2) (t .arcs) (t .buckets) (t .queue) (markedWorker x w (t .workers))
+    tables (putOutcome (t .jobs) p (view t .worker NOTE w)) (t .arcs) (t .buckets) (t .queue)
+    (markedWorker x w (t .workers))
 applied (Notify j c x) t w =
-    tables (putCount (t .jobs) j c) (t .arcs) (t .buckets) (t .queue) (arcsFrom x (view t) w (t .workers))
+    tables (lowered (view t) w (t .jobs) j c) (t .arcs) (t .buckets) (t .queue) (arcsFrom x (view t) w (t .workers))
 applied (NotifyQueue j c x e) t w =
-    tables (putCount (t .jobs) j c) (t .arcs) (t .buckets) (putSeat (t .queue) e j) (arcsFrom x (view t) w (t .workers))
+    tables (lowered (view t) w (t .jobs) j c) (t .arcs) (t .buckets) (putSeat (t .queue) e j)
+    (arcsFrom x (view t) w (t .workers))
 
 unfoldable pub stepWords : Sizes → Tables → ℕ → Outcome Tables
 stepWords s t w = outcome (answerOf (planStep s t w)) (applied (planStep s t w) t w)
@@ -278,14 +305,20 @@ stepWords s t w = outcome (answerOf (planStep s t w)) (applied (planStep s t w) 
 -- ---- get
 -- a job as it is handed out
 abbrev pub handOut : View → ℕ → HandOut
-handOut v j = record { job = j; name = v .job NAME j }
+handOut v j = record { job = j; name = v .job NAME j; spoiled = eqb (v .job MARK j) 1 }
 
 -- the job that is next by the order of hand-outs: that of the index's first place
 abbrev pub nextJob : View → ℕ
 nextJob v = v .cell CELL (firstPlace v)
 
+-- the mark of a job is 0 or 1
+abbrev pub markOk : View → ℕ → Bool
+markOk v j = leb (v .job MARK j) 1
+
 abbrev pub takeFrom : View → Seating → GetPlan
-takeFrom v (Seated e) = pick (eqb (v .job LABEL (nextJob v)) 0) (Take (handOut v (nextJob v)) e) (RefuseGet damaged)
+takeFrom v (Seated e) =
+    pick (eqb (v .job LABEL (nextJob v)) 0 && markOk v (nextJob v)) (Take (handOut v (nextJob v)) e)
+    (RefuseGet damaged)
 takeFrom v Unseated = RefuseGet damaged
 
 unfoldable pub planTake : View → GetPlan
@@ -334,14 +367,22 @@ judgedAdd s v w a =
 abbrev pub holdsName : View → ℕ → ℕ → Bool
 holdsName v w name = isPlace (v .worker HELD w) && eqb (v .job NAME (v .worker HELD w)) name
 
-abbrev pub judgedFinish : Sizes → View → ℕ → ℕ → ℕ
-judgedFinish s v w name =
-    pick (eqb (v .worker PHASE w) IDLE) (pick (holdsName v w name) (judgedCounters s v) notHeld) halfDone
+-- the finish of the job p that is held, failed or good: it reads the counters and the mark, and then "19, good for a
+-- spoiled job"
+abbrev pub judgedOutcome : Sizes → View → ℕ → Bool → ℕ
+judgedOutcome s v p failed =
+    pick (countersOk s v && markOk v p) (pick (eqb (v .job MARK p) 1 && not failed) goodForSpoiled 0) damaged
+
+abbrev pub judgedFinish : Sizes → View → ℕ → Finish → ℕ
+judgedFinish s v w f =
+    pick (eqb (v .worker PHASE w) IDLE)
+    (pick (holdsName v w (f .name)) (judgedOutcome s v (v .worker HELD w) (f .failed)) notHeld)
+    halfDone
 
 -- the words of the posted add; "names past the count are kept as 0"
 abbrev pub addingWorker : ℕ → Arguments → List ℕ
 addingWorker held a =
-    LOOKING ∷ held ∷ a .name ∷ a .count ∷ a .class ∷ a .grower ∷ 0 ∷ 0 ∷ none ∷ none ∷ prefix mostNames (listed a)
+    LOOKING ∷ held ∷ a .name ∷ a .count ∷ a .class ∷ a .grower ∷ 0 ∷ 0 ∷ none ∷ none ∷ 0 ∷ prefix mostNames (listed a)
 
 unfoldable pub posted : ℕ → Tables → ℕ → List ℕ → Outcome Tables
 posted zero t w r =
@@ -355,9 +396,10 @@ unfoldable pub addWords : Sizes → Tables → ℕ → Arguments → Outcome Tab
 addWords s t w a =
     posted (admitted s t w refusal (judgedAdd s (view t) w a)) t w (addingWorker (view t .worker HELD w) a)
 
-unfoldable pub finishWords : Sizes → Tables → ℕ → ℕ → Outcome Tables
-finishWords s t w name =
-    posted (admitted s t w refusal (judgedFinish s (view t) w name)) t w (bareWorker MARKING (view t .worker HELD w))
+unfoldable pub finishWords : Sizes → Tables → ℕ → Finish → Outcome Tables
+finishWords s t w f =
+    posted (admitted s t w refusal (judgedFinish s (view t) w f)) t w
+    (bareWorker MARKING (view t .worker HELD w) (bit (f .failed)))
 
 -- ---- laying out
 unfoldable pub layOut : Sizes → Tables → Outcome Tables
@@ -385,7 +427,7 @@ loadWords s t m = loading (judgedLoad s t m) t m
 -- ---- an item of demand 3's list
 unfoldable pub perform : Tables → Item → Outcome Tables
 perform t (postAdd s w a) = addWords s t w a
-perform t (postFinish s w f) = finishWords s t w (f .name)
+perform t (postFinish s w f) = finishWords s t w f
 perform t (step s w) = stepWords s t w
 perform t (get s w) = getWords s t w
 perform t (load s m) = loadWords s t m

@@ -43,8 +43,10 @@ pub enum Plan {
         head: u32,
         arc: u32,
     },
-    // A link found a finished prerequisite.
-    Tally,
+    // A link found a finished prerequisite of this outcome.
+    Tally {
+        outcome: u32,
+    },
     // A link appends an arc to an empty list, or after the last of a list.
     LinkFirst {
         prerequisite: u32,

@@ -6,9 +6,9 @@ use mathlib.Core.Option.{none}
 use Prim.Native.Nat.{ℕ, _+_, _-_, _<_}
 use native.Mathlib.Omega.{arith}
 use lib.ListN.{length}
-use Rattle.terms.specs.Terms.{Arguments, labelNumber}
+use Rattle.terms.specs.Terms.{Arguments, labelNumber, bit}
 use Rattle.terms.specs.Seen.{Same, JobSeen}
-use Rattle.terms.specs.Runs.{Item, get, load, after, events, entries}
+use Rattle.terms.specs.Runs.{Item, postFinish, get, load, after, events, entries}
 use Rattle.terms.specs.declared.Sizes.{Sizes}
 use Rattle.terms.specs.declared.Answer.the-variants.{NoneReady}
 use Rattle.words.specs.Layout.{Tables}
@@ -29,8 +29,13 @@ use Rattle.words_refine_rules.specs.Items.{item}
 use Rattle.words_refine_rules.specs.Seen.{shown}
 use Rattle.audit.specs.TurnedAway.{turned-away}
 use Rattle.audit.specs.Loads.{load-answered, minutes-are-loaded}
+use Rattle.audit.specs.Marks.{marked-rightly, marked-once-queued, marked-when-ended, ends-failed}
+use Rattle.audit.specs.Chained.{chained}
+use Rattle.audit.specs.Carried.{JobsAlike, marked-carried, queued-carried, when-ended-carried, ended-carried}
+use Rattle.audit.specs.Carried.{chained-carried, keeps-carried}
 use Rattle.rules_follow_model.specs.Entries.{entries-length, listed-length}
-use Rattle.rules_follow_model.specs.Settled.{same-entry, counts, waiting-ready, none-ready}
+use Rattle.rules_follow_model.specs.Settled.{counts, marks, waiting-ready, none-ready}
+use Rattle.rules_follow_model.specs.Posts.{keeps, posts}
 use Rattle.rules_history.specs.Onward.{entriesBy, onward}
 
 -- the theorems about every history by the rules are the section's parameters
@@ -109,6 +114,10 @@ module _ (s : Sizes)
     does : Same s (seen T) (rules-seen.seen g)
     does = shown (walk .stands) O
 
+    -- so of the jobs of the accepted adds
+    alike : JobsAlike (seen T) (rules-seen.seen g) adds
+    alike = record { job = λ j h. does .jobs j (omega (arith, K .adds)) }
+
     pub marked : (name : ℕ) → Finished g name → MarkedFinished (seen T) adds name
     marked name f =
         let at = found-there g name (f .job) (f .found) in
@@ -119,26 +128,16 @@ module _ (s : Sizes)
           marked = ap (λ (x : JobSeen). x .label) (does .jobs (f .job) (at .0)) ∙ ap labelNumber (f .finished);
         }
 
-    shows : Quiet r → Shows s (seen T) (K .book)
+    shows : Quiet r → Shows (seen T) (K .book)
     shows quiet =
         let both = balanced g r e history quiet in
         let B = both .1 in
-        let n : length (K .book .jobs) ≡ length (g .jobs) = ap length (K .jobs) ∙ entries-length (g .jobs) in
+        let there : (j : ℕ) → j < length (K .book .jobs) → j < length (g .jobs) =
+        (λ j h. omega (arith, ap length (K .jobs) ∙ entries-length (g .jobs))) in
         record {
-          made = does .made ∙ sym n;
-          jobs = λ j h.
-              let there : j < length (g .jobs) = omega (arith, n) in
-              let row = does .jobs j there in
-              let same = same-entry K B j in
-              record {
-                name = ap (λ (x : JobSeen). x .name) row ∙ sym (ap (λ x. x .name) same);
-                class = ap (λ (x : JobSeen). x .class) row ∙ sym (ap (λ x. x .class) same);
-                grower = ap (λ (x : JobSeen). x .grower) row ∙ sym (ap (λ x. x .grower) same);
-                label = ap (λ (x : JobSeen). x .label) row ∙ sym (ap (λ x. labelNumber (x .label)) same);
-                count = ap (λ (x : JobSeen). x .count) row ∙ counts K B j there;
-              };
+          counts = λ j h. ap (λ (x : JobSeen). x .count) (does .jobs j (there j h)) ∙ counts K B j (there j h);
+          marks = λ j h. ap (λ (x : JobSeen). x .mark) (does .jobs j (there j h)) ∙ ap bit (marks K B j (there j h));
           waits = λ j. rw (does .waiting) (waiting-ready K B j);
-          holds = λ w h. does .held w h ∙ sym (K .held w);
         }
 
     none-ready-shown : Quiet r → (w : ℕ) → w < s .workers → K .book .held w ≡ none
@@ -163,8 +162,19 @@ module _ (s : Sizes)
           let same = K .added j there in
           C .when-ended j there (rw (same .name) at a)
           (λ i l. rw (same .list) at (f i (omega (arith, list-length j there)))));
+      marks = rw told (λ j h. marked-carried alike j h (marked-rightly history j h));
+      marked-once-queued = λ j. rw (told, entered j) (λ h.
+          queued-carried alike j (omega (arith, C .there j h, K .adds)) (marked-once-queued history j h));
+      marked-when-ended =
+          rw told (λ j k a n f. when-ended-carried alike n (marked-when-ended history j k a n f));
+      ends-failed = rw told (λ j h. ended-carried alike j h (ends-failed history j));
+      chains = rw told (λ quiet j h. chained-carried alike j h (chained history quiet j h));
       book = K .book;
       follows = rw told (K .follows);
+      keeps = keeps-carried does (keeps K);
+      finish-posts = rw told (λ w h free f.
+          rw (item s T g (walk .ghost) (walk .stands) O (postFinish s w f) .answer)
+          (posts sound history K w h free f));
       shows = rw told shows;
       none-ready = rw told none-ready-shown;
       turns-away = λ i. rw (told, item s T g (walk .ghost) (walk .stands) O i .answer) (turned-away history i);

@@ -77,7 +77,7 @@ module _ (entering : List ℕ → Seat → ℕ → List ℕ) (taking : List ℕ 
   queueEntered (Quit n i) q = q
   queueEntered Pass q = q
   queueEntered (Enter j k h x) q = q
-  queueEntered Tally q = q
+  queueEntered (Tally o) q = q
   queueEntered (LinkFirst p x j) q = q
   queueEntered (LinkAfter p l x j) q = q
   queueEntered (Settle j c) q = q
@@ -111,7 +111,7 @@ own-stores t (step s w) = go (planStep s t w)
     go (Quit n i) = refl
     go Pass = refl
     go (Enter j k h x) = refl
-    go Tally = refl
+    go (Tally o) = refl
     go (LinkFirst p x j) = refl
     go (LinkAfter p l x j) = refl
     go (Settle j c) = refl

@@ -21,12 +21,12 @@ use Rattle.terms.specs.AheadLaws.{is-first}
 use Rattle.terms.specs.declared.Sizes.{Sizes}
 use Rattle.terms.specs.declared.HandOut.{HandOut}
 use Rattle.terms.specs.declared.Answer.the-variants.{Laid, NoneReady, Handed}
-use Rattle.words.specs.Layout.{Tables, view, workerShape, NAME, HELD, LIST-COUNT, NAMES, IDLE, bareWorker}
-use Rattle.words.specs.Layout.{storedMinutes}
+use Rattle.words.specs.Layout.{Tables, view, workerShape, NAME, OUTCOME, MARK, HELD, LIST-COUNT, NOTE, NAMES, IDLE}
+use Rattle.words.specs.Layout.{bareWorker, storedMinutes}
 use Rattle.words.specs.Layout as words
 use Rattle.words.specs.Words.{perform, layOut}
 use Rattle.words.specs.Observed.{bucketFrom, newestFirst, seen}
-use Rattle.rules.specs.Rules.{Graph, empty, job}
+use Rattle.rules.specs.Rules.{Call, idle, looking, linking, marking, notifying, Graph, empty, job}
 use Rattle.rules.specs.Rules as rules
 use Rattle.rules.specs.Observed as rules-seen
 use Rattle.rules.specs.Sound.{Finished}
@@ -38,6 +38,7 @@ use Rattle.rules_history.specs.Onward.{entriesBy, onward}
 use Rattle.linearizability.specs.Demand.{addOf, HandedRightly, JobFinished, handedOut}
 use Rattle.linearizability.specs.Ends.{AddStep, FinishOf}
 use Rattle.linearizability.specs.LongFirst.{minutesSeen, longFirst, TakesLongest, ByCount}
+use Rattle.representation.specs.Rep.{CallRep}
 use Rattle.representation_kept.specs.Find.{found-there}
 use Rattle.representation_kept.specs.Arcs.{few-arcs}
 use Rattle.representation_kept.specs.Chains.{chains}
@@ -50,6 +51,9 @@ use Rattle.rules_invariant.specs.Sound.{sound, soundly}
 use Rattle.audit.specs.Gets.{handed-ready}
 use Rattle.audit.specs.Gets as gets
 use Rattle.audit.specs.Handed.{handed-once}
+use Rattle.audit.specs.Bits.{bit-within}
+use Rattle.audit.specs.Marks as marks
+use Rattle.audit.specs.Carried.{JobsAlike, failed-carried}
 use Rattle.audit.specs.Finishes.{finishedBy, finishes, occurs-there, finished-once}
 use Rattle.audit.specs.Drained as audit
 use Rattle.audit.specs.LongFirst.{seen-idle}
@@ -127,6 +131,13 @@ module _ (s : Sizes) (t : Tables) (laid : layOut s t .answer ≡ Laid) (items : 
   abbrev adds : List Arguments
   adds = acceptedAdds (r .calls)
 
+  -- the jobs of the accepted adds are seen alike in the words and in the rules' graph
+  alike : JobsAlike (seen T) (rules-seen.seen g) adds
+  alike = record { job = λ j h. does .jobs j (omega (arith, K .adds)) }
+
+  alike-back : JobsAlike (rules-seen.seen g) (seen T) adds
+  alike-back = record { job = λ j h. sym (alike .job j h) }
+
   -- a finished job's name is among the accepted finishes
   finishes-of : (j : ℕ) → j < length (g .jobs) → job g j .label ≡ finished
       → contains (job g j .name) (acceptedFinishes (r .calls)) ≡ true
@@ -141,16 +152,19 @@ module _ (s : Sizes) (t : Tables) (laid : layOut s t .answer ≡ Laid) (items : 
   rightly-handed q w h = rw (told, next (get q w)) (λ e.
       let j : ℕ = h .job in
       let o = handed-ready history q w h e in
+      let said = marks.told history q w h e in
       let same = K .added j (o .there) in
       let n : addOf adds j .count ≡ length (job g j .list) =
       sym (listed-length (addOf adds j)) ∙ ap length (same .list) in
       record {
+        waited = rw (does .waiting) (o .waits);
         there = omega (arith, o .there, K .adds);
         named = ap (λ (x : HandOut). x .name) (o .said) ∙ sym (same .name);
         unexecuted = ap (λ (x : JobSeen). x .label) (does .jobs j (o .there)) ∙ ap labelNumber (o .unexecuted);
         prerequisites = λ i l. rw (same .list)
             (marked-finished s t laid items _ (o .prerequisites i (omega (arith, n))));
         finishes = λ i l. rw (same .list) (finished-name _ (o .prerequisites i (omega (arith, n))));
+        told = (λ y. failed-carried alike j (said .0 y), λ f. said .1 (failed-carried alike-back j f));
       })
 
   pub drained : Quiet read → ((w : ℕ) → w < s .workers → seen T .held w ≡ none) → seen T .waiting ≡ []
@@ -218,12 +232,28 @@ module _ (s : Sizes) (t : Tables) (laid : layOut s t .answer ≡ Laid) (items : 
   -- ---- the words of workers
   pub fresh-call : (w : ℕ) → w < s .workers → read .pending w ≡ reading.idle → (k : ℕ) → k < workerShape .width
       → k ≢ HELD
-      → view T .worker k w ≡ getD (bareWorker IDLE words.none) k 0
+      → view T .worker k w ≡ getD (bareWorker IDLE words.none 0) k 0
   fresh-call w h = rw told (λ e. idle-fresh (R .stands) w h (worker-idle g r pacing w e))
 
   pub names-past : (w : ℕ) → w < s .workers → (q : ℕ) → view T .worker LIST-COUNT w ≤ q → q < mostNames
       → view T .worker (NAMES + q) w ≡ 0
   names-past w h q = past-count (R .stands) w h q
+
+  -- ---- "the words of outcome, mark and note are 0 or 1"
+  pub job-bits : (j : ℕ) → j < s .jobs → (view T .job OUTCOME j ≤ 1) × (view T .job MARK j ≤ 1)
+  job-bits j h =
+      let row = R .stands .rep .rows j h in
+      (rw (row .outcome) (bit-within (job g j .failed)), rw (row .mark) (bit-within (job g j .spoiled)))
+
+  pub note-bit : (w : ℕ) → w < s .workers → view T .worker NOTE w ≤ 1
+  note-bit w h = of (g .workers w .call) (R .stands .calls w h .call)
+    where
+      of : (c : Call) → CallRep (view T .worker) (R .ghost) w c → view T .worker NOTE w ≤ 1
+      of idle c = rw (c .note) (omega arith)
+      of (looking a i) c = rw (c .note) (omega arith)
+      of (linking a j i u) c = rw (c .0 .note) (bit-within (u .noted))
+      of (marking f) c = rw (c .note) (bit-within f)
+      of (notifying p k f) c = rw (c .note) (bit-within f)
 
   -- ---- names and buckets
   pub one-of-a-name : (i j : ℕ) → i < seen T .made → j < seen T .made → seen T .job i .name ≡ seen T .job j .name

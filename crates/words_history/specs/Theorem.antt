@@ -18,7 +18,7 @@ use Rattle.rules.specs.Rules as rules
 use Rattle.rules.specs.Sound.{Sound, Finished}
 use Rattle.linearization.specs.Calls.{Reading, unread, reading, Quiet, acceptedAdds}
 use Rattle.rules_history.specs.History.{History, start, Counted, Booked, Balanced, AllIdle}
-use Rattle.linearizability.specs.Demand.{MarkedFinished, Demand, gives}
+use Rattle.linearizability.specs.Demand.{entriesInto, MarkedFinished, Demand, gives}
 use Rattle.representation.specs.Rep.{Ghost, Stands}
 use Rattle.representation_kept.specs.Fresh.{noGhost, fresh-stands}
 use Rattle.words_refine_rules.specs.Runs.{runs}
@@ -28,7 +28,7 @@ use Rattle.rules_follow_model.specs.Booked.{booked}
 use Rattle.rules_invariant.specs.Sound.{sound, soundly}
 use Rattle.rules_invariant.specs.Counted.{counted}
 use Rattle.rules_invariant.specs.Balanced.{balanced}
-use Rattle.rules_history.specs.Onward.{onward}
+use Rattle.rules_history.specs.Onward.{entriesBy, onward}
 use Rattle.words_history.specs.Holds.{Along, along, marked, holds}
 
 laid-stands : (s : Sizes) (t : Tables) → roomFor s t ≡ true → Stands s (layOut s t .state) empty noGhost
@@ -84,6 +84,10 @@ module _ (s : Sizes) where
 
     walked : (items : List Item) → Along s soundly countedly bookedly quietly T empty items
     walked items = along s soundly countedly bookedly quietly T empty noGhost unread (λ j. 0) fresh start items
+
+    -- the same entries of each job into the queue
+    pub same-entries : (items : List Item) (j : ℕ) → entriesInto perform seen s T items j ≡ entriesBy s empty items j
+    same-entries items = walked items .entered
 
     -- what is known of the tables after the items
     pub record Reached (items : List Item) : Type 0 where

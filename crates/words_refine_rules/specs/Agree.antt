@@ -75,7 +75,7 @@ module _ (s : Sizes) (t : Tables) (g : Graph) (G : Ghost) (S : Stands s t g G) (
     -- ---- number 3
     pub when-idle : {A : Type 0} (F : A → Outcome Tables) (x y : A) (o : Outcome Graph)
         → F y ≡ outcome (Refused halfDone 0) t
-        → (g .workers w .call ≡ idle → BareWords (view t .worker) w IDLE layout.none → Agrees s (F x) o)
+        → (g .workers w .call ≡ idle → BareWords (view t .worker) w IDLE layout.none false → Agrees s (F x) o)
         → Agrees s (F (pick (eqb (view t .worker PHASE w) IDLE) x y)) (whenIdle g (g .workers w .call) o)
     unfolding whenIdle
     when-idle F x y o e k = go (g .workers w .call) refl (S .calls w hw .call)
@@ -85,18 +85,18 @@ module _ (s : Sizes) (t : Tables) (g : Graph) (G : Ghost) (S : Stands s t g G) (
         go idle z r = rw (r .phase) (k z r)
         go (looking a i) z r = rw (r .phase, e) (refused halfDone)
         go (linking a j i u) z r = rw (r .0 .phase, e) (refused halfDone)
-        go marking z r = rw (r .phase, e) (refused halfDone)
-        go (notifying p k) z r = rw (r .phase, e) (refused halfDone)
+        go (marking fa) z r = rw (r .phase, e) (refused halfDone)
+        go (notifying p k fa) z r = rw (r .phase, e) (refused halfDone)
 
     -- ---- a call that ended: the worker is idle, and its hold stays
     pub idle-only : Only (s .workers) (t .workers) (idleWorker (view t) w (t .workers)) w
-    idle-only = record-only (s .workers) (t .workers) w (S .workers) hw (bareWorker IDLE (view t .worker HELD w))
-        (bare-fits (s .workers) (t .workers) w (S .workers) hw IDLE (view t .worker HELD w))
+    idle-only = record-only (s .workers) (t .workers) w (S .workers) hw (bareWorker IDLE (view t .worker HELD w) 0)
+        (bare-fits (s .workers) (t .workers) w (S .workers) hw IDLE (view t .worker HELD w) 0)
 
     pub idle-words : (H : Ghost)
         → WorkerRep (columns workerShape (idleWorker (view t) w (t .workers))) H w
         (record { held = g .workers w .held; call = idle })
     idle-words H = record {
-      held = bare-held (s .workers) (t .workers) w (S .workers) hw IDLE (view t .worker HELD w) ∙ S .calls w hw .held;
-      call = bare-words (s .workers) (t .workers) w (S .workers) hw IDLE (view t .worker HELD w);
+      held = bare-held (s .workers) (t .workers) w (S .workers) hw IDLE (view t .worker HELD w) 0 ∙ S .calls w hw .held;
+      call = bare-words (s .workers) (t .workers) w (S .workers) hw IDLE (view t .worker HELD w) false;
     }

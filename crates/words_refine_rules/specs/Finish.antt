@@ -57,7 +57,7 @@ module _ (s : Sizes) (t : Tables) (g : Graph) (G : Ghost) (S : Stands s t g G) (
   one = field s t g G S O w hw
 
   -- ---- the mark
-  module _ (B : BareWords f w MARKING layout.none) (p : ℕ) (held : g .workers w .held ≡ some p) where
+  module _ (fa : Bool) (B : BareWords f w MARKING layout.none fa) (p : ℕ) (held : g .workers w .held ≡ some p) where
     abbrev freed : Call → Worker
     freed c = record { held = none; call = c }
 
@@ -87,51 +87,55 @@ module _ (s : Sizes) (t : Tables) (g : Graph) (G : Ghost) (S : Stands s t g G) (
     marked-only : (b : Bool) → eqb (arc p 0) layout.none ≡ b
         → Only (s .workers) (t .workers) (markedWorker (arc p 0) w (t .workers)) w
     marked-only true e = rw e
-        (record-only (s .workers) (t .workers) w (S .workers) hw (bareWorker IDLE layout.none)
-        (bare-fits (s .workers) (t .workers) w (S .workers) hw IDLE layout.none))
+        (record-only (s .workers) (t .workers) w (S .workers) hw (bareWorker IDLE layout.none 0)
+        (bare-fits (s .workers) (t .workers) w (S .workers) hw IDLE layout.none 0))
     marked-only false e = rw e
         (one _ (one _ (one (t .workers) (here s t g G S O w hw) PHASE NOTIFYING refl) HELD layout.none refl) OWN-ARC
         (arc p 0) refl)
 
     mark-agrees : (b : Bool) → eqb (arc p 0) layout.none ≡ b → (c : Call)
         → WorkerRep (columns workerShape (markedWorker (arc p 0) w (t .workers))) G w (freed c)
-        → Agrees s (done (Mark p (arc p 0)) t w) (outcome (goingUnless b) (marked g w p c))
+        → Agrees s (done (Mark p (arc p 0)) t w) (outcome (goingUnless b) (marked g w p fa c))
     unfolding applied
     mark-agrees b e c r =
-        agrees s t g G S O w (done (Mark p (arc p 0)) t w) (outcome (goingUnless b) (marked g w p c)) G (freed c)
+        agrees s t g G S O w (done (Mark p (arc p 0)) t w) (outcome (goingUnless b) (marked g w p fa c)) G (freed c)
         (ap goingUnless e)
-        (mark-stands s t g G S O w p (arc p 0) c p-there (O .held-executing w p held))
+        (mark-stands s t g G S O w p (arc p 0) fa c (B .note) p-there (O .held-executing w p held))
         refl
         (marked-only b e)
         (unchanged g G w)
         r
 
     dependents : (l : List ℕ) → job g p .dependents ≡ l
-        → Agrees s (done (Mark p (arc p 0)) t w) (markDependents g w p l)
+        → Agrees s (done (Mark p (arc p 0)) t w) (markDependents g w p fa l)
     unfolding markDependents
     dependents [] e =
         let z : eqb (arc p 0) layout.none ≡ true =
         arc-none s t g G S O p 0 ∙ le-leb (length (job g p .dependents)) 0 (omega (arith, ap length e)) in
         mark-agrees true z idle (rw z
         (record {
-          held = bare-held (s .workers) (t .workers) w (S .workers) hw IDLE layout.none;
-          call = bare-words (s .workers) (t .workers) w (S .workers) hw IDLE layout.none;
+          held = bare-held (s .workers) (t .workers) w (S .workers) hw IDLE layout.none 0;
+          call = bare-words (s .workers) (t .workers) w (S .workers) hw IDLE layout.none false;
         }))
     dependents (j ∷ l) e =
         let z : eqb (arc p 0) layout.none ≡ false =
         arc-none s t g G S O p 0 ∙ lt-leb (length (job g p .dependents)) 0 (omega (arith, ap length e)) in
-        mark-agrees false z (notifying p 0) (rw z (simp (stores, columns-put workerShape (s .workers), S .workers, hw)
-        (record { held = update-same (f HELD) w layout.none; call = mark-words f w MARKING layout.none B (arc p 0) })))
+        mark-agrees false z (notifying p 0 fa) (rw z
+        (simp (stores, columns-put workerShape (s .workers), S .workers, hw)
+        (record {
+          held = update-same (f HELD) w layout.none;
+          call = mark-words f w MARKING layout.none fa B (arc p 0);
+        })))
 
-  pub marking-agrees : (h : Option ℕ) → g .workers w .held ≡ h → CallSound g h marking
-      → BareWords f w MARKING layout.none
-      → Agrees s (done (planPhase s (view t) w) t w) (mark g w h)
+  pub marking-agrees : (fa : Bool) (h : Option ℕ) → g .workers w .held ≡ h → CallSound g h (marking fa)
+      → BareWords f w MARKING layout.none fa
+      → Agrees s (done (planPhase s (view t) w) t w) (mark g w fa h)
   unfolding mark
-  marking-agrees none e o B = absurd o
-  marking-agrees (some p) e o B = rw (plan-mark B p e) (dependents B p e (job g p .dependents) refl)
+  marking-agrees fa none e o B = absurd o
+  marking-agrees fa (some p) e o B = rw (plan-mark fa B p e) (dependents fa B p e (job g p .dependents) refl)
 
   -- ---- the step for one arc
-  module _ (p k : ℕ) (o : Notifying g p k) (B : BareWords f w NOTIFYING (arc p k)) where
+  module _ (p k : ℕ) (fa : Bool) (o : Notifying g p k fa) (B : BareWords f w NOTIFYING (arc p k) fa) where
     abbrev j : ℕ
     j = getD (job g p .dependents) k 0
 
@@ -147,7 +151,7 @@ module _ (s : Sizes) (t : Tables) (g : Graph) (G : Ghost) (S : Stands s t g G) (
     -- the call that comes next: the finish goes on, or it ended
     abbrev next : Bool → Call
     next true = idle
-    next false = notifying p (suc k)
+    next false = notifying p (suc k) fa
 
     next-only : (b : Bool) → eqb x layout.none ≡ b
         → Only (s .workers) (t .workers) (arcsFrom x (view t) w (t .workers)) w
@@ -158,7 +162,7 @@ module _ (s : Sizes) (t : Tables) (g : Graph) (G : Ghost) (S : Stands s t g G) (
         → WorkerRep (columns workerShape (arcsFrom x (view t) w (t .workers))) G w (turned g w (next b))
     next-words true e = rw e (idle-words s t g G S O w hw G)
     next-words false e = rw (e, columns-put workerShape (s .workers) (t .workers) w OWN-ARC x refl (S .workers) hw)
-        (record { held = S .calls w hw .held; call = arc-words f w NOTIFYING (arc p k) B x })
+        (record { held = S .calls w hw .held; call = arc-words f w NOTIFYING (arc p k) fa B x })
 
     -- it ended exactly if no dependent is left
     ends : (b : Bool) → ltb (suc k) (length (job g p .dependents)) ≡ b → eqb x layout.none ≡ not b
@@ -169,10 +173,10 @@ module _ (s : Sizes) (t : Tables) (g : Graph) (G : Ghost) (S : Stands s t g G) (
 
     step-agrees : (q : Plan) (b : Bool) → eqb x layout.none ≡ b
         → applied q t w .workers ≡ arcsFrom x (view t) w (t .workers)
-        → answerOf q ≡ goingUnless (eqb x layout.none) → TablesStand s (applied q t w) (notified g w j (next b)) G
-        → Agrees s (done q t w) (outcome (goingUnless b) (notified g w j (next b)))
+        → answerOf q ≡ goingUnless (eqb x layout.none) → TablesStand s (applied q t w) (notified g w j fa (next b)) G
+        → Agrees s (done q t w) (outcome (goingUnless b) (notified g w j fa (next b)))
     step-agrees q b e l a T =
-        agrees s t g G S O w (done q t w) (outcome (goingUnless b) (notified g w j (next b))) G (turned g w (next b))
+        agrees s t g G S O w (done q t w) (outcome (goingUnless b) (notified g w j fa (next b))) G (turned g w (next b))
         (a ∙ ap goingUnless e)
         T
         refl
@@ -182,18 +186,18 @@ module _ (s : Sizes) (t : Tables) (g : Graph) (G : Ghost) (S : Stands s t g G) (
 
     notified-agrees : (b : Bool) → eqb x layout.none ≡ b → (d : Bool) → eqb (job g j .count) 1 ≡ d
         → Agrees s (done (pick d (withSeat s (view t) j (NotifyQueue j c x)) (Notify j c x)) t w)
-        (outcome (goingUnless b) (notified g w j (next b)))
+        (outcome (goingUnless b) (notified g w j fa (next b)))
     unfolding applied
     notified-agrees b e true y =
         let last = eqb-true (job g j .count) 1 y in
         let M = o .queues last in
         rw (with-seat s t g G S O j j-there M (NotifyQueue j c x))
         (step-agrees (NotifyQueue j c x (seatOf s t g G S O j j-there M)) b e refl refl
-        (notify-queue-stands s t g G S O w j x (next b) j-there (eq-eqb c 0 (omega arith)) M))
+        (notify-queue-stands s t g G S O w j x fa (next b) (B .note) j-there (eq-eqb c 0 (omega arith)) M))
     notified-agrees b e false y =
         let more = eqb-false (job g j .count) 1 y in
         step-agrees (Notify j c x) b e refl refl
-        (notify-stands s t g G S O w j x (next b) j-there (ne-eqb c 0 (omega (arith, o .counted))))
+        (notify-stands s t g G S O w j x fa (next b) (B .note) j-there (ne-eqb c 0 (omega (arith, o .counted))))
 
     plan-notify : planPhase s (view t) w
         ≡ pick (eqb (job g j .count) 1) (withSeat s (view t) j (NotifyQueue j c x)) (Notify j c x)
@@ -215,13 +219,14 @@ module _ (s : Sizes) (t : Tables) (g : Graph) (G : Ghost) (S : Stands s t g G) (
           le-leb (job g j .count) mostNames (O .counts j),
         )
 
-    pub notifying-agrees : Agrees s (done (planPhase s (view t) w) t w) (notify g w p k)
+    pub notifying-agrees : Agrees s (done (planPhase s (view t) w) t w) (notify g w p k fa)
     unfolding notify
     notifying-agrees = rw plan-notify (go (ltb (suc k) (length (job g p .dependents))) refl)
       where
         go : (b : Bool) → ltb (suc k) (length (job g p .dependents)) ≡ b
             → Agrees s
             (done (pick (eqb (job g j .count) 1) (withSeat s (view t) j (NotifyQueue j c x)) (Notify j c x)) t w)
-            (pick b (outcome Going (notified g w j (notifying p (suc k)))) (outcome Ended (notified g w j idle)))
+            (pick b (outcome Going (notified g w j fa (notifying p (suc k) fa)))
+            (outcome Ended (notified g w j fa idle)))
         go true e = notified-agrees false (ends true e) (eqb (job g j .count) 1) refl
         go false e = notified-agrees true (ends false e) (eqb (job g j .count) 1) refl

@@ -2,6 +2,7 @@
 -- tables, the words of the worker that steps, and this, the whole relation after the step. Assumes nothing.
 use mathlib.Core.Path.{_≡_, refl, ap, _∙_}
 use mathlib.Core.Logic.{_≢_}
+use mathlib.Core.Bool.{Bool, false}
 use mathlib.Core.List.{[], _∷_, _++_}
 use mathlib.Core.Option.{Option, none, some}
 use Prim.Native.Nat.{ℕ, _+_}
@@ -10,10 +11,10 @@ use native.Mathlib.Decide.{ℕ-discrete}
 use lib.ListN.{length, getD}
 use Rattle.basics.specs.Base.{update}
 use Rattle.basics.specs.Laws.{update-at, update-other}
-use Rattle.terms.specs.Terms.{Arguments}
+use Rattle.terms.specs.Terms.{Arguments, Tally, noTally}
 use Rattle.terms.specs.declared.Sizes.{Sizes}
 use Rattle.words.specs.Layout.{PHASE, HELD, OWN-NAME, LIST-COUNT, OWN-CLASS, OWN-GROWER, TALLY, PLACE, OWN-JOB, OWN-ARC}
-use Rattle.words.specs.Layout.{NAMES, view, Tables}
+use Rattle.words.specs.Layout.{NOTE, NAMES, view, Tables}
 use Rattle.words.specs.Layout as words
 use Rattle.words.specs.Words.{firstArc}
 use Rattle.rules.specs.Rules.{Call, idle, looking, linking, marking, notifying, Worker, Graph, job}
@@ -28,15 +29,15 @@ abbrev pub Same : Ghost → Ghost → Call → Type 0
 Same G H idle = Unit {0}
 Same G H (looking a i) = Unit {0}
 Same G H (linking a j i t) = (H .base j ≡ G .base j) × (H .linked j ≡ G .linked j)
-Same G H marking = Unit {0}
-Same G H (notifying p k) = H .via p ≡ G .via p
+Same G H (marking fa) = Unit {0}
+Same G H (notifying p k fa) = H .via p ≡ G .via p
 
 pub same-ghost : (G : Ghost) (c : Call) → Same G G c
 same-ghost G idle = tt
 same-ghost G (looking a i) = tt
 same-ghost G (linking a j i t) = (refl, refl)
-same-ghost G marking = tt
-same-ghost G (notifying p k) = refl
+same-ghost G (marking fa) = tt
+same-ghost G (notifying p k fa) = refl
 
 -- entering speaks of a job that no call speaks of yet
 pub enter-same : (g : Graph) (h : Option ℕ) (G : Ghost) (x : ℕ) (c : Call) → CallSound g h c
@@ -46,34 +47,35 @@ enter-same g h G x (looking a i) o = tt
 enter-same g h G x (linking a j i t) o =
     let e : j ≢ length (g .jobs) = omega (arith, o .there) in
     (update-other (G .base) (length (g .jobs)) x j e, update-other (G .linked) (length (g .jobs)) 0 j e)
-enter-same g none G x marking o = tt
-enter-same g (some p) G x marking o = tt
-enter-same g h G x (notifying p k) o = refl
+enter-same g none G x (marking fa) o = tt
+enter-same g (some p) G x (marking fa) o = tt
+enter-same g h G x (notifying p k fa) o = refl
 
 -- a link speaks of its own job, on which no other add works, and of the arcs of a job that is not finished
-pub link-same : (G : Ghost) (j p x : ℕ) (c : Call) → ((a : Arguments) (i t : ℕ) → c ≢ linking a j i t)
-    → ((k : ℕ) → c ≢ notifying p k)
+pub link-same : (G : Ghost) (j p x : ℕ) (c : Call) → ((a : Arguments) (i : ℕ) (t : Tally) → c ≢ linking a j i t)
+    → ((k : ℕ) (fa : Bool) → c ≢ notifying p k fa)
     → Same G (linkGhost G j p x) c
 link-same G j p x idle o n = tt
 link-same G j p x (looking a i) o n = tt
 link-same G j p x (linking a k i t) o n =
     (refl, update-other (G .linked) j (G .linked j + 1) k (λ z. o a i t (ap (λ y. linking a y i t) z)))
-link-same G j p x marking o n = tt
-link-same G j p x (notifying q k) o n =
-    update-other (G .via) p (G .via p ++ (x ∷ [])) q (λ z. n k (ap (λ y. notifying y k) z))
+link-same G j p x (marking fa) o n = tt
+link-same G j p x (notifying q k fa) o n =
+    update-other (G .via) p (G .via p ++ (x ∷ [])) q (λ z. n k fa (ap (λ y. notifying y k fa) z))
 
-pub tally-same : (G : Ghost) (j : ℕ) (c : Call) → ((a : Arguments) (i t : ℕ) → c ≢ linking a j i t)
+pub tally-same : (G : Ghost) (j : ℕ) (c : Call) → ((a : Arguments) (i : ℕ) (t : Tally) → c ≢ linking a j i t)
     → Same G (tallyGhost G j) c
 tally-same G j idle o = tt
 tally-same G j (looking a i) o = tt
 tally-same G j (linking a k i t) o =
     (refl, update-other (G .linked) j (G .linked j + 1) k (λ z. o a i t (ap (λ y. linking a y i t) z)))
-tally-same G j marking o = tt
-tally-same G j (notifying q k) o = refl
+tally-same G j (marking fa) o = tt
+tally-same G j (notifying q k fa) o = refl
 
 -- ---- a call whose words and ghosts are the same
 module _ (f h : ℕ → ℕ → ℕ) (w : ℕ) (e : (q : ℕ) → h q w ≡ f q w) where
-  add-frame : (a : Arguments) (ph ta pl jo ar : ℕ) → AddWords f w a ph ta pl jo ar → AddWords h w a ph ta pl jo ar
+  add-frame : (a : Arguments) (ph : ℕ) (ta : Tally) (pl jo ar : ℕ) → AddWords f w a ph ta pl jo ar
+      → AddWords h w a ph ta pl jo ar
   add-frame a ph ta pl jo ar A = record {
     phase = e PHASE ∙ A .phase;
     name = e OWN-NAME ∙ A .name;
@@ -81,20 +83,22 @@ module _ (f h : ℕ → ℕ → ℕ) (w : ℕ) (e : (q : ℕ) → h q w ≡ f q 
     class = e OWN-CLASS ∙ A .class;
     grower = e OWN-GROWER ∙ A .grower;
     tally = e TALLY ∙ A .tally;
+    note = e NOTE ∙ A .note;
     place = e PLACE ∙ A .place;
     job = e OWN-JOB ∙ A .job;
     arc = e OWN-ARC ∙ A .arc;
     names = λ q b. e (NAMES + q) ∙ A .names q b;
   }
 
-  bare-frame : (ph ar : ℕ) → BareWords f w ph ar → BareWords h w ph ar
-  bare-frame ph ar B = record {
+  bare-frame : (ph ar : ℕ) (fa : Bool) → BareWords f w ph ar fa → BareWords h w ph ar fa
+  bare-frame ph ar fa B = record {
     phase = e PHASE ∙ B .phase;
     name = e OWN-NAME ∙ B .name;
     count = e LIST-COUNT ∙ B .count;
     class = e OWN-CLASS ∙ B .class;
     grower = e OWN-GROWER ∙ B .grower;
     tally = e TALLY ∙ B .tally;
+    note = e NOTE ∙ B .note;
     place = e PLACE ∙ B .place;
     job = e OWN-JOB ∙ B .job;
     arc = e OWN-ARC ∙ B .arc;
@@ -102,12 +106,12 @@ module _ (f h : ℕ → ℕ → ℕ) (w : ℕ) (e : (q : ℕ) → h q w ≡ f q 
   }
 
   call-frame : (G H : Ghost) (c : Call) → Same G H c → CallRep f G w c → CallRep h H w c
-  call-frame G H idle o r = bare-frame words.IDLE words.none r
-  call-frame G H (looking a i) o r = add-frame a words.LOOKING 0 i words.none words.none r
+  call-frame G H idle o r = bare-frame words.IDLE words.none false r
+  call-frame G H (looking a i) o r = add-frame a words.LOOKING noTally i words.none words.none r
   call-frame G H (linking a j i t) o r =
       (rw (o .0) (add-frame a words.LINKING t i j (firstArc (a .count) (G .base j)) (r .0)), o .1 ∙ r .1)
-  call-frame G H marking o r = bare-frame words.MARKING words.none r
-  call-frame G H (notifying p k) o r = rw o (bare-frame words.NOTIFYING (getD (G .via p) k words.none) r)
+  call-frame G H (marking fa) o r = bare-frame words.MARKING words.none fa r
+  call-frame G H (notifying p k fa) o r = rw o (bare-frame words.NOTIFYING (getD (G .via p) k words.none) fa r)
 
 -- ---- the relation after a step of worker w, which becomes y
 pub whole : (s : Sizes) (t : Tables) (g : Graph) (G : Ghost) → Stands s t g G

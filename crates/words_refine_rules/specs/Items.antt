@@ -10,7 +10,7 @@ use borrow.Author.Tests.{le-leb}
 use Rattle.basics.specs.Base.{pick}
 use Rattle.minutes.specs.Rising.{isRising}
 use Rattle.terms.specs.Terms.{Arguments, argumentsWrong, nothingToStep, halfDone, wrongArguments, alreadyHolding}
-use Rattle.terms.specs.Terms.{notHeld, sameSizes, wrongSizes, damaged, wrongMinutes, jobsEntered, Finish}
+use Rattle.terms.specs.Terms.{notHeld, sameSizes, wrongSizes, damaged, wrongMinutes, jobsEntered, Finish, bit}
 use Rattle.terms.specs.Runs.{Item, postAdd, postFinish, step, get, load, outcome}
 use Rattle.terms.specs.declared.Sizes.{Sizes}
 use Rattle.terms.specs.declared.Answer.the-variants.{Loaded, Refused}
@@ -18,7 +18,7 @@ use Rattle.words.specs.Layout.{HELD, MARKING, bareWorker, view, Tables}
 use Rattle.words.specs.Layout as layout
 use Rattle.words.specs.Words.{planPhase, applied, planGet, planQueue, appliedGet, judgedAdd, judgedFinish, holdsName}
 use Rattle.words.specs.Words.{addingWorker, refusal, posted, stepWords, getWords, addWords, finishWords}
-use Rattle.words.specs.Words.{judgedCounters, loading, loadWords}
+use Rattle.words.specs.Words.{judgedCounters, judgedOutcome, loading, loadWords}
 use Rattle.words.specs.Words as words
 use Rattle.words.specs.declared.Plan.the-variants.{Refuse}
 use Rattle.words.specs.declared.GetPlan.the-variants.{RefuseGet}
@@ -46,8 +46,8 @@ module _ (s : Sizes) (t : Tables) (g : Graph) (G : Ghost) (S : Stands s t g G) (
     step-call idle e o r = rw (r .phase) (refused s t g G S O nothingToStep)
     step-call (looking a i) e o r = looking-agrees s t g G S O w hw a i o r
     step-call (linking a j i u) e o r = linking-agrees s t g G S O w hw a j i u e o r
-    step-call marking e o r = marking-agrees s t g G S O w hw (g .workers w .held) refl o r
-    step-call (notifying p k) e o r = notifying-agrees s t g G S O w hw p k o r
+    step-call (marking fa) e o r = marking-agrees s t g G S O w hw fa (g .workers w .held) refl o r
+    step-call (notifying p k fa) e o r = notifying-agrees s t g G S O w hw p k fa o r
 
     pub step-agrees : Agrees s (done (planPhase s (view t) w) t w) (stepCall s g w (g .workers w .call))
     step-agrees = step-call (g .workers w .call) refl (O .calls w) (S .calls w hw .call)
@@ -77,12 +77,14 @@ module _ (s : Sizes) (t : Tables) (g : Graph) (G : Ghost) (S : Stands s t g G) (
         (λ e B. add-agrees s t g G S O w hw B a)
 
     pub finishing-agrees : (f : Finish)
-        → Agrees s (posted (judgedFinish s (view t) w (f .name)) t w (bareWorker MARKING (view t .worker HELD w)))
+        → Agrees s
+        (posted (judgedFinish s (view t) w f) t w (bareWorker MARKING (view t .worker HELD w) (bit (f .failed))))
         (whenIdle g (g .workers w .call) (finishPosted g w f (g .workers w .held)))
     unfolding posted
     finishing-agrees f =
-        when-idle s t g G S O w hw (λ n. posted n t w (bareWorker MARKING (view t .worker HELD w)))
-        (pick (holdsName (view t) w (f .name)) (judgedCounters s (view t)) notHeld)
+        when-idle s t g G S O w hw
+        (λ n. posted n t w (bareWorker MARKING (view t .worker HELD w) (bit (f .failed))))
+        (pick (holdsName (view t) w (f .name)) (judgedOutcome s (view t) (view t .worker HELD w) (f .failed)) notHeld)
         halfDone
         (finishPosted g w f (g .workers w .held))
         refl
@@ -126,8 +128,8 @@ module _ (s : Sizes) (t : Tables) (g : Graph) (G : Ghost) (S : Stands s t g G) (
       (λ hw. adding-agrees w hw a)
       r
   item (postFinish r w f) =
-      admit s t g G S O w refusal (λ z. judgedFinish z (view t) w (f .name))
-      (λ n. posted n t w (bareWorker MARKING (view t .worker HELD w)))
+      admit s t g G S O w refusal (λ z. judgedFinish z (view t) w f)
+      (λ n. posted n t w (bareWorker MARKING (view t .worker HELD w) (bit (f .failed))))
       _
       refl
       refl

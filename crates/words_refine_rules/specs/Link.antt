@@ -5,22 +5,23 @@ use mathlib.Core.Logic.{_≢_}
 use mathlib.Core.Bool.{Bool, true, false}
 use Prim.Native.Nat.{ℕ, suc, _+_, _-_, _<_}
 use native.Mathlib.Omega.{arith}
-use lib.Dec.{ltb}
+use lib.Dec.{ltb, leb}
 use lib.ListN.{length, getD}
 use borrow.Author.Tests.{ne-eqb, le-leb, ltb-true, ltb-false}
 use Rattle.basics.specs.Limits.{mostNames}
 use Rattle.basics.specs.Base.{pick}
 use Rattle.basics.specs.Laws.{update-same, length-prefix}
 use Rattle.terms.specs.Terms.{settles, Label, unexecuted, executing, finished, labelNumber, Arguments, listed}
+use Rattle.terms.specs.Terms.{bit, Tally, tallyOne}
 use Rattle.terms.specs.Runs.{outcome}
 use Rattle.terms.specs.declared.Sizes.{Sizes}
 use Rattle.terms.specs.declared.Answer.the-variants.{Going, Ended}
 use Rattle.words.specs.Columns.{columns-put, stores}
-use Rattle.words.specs.Layout.{LABEL, workerShape, TALLY, PLACE, NAMES, LINKING, view, Tables}
-use Rattle.words.specs.Words.{findOf, planPhase, planLinks, planLink, planAppend, planSettle, withSeat, firstArc}
-use Rattle.words.specs.Words.{applied}
-use Rattle.words.specs.Words.{planCall}
-use Rattle.words.specs.declared.Plan.the-variants.{Tally, Settle, SettleQueue}
+use Rattle.words.specs.Layout.{LABEL, OUTCOME, workerShape, TALLY, PLACE, NOTE, NAMES, LINKING, view, Tables}
+use Rattle.words.specs.Words.{findOf, planPhase, planCall, planLinks, planLink, planTally, planAppend, planSettle}
+use Rattle.words.specs.Words.{withSeat, firstArc, applied}
+use Rattle.words.specs.declared.Plan.the-variants as words
+use Rattle.words.specs.declared.Plan.the-variants.{Settle, SettleQueue}
 use Rattle.words.specs.declared.Found.the-variants.{At}
 use Rattle.rules.specs.Rules.{Call, idle, linking, notifying, Graph, job, at, find, withCall, linked, linkTo, link}
 use Rattle.rules.specs.Rules.{settled, stepCall}
@@ -33,13 +34,13 @@ use Rattle.representation_kept.specs.Queue.{seatOf, with-seat}
 use Rattle.representation_kept.specs.Count.{settle-stands, settle-queue-stands}
 use Rattle.words_refine_rules.specs.Workers.{next-words, tally-words}
 use Rattle.words_refine_rules.specs.Frames.{link-same, tally-same}
-use Rattle.words_refine_rules.specs.Own.{fitting, counters-ok, job-place}
+use Rattle.words_refine_rules.specs.Own.{bit-ok, fitting, counters-ok, job-place}
 use Rattle.words_refine_rules.specs.Agree.{Agrees, agrees, idle-only, idle-words}
 use Rattle.words_refine_rules.specs.Step.{done, turned, unchanged, field, next-only}
 
 module _ (s : Sizes) (t : Tables) (g : Graph) (G : Ghost) (S : Stands s t g G) (O : Sound s g) (w : ℕ)
     (hw : w < s .workers)
-    (a : Arguments) (j i u : ℕ) (here : g .workers w .call ≡ linking a j i u) (o : Linking g a j i u)
+    (a : Arguments) (j i : ℕ) (u : Tally) (here : g .workers w .call ≡ linking a j i u) (o : Linking g a j i u)
     (C : CallRep (view t .worker) G w (linking a j i u)) where
   abbrev R : TablesRep s (view t) g G
   R = S .rep
@@ -51,26 +52,28 @@ module _ (s : Sizes) (t : Tables) (g : Graph) (G : Ghost) (S : Stands s t g G) (
   x = G .base j + G .linked j
 
   -- no other worker's add works on j
-  alone : (v : ℕ) → v ≢ w → (b : Arguments) (k q : ℕ) → g .workers v .call ≢ linking b j k q
-  alone v e b k q z = e (O .alone v w j k q i u b a z here)
+  alone : (v : ℕ) → v ≢ w → (b : Arguments) (k : ℕ) (q : Tally) → g .workers v .call ≢ linking b j k q
+  alone v e b k q z = e (O .alone v w j k i q u b a z here)
 
   -- ---- a finished prerequisite
-  tally-agrees : Agrees s (done Tally t w) (outcome Going (withCall g w (linking a j (suc i) (suc u))))
+  tally-agrees : (n : ℕ) (fa : Bool) → n ≡ bit fa
+      → Agrees s (done (words.Tally n) t w) (outcome Going (withCall g w (linking a j (suc i) (tallyOne u fa))))
   unfolding applied
-  tally-agrees =
-      agrees s t g G S O w (done Tally t w) (outcome Going (withCall g w (linking a j (suc i) (suc u))))
+  tally-agrees n fa y =
+      let c : Call = linking a j (suc i) (tallyOne u fa) in
+      agrees s t g G S O w (done (words.Tally n) t w) (outcome Going (withCall g w c))
       (tallyGhost G j)
-      (turned g w (linking a j (suc i) (suc u)))
+      (turned g w c)
       refl
-      (tally-stands s t g G S w j (linking a j (suc i) (suc u)))
+      (tally-stands s t g G S w j n c)
       refl
-      (field s t g G S O w hw _ (next-only s t g G S O w hw) TALLY _ refl)
+      (field s t g G S O w hw _ (field s t g G S O w hw _ (next-only s t g G S O w hw) TALLY _ refl) NOTE _ refl)
       (λ v e. tally-same G j (g .workers v .call) (alone v e))
       (simp (stores, columns-put workerShape (s .workers), S .workers, hw)
       (record {
         held = S .calls w hw .held;
         call = (
-          tally-words f w a LINKING u i j (firstArc (a .count) (G .base j)) (C .0),
+          tally-words f w a LINKING u i j (firstArc (a .count) (G .base j)) (C .0) n fa y,
           omega (arith, update-same (G .linked) j (G .linked j + 1), C .1),
         );
       }))
@@ -86,10 +89,10 @@ module _ (s : Sizes) (t : Tables) (g : Graph) (G : Ghost) (S : Stands s t g G) (
     -- ---- any other prerequisite
     module _ (p : ℕ) (hp : p < length (g .jobs)) (live : job g p .label ≢ finished) where
       -- a finish that notifies is of a finished job
-      elsewhere : (v k : ℕ) → g .workers v .call ≢ notifying p k
-      elsewhere v k z = live (rest (g .workers v .call) (O .calls v) z)
+      elsewhere : (v k : ℕ) (fa : Bool) → g .workers v .call ≢ notifying p k fa
+      elsewhere v k fa z = live (rest (g .workers v .call) (O .calls v) z)
         where
-          rest : (c : Call) → CallSound g (g .workers v .held) c → c ≡ notifying p k → job g p .label ≡ finished
+          rest : (c : Call) → CallSound g (g .workers v .held) c → c ≡ notifying p k fa → job g p .label ≡ finished
           rest c r e = (rw e at r) .finished
 
       append-agrees : Agrees s (done (planAppend s (view t) p x j) t w) (outcome Going (linked g w a j i u p))
@@ -117,7 +120,7 @@ module _ (s : Sizes) (t : Tables) (g : Graph) (G : Ghost) (S : Stands s t g G) (
     -- ---- one link
     link-to : (p : ℕ) → p < length (g .jobs) → (y : Label) → job g p .label ≡ y
         → Agrees s (done (planLink s (view t) x j (At p)) t w) (linkTo g w a j i u p y)
-    unfolding planLink linkTo
+    unfolding planLink planTally linkTo
     link-to p hp unexecuted e =
         let z : view t .job LABEL p ≡ 0 = R .rows p (omega (arith, O .jobs)) .label ∙ ap labelNumber e in
         rw z (append-agrees p hp (λ y. omega (arith, ap labelNumber (sym e ∙ y))))
@@ -125,8 +128,10 @@ module _ (s : Sizes) (t : Tables) (g : Graph) (G : Ghost) (S : Stands s t g G) (
         let z : view t .job LABEL p ≡ 1 = R .rows p (omega (arith, O .jobs)) .label ∙ ap labelNumber e in
         rw z (append-agrees p hp (λ y. omega (arith, ap labelNumber (sym e ∙ y))))
     link-to p hp finished e =
-        let z : view t .job LABEL p ≡ 2 = R .rows p (omega (arith, O .jobs)) .label ∙ ap labelNumber e in
-        rw z tally-agrees
+        let row = R .rows p (omega (arith, O .jobs)) in
+        let z : view t .job LABEL p ≡ 2 = row .label ∙ ap labelNumber e in
+        let k : leb (view t .job OUTCOME p) 1 ≡ true = rw (row .outcome) (bit-ok (job g p .failed)) in
+        rw (z, k) (tally-agrees (view t .job OUTCOME p) (job g p .failed) (row .outcome))
 
     link-agrees : Agrees s (done (planLink s (view t) (firstArc (a .count) (G .base j) + i) j
         (findOf s (view t) (f (NAMES + i) w))) t w)
@@ -140,9 +145,9 @@ module _ (s : Sizes) (t : Tables) (g : Graph) (G : Ghost) (S : Stands s t g G) (
 
   -- ---- settling
   abbrev c : ℕ
-  c = job g j .count - u
+  c = job g j .count - u .count
 
-  settle-agrees : i ≡ a .count → (b : Bool) → settles c u (a .count) ≡ b
+  settle-agrees : i ≡ a .count → (b : Bool) → settles c (u .count) (a .count) ≡ b
       → Agrees s (done (pick b (withSeat s (view t) j (SettleQueue j c)) (Settle j c)) t w)
       (outcome Ended (settled g w j u (a .count)))
   unfolding applied
@@ -151,35 +156,35 @@ module _ (s : Sizes) (t : Tables) (g : Graph) (G : Ghost) (S : Stands s t g G) (
       rw (with-seat s t g G S O j (o .there) M (SettleQueue j c))
       (agrees s t g G S O w (done (SettleQueue j c (seatOf s t g G S O j (o .there) M)) t w)
       (outcome Ended (settled g w j u (a .count))) G (turned g w idle) refl
-      (settle-queue-stands s t g G S O w j u (a .count) (o .there) e M)
+      (settle-queue-stands s t g G S O w j u (a .count) (C .0 .note) (o .there) e M)
       refl
       (idle-only s t g G S O w hw)
       (unchanged g G w)
       (idle-words s t g G S O w hw G))
   settle-agrees z false e =
       agrees s t g G S O w (done (Settle j c) t w) (outcome Ended (settled g w j u (a .count))) G (turned g w idle) refl
-      (settle-stands s t g G S O w j u (a .count) (o .there) e)
+      (settle-stands s t g G S O w j u (a .count) (C .0 .note) (o .there) e)
       refl
       (idle-only s t g G S O w hw)
       (unchanged g G w)
       (idle-words s t g G S O w hw G)
 
-  plan-settle : planSettle s (view t) j u (a .count)
-      ≡ pick (settles c u (a .count)) (withSeat s (view t) j (SettleQueue j c)) (Settle j c)
+  plan-settle : planSettle s (view t) j (u .count) (a .count)
+      ≡ pick (settles c (u .count) (a .count)) (withSeat s (view t) j (SettleQueue j c)) (Settle j c)
   unfolding planSettle
   plan-settle =
       rw (
         R .rows j (omega (arith, O .jobs, o .there)) .count,
         job-place s t g G S O w hw j (o .there),
         le-leb (job g j .count) mostNames (O .counts j),
-        le-leb u (job g j .count) (o .covered),
+        le-leb (u .count) (job g j .count) (o .covered),
       )
 
   -- ---- the step
   plan : planPhase s (view t) w
       ≡ pick (ltb i (a .count))
       (planLink s (view t) (firstArc (a .count) (G .base j) + i) j (findOf s (view t) (f (NAMES + i) w)))
-      (planSettle s (view t) j u (a .count))
+      (planSettle s (view t) j (u .count) (a .count))
   unfolding planPhase planCall planLinks
   plan =
       rw (C .0 .phase, counters-ok s t g G S O, C .0 .place, C .0 .count, C .0 .job, C .0 .arc, C .0 .tally)
@@ -192,7 +197,8 @@ module _ (s : Sizes) (t : Tables) (g : Graph) (G : Ghost) (S : Stands s t g G) (
           → Agrees s
           (done (pick b
           (planLink s (view t) (firstArc (a .count) (G .base j) + i) j (findOf s (view t) (f (NAMES + i) w)))
-          (pick (settles c u (a .count)) (withSeat s (view t) j (SettleQueue j c)) (Settle j c))) t w)
+          (pick (settles c (u .count) (a .count)) (withSeat s (view t) j (SettleQueue j c)) (Settle j c))) t w)
           (pick b (link g w a j i u (find g (getD (listed a) i 0))) (outcome Ended (settled g w j u (a .count))))
       go true e = link-agrees (ltb-true i (a .count) e)
-      go false e = settle-agrees (omega (arith, ltb-false i (a .count) e, o .within)) (settles c u (a .count)) refl
+      go false e =
+          settle-agrees (omega (arith, ltb-false i (a .count) e, o .within)) (settles c (u .count) (a .count)) refl

@@ -12,7 +12,7 @@ use Rattle.basics.specs.Limits.{mostNames}
 use Rattle.basics.specs.Base.{pick}
 use Rattle.basics.specs.Laws.{update-same}
 use Rattle.bucket.specs.Bucket.{bucketOf}
-use Rattle.terms.specs.Terms.{Arguments, listed, unknownName, namePresent, tablesFull}
+use Rattle.terms.specs.Terms.{Arguments, listed, noTally, unknownName, namePresent, tablesFull}
 use Rattle.terms.specs.Runs.{outcome}
 use Rattle.terms.specs.declared.Sizes.{Sizes}
 use Rattle.terms.specs.declared.Answer.the-variants.{Going, Refused}
@@ -36,7 +36,7 @@ use Rattle.words_refine_rules.specs.Step.{done, turned, unchanged, here,
 
 module _ (s : Sizes) (t : Tables) (g : Graph) (G : Ghost) (S : Stands s t g G) (O : Sound s g) (w : ℕ)
     (hw : w < s .workers)
-    (a : Arguments) (i : ℕ) (o : Looking g a i) (A : AddWords (view t .worker) w a LOOKING 0 i none none) where
+    (a : Arguments) (i : ℕ) (o : Looking g a i) (A : AddWords (view t .worker) w a LOOKING noTally i none none) where
   abbrev R : TablesRep s (view t) g G
   R = S .rep
 
@@ -57,7 +57,7 @@ module _ (s : Sizes) (t : Tables) (g : Graph) (G : Ghost) (S : Stands s t g G) (
       (next-only s t g G S O w hw)
       (unchanged g G w)
       (rw (columns-put workerShape (s .workers) (t .workers) w PLACE (f PLACE w + 1) refl (S .workers) hw)
-      (record { held = S .calls w hw .held; call = next-words f w a LOOKING 0 i none none A }))
+      (record { held = S .calls w hw .held; call = next-words f w a LOOKING noTally i none none A }))
 
   look-up : (x : Found) → Agrees s (done (planLookUp i (asFound x)) t w) (lookUp g w a i x)
   unfolding planLookUp lookUp
@@ -82,8 +82,8 @@ module _ (s : Sizes) (t : Tables) (g : Graph) (G : Ghost) (S : Stands s t g G) (
   unfolding applied
   enter-agrees x y =
       agrees s t g G S O w (done enterPlan t w) (outcome Going (entered g w a)) (enterGhost G n (g .reserved))
-      (turned g w (linking a n 0 0)) refl
-      (enter-stands s t g G S O w a LOOKING 0 i none none A x y)
+      (turned g w (linking a n 0 noTally)) refl
+      (enter-stands s t g G S O w a LOOKING noTally i none none A x y)
       refl
       entered-only
       (λ u e. enter-same g (g .workers u .held) G (g .reserved) (g .workers u .call) (O .calls u))
@@ -91,7 +91,7 @@ module _ (s : Sizes) (t : Tables) (g : Graph) (G : Ghost) (S : Stands s t g G) (
       (record {
         held = S .calls w hw .held;
         call = (
-          rw (update-same (G .base) n (g .reserved)) (enter-words f w a LOOKING 0 i none none A n (g .reserved)),
+          rw (update-same (G .base) n (g .reserved)) (enter-words f w a LOOKING noTally i none none A n (g .reserved)),
           update-same (G .linked) n 0,
         );
       }))

@@ -13,7 +13,7 @@ use borrow.Author.Tests.{eq-eqb, ne-eqb, lt-ltb, le-leb, eqb-true, eqb-false, lt
 use Rattle.basics.specs.Limits.{mostNames, mostClass, mostGrower}
 use Rattle.basics.specs.Base.{pick, contains, repeats}
 use Rattle.basics.specs.Laws.{length-prefix}
-use Rattle.terms.specs.Terms.{Arguments, listed, argumentsWrong, sameSizes}
+use Rattle.terms.specs.Terms.{Arguments, listed, argumentsWrong, sameSizes, bit, Tally, noTally}
 use Rattle.terms.specs.declared.Sizes.{Sizes}
 use Rattle.words.specs.Columns.{rows, header}
 use Rattle.words.specs.Layout.{need, jobShape, arcShape, bucketShape, queueShape, workerShape, JOBS, ARCS, BITS}
@@ -44,6 +44,15 @@ eqb-sym m n = elim (ℕ-discrete m n) [
 pub neither : (a b : Bool) → (a || b) ≡ false → (a ≡ false) × (b ≡ false)
 neither false b e = (refl, e)
 neither true b e = let z : _≡_ {A = ℕ} 0 1 = cc in absurd (omega arith)
+
+-- a word of outcome, mark or note
+pub bit-ok : (b : Bool) → leb (bit b) 1 ≡ true
+bit-ok true = refl
+bit-ok false = refl
+
+pub bit-one : (b : Bool) → eqb (bit b) 1 ≡ b
+bit-one true = refl
+bit-one false = refl
 
 -- ---- sizes that the test calls the same are the same
 sized : (a b c d e f g h : ℕ) → a ≡ e → b ≡ f → c ≡ g → d ≡ h
@@ -180,7 +189,7 @@ module _ (s : Sizes) (t : Tables) (g : Graph) (G : Ghost) (S : Stands s t g G) w
     hold-ok : placeOk (f HELD w) (length (g .jobs)) (s .jobs) ≡ true
     hold-ok = rw (S .calls w hw .held) (held-ok (g .workers w .held) refl)
 
-    arc-first : (a : Arguments) (j i u : ℕ) → Linking g a j i u → (b : Bool) → eqb (a .count) 0 ≡ b
+    arc-first : (a : Arguments) (j i : ℕ) (u : Tally) → Linking g a j i u → (b : Bool) → eqb (a .count) 0 ≡ b
         → placeOk (pick b words.none (G .base j)) (g .reserved) (s .arcs) ≡ true
     arc-first a j i u o true e = refl
     arc-first a j i u o false e =
@@ -193,10 +202,11 @@ module _ (s : Sizes) (t : Tables) (g : Graph) (G : Ghost) (S : Stands s t g G) w
           lt-ltb (G .base j) (s .arcs) (omega (arith, O .arcs)),
         )
 
-    own-bare : (ph ar : ℕ) → leb ph NOTIFYING ≡ true → BareWords f w ph ar → placeOk ar (g .reserved) (s .arcs) ≡ true
+    own-bare : (ph ar : ℕ) (fa : Bool) → leb ph NOTIFYING ≡ true → BareWords f w ph ar fa
+        → placeOk ar (g .reserved) (s .arcs) ≡ true
         → ownOk s (view t) w ≡ true
     unfolding ownOk
-    own-bare ph ar b B h =
+    own-bare ph ar fa b B h =
         rw (
           R .made,
           R .reserved,
@@ -208,14 +218,17 @@ module _ (s : Sizes) (t : Tables) (g : Graph) (G : Ghost) (S : Stands s t g G) w
           B .place,
           B .job,
           B .arc,
+          B .note,
           b,
           hold-ok,
           h,
+          bit-ok fa,
         )
 
-    own-add : (a : Arguments) (ph ta pl jo ar : ℕ) → leb ph NOTIFYING ≡ true → AddWords f w a ph ta pl jo ar
+    own-add : (a : Arguments) (ph : ℕ) (ta : Tally) (pl jo ar : ℕ) → leb ph NOTIFYING ≡ true
+        → AddWords f w a ph ta pl jo ar
         → argumentsWrong a ≡ false
-        → ta ≤ a .count → pl ≤ a .count → placeOk jo (length (g .jobs)) (s .jobs) ≡ true
+        → ta .count ≤ a .count → pl ≤ a .count → placeOk jo (length (g .jobs)) (s .jobs) ≡ true
         → placeOk ar (g .reserved) (s .arcs) ≡ true
         → ownOk s (view t) w ≡ true
     unfolding ownOk
@@ -231,29 +244,32 @@ module _ (s : Sizes) (t : Tables) (g : Graph) (G : Ghost) (S : Stands s t g G) w
           A .place,
           A .job,
           A .arc,
+          A .note,
           b,
           hold-ok,
           le-leb (a .count) mostNames (fitting a right .count),
           le-leb (a .class) mostClass (fitting a right .class),
           le-leb (a .grower) mostGrower (fitting a right .grower),
-          le-leb ta (a .count) x,
+          le-leb (ta .count) (a .count) x,
           le-leb pl (a .count) y,
           j,
           k,
+          bit-ok (ta .noted),
         )
 
     own-call : (h : Option ℕ) (c : Call) → CallSound g h c → CallRep f G w c → ownOk s (view t) w ≡ true
-    own-call h idle o r = own-bare IDLE words.none refl r refl
+    own-call h idle o r = own-bare IDLE words.none false refl r refl
     own-call h (looking a i) o r =
-        own-add a LOOKING 0 i words.none words.none refl r (o .right) (omega arith) (o .within) refl refl
+        own-add a LOOKING noTally i words.none words.none refl r (o .right) (omega arith) (o .within) refl refl
     own-call h (linking a j i u) o r =
         own-add a LINKING u i j (firstArc (a .count) (G .base j)) refl (r .0) (o .right)
         (omega (arith, o .tallied, o .within)) (o .within)
         (job-ok j (o .there))
         (arc-first a j i u o (eqb (a .count) 0) refl)
-    own-call none marking o r = own-bare MARKING words.none refl r refl
-    own-call (some p) marking o r = own-bare MARKING words.none refl r refl
-    own-call h (notifying p k) o r = own-bare NOTIFYING (getD (G .via p) k words.none) refl r (arc-ok s t g G S O p k)
+    own-call none (marking fa) o r = own-bare MARKING words.none fa refl r refl
+    own-call (some p) (marking fa) o r = own-bare MARKING words.none fa refl r refl
+    own-call h (notifying p k fa) o r =
+        own-bare NOTIFYING (getD (G .via p) k words.none) fa refl r (arc-ok s t g G S O p k)
 
     pub own-ok : ownOk s (view t) w ≡ true
     own-ok = own-call (g .workers w .held) (g .workers w .call) (O .calls w) (S .calls w hw .call)

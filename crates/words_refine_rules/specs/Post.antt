@@ -1,8 +1,8 @@
 -- The posts and the get of an idle worker: the words judge and store what the rules say. Follows docs/RULES.md,
 -- "Steps":
--- post, get; "Turned-away calls" (numbers 5, 10, 11). Assumes of the graph what the rules keep (`Sound`).
+-- post, get; "Turned-away calls" (numbers 5, 10, 11, 19). Assumes of the graph what the rules keep (`Sound`).
 use mathlib.Core.Path.{_≡_, refl, sym, ap, _∙_}
-use mathlib.Core.Bool.{Bool, true, false}
+use mathlib.Core.Bool.{Bool, true, false, _&&_, not}
 use mathlib.Core.List.{List, [], _∷_}
 use mathlib.Core.Option.{Option, none, some}
 use Prim.Native.Nat.{ℕ, suc, _+_, _≤_, _<_}
@@ -13,6 +13,7 @@ use borrow.Author.Tests.{eq-eqb, ne-eqb, le-leb}
 use Rattle.basics.specs.Base.{pick}
 use Rattle.basics.specs.Laws.{update-same}
 use Rattle.terms.specs.Terms.{labelNumber, Arguments, argumentsWrong, wrongArguments, alreadyHolding, notHeld, Finish}
+use Rattle.terms.specs.Terms.{goodForSpoiled, bit}
 use Rattle.terms.specs.Runs.{Outcome, outcome}
 use Rattle.terms.specs.Order.{without, firstBy}
 use Rattle.terms.specs.declared.Sizes.{Sizes}
@@ -21,7 +22,7 @@ use Rattle.words.specs.Columns.{columns, columns-put}
 use Rattle.words.specs.Layout.{LABEL, CELL, SLOT, workerShape, HELD, IDLE, MARKING, bareWorker, tables, view, Tables}
 use Rattle.words.specs.Layout as layout
 use Rattle.words.specs.Words.{putWorker, planTake, planQueue, answerGet, appliedGet, holdsName, addingWorker, posted}
-use Rattle.words.specs.Words.{judgedCounters}
+use Rattle.words.specs.Words.{judgedCounters, judgedOutcome}
 use Rattle.words.specs.declared.GetPlan.{GetPlan}
 use Rattle.words.specs.declared.GetPlan.the-variants.{RefuseGet, Wait, Take}
 use Rattle.rules.specs.Rules.{Call, idle, looking, marking, Graph, job, withCall, addPosted, finishPosted, handedOut}
@@ -35,7 +36,7 @@ use Rattle.representation_kept.specs.Queue.{next-out}
 use Rattle.words_refine_rules.specs.Workers.{record-only, bare-fits, bare-held, bare-words, adding-fits}
 use Rattle.words_refine_rules.specs.Workers.{adding-held}
 use Rattle.words_refine_rules.specs.Workers.{adding-words, held-words}
-use Rattle.words_refine_rules.specs.Own.{counters-ok, job-place}
+use Rattle.words_refine_rules.specs.Own.{bit-ok, bit-one, counters-ok, job-place}
 use Rattle.words_refine_rules.specs.Agree.{Agrees, refused, agrees}
 use Rattle.words_refine_rules.specs.Step.{turned, unchanged, here, field}
 
@@ -45,7 +46,7 @@ doneGet p t w = outcome (answerGet p) (appliedGet p t w)
 
 module _ (s : Sizes) (t : Tables) (g : Graph) (G : Ghost) (S : Stands s t g G) (O : Sound s g) (w : ℕ)
     (hw : w < s .workers)
-    (B : BareWords (view t .worker) w IDLE layout.none) where
+    (B : BareWords (view t .worker) w IDLE layout.none false) where
   abbrev R : TablesRep s (view t) g G
   R = S .rep
 
@@ -89,36 +90,53 @@ module _ (s : Sizes) (t : Tables) (g : Graph) (G : Ghost) (S : Stands s t g G) (
           })
 
   -- ---- the post of a finish
-  finish-word : (b : Finish) → f HELD w ≡ holdWord (g .workers w .held) → (h : Option ℕ) → g .workers w .held ≡ h
-      → Agrees s (posted (pick (holdsName (view t) w (b .name)) 0 notHeld) t w (bareWorker MARKING (f HELD w)))
-      (finishPosted g w b h)
-  unfolding posted finishPosted
-  finish-word b e none z =
-      let held : f HELD w ≡ layout.none = e ∙ ap holdWord z in
-      rw held (refused s t g G S O notHeld)
-  finish-word b e (some p) z =
-      let held : f HELD w ≡ p = e ∙ ap holdWord z in
-      let there = O .held-there w p z in
-      rw (held, job-place s t g G S O w hw p there, R .rows p (omega (arith, O .jobs)) .name)
-      (go (eqb (job g p .name) (b .name)))
-    where
-      go : (b : Bool) → Agrees s (posted (pick b 0 notHeld) t w (bareWorker MARKING p))
-          (pick b (outcome Posted (withCall g w marking)) (outcome (Refused notHeld 0) g))
-      go true = post-agrees (bareWorker MARKING p) marking
-          (bare-fits (s .workers) (t .workers) w (S .workers) hw MARKING p)
-          (record {
-            held = bare-held (s .workers) (t .workers) w (S .workers) hw MARKING p ∙ sym (e ∙ ap holdWord z) ∙ e;
-            call = bare-words (s .workers) (t .workers) w (S .workers) hw MARKING p;
-          })
-      go false = refused s t g G S O notHeld
+  module _ (b : Finish) where
+    abbrev note : ℕ
+    note = bit (b .failed)
 
-  pub finish-agrees : (b : Finish)
-      → Agrees s
-      (posted (pick (holdsName (view t) w (b .name)) (judgedCounters s (view t)) notHeld) t w
-      (bareWorker MARKING (f HELD w)))
-      (finishPosted g w b (g .workers w .held))
-  unfolding posted
-  finish-agrees b = rw judged (finish-word b (S .calls w hw .held) (g .workers w .held) refl)
+    -- the held job p: of the name, and spoiled and not failed
+    held-agrees : (p : ℕ) → g .workers w .held ≡ some p → (x y : Bool)
+        → Agrees s (posted (pick x (pick y goodForSpoiled 0) notHeld) t w (bareWorker MARKING p note))
+        (pick x (pick y (outcome (Refused goodForSpoiled 0) g) (outcome Posted (withCall g w (marking (b .failed)))))
+        (outcome (Refused notHeld 0) g))
+    unfolding posted
+    held-agrees p z true true = refused s t g G S O goodForSpoiled
+    held-agrees p z true false = post-agrees (bareWorker MARKING p note) (marking (b .failed))
+        (bare-fits (s .workers) (t .workers) w (S .workers) hw MARKING p note)
+        (record {
+          held = bare-held (s .workers) (t .workers) w (S .workers) hw MARKING p note ∙ sym (ap holdWord z);
+          call = bare-words (s .workers) (t .workers) w (S .workers) hw MARKING p (b .failed);
+        })
+    held-agrees p z false y = refused s t g G S O notHeld
+
+    finish-word : f HELD w ≡ holdWord (g .workers w .held) → (h : Option ℕ) → g .workers w .held ≡ h
+        → Agrees s
+        (posted (pick (holdsName (view t) w (b .name)) (judgedOutcome s (view t) (f HELD w) (b .failed)) notHeld) t w
+        (bareWorker MARKING (f HELD w) note))
+        (finishPosted g w b h)
+    unfolding posted finishPosted
+    finish-word e none z =
+        let held : f HELD w ≡ layout.none = e ∙ ap holdWord z in
+        rw held (refused s t g G S O notHeld)
+    finish-word e (some p) z =
+        let held : f HELD w ≡ p = e ∙ ap holdWord z in
+        let row = R .rows p (omega (arith, O .held-there w p z, O .jobs)) in
+        rw (
+          held,
+          job-place s t g G S O w hw p (O .held-there w p z),
+          row .name,
+          counters-ok s t g G S O,
+          row .mark,
+          bit-ok (job g p .spoiled),
+          bit-one (job g p .spoiled),
+        )
+        (held-agrees p z (eqb (job g p .name) (b .name)) (job g p .spoiled && not (b .failed)))
+
+    pub finish-agrees : Agrees s
+        (posted (pick (holdsName (view t) w (b .name)) (judgedOutcome s (view t) (f HELD w) (b .failed)) notHeld) t w
+        (bareWorker MARKING (f HELD w) (bit (b .failed))))
+        (finishPosted g w b (g .workers w .held))
+    finish-agrees = finish-word (S .calls w hw .held) (g .workers w .held) refl
 
   -- ---- the get
   abbrev taken : ℕ
@@ -143,7 +161,7 @@ module _ (s : Sizes) (t : Tables) (g : Graph) (G : Ghost) (S : Stands s t g G) (
         (field s t g G S O w hw (t .workers) (here s t g G S O w hw) HELD j refl)
         (unchanged g G w)
         (rw (columns-put workerShape (s .workers) (t .workers) w HELD j refl (S .workers) hw)
-        (record { held = update-same (f HELD) w j; call = held-words f w IDLE layout.none B j }))
+        (record { held = update-same (f HELD) w j; call = held-words f w IDLE layout.none false B j }))
 
     plan-next : planQueue s (view t) ≡ plan
     unfolding planQueue planTake
@@ -162,6 +180,9 @@ module _ (s : Sizes) (t : Tables) (g : Graph) (G : Ghost) (S : Stands s t g G) (
           ne-eqb taken (taken + length (g .queue)) (omega arith),
           label,
           row .name,
+          row .mark,
+          bit-ok (job g j .spoiled),
+          bit-one (job g j .spoiled),
         )
 
   wait-agrees : Agrees s (doneGet Wait t w) (outcome NoneReady g)

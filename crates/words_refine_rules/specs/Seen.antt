@@ -9,7 +9,7 @@ use native.Mathlib.Omega.{arith}
 use native.Mathlib.Nat.{zero-add}
 use lib.ListN.{length}
 use Rattle.basics.specs.Laws.{length-prefix}
-use Rattle.terms.specs.Terms.{Arguments, listed, argumentsWrong}
+use Rattle.terms.specs.Terms.{Arguments, listed, argumentsWrong, Tally}
 use Rattle.terms.specs.Seen.{request, Same}
 use Rattle.terms.specs.declared.Sizes.{Sizes}
 use Rattle.words.specs.Layout.{LIST-COUNT, HELD, NAMES, view, Tables}
@@ -31,7 +31,17 @@ module _ (s : Sizes) (t : Tables) (g : Graph) (G : Ghost) (S : Stands s t g G) (
   job-seen : (j : ℕ) → j < length (g .jobs) → words.jobSeen (view t) j ≡ rules.jobSeen (job g j)
   job-seen j h =
       let row = S .rep .rows j (omega (arith, O .jobs)) in
-      rw (row .name, row .label, row .count, row .class, row .grower, row .first, arcs-seen s t g G S O j 0)
+      rw (
+        row .name,
+        row .label,
+        row .count,
+        row .class,
+        row .grower,
+        row .first,
+        arcs-seen s t g G S O j 0,
+        row .outcome,
+        row .mark,
+      )
 
   -- a held job is a place in use, and not none
   held-seen : (w : ℕ) → w < s .workers → placeSeen (f HELD w) ≡ g .workers w .held
@@ -42,7 +52,8 @@ module _ (s : Sizes) (t : Tables) (g : Graph) (G : Ghost) (S : Stands s t g G) (
       go (some j) e = rw (job-place s t g G S O w hw j (O .held-there w j e))
 
   -- ---- the call that a worker is in
-  names-seen : (w : ℕ) (a : Arguments) (ph ta pl jo ar : ℕ) → AddWords f w a ph ta pl jo ar → argumentsWrong a ≡ false
+  names-seen : (w : ℕ) (a : Arguments) (ph : ℕ) (ta : Tally) (pl jo ar : ℕ) → AddWords f w a ph ta pl jo ar
+      → argumentsWrong a ≡ false
       → cells (λ q. f (NAMES + q) w) 0 (f LIST-COUNT w) ≡ listed a
   names-seen w a ph ta pl jo ar A right =
       let n = length-prefix (a .count) (a .names) in
@@ -51,7 +62,8 @@ module _ (s : Sizes) (t : Tables) (g : Graph) (G : Ghost) (S : Stands s t g G) (
       (cells-list (λ q. f (NAMES + q) w) 0 (listed a) (λ q h. rw (zero-add q)
       (A .names q (omega (arith, fitting a right .count)))))
 
-  request-seen : (w : ℕ) (a : Arguments) (ph ta pl jo ar : ℕ) → AddWords f w a ph ta pl jo ar → argumentsWrong a ≡ false
+  request-seen : (w : ℕ) (a : Arguments) (ph : ℕ) (ta : Tally) (pl jo ar : ℕ) → AddWords f w a ph ta pl jo ar
+      → argumentsWrong a ≡ false
       → requestSeen (view t) w ≡ request a
   request-seen w a ph ta pl jo ar A right =
       rw (A .name, names-seen w a ph ta pl jo ar A right, A .class, A .grower)
@@ -62,9 +74,9 @@ module _ (s : Sizes) (t : Tables) (g : Graph) (G : Ghost) (S : Stands s t g G) (
   call-seen w h idle o r = rw (r .phase)
   call-seen w h (looking a i) o r = rw (r .phase, request-seen w a _ _ _ _ _ r (o .right), r .place)
   call-seen w h (linking a j i u) o r =
-      rw (r .0 .phase, request-seen w a _ _ _ _ _ (r .0) (o .right), r .0 .job, r .0 .place, r .0 .tally)
-  call-seen w h marking o r = rw (r .phase)
-  call-seen w h (notifying p k) o r = rw (r .phase, r .arc, arcs-seen s t g G S O p k)
+      rw (r .0 .phase, request-seen w a _ _ _ _ _ (r .0) (o .right), r .0 .job, r .0 .place, r .0 .tally, r .0 .note)
+  call-seen w h (marking fa) o r = rw (r .phase, r .note)
+  call-seen w h (notifying p k fa) o r = rw (r .phase, r .arc, r .note, arcs-seen s t g G S O p k)
 
 -- the same is seen in both
 pub shown : {s : Sizes} {t : Tables} {g : Graph} {G : Ghost} → Stands s t g G → Sound s g

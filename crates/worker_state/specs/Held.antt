@@ -6,8 +6,8 @@ use lib.Dec.{eqb}
 use Rattle.basics.specs.Base.{pick}
 use Rattle.terms.specs.Terms.{damaged}
 use Rattle.terms.specs.declared.Sizes.{Sizes}
-use Rattle.words.specs.Layout.{NAME, PHASE, HELD, OWN-NAME, IDLE, LOOKING, LINKING, Tables, View, view}
-use Rattle.words.specs.Words.{isPlace, countersOk, admitted}
+use Rattle.words.specs.Layout.{NAME, MARK, PHASE, HELD, OWN-NAME, IDLE, LOOKING, LINKING, Tables, View, view}
+use Rattle.words.specs.Words.{isPlace, countersOk, markOk, admitted}
 use Rattle.worker_state.specs.declared.Holding.{Holding}
 
 -- the call half done: none, an add, or a finish
@@ -30,14 +30,15 @@ addsOf call name = pick (eqb call anAdd) name 0
 
 -- a refusal has its number, and 0 elsewhere
 abbrev pub refused : ℕ → Holding
-refused n = record { number = n; holds = 0; job = 0; name = 0; call = 0; adds = 0 }
+refused n = record { number = n; holds = 0; job = 0; name = 0; call = 0; adds = 0; spoiled = 0 }
 
--- a worker that holds the job j of a name, and one that holds none, in a call
-abbrev pub holdingJob : ℕ → ℕ → ℕ → ℕ → Holding
-holdingJob j name c a = record { number = 0; holds = 1; job = j; name = name; call = c; adds = a }
+-- a worker that holds the job j of a name, spoiled or not, and one that holds none, in a call
+abbrev pub holdingJob : ℕ → ℕ → ℕ → ℕ → ℕ → Holding
+holdingJob j name mark c a =
+    record { number = 0; holds = 1; job = j; name = name; call = c; adds = a; spoiled = mark }
 
 abbrev pub holdingNone : ℕ → ℕ → Holding
-holdingNone c a = record { number = 0; holds = 0; job = 0; name = 0; call = c; adds = a }
+holdingNone c a = record { number = 0; holds = 0; job = 0; name = 0; call = c; adds = a; spoiled = 0 }
 
 -- the call and its name, by the fields of each worker
 abbrev pub callAt : (ℕ → ℕ → ℕ) → ℕ → ℕ
@@ -46,16 +47,22 @@ callAt f w = callOf (f PHASE w)
 abbrev pub addsAt : (ℕ → ℕ → ℕ) → ℕ → ℕ
 addsAt f w = addsOf (callAt f w) (f OWN-NAME w)
 
+-- the mark of the held job is read: off 0 and 1 it is 9
+abbrev pub marked : View → ℕ → ℕ → Holding
+marked v w j =
+    pick (markOk v j)
+    (holdingJob j (v .job NAME j) (v .job MARK j) (callAt (v .worker) w) (addsAt (v .worker) w))
+    (refused damaged)
+
 unfoldable pub holdingOf : View → ℕ → Holding
 holdingOf v w =
-    pick (isPlace (v .worker HELD w))
-    (holdingJob (v .worker HELD w) (v .job NAME (v .worker HELD w)) (callAt (v .worker) w) (addsAt (v .worker) w))
+    pick (isPlace (v .worker HELD w)) (marked v w (v .worker HELD w))
     (holdingNone (callAt (v .worker) w) (addsAt (v .worker) w))
 
 -- "every call with a worker reads how many jobs were made and arcs reserved": off their range they are 9
 unfoldable pub counted : Sizes → View → ℕ → Holding
 counted s v w = pick (countersOk s v) (holdingOf v w) (refused damaged)
 
--- "Order: 1, 2, 9 for the worker's own words", then 9 for the counters
+-- "Order: 1, 2, 9 for the worker's own words", then 9 for the counters and for the mark
 unfoldable pub heldWords : Sizes → Tables → ℕ → Holding
 heldWords s t w = admitted s t w refused (counted s (view t) w)

@@ -1,6 +1,6 @@
 //! Building and draining a graph by calls: of the proved library, or of the same rules in unproved Rust.
 
-use taskgraph::raw::{kind, Answer, Entry, SheetAdded, Sizes, Tables, ENTRY_WORDS, MAX_ENTRIES};
+use taskgraph::raw::{kind, Answer, Entry, SheetAdded, Sizes, Tables, ENTRY_WORDS, GOOD, MAX_ENTRIES};
 
 use crate::{shapes::Shape, unproved};
 
@@ -10,11 +10,11 @@ pub trait Calls {
     fn lay_out(sizes: Sizes, tables: &mut Tables) -> Answer;
     fn load_minutes(sizes: Sizes, tables: &mut Tables, minutes: &[u32]) -> Answer;
     fn post_add(sizes: Sizes, tables: &mut Tables, worker: u32, entry: Entry) -> Answer;
-    fn post_finish(sizes: Sizes, tables: &mut Tables, worker: u32, name: u32) -> Answer;
+    fn post_finish(sizes: Sizes, tables: &mut Tables, worker: u32, name: u32, outcome: u32) -> Answer;
     fn step(sizes: Sizes, tables: &mut Tables, worker: u32) -> Answer;
     fn get(sizes: Sizes, tables: &mut Tables, worker: u32) -> Answer;
     fn add(sizes: Sizes, tables: &mut Tables, worker: u32, entry: Entry) -> Answer;
-    fn finish(sizes: Sizes, tables: &mut Tables, worker: u32, name: u32) -> Answer;
+    fn finish(sizes: Sizes, tables: &mut Tables, worker: u32, name: u32, outcome: u32) -> Answer;
     fn add_sheet(sizes: Sizes, tables: &mut Tables, worker: u32, rows: &[u32]) -> SheetAdded;
 }
 
@@ -38,8 +38,8 @@ macro_rules! calls {
                 $($module::)+post_add$(::<$indexed>)?(sizes, tables, worker, entry)
             }
 
-            fn post_finish(sizes: Sizes, tables: &mut Tables, worker: u32, name: u32) -> Answer {
-                $($module::)+post_finish$(::<$indexed>)?(sizes, tables, worker, name)
+            fn post_finish(sizes: Sizes, tables: &mut Tables, worker: u32, name: u32, outcome: u32) -> Answer {
+                $($module::)+post_finish$(::<$indexed>)?(sizes, tables, worker, name, outcome)
             }
 
             fn step(sizes: Sizes, tables: &mut Tables, worker: u32) -> Answer {
@@ -54,8 +54,8 @@ macro_rules! calls {
                 $($module::)+add$(::<$indexed>)?(sizes, tables, worker, entry)
             }
 
-            fn finish(sizes: Sizes, tables: &mut Tables, worker: u32, name: u32) -> Answer {
-                $($module::)+finish$(::<$indexed>)?(sizes, tables, worker, name)
+            fn finish(sizes: Sizes, tables: &mut Tables, worker: u32, name: u32, outcome: u32) -> Answer {
+                $($module::)+finish$(::<$indexed>)?(sizes, tables, worker, name, outcome)
             }
 
             fn add_sheet(sizes: Sizes, tables: &mut Tables, worker: u32, rows: &[u32]) -> SheetAdded {
@@ -182,10 +182,10 @@ pub fn drain<C: Calls>(manner: Manner, sizes: Sizes, tables: &mut Tables) -> (us
 /// Finishes the held job; the number of calls.
 fn finish_job<C: Calls>(manner: Manner, sizes: Sizes, tables: &mut Tables, name: u32) -> usize {
     if manner == Manner::Single {
-        assert_eq!(C::post_finish(sizes, tables, 0, name).kind, kind::POSTED);
+        assert_eq!(C::post_finish(sizes, tables, 0, name, GOOD).kind, kind::POSTED);
         1 + run_whole::<C>(sizes, tables)
     } else {
-        assert_eq!(C::finish(sizes, tables, 0, name).kind, kind::ENDED);
+        assert_eq!(C::finish(sizes, tables, 0, name, GOOD).kind, kind::ENDED);
         1
     }
 }

@@ -77,7 +77,7 @@ fn finish(tables: &mut Tables, name: &impl Fn(usize) -> u32) -> f64 {
     add_all(tables, &all);
     let job = raw::get(SIZES, tables, 0);
     assert_eq!(job.kind, kind::HANDED_OUT);
-    let (finish, answer) = timed(|| raw::finish(SIZES, tables, 0, job.name));
+    let (finish, answer) = timed(|| raw::finish(SIZES, tables, 0, job.name, raw::GOOD));
     assert_eq!(answer.kind, kind::ENDED);
     finish
 }

@@ -11,7 +11,7 @@ mod whole;
 use compare_graph::layout::{
     job, phase, worker, ARCS_HEADER, ARC_WORDS, JOBS_HEADER, JOB_WORDS, MINUTES, NONE, QUEUE_HEADER, WORKER_WORDS,
 };
-use taskgraph::raw::{kind, Answer, Entry, Sizes, Tables, CLASSES, MAX_MINUTES};
+use taskgraph::raw::{kind, Answer, Entry, Sizes, Tables, CLASSES, GOOD, MAX_MINUTES};
 
 pub use whole::{add, add_sheet, finish};
 
@@ -25,6 +25,9 @@ const FIXED_MINUTES: [u32; CLASSES] = [1, 2, 3, 5, 8, 10, 15, 20, 30, 45, 60, 90
 const UNEXECUTED: u32 = 0;
 const EXECUTING: u32 = 1;
 const FINISHED: u32 = 2;
+
+/// An outcome that is failed, a mark that says spoiled, and a note that says either.
+const SET: u32 = 1;
 
 /// A refusal's number, and for number 6 the place.
 type Refusal = (u32, u32);
@@ -120,6 +123,7 @@ impl<'a, const INDEXED: bool> Graph<'a, INDEXED> {
             && own[worker::PLACE] <= own[worker::COUNT]
             && job_fits(own[worker::JOB])
             && self.arc_fits(own[worker::ARC])
+            && own[worker::NOTE] <= SET
     }
 
     fn made(&self) -> u32 {
@@ -196,7 +200,7 @@ impl<'a, const INDEXED: bool> Graph<'a, INDEXED> {
         own[worker::NAME..=worker::PLACE].fill(0);
         own[worker::JOB] = NONE;
         own[worker::ARC] = NONE;
-        own[worker::NAMES..].fill(0);
+        own[worker::NOTE..].fill(0);
     }
 
     fn look_up(&mut self, at: usize) -> Outcome<Answer> {
@@ -222,7 +226,7 @@ impl<'a, const INDEXED: bool> Graph<'a, INDEXED> {
         }
         let bucket = self.bucket(name);
         let head = self.buckets[bucket];
-        self.job(made).copy_from_slice(&[name, UNEXECUTED, count, class, grower, NONE, NONE, head]);
+        self.job(made).copy_from_slice(&[name, UNEXECUTED, count, class, grower, NONE, NONE, head, 0, 0]);
         self.buckets[bucket] = made;
         self.jobs[4] = made + 1;
         self.arcs[0] = reserved + count;
@@ -247,7 +251,14 @@ impl<'a, const INDEXED: bool> Graph<'a, INDEXED> {
             return Err(DAMAGED);
         }
         if label == FINISHED {
+            let outcome = self.job(prerequisite)[job::OUTCOME];
+            if outcome > SET {
+                return Err(DAMAGED);
+            }
             self.workers[at + worker::TALLY] += 1;
+            if outcome == SET {
+                self.workers[at + worker::NOTE] = SET;
+            }
         } else {
             let last = self.job(prerequisite)[job::LAST];
             let fits = dependent < self.made()
@@ -275,7 +286,8 @@ impl<'a, const INDEXED: bool> Graph<'a, INDEXED> {
 
     fn settle(&mut self, at: usize) -> Outcome<Answer> {
         let own = &self.workers[at..at + worker::NAMES];
-        let (number, tally, listed) = (own[worker::JOB], own[worker::TALLY], own[worker::COUNT]);
+        let (number, tally, listed, note) =
+            (own[worker::JOB], own[worker::TALLY], own[worker::COUNT], own[worker::NOTE]);
         if number == NONE {
             return Err(DAMAGED);
         }
@@ -289,8 +301,17 @@ impl<'a, const INDEXED: bool> Graph<'a, INDEXED> {
             self.enqueue(seat, number);
         }
         self.job(number)[job::COUNT] = count - tally;
+        self.spoil(number, note);
         self.clear(at);
         Ok(answer(kind::ENDED))
+    }
+
+    /// Marks a job where the note is set; its mark is not read.
+    #[inline(always)]
+    fn spoil(&mut self, number: u32, note: u32) {
+        if note == SET {
+            self.job(number)[job::MARK] = SET;
+        }
     }
 
     fn mark(&mut self, at: usize) -> Outcome<Answer> {
@@ -302,7 +323,9 @@ impl<'a, const INDEXED: bool> Graph<'a, INDEXED> {
         if self.job(held)[job::LABEL] != EXECUTING || !self.arc_fits(first) {
             return Err(DAMAGED);
         }
+        let note = self.workers[at + worker::NOTE];
         self.job(held)[job::LABEL] = FINISHED;
+        self.job(held)[job::OUTCOME] = note;
         self.workers[at + worker::HELD] = NONE;
         self.workers[at + worker::PHASE] = phase::NOTIFYING;
         Ok(self.go_on(at, first))
@@ -326,6 +349,7 @@ impl<'a, const INDEXED: bool> Graph<'a, INDEXED> {
             self.enqueue(seat, dependent);
         }
         self.job(dependent)[job::COUNT] = count - 1;
+        self.spoil(dependent, self.workers[at + worker::NOTE]);
         Ok(self.go_on(at, next))
     }
 
@@ -345,13 +369,25 @@ impl<'a, const INDEXED: bool> Graph<'a, INDEXED> {
             return Ok(answer(kind::NONE_READY));
         }
         let (seat, number) = self.first_seat(taken, put)?;
-        if self.job(number)[job::LABEL] != UNEXECUTED {
+        let spoiled = self.job(number)[job::MARK];
+        if self.job(number)[job::LABEL] != UNEXECUTED || spoiled > SET {
             return Err(DAMAGED);
         }
         self.dequeue(seat, taken);
         self.job(number)[job::LABEL] = EXECUTING;
         self.workers[at + worker::HELD] = number;
-        Ok(Answer { job: number, name: self.job(number)[job::NAME], ..answer(kind::HANDED_OUT) })
+        Ok(Answer { job: number, name: self.job(number)[job::NAME], spoiled, ..answer(kind::HANDED_OUT) })
+    }
+
+    /// What turns away the finish of a held job: its mark, or 19 where it is spoiled and ends as good.
+    #[inline(always)]
+    fn judge_outcome(&self, held: u32, outcome: u32) -> Outcome<()> {
+        match self.job_read(held)[job::MARK] {
+            0 => Ok(()),
+            SET if outcome != GOOD => Ok(()),
+            SET => Err((19, 0)),
+            _ => Err(DAMAGED),
+        }
     }
 }
 
@@ -361,7 +397,7 @@ pub fn lay_out<const INDEXED: bool>(sizes: Sizes, tables: &mut Tables) -> Answer
         graph.jobs[..MINUTES].copy_from_slice(&[sizes.jobs, sizes.arcs, sizes.bits, sizes.workers, 0]);
         graph.jobs[MINUTES..JOBS_HEADER].copy_from_slice(&FIXED_MINUTES);
         for job in graph.jobs[JOBS_HEADER..].chunks_exact_mut(JOB_WORDS) {
-            job.copy_from_slice(&[0, 0, 0, 0, 0, NONE, NONE, NONE]);
+            job.copy_from_slice(&[0, 0, 0, 0, 0, NONE, NONE, NONE, 0, 0]);
         }
         graph.arcs[0] = 0;
         graph.arcs[ARCS_HEADER..].fill(NONE);
@@ -418,7 +454,7 @@ pub fn post_add<const INDEXED: bool>(sizes: Sizes, tables: &mut Tables, worker: 
         graph.judge_counters()?;
         let own = &mut graph.workers[at..at + WORKER_WORDS];
         own[worker::PHASE] = phase::LOOKING_UP;
-        let call = [entry.name, entry.count, entry.class, entry.grower, 0, 0, NONE, NONE];
+        let call = [entry.name, entry.count, entry.class, entry.grower, 0, 0, NONE, NONE, 0];
         own[worker::NAME..worker::NAMES].copy_from_slice(&call);
         let (listed, rest) = own[worker::NAMES..].split_at_mut(entry.count as usize);
         listed.copy_from_slice(&entry.names[..listed.len()]);
@@ -428,7 +464,13 @@ pub fn post_add<const INDEXED: bool>(sizes: Sizes, tables: &mut Tables, worker: 
 }
 
 #[inline(never)]
-pub fn post_finish<const INDEXED: bool>(sizes: Sizes, tables: &mut Tables, worker: u32, name: u32) -> Answer {
+pub fn post_finish<const INDEXED: bool>(
+    sizes: Sizes,
+    tables: &mut Tables,
+    worker: u32,
+    name: u32,
+    outcome: u32,
+) -> Answer {
     answered(Graph::<INDEXED>::admitted(sizes, tables, worker).and_then(|(mut graph, at)| {
         if graph.workers[at + worker::PHASE] != phase::IDLE {
             return Err((3, 0));
@@ -438,8 +480,10 @@ pub fn post_finish<const INDEXED: bool>(sizes: Sizes, tables: &mut Tables, worke
             return Err((11, 0));
         }
         graph.judge_counters()?;
+        graph.judge_outcome(held, outcome)?;
         graph.clear(at);
         graph.workers[at + worker::PHASE] = phase::MARKING;
+        graph.workers[at + worker::NOTE] = u32::from(outcome != GOOD);
         Ok(answer(kind::POSTED))
     }))
 }

@@ -8,7 +8,7 @@ use bench_graph::{
     shapes::{self, CLASSES, SEED},
 };
 use compare_sheets::random::Random;
-use taskgraph::raw::{kind, Entry, Sizes, Tables};
+use taskgraph::raw::{kind, Entry, Sizes, Tables, GOOD};
 
 /// The jobs of a graph. All wait as a get is called; settling, and the arc's step, queue the last that does not wait yet,
 /// and the arc's step leaves one finished.
@@ -62,7 +62,7 @@ impl Call {
                 add_rows::<C>(sizes, tables, first);
                 assert_eq!(C::get(sizes, tables, 0).kind, kind::HANDED_OUT);
                 add_rows::<C>(sizes, tables, rest);
-                assert_eq!(C::post_finish(sizes, tables, 0, entries[0].name).kind, kind::POSTED);
+                assert_eq!(C::post_finish(sizes, tables, 0, entries[0].name, GOOD).kind, kind::POSTED);
                 assert_eq!(C::step(sizes, tables, 0).kind, kind::GOING_ON);
             }
         }

@@ -14,7 +14,7 @@ use compare_graph::{
 };
 use compare_sheets::random::{seed, Random};
 use second_implementation::history::Item;
-use taskgraph::raw::{self, kind, Sizes};
+use taskgraph::raw::{self, kind, Sizes, GOOD};
 
 fn call<C: Calls>(event: &Event, laid_out: &mut Sizes, tables: &mut Tables) -> Option<LibraryTold> {
     match event {
@@ -39,11 +39,11 @@ fn call<C: Calls>(event: &Event, laid_out: &mut Sizes, tables: &mut Tables) -> O
 fn call_item<C: Calls>(item: &Item, sizes: Sizes, tables: &mut raw::Tables) -> LibraryTold {
     LibraryTold::One(match item {
         Item::PostAdd { worker, entry } => C::post_add(sizes, tables, *worker, entry_to_library(entry)),
-        Item::PostFinish { worker, name } => C::post_finish(sizes, tables, *worker, *name),
+        Item::PostFinish { worker, name, outcome } => C::post_finish(sizes, tables, *worker, *name, *outcome),
         Item::Step { worker } => C::step(sizes, tables, *worker),
         Item::Get { worker } => C::get(sizes, tables, *worker),
         Item::Add { worker, entry } => C::add(sizes, tables, *worker, entry_to_library(entry)),
-        Item::Finish { worker, name } => C::finish(sizes, tables, *worker, *name),
+        Item::Finish { worker, name, outcome } => C::finish(sizes, tables, *worker, *name, *outcome),
         Item::AddSheet { worker, entries, stray } => {
             let added = C::add_sheet(sizes, tables, *worker, &rows_of(entries, *stray));
             return LibraryTold::Each(Box::new(added));
@@ -95,7 +95,7 @@ fn hand_outs<C: Calls>(shape: &Shape) -> Vec<u32> {
             return names;
         }
         names.push(answer.name);
-        assert_eq!(C::finish(sizes, &mut tables, 0, answer.name).kind, kind::ENDED);
+        assert_eq!(C::finish(sizes, &mut tables, 0, answer.name, GOOD).kind, kind::ENDED);
     }
 }
 

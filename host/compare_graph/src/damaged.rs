@@ -30,10 +30,11 @@ use answer::{
     worker_asked,
 };
 
+pub use answer::Flag;
 pub use make::{history, numbered};
-pub use met::{Met, Use, Way};
+pub use met::{By, Meeting, Met, Use, Way};
 
-/// A history, and where it is noted what its calls meet of the index.
+/// A history, and where it is noted what its calls meet.
 pub struct Damaged<'a>(pub History, pub &'a Met);
 
 impl Case for Damaged<'_> {
@@ -119,6 +120,7 @@ impl Lent<'_> {
             _ => expected(&self.tables, sizes, call),
         };
         self.met.note(&self.tables, matches!(call.item, Item::Get { .. }), &expected);
+        self.met.note_flags(&call.item, &expected);
         let answer = expected.answer;
         if let Some(fault) = self.wrong_state(sizes, call) {
             return (answer, Some(fault));

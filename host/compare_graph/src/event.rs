@@ -202,6 +202,12 @@ fn simpler_items(item: &Item) -> Vec<Item> {
         Item::Add { worker, entry } => {
             simpler_entries(entry).into_iter().map(|entry| Item::Add { worker: *worker, entry }).collect()
         }
+        Item::PostFinish { worker, name, outcome } => shrink::lower(u64::from(*outcome))
+            .map(|outcome| Item::PostFinish { worker: *worker, name: *name, outcome: outcome as u32 })
+            .collect(),
+        Item::Finish { worker, name, outcome } => shrink::lower(u64::from(*outcome))
+            .map(|outcome| Item::Finish { worker: *worker, name: *name, outcome: outcome as u32 })
+            .collect(),
         Item::AddSheet { worker, entries, stray } => simpler_sheets(*worker, entries, *stray),
         Item::Load { minutes } => {
             let shorter = shrink::shorter(minutes, 1).chain([Minutes::FIXED.values().to_vec()]);

@@ -2,7 +2,7 @@
 
 use second_implementation::{
     bucket::bucket,
-    graph::{Add, AddStage, Call, Finish, Graph, Sizes, Worker},
+    graph::{Add, AddStage, Call, Finish, Graph, Outcome, Sizes, Worker},
 };
 
 use crate::{
@@ -16,6 +16,11 @@ use crate::{
 
 fn place(number: Option<usize>) -> u32 {
     number.map_or(NONE, |number| number as u32)
+}
+
+/// 1 for failed; 0 for good, and for a job that has not ended.
+fn outcome_word(outcome: Option<Outcome>) -> u32 {
+    u32::from(outcome == Some(Outcome::Failed))
 }
 
 /// The first way in which the words do not stand for the graph and its index.
@@ -48,6 +53,8 @@ fn wrong_jobs(graph: &Graph, words: &[u32]) -> Option<String> {
             place(job.arcs.first().copied()),
             place(job.arcs.last().copied()),
             std::mem::replace(head, number as u32),
+            outcome_word(job.outcome),
+            u32::from(job.spoiled),
         ];
         let at = job_at(number);
         let library = &words[at..at + JOB_WORDS];
@@ -59,7 +66,7 @@ fn wrong_jobs(graph: &Graph, words: &[u32]) -> Option<String> {
         }
     });
     let unused = words[job_at(made)..job_at(jobs as usize)].chunks_exact(JOB_WORDS);
-    let fresh = [0, 0, 0, 0, 0, NONE, NONE, NONE];
+    let fresh = [0, 0, 0, 0, 0, NONE, NONE, NONE, 0, 0];
     wrong("the sizes, the jobs made and the minutes", &words[..JOBS_HEADER], &header)
         .or(used)
         .or_else(|| unused.into_iter().find_map(|record| wrong("an unused job", record, &fresh)))
@@ -128,13 +135,15 @@ fn worker_words(graph: &Graph, worker: &Worker, library: &[u32]) -> [u32; WORKER
             words[worker::NAME] = library[worker::NAME];
             words[worker::JOB] = library[worker::JOB];
             match finish {
-                Finish::Marking => {
+                Finish::Marking { outcome } => {
                     words[worker::PHASE] = phase::MARKING;
                     words[worker::ARC] = library[worker::ARC];
+                    words[worker::NOTE] = outcome_word(Some(*outcome));
                 }
-                Finish::Notifying { job, next } => {
+                Finish::Notifying { job, outcome, next } => {
                     words[worker::PHASE] = phase::NOTIFYING;
                     words[worker::ARC] = graph.jobs()[*job].arcs[*next] as u32;
+                    words[worker::NOTE] = outcome_word(Some(*outcome));
                 }
             }
         }
@@ -153,10 +162,11 @@ fn add_words(add: &Add, words: &mut [u32; WORKER_WORDS]) {
             words[worker::PHASE] = phase::LOOKING_UP;
             words[worker::PLACE] = place as u32;
         }
-        AddStage::Linking { job, first_arc, place, tally } => {
+        AddStage::Linking { job, first_arc, place, tally, noted } => {
             words[worker::PHASE] = phase::LINKING;
             words[worker::PLACE] = place as u32;
             words[worker::TALLY] = tally;
+            words[worker::NOTE] = u32::from(noted);
             words[worker::JOB] = job as u32;
             words[worker::ARC] = if add.list.is_empty() { NONE } else { first_arc as u32 };
         }

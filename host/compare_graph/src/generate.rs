@@ -3,10 +3,11 @@
 
 use compare_sheets::{inputs, minute_values, random::Random};
 use second_implementation::{
-    graph::{Call as Half, Graph, Sizes, MAX_ARCS, MAX_BITS, MAX_ENTRIES, MAX_JOBS, MAX_WORKERS},
+    graph::{Call as Half, Graph, Job, Sizes, MAX_ARCS, MAX_BITS, MAX_ENTRIES, MAX_JOBS, MAX_WORKERS},
     history::Item,
     sheet::{Entry, Names, MAX_NAMES, ROW_WORDS},
 };
+use taskgraph::raw::{FAILED, GOOD};
 
 use crate::{
     event::{Call, Event, History},
@@ -35,6 +36,8 @@ struct Manner {
     deep: bool,
     /// Before the first job enters, of ten events how many are loads.
     loading: usize,
+    /// Of ten finishes of jobs that are not spoiled, how many are failed.
+    failing: usize,
 }
 
 /// A history over a graph of any size, mostly small.
@@ -144,6 +147,7 @@ impl Manner {
             whole: random.pick(&[0, 2, 5, 9]),
             deep: false,
             loading: random.pick(&[0, 1, 5]),
+            failing: random.pick(&[0, 1, 1, 3, 8]),
         }
     }
 
@@ -163,7 +167,7 @@ impl Manner {
         let item = match (&state.call, state.held) {
             (Some(_), _) => Item::Step { worker },
             _ if random.below(10) < self.adding => self.add(random, graph, worker),
-            (None, Some(job)) => self.finish(random, worker, graph.jobs()[job].name),
+            (None, Some(job)) => self.finish(random, worker, &graph.jobs()[job]),
             (None, None) => Item::Get { worker },
         };
         item.into()
@@ -180,11 +184,14 @@ impl Manner {
         Item::Add { worker, entry: self.entry(random, graph) }
     }
 
-    fn finish(&self, random: &mut Random, worker: u32, name: u32) -> Item {
+    /// A finish of a held job; one that is spoiled is mostly failed, and now and then good, which is refused.
+    fn finish(&self, random: &mut Random, worker: u32, job: &Job) -> Item {
+        let fails = if job.spoiled { !random.once_in(4) } else { random.below(10) < self.failing };
+        let (name, outcome) = (job.name, if fails { failed(random) } else { GOOD });
         if random.below(10) < self.whole {
-            Item::Finish { worker, name }
+            Item::Finish { worker, name, outcome }
         } else {
-            Item::PostFinish { worker, name }
+            Item::PostFinish { worker, name, outcome }
         }
     }
 
@@ -275,14 +282,22 @@ impl Manner {
         }
     }
 
-    /// Any item at all, whatever the worker is at.
+    /// Any item at all, whatever the worker is at; half the finishes are of the job that it holds, if it holds one.
     fn any_item(&self, random: &mut Random, graph: &Graph, worker: u32) -> Item {
+        let held = graph.workers().get(worker as usize).and_then(|state| state.held);
+        let held = held.filter(|_| random.once_in(2)).map(|job| graph.jobs()[job].name);
         match random.below(8) {
             0 => Item::PostAdd { worker, entry: self.entry(random, graph) },
-            1 => Item::PostFinish { worker, name: random.pick(&self.names) },
+            1 => {
+                let name = held.unwrap_or_else(|| random.pick(&self.names));
+                Item::PostFinish { worker, name, outcome: any_outcome(random) }
+            }
             2 => Item::Step { worker },
             3 => Item::Add { worker, entry: self.entry(random, graph) },
-            4 => Item::Finish { worker, name: random.pick(&self.names) },
+            4 => {
+                let name = held.unwrap_or_else(|| random.pick(&self.names));
+                Item::Finish { worker, name, outcome: any_outcome(random) }
+            }
             5 => self.sheet(random, graph, worker),
             6 => load(random),
             _ => Item::Get { worker },
@@ -304,6 +319,23 @@ impl Manner {
             _ => names[count..].fill(random.pick(&[entry.name, 1, u32::MAX])),
         }
         entry
+    }
+}
+
+/// The number of a failed outcome, which is any but 0.
+fn failed(random: &mut Random) -> u32 {
+    if random.once_in(8) {
+        random.pick(&[2, 3, 1 << 31, u32::MAX])
+    } else {
+        FAILED
+    }
+}
+
+fn any_outcome(random: &mut Random) -> u32 {
+    if random.once_in(2) {
+        GOOD
+    } else {
+        failed(random)
     }
 }
 

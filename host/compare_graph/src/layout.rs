@@ -11,10 +11,10 @@ pub const ARCS_HEADER: usize = 1;
 pub const QUEUE_HEADER: usize = 2;
 
 /// Words per record.
-pub const JOB_WORDS: usize = 8;
+pub const JOB_WORDS: usize = 10;
 pub const ARC_WORDS: usize = 2;
 pub const QUEUE_WORDS: usize = 3;
-pub const WORKER_WORDS: usize = 42;
+pub const WORKER_WORDS: usize = 43;
 
 /// The counters: jobs made, arcs reserved, jobs taken from and put in the queue.
 pub const MADE: usize = 4;
@@ -35,6 +35,8 @@ pub mod job {
     pub const FIRST: usize = 5;
     pub const LAST: usize = 6;
     pub const NEXT: usize = 7;
+    pub const OUTCOME: usize = 8;
+    pub const MARK: usize = 9;
 }
 
 /// Where the next arc stands in an arc.
@@ -52,7 +54,8 @@ pub mod worker {
     pub const PLACE: usize = 7;
     pub const JOB: usize = 8;
     pub const ARC: usize = 9;
-    pub const NAMES: usize = 10;
+    pub const NOTE: usize = 10;
+    pub const NAMES: usize = 11;
 }
 
 /// The phases of a worker.

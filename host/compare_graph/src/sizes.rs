@@ -43,7 +43,7 @@ impl SizesBrought {
         let mut words = vec![jobs, arcs, bits, workers, self.jobs.len() as u32];
         words.extend(self.minutes);
         for [label, class] in &self.jobs {
-            words.extend([7, *label, 0, *class, 0, layout::NONE, layout::NONE, layout::NONE]);
+            words.extend([7, *label, 0, *class, 0, layout::NONE, layout::NONE, layout::NONE, 0, 0]);
         }
         words.resize(self.jobs_len, 0);
         words

@@ -4,6 +4,7 @@ use second_implementation::{
     history::Item,
     sheet::{Entry, Names, MAX_NAMES},
 };
+use taskgraph::raw::{FAILED, GOOD};
 
 use crate::{
     event::{Event, History},
@@ -19,15 +20,19 @@ pub enum Call {
         list: &'static [u32],
     },
     Get,
-    /// A finish of the held job, or of name 0 where none is held.
+    /// A finish of the held job as good, or of name 0 where none is held.
     Finish,
+    /// The same as failed.
+    Fail,
     /// An add run whole.
     WholeAdd {
         name: u32,
         list: &'static [u32],
     },
-    /// A finish as above, run whole.
+    /// A finish as good, run whole.
     WholeFinish,
+    /// A finish as failed, run whole.
+    WholeFail,
     /// The adds of these names with their lists in one call.
     Sheet(&'static [(u32, &'static [u32])]),
     /// A load of so many values from this on, one above another.
@@ -43,8 +48,9 @@ impl Call {
     pub fn turns(self) -> usize {
         match self {
             Call::Add { list, .. } => 3 + 2 * list.len(),
-            Call::Get | Call::WholeAdd { .. } | Call::WholeFinish | Call::Sheet(_) | Call::Load { .. } => 1,
-            Call::Finish => 3,
+            Call::Get | Call::WholeAdd { .. } | Call::WholeFinish | Call::WholeFail => 1,
+            Call::Sheet(_) | Call::Load { .. } => 1,
+            Call::Finish | Call::Fail => 3,
         }
     }
 }
@@ -125,9 +131,11 @@ fn turn(world: &World, worker: u32, script: &mut &[Call]) -> Option<Item> {
     Some(match *call {
         Call::Add { name, list } => Item::PostAdd { worker, entry: entry(name, list) },
         Call::Get => Item::Get { worker },
-        Call::Finish => Item::PostFinish { worker, name: held },
+        Call::Finish => Item::PostFinish { worker, name: held, outcome: GOOD },
+        Call::Fail => Item::PostFinish { worker, name: held, outcome: FAILED },
         Call::WholeAdd { name, list } => Item::Add { worker, entry: entry(name, list) },
-        Call::WholeFinish => Item::Finish { worker, name: held },
+        Call::WholeFinish => Item::Finish { worker, name: held, outcome: GOOD },
+        Call::WholeFail => Item::Finish { worker, name: held, outcome: FAILED },
         Call::Sheet(jobs) => {
             Item::AddSheet { worker, entries: jobs.iter().map(|(name, list)| entry(*name, list)).collect(), stray: 0 }
         }

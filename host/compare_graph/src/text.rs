@@ -2,18 +2,19 @@
 //!
 //!     tables 4 2 2 2 slack 0 0 0 0 0 fill 0 guard 8
 //!     add 0 name 5 class 0 grower 0 count 2 names 1 2
-//!     finish 0 5
+//!     finish 0 5 1
 //!     step 0 sizes 4 2 2 3
 //!     get 1 short queue 5
 //!     whole-add 0 name 6 class 0 grower 0 count 1 names 5
-//!     whole-finish 0 6
+//!     whole-finish 0 6 0
 //!     load 1 2 3 5 8 10 15 20 30 45 60 90 120 180 240 1440
 //!     sheet 0 entry name 7 class 0 grower 0 count 0 names entry name 8 class 0 grower 0 count 1 names 7 stray 3
 //!     lay-out 4 2 2 2
 //!     set jobs 6 3
 //!
 //! The first line has the sizes first laid out (jobs, arcs, bits, workers), the words that each table has
-//! more, the seed of the words before (0: zeros), and the guard words around each table. An item may end in
+//! more, the seed of the words before (0: zeros), and the guard words around each table. A finish has its name and the
+//! number of its outcome, 0 for good and any other for failed. An item may end in
 //! `sizes`, those that it brings, and in `short`, a table and the words of it that are lent. A sheet has its entries
 //! and, after `stray`, how many words follow them that make no whole row. `set` alters a word. An empty line and one
 //! that starts with # say nothing.
@@ -73,11 +74,11 @@ impl fmt::Display for Event {
 fn write_item(item: &Item, f: &mut fmt::Formatter<'_>) -> fmt::Result {
     match item {
         Item::PostAdd { worker, entry } => write!(f, "add {worker} {}", entry_text(entry)),
-        Item::PostFinish { worker, name } => write!(f, "finish {worker} {name}"),
+        Item::PostFinish { worker, name, outcome } => write!(f, "finish {worker} {name} {outcome}"),
         Item::Step { worker } => write!(f, "step {worker}"),
         Item::Get { worker } => write!(f, "get {worker}"),
         Item::Add { worker, entry } => write!(f, "whole-add {worker} {}", entry_text(entry)),
-        Item::Finish { worker, name } => write!(f, "whole-finish {worker} {name}"),
+        Item::Finish { worker, name, outcome } => write!(f, "whole-finish {worker} {name} {outcome}"),
         Item::Load { minutes } => write!(f, "load{}", Numbers(minutes)),
         Item::AddSheet { worker, entries, stray } => {
             write!(f, "sheet {worker}")?;
@@ -167,11 +168,11 @@ impl<'a> Line<'a> {
             "lay-out" => return Ok(Event::LayOut(self.sizes()?)),
             "set" => return Ok(Event::Set { table: self.table()?, place: self.number()?, value: self.number()? }),
             "add" => Item::PostAdd { worker: self.number()?, entry: self.entry()? },
-            "finish" => Item::PostFinish { worker: self.number()?, name: self.number()? },
+            "finish" => Item::PostFinish { worker: self.number()?, name: self.number()?, outcome: self.number()? },
             "step" => Item::Step { worker: self.number()? },
             "get" => Item::Get { worker: self.number()? },
             "whole-add" => Item::Add { worker: self.number()?, entry: self.entry()? },
-            "whole-finish" => Item::Finish { worker: self.number()?, name: self.number()? },
+            "whole-finish" => Item::Finish { worker: self.number()?, name: self.number()?, outcome: self.number()? },
             "sheet" => self.sheet()?,
             "load" => Item::Load { minutes: self.numbers(usize::MAX)? },
             word => return Err(format!("no item is called {word}")),

@@ -3,6 +3,7 @@
 use second_implementation::{
     book::{JobView, View},
     graph::Sizes,
+    history::Shown,
 };
 
 use crate::{
@@ -18,6 +19,17 @@ pub fn made(tables: &Tables, sizes: Sizes) -> usize {
 /// The label of a job, by the words.
 pub fn label(tables: &Tables, number: usize) -> u32 {
     tables.words(JOBS)[job_at(number) + job::LABEL]
+}
+
+/// Whether each job has ended, as what, and its mark, by the words.
+pub fn shown(tables: &Tables, sizes: Sizes) -> Vec<Shown> {
+    let jobs = tables.words(JOBS);
+    let of_job = |number: usize| Shown {
+        finished: jobs[job_at(number) + job::LABEL] == 2,
+        failed: jobs[job_at(number) + job::OUTCOME] == 1,
+        spoiled: jobs[job_at(number) + job::MARK] == 1,
+    };
+    (0..made(tables, sizes)).map(of_job).collect()
 }
 
 /// The minutes of a job, by the words.
@@ -57,6 +69,8 @@ pub fn view(tables: &Tables, sizes: Sizes) -> View {
             label: record[job::LABEL],
             count: record[job::COUNT],
             waits: waits[number],
+            failed: record[job::OUTCOME] == 1,
+            spoiled: record[job::MARK] == 1,
         }
     };
     let hold = |number: usize| {

@@ -28,7 +28,7 @@ pub trait SingleCalls {
 pub fn told_by_single_calls(calls: &mut impl SingleCalls, item: &Item) -> Option<LibraryTold> {
     match item {
         Item::Add { worker, entry } => Some(LibraryTold::One(add(calls, *worker, entry))),
-        Item::Finish { worker, name } => Some(LibraryTold::One(finish(calls, *worker, *name))),
+        Item::Finish { worker, name, outcome } => Some(LibraryTold::One(finish(calls, *worker, *name, *outcome))),
         Item::AddSheet { worker, entries, stray } => {
             Some(LibraryTold::Each(Box::new(sheet(calls, *worker, entries, *stray))))
         }
@@ -55,8 +55,8 @@ fn add(calls: &mut impl SingleCalls, worker: u32, entry: &Entry) -> Answer {
     run(calls, worker, posted, entry.prerequisites.count.saturating_mul(2).saturating_add(2))
 }
 
-fn finish(calls: &mut impl SingleCalls, worker: u32, name: u32) -> Answer {
-    let posted = calls.call(Item::PostFinish { worker, name });
+fn finish(calls: &mut impl SingleCalls, worker: u32, name: u32, outcome: u32) -> Answer {
+    let posted = calls.call(Item::PostFinish { worker, name, outcome });
     run(calls, worker, posted, calls.most_arcs() + 1)
 }
 

@@ -6,7 +6,7 @@ use std::fmt;
 use compare_sheets::case::differ;
 use second_implementation::{
     book::{Book, Ending},
-    graph::{self, Answer, Graph, HalfDone, Holding, Refusal, Reply, SheetAnswer, Sizes},
+    graph::{self, Answer, Graph, HalfDone, Held, Holding, Outcome, Refusal, Reply, SheetAnswer, Sizes},
     history::{Entries, History, Item, Told},
     minutes::Minutes,
     refusal,
@@ -73,7 +73,9 @@ pub fn answer_to_library(answer: &Answer) -> proved::Answer {
         Ok(Reply::GoingOn) => of_kind(kind::GOING_ON),
         Ok(Reply::Ended) => of_kind(kind::ENDED),
         Ok(Reply::NoneReady) => of_kind(kind::NONE_READY),
-        Ok(Reply::HandedOut { job, name }) => proved::Answer { job: job as u32, name, ..of_kind(kind::HANDED_OUT) },
+        Ok(Reply::HandedOut { job, name, spoiled }) => {
+            proved::Answer { job: job as u32, name, spoiled: u32::from(spoiled), ..of_kind(kind::HANDED_OUT) }
+        }
     }
 }
 
@@ -136,7 +138,9 @@ pub fn holding_to_library(holding: Result<Holding, Refusal>) -> proved::Holding 
     };
     match held {
         None => Told { call, adds, ..Told::default() },
-        Some((job, name)) => Told { number: 0, holds: 1, job: job as u32, name, call, adds },
+        Some(Held { job, name, spoiled }) => {
+            Told { number: 0, holds: 1, job: job as u32, name, call, adds, spoiled: u32::from(spoiled) }
+        }
     }
 }
 
@@ -161,11 +165,11 @@ pub fn call_library(sizes: Sizes, tables: &mut proved::Tables, item: &Item) -> L
     let sizes = to_library(sizes);
     LibraryTold::One(match item {
         Item::PostAdd { worker, entry } => proved::post_add(sizes, tables, *worker, entry_to_library(entry)),
-        Item::PostFinish { worker, name } => proved::post_finish(sizes, tables, *worker, *name),
+        Item::PostFinish { worker, name, outcome } => proved::post_finish(sizes, tables, *worker, *name, *outcome),
         Item::Step { worker } => proved::step(sizes, tables, *worker),
         Item::Get { worker } => proved::get(sizes, tables, *worker),
         Item::Add { worker, entry } => proved::add(sizes, tables, *worker, entry_to_library(entry)),
-        Item::Finish { worker, name } => proved::finish(sizes, tables, *worker, *name),
+        Item::Finish { worker, name, outcome } => proved::finish(sizes, tables, *worker, *name, *outcome),
         Item::AddSheet { worker, entries, stray } => {
             let added = proved::add_sheet(sizes, tables, *worker, &rows_of(entries, *stray));
             return LibraryTold::Each(Box::new(added));
@@ -179,11 +183,11 @@ pub fn call_library(sizes: Sizes, tables: &mut proved::Tables, item: &Item) -> L
 pub fn call_second(graph: &mut Graph, sizes: Sizes, item: &Item) -> Told {
     Told::One(match item {
         Item::PostAdd { worker, entry } => graph.post_add(sizes, *worker, entry),
-        Item::PostFinish { worker, name } => graph.post_finish(sizes, *worker, *name),
+        Item::PostFinish { worker, name, outcome } => graph.post_finish(sizes, *worker, *name, Outcome::of(*outcome)),
         Item::Step { worker } => graph.step(sizes, *worker),
         Item::Get { worker } => graph.get(sizes, *worker),
         Item::Add { worker, entry } => graph.add(sizes, *worker, entry),
-        Item::Finish { worker, name } => graph.finish(sizes, *worker, *name),
+        Item::Finish { worker, name, outcome } => graph.finish(sizes, *worker, *name, Outcome::of(*outcome)),
         Item::AddSheet { worker, entries, stray } => {
             return Told::Each(graph.add_sheet(sizes, *worker, &rows_of(entries, *stray)));
         }
@@ -393,6 +397,7 @@ impl World {
         if all_now {
             let is_finished = |job: usize| view::label(&self.tables, job) == FINISHED;
             none_or_err(self.history.wrong_entries(&self.entries, is_finished))?;
+            none_or_err(self.history.wrong_marks(&self.entries, &view::shown(&self.tables, sizes)))?;
             self.check_totals()?;
         }
         if !self.history.is_half_done() {

@@ -3,7 +3,7 @@
 use std::collections::BTreeSet;
 
 use compare_graph::{
-    damaged::{self, Damaged, Met, Use, Way},
+    damaged::{self, By, Damaged, Flag, Meeting, Met, Use, Way},
     event::{Event, History},
     histories,
     index::WrongSlot,
@@ -62,6 +62,30 @@ fn the_board_meets_damage() {
     println!("\nall answers of boards and minutes met in {number} damaged histories");
 }
 
+/// What the comparison must meet of outcomes, marks and notes: each that is not 0 or 1, by each call that reads it; good
+/// for a spoiled job; spoiled jobs handed out, and jobs that are spoiled.
+#[test]
+fn outcomes_marks_and_notes_meet_damage() {
+    let notes = [By::PostAdd, By::PostFinish, By::Step, By::Get].map(|by| (by, Meeting::Wrong(Flag::Note)));
+    let mut due = vec![
+        (By::Get, Meeting::Wrong(Flag::Mark)),
+        (By::PostFinish, Meeting::Wrong(Flag::Mark)),
+        (By::Step, Meeting::Wrong(Flag::Outcome)),
+        (By::PostFinish, Meeting::GoodForSpoiled),
+        (By::Get, Meeting::HandedOut),
+        (By::Step, Meeting::Spoils),
+    ];
+    due.extend(notes);
+    let (mut number, met) = (0, Met::default());
+    while !due.is_empty() && number < 4_000 {
+        assert_eq!(damaged::first_fault(&damaged::numbered(1993, number), &met), None, "in history {number}");
+        due.retain(|meeting| !met.has_meeting(meeting));
+        number += 1;
+    }
+    assert!(due.is_empty(), "never met in {number} histories: {due:?}");
+    println!("\nall that is to be met of outcomes, marks and notes met in {number} damaged histories");
+}
+
 /// How the library answers the whole calls and the loads of a history.
 fn ways_of(history: History) -> BTreeSet<(&'static str, u32)> {
     let mut met = BTreeSet::new();
@@ -89,6 +113,7 @@ fn ways_of(history: History) -> BTreeSet<(&'static str, u32)> {
 fn whole_calls_meet_damage() {
     let mut due =
         BTreeSet::from([("add", 9), ("finish", 9), ("finish", HALF_LEFT), ("sheet", 9), ("entry", 9), ("entry", 3)]);
+    due.insert(("finish", 19));
     due.extend([0, 1, 17, 9, 18].map(|number| ("load", number)));
     let mut number = 0;
     while !due.is_empty() && number < 4_000 {

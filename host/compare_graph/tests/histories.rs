@@ -1,10 +1,13 @@
 //! Random histories of posts, steps and gets: the library does as the second implementation and the plain book do.
 
-use std::{collections::BTreeSet, fs};
+use std::{
+    collections::{BTreeMap, BTreeSet},
+    fs,
+};
 
 use compare_graph::{
     damaged::{Damaged, Met},
-    event::{Event, History},
+    event::{worker_of, Call, Event, History},
     generate, histories,
     random_history::RandomHistory,
     whole,
@@ -14,7 +17,10 @@ use compare_sheets::{
     case::Comparison,
     random::{seed, Random},
 };
-use second_implementation::graph::Graph;
+use second_implementation::{
+    graph::{Call as Half, Graph, Job, Outcome},
+    history::Item,
+};
 
 #[test]
 fn random_histories() {
@@ -48,7 +54,7 @@ fn whole_calls_and_loads_are_answered_in_every_way() {
     }
     let numbers = |what, numbers: &'static [u32]| numbers.iter().map(move |number| (what, *number));
     let expected: BTreeSet<(&str, u32)> = numbers("add", &[0, 1, 2, 3, 5, 6, 7, 8])
-        .chain(numbers("finish", &[0, 1, 2, 3, 11]))
+        .chain(numbers("finish", &[0, 1, 2, 3, 11, 19]))
         .chain(numbers("sheet", &[0, 1, 2, 3, 16]))
         .chain(numbers("entry", &[0, 5, 6, 7, 8]))
         .chain(numbers("load", &[0, 1, 17, 18]))
@@ -82,6 +88,62 @@ fn the_order_of_hand_outs_matters() {
          {deep} with 200 and more waiting"
     );
     assert!(overtaking > 1_000 && with_equals > 1_000 && deep > 100);
+}
+
+/// Nor of failures that spoil nothing, or of jobs that are all spoiled. Counts what becomes of jobs.
+#[test]
+fn failures_come_in_every_way() {
+    let mut met: BTreeMap<&str, u64> = BTreeMap::new();
+    let mut count = |what: &'static str, holds: bool| *met.entry(what).or_insert(0) += u64::from(holds);
+    for number in 0..600 {
+        let history = generate::history(&mut Random::nth(1993, "failures", number));
+        let mut graph = Graph::lay_out(history.setup.sizes).expect("the sizes are within their limits");
+        for event in &history.events {
+            let before = graph.clone();
+            generate::follow(&mut graph, &history.setup, event);
+            let (item, worker) = match event {
+                Event::Call(Call { item, sizes: None, short: None }) => (item, worker_of(item).unwrap_or(0) as usize),
+                _ => continue,
+            };
+            let spoiled = |graph: &Graph| graph.jobs().iter().filter(|job| job.spoiled).count();
+            let spoils = spoiled(&graph) - spoiled(&before);
+            let half = before.workers().get(worker).and_then(|state| state.call.as_ref());
+            let held = before.workers().get(worker).and_then(|state| state.held).map(|job| &before.jobs()[job]);
+            let holds = |wanted: u32| held.map_or(false, |job| job.spoiled && job.name == wanted);
+            match item {
+                Item::Step { .. } => {
+                    count("a job spoiled by settling", matches!(half, Some(Half::Add(_))) && spoils > 0);
+                    count("a job spoiled by an arc's step", matches!(half, Some(Half::Finish(_))) && spoils > 0);
+                }
+                Item::Add { .. } => count("a job spoiled by an add run whole", spoils > 0),
+                Item::AddSheet { .. } => count("a job spoiled by a sheet", spoils > 0),
+                Item::Finish { name, outcome, .. } => {
+                    count("jobs spoiled by a finish run whole", spoils > 1);
+                    count("19 for a finish run whole", *outcome == 0 && half.is_none() && holds(*name));
+                    count("a failed outcome by another number", *outcome > 1 && half.is_none() && holds(*name));
+                }
+                Item::PostFinish { name, outcome, .. } => {
+                    count("19 for a post", *outcome == 0 && half.is_none() && holds(*name));
+                }
+                Item::Get { .. } => {
+                    let taken = graph.workers().get(worker).and_then(|state| state.held).filter(|_| held.is_none());
+                    let taken = taken.map(|job| graph.jobs()[job].spoiled);
+                    count("a spoiled job handed out", taken == Some(true));
+                    count("a job handed out that is not", taken == Some(false));
+                }
+                Item::PostAdd { .. } | Item::Load { .. } => {}
+            }
+        }
+        let failed = |job: &Job| job.outcome == Some(Outcome::Failed);
+        count("a job that failed and was not spoiled", graph.jobs().iter().any(|job| failed(job) && !job.spoiled));
+        count("a spoiled job that failed", graph.jobs().iter().any(|job| failed(job) && job.spoiled));
+        count("spoiled jobs beside good ones", {
+            let spoiled = graph.jobs().iter().any(|job| job.spoiled);
+            spoiled && graph.jobs().iter().any(|job| job.outcome == Some(Outcome::Good) && !job.arcs.is_empty())
+        });
+    }
+    println!("\n{met:?}");
+    assert!(met.values().all(|times| *times > 20), "{met:?}");
 }
 
 #[test]

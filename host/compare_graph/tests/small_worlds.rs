@@ -8,6 +8,7 @@ use compare_graph::{
 };
 use compare_sheets::case::Comparison;
 use second_implementation::{graph::Sizes, history::Item};
+use taskgraph::raw::FAILED;
 
 /// The most turns of two scripts together, the further arcs of a finish aside.
 const MOST_TURNS: usize = 12;
@@ -25,9 +26,20 @@ const CALLS: [Call; 7] = [
     Call::Add { name: 4, list: &[1, 2] },
 ];
 
-const WHOLE_CALLS: [Call; 6] = [
+/// Job 4 needs one job that may fail, or two, and job 5 needs job 4.
+const FAILING_CALLS: [Call; 6] = [
+    Call::Get,
+    Call::Fail,
+    Call::Finish,
+    Call::Add { name: 4, list: &[1] },
+    Call::Add { name: 4, list: &[1, 2] },
+    Call::Add { name: 5, list: &[4] },
+];
+
+const WHOLE_CALLS: [Call; 7] = [
     Call::Get,
     Call::WholeFinish,
+    Call::WholeFail,
     Call::WholeAdd { name: 4, list: &[1] },
     Call::Add { name: 4, list: &[1] },
     Call::Sheet(&[(4, &[]), (5, &[4])]),
@@ -57,6 +69,10 @@ fn get(worker: u32) -> Vec<Event> {
     vec![Item::Get { worker }.into()]
 }
 
+fn fail(worker: u32, name: u32) -> Vec<Event> {
+    vec![Item::Finish { worker, name, outcome: FAILED }.into()]
+}
+
 fn start(jobs: u32, arcs: u32, bits: u32, events: &[Vec<Event>]) -> Start {
     let sizes = Sizes { jobs, arcs, bits, workers: 2 };
     Start { setup: Setup { sizes, slack: [0; 5], fill: 1, guard: 0 }, events: events.concat() }
@@ -73,6 +89,7 @@ fn starts() -> Vec<Start> {
         start(4, 4, 2, &[jobs_1_2(), whole_add(3, &[1, 2]), get(0), get(1)]),
         start(4, 3, 2, &[jobs_1_2(), whole_add(3, &[2]), get(0)]),
         start(5, 2, 1, &[whole_add(3, &[]), jobs_1_2()]),
+        start(5, 4, 1, &[jobs_1_2(), get(0), fail(0, 1), get(1)]),
     ]
 }
 
@@ -80,6 +97,14 @@ fn starts() -> Vec<Start> {
 fn every_order_of_two_scripts() {
     let test = "graph, every order of the turns of two scripts";
     let scripts = scripts(&CALLS, 3);
+    every_order(test, [&scripts, &scripts], MOST_TURNS);
+}
+
+/// Finishes that fail beside adds: before a link, after it, and between others.
+#[test]
+fn every_order_with_failed_finishes() {
+    let test = "graph, every order of the turns of two scripts with failed finishes";
+    let scripts = scripts(&FAILING_CALLS, 3);
     every_order(test, [&scripts, &scripts], MOST_TURNS);
 }
 

@@ -39,13 +39,21 @@ pub struct Check<'a> {
     handed_out: BTreeMap<usize, (usize, usize)>,
     /// The loads that were taken, and those that were refused since a job had entered.
     loads: [usize; 2],
+    /// The finishes as good of spoiled jobs that were turned away.
+    turned_away: usize,
 }
 
 impl<'a> Check<'a> {
     /// Reads the logs; a job started twice is a fault.
     pub fn new(plan: &'a Plan, logs: &[String]) -> Result<Check<'a>, String> {
-        let records = vec![Record::default(); JOBS];
-        let mut check = Check { plan, records, queued: BTreeMap::new(), handed_out: BTreeMap::new(), loads: [0; 2] };
+        let mut check = Check {
+            plan,
+            records: vec![Record::default(); JOBS],
+            queued: BTreeMap::new(),
+            handed_out: BTreeMap::new(),
+            loads: [0; 2],
+            turned_away: 0,
+        };
         for line in logs.iter().flat_map(|log| log.lines()) {
             check.take(line.parse()?)?;
         }
@@ -68,8 +76,11 @@ impl<'a> Check<'a> {
                 let job = self.job_of(name)?;
                 note(&mut self.queued, place, job)?;
             }
-            Line::HandedOut { name, taken, put } => {
+            Line::HandedOut { name, spoiled, taken, put } => {
                 let job = self.job_of(name)?;
+                if spoiled != self.plan.is_spoiled(job) {
+                    return Err(format!("job {job} was told to be spoiled: {spoiled}"));
+                }
                 note(&mut self.handed_out, taken, (job, put))?;
             }
             Line::Start { name, ticket } => {
@@ -78,6 +89,13 @@ impl<'a> Check<'a> {
                 }
             }
             Line::End { name, ticket } => self.record(name)?.end = Some(ticket),
+            Line::TurnedAway { name } => {
+                let job = self.job_of(name)?;
+                if !self.plan.is_spoiled(job) {
+                    return Err(format!("job {job} was turned away as spoiled"));
+                }
+                self.turned_away += 1;
+            }
             Line::Finished { name } => self.record(name)?.finished = true,
             Line::Load { taken } => self.loads[usize::from(!taken)] += 1,
         }
@@ -106,6 +124,16 @@ impl<'a> Check<'a> {
             [_, 0] => Err("no load was refused".into()),
             loads => Ok(loads),
         }
+    }
+
+    /// How many jobs that were handed out are spoiled, and how many finishes as good of these were turned away. Some must
+    /// be, and some jobs not spoiled.
+    pub fn spoiled(&self) -> Result<[usize; 2], String> {
+        let spoiled = self.handed_out.values().filter(|(job, _)| self.plan.is_spoiled(*job)).count();
+        if self.turned_away == 0 || spoiled == self.handed_out.len() {
+            return Err(format!("{spoiled} jobs are spoiled, and {} finishes were turned away", self.turned_away));
+        }
+        Ok([spoiled, self.turned_away])
     }
 
     /// The board's sums are those of the jobs made, by the minutes that were loaded last.
@@ -165,8 +193,8 @@ impl<'a> Check<'a> {
         self.records.iter().filter(|record| record.finished).count()
     }
 
-    /// The tables beside the logs: classes by name, labels, and for a run in which nobody was killed all
-    /// of it done.
+    /// The tables beside the logs: classes by name, labels, outcomes and marks, and for a run in which nobody was killed
+    /// all of it done.
     pub fn tables(&self, words: &Words, killed: usize) -> Result<(), String> {
         let made = words.jobs[MADE] as usize;
         for number in 0..made.min(JOBS) {
@@ -200,6 +228,13 @@ impl<'a> Check<'a> {
         }
         if killed == 0 && (record[job::LABEL], record[job::COUNT]) != (FINISHED, 0) {
             return Err(format!("at the end the words of job {number} are {record:?}"));
+        }
+        // Once a job was handed out its mark stands; a job that has not ended has no outcome.
+        let fails = record[job::LABEL] == FINISHED && self.plan.fails(number);
+        let marked =
+            self.records[number].start.is_none() || record[job::MARK] == u32::from(self.plan.is_spoiled(number));
+        if record[job::OUTCOME] != u32::from(fails) || !marked {
+            return Err(format!("by its outcome or mark, the words of job {number} are {record:?}"));
         }
         Ok(())
     }

@@ -1,9 +1,10 @@
 //! Sixteen worker processes over one graph in shared memory, with the lock round each call and each step: 4,096 jobs
 //! with 32,768 arcs, jobs of random length. Some workers take single steps, some run their calls whole, and some add by
 //! sheets. A district's minutes are loaded at the start, and all workers try to load their own as they work, which is
-//! refused once a job has entered. Afterwards the workers' logs say whether a job was taken before its prerequisites,
-//! twice, or before a heavier one. Then the same with a worker killed between two calls at a random moment, after which
-//! the others go on.
+//! refused once a job has entered. Some jobs fail, and those that rest on them are spoiled; workers try to end such a job
+//! as good, which is turned away. Afterwards the workers' logs say whether a job was taken before its prerequisites,
+//! twice, or before a heavier one, and whether just the right jobs were told to be spoiled. Then the same with a worker
+//! killed between two calls at a random moment, after which the others go on.
 //!
 //! usage: processes [RUNS]      RUNS with a killed worker, 8 if it is not said
 
@@ -133,12 +134,15 @@ impl Run {
         check.tables(&words, killed)?;
         check.totals(&self.shared.lock()?.graph.totals()?, &words, &minutes)?;
         let [taken, refused] = check.loads()?;
+        // A killed worker may have been the one that kept all jobs behind the first failed one from entering.
+        let [spoiled, turned_away] = if kill { check.spoiled().unwrap_or_default() } else { check.spoiled()? };
         if !kill && !self.shared.lock()?.graph.drained()? {
             return Err("the graph is not drained".into());
         }
         Ok(format!(
             "{} of {JOBS} jobs finished by {WORKERS} processes, {overtaking} handed out before others that waited longer, \
-             {} loads of minutes taken and {refused} refused, in {:.1} s",
+             {spoiled} told to be spoiled, {turned_away} finishes of these as good turned away, {} loads of minutes taken \
+             and {refused} refused, in {:.1} s",
             check.finished(),
             1 + taken,
             took.as_secs_f64()

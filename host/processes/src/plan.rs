@@ -1,5 +1,5 @@
-//! The jobs that the workers add: 4,096 with 32,768 listed names, the same in each process by the seed; and the minutes
-//! that each process loads.
+//! The jobs that the workers add: 4,096 with 32,768 listed names, the same in each process by the seed; which of them fail;
+//! and the minutes that each process loads.
 
 use std::collections::HashMap;
 
@@ -14,6 +14,9 @@ pub const FIRST_LOADER: usize = WORKERS;
 /// Most prerequisites lie at most so many jobs back.
 const NEAR: usize = 200;
 
+/// So many of the later half of the jobs fail by themselves. Most jobs after the first of them rest on it.
+const FAILING: usize = 8;
+
 pub struct Plan {
     seed: u64,
     /// The prerequisites of each job, which have lower numbers.
@@ -21,6 +24,9 @@ pub struct Plan {
     names: Vec<u32>,
     classes: Vec<u32>,
     numbers: HashMap<u32, usize>,
+    /// The jobs that have a prerequisite that fails, and those that fail.
+    spoiled: Vec<bool>,
+    failed: Vec<bool>,
 }
 
 impl Plan {
@@ -42,7 +48,23 @@ impl Plan {
         let names: Vec<u32> = (0..JOBS as u32).map(|job| job.wrapping_mul(0x9e37_79b1).wrapping_add(start)).collect();
         let numbers = names.iter().copied().zip(0..).collect();
         let classes = (0..JOBS).map(|_| random.below(16) as u32).collect();
-        Plan { seed, lists, names, classes, numbers }
+        let failing: Vec<usize> = (0..FAILING).map(|_| JOBS / 2 + random.below(JOBS / 2)).collect();
+        let (mut spoiled, mut failed): (Vec<bool>, Vec<bool>) = Default::default();
+        for (job, list) in lists.iter().enumerate() {
+            spoiled.push(list.iter().any(|prerequisite| failed[*prerequisite]));
+            failed.push(spoiled[job] || failing.contains(&job));
+        }
+        Plan { seed, lists, names, classes, numbers, spoiled, failed }
+    }
+
+    /// Whether a job has a prerequisite that fails.
+    pub fn is_spoiled(&self, number: usize) -> bool {
+        self.spoiled[number]
+    }
+
+    /// Whether a job fails, by itself or since it is spoiled.
+    pub fn fails(&self, number: usize) -> bool {
+        self.failed[number]
     }
 
     /// The minutes that a worker, or `FIRST_LOADER`, loads.

@@ -10,7 +10,7 @@ use std::{
 };
 
 use compare_sheets::{minute_values, random::Random};
-use taskgraph::{raw::MAX_ENTRIES, Job, Progress, Refusal, TaskGraph};
+use taskgraph::{raw::MAX_ENTRIES, HandedOut, Job, Outcome, Progress, Refusal, TaskGraph};
 
 use crate::{
     log::Line,
@@ -74,10 +74,15 @@ impl Worker {
             }
             match held.graph.get(self.number)? {
                 Some(job) => {
-                    self.write(Line::HandedOut { name: job.name, taken, put })?;
+                    let HandedOut { name, spoiled, .. } = job;
+                    self.write(Line::HandedOut { name, spoiled, taken, put })?;
+                    let asked = held.graph.held(self.number)?.job;
+                    if asked != Some(job) {
+                        return Err(format!("{job:?} was handed out, and {asked:?} is held").into());
+                    }
                     held.set_busy(self.number, true)?;
                     drop(held);
-                    self.work(job.name)?;
+                    self.work(job)?;
                 }
                 None if held.is_over()? => return Ok(()),
                 None => {
@@ -196,8 +201,9 @@ impl Worker {
         Ok(lost)
     }
 
-    /// Works at a job for a random time and finishes it.
-    fn work(&mut self, name: u32) -> Fallible<()> {
+    /// Works at a job for a random time and finishes it: as the plan says, and as failed if it is told to be spoiled.
+    fn work(&mut self, job: HandedOut) -> Fallible<()> {
+        let name = job.name;
         let ticket = self.shared.ticket()?;
         self.write(Line::Start { name, ticket })?;
         if self.random.once_in(256) {
@@ -209,22 +215,40 @@ impl Worker {
         }
         let ticket = self.shared.ticket()?;
         self.write(Line::End { name, ticket })?;
-        self.finish(name)
+        if job.spoiled && self.random.once_in(4) {
+            self.finish_as_good(name)?;
+        }
+        let fails = job.spoiled || self.plan.number(name).map_or(false, |number| self.plan.fails(number));
+        self.finish(name, if fails { Outcome::Failed } else { Outcome::Good })
     }
 
-    fn finish(&mut self, name: u32) -> Fallible<()> {
+    /// Tries to finish a spoiled job as good, which is turned away.
+    fn finish_as_good(&mut self, name: u32) -> Fallible<()> {
+        let mut held = self.shared.lock()?;
+        let answer = match self.manner {
+            Manner::Steps => held.graph.post_finish(self.number, name, Outcome::Good),
+            Manner::Whole | Manner::Sheets => held.graph.finish(self.number, name, Outcome::Good),
+        };
+        drop(held);
+        match answer {
+            Err(Refusal::GoodForSpoiled) => self.write(Line::TurnedAway { name }),
+            answer => Err(format!("a spoiled job's finish as good was answered {answer:?}").into()),
+        }
+    }
+
+    fn finish(&mut self, name: u32, outcome: Outcome) -> Fallible<()> {
         if self.manner == Manner::Steps {
-            self.finish_by_steps(name)?;
+            self.finish_by_steps(name, outcome)?;
         } else {
             let mut held = self.shared.lock()?;
-            held.graph.finish(self.number, name)?;
+            held.graph.finish(self.number, name, outcome)?;
             held.set_busy(self.number, !self.claimed.is_empty())?;
         }
         self.write(Line::Finished { name })
     }
 
-    fn finish_by_steps(&mut self, name: u32) -> Fallible<()> {
-        self.shared.lock()?.graph.post_finish(self.number, name)?;
+    fn finish_by_steps(&mut self, name: u32, outcome: Outcome) -> Fallible<()> {
+        self.shared.lock()?.graph.post_finish(self.number, name, outcome)?;
         loop {
             let mut held = self.shared.lock()?;
             if held.graph.step(self.number)? == Progress::Ended {

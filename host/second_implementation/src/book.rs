@@ -3,7 +3,7 @@
 use std::collections::HashMap;
 
 use crate::{
-    graph::{judged_list, refused, Refusal, Sizes},
+    graph::{judged_list, refused, Outcome, Refusal, Sizes},
     refusal,
     sheet::Entry,
     totals::Label,
@@ -13,7 +13,7 @@ use crate::{
 #[derive(Clone, Debug, PartialEq, Eq)]
 pub enum Request {
     Add(Entry),
-    Finish { name: u32 },
+    Finish { name: u32, outcome: Outcome },
     Get(GetAnswer),
 }
 
@@ -24,6 +24,7 @@ pub enum GetAnswer {
     NoneReady,
     HandedOut {
         job: usize,
+        spoiled: bool,
     },
 }
 
@@ -32,8 +33,8 @@ pub enum GetAnswer {
 pub enum Ending {
     Accepted,
     Refused(Refusal),
-    /// The answer of a get that the book cannot take: a job that is not ready, or a refusal of a
-    /// worker without a job.
+    /// The answer of a get that the book cannot take: a job that is not ready, one that is told to be spoiled and is
+    /// not or the other way round, or a refusal of a worker without a job.
     Impossible,
 }
 
@@ -46,6 +47,8 @@ struct Job {
     class: u32,
     grower: u32,
     label: Label,
+    /// What its finish brought, once it is finished.
+    outcome: Option<Outcome>,
 }
 
 /// What is compared of a job: all but its list of names.
@@ -57,6 +60,9 @@ pub struct JobView {
     pub label: u32,
     pub count: u32,
     pub waits: bool,
+    /// It has ended as failed.
+    pub failed: bool,
+    pub spoiled: bool,
 }
 
 /// What is compared of the book: the jobs in order of entry, and each worker's hold.
@@ -86,7 +92,7 @@ impl Book {
     pub fn feed(&mut self, worker: usize, request: &Request) -> Ending {
         let result = match request {
             Request::Add(entry) => self.add(entry),
-            Request::Finish { name } => self.finish(worker, *name),
+            Request::Finish { name, outcome } => self.finish(worker, *name, *outcome),
             Request::Get(answer) => match self.get(worker, *answer) {
                 Some(result) => result,
                 None => return Ending::Impossible,
@@ -114,7 +120,7 @@ impl Book {
         self.listed += list.len();
         self.numbers.insert(entry.name, number);
         let Entry { name, class, grower, .. } = *entry;
-        self.jobs.push(Job { name, prerequisites, class, grower, label: Label::Unexecuted });
+        self.jobs.push(Job { name, prerequisites, class, grower, label: Label::Unexecuted, outcome: None });
         Ok(())
     }
 
@@ -125,7 +131,9 @@ impl Book {
         }
         match answer {
             GetAnswer::NoneReady => {}
-            GetAnswer::HandedOut { job } if job < self.jobs.len() && self.is_ready(job) => {
+            GetAnswer::HandedOut { job, spoiled }
+                if job < self.jobs.len() && self.is_ready(job) && self.is_spoiled(job) == spoiled =>
+            {
                 self.jobs[job].label = Label::Executing;
                 self.holds[worker] = Some(job);
             }
@@ -134,15 +142,18 @@ impl Book {
         Some(Ok(()))
     }
 
-    fn finish(&mut self, worker: usize, name: u32) -> Result<(), Refusal> {
-        match self.holds[worker] {
-            Some(job) if self.jobs[job].name == name => {
-                self.jobs[job].label = Label::Finished;
-                self.holds[worker] = None;
-                Ok(())
-            }
-            _ => refused(refusal::NOT_HELD),
+    fn finish(&mut self, worker: usize, name: u32, outcome: Outcome) -> Result<(), Refusal> {
+        let job = match self.holds[worker] {
+            Some(job) if self.jobs[job].name == name => job,
+            _ => return refused(refusal::NOT_HELD),
+        };
+        if self.is_spoiled(job) && outcome == Outcome::Good {
+            return refused(refusal::GOOD_FOR_SPOILED);
         }
+        self.jobs[job].label = Label::Finished;
+        self.jobs[job].outcome = Some(outcome);
+        self.holds[worker] = None;
+        Ok(())
     }
 
     /// How many listed names have jobs not finished.
@@ -156,6 +167,15 @@ impl Book {
         self.jobs[job].label == Label::Unexecuted && self.remaining(job) == 0
     }
 
+    fn has_failed(&self, job: usize) -> bool {
+        self.jobs[job].outcome == Some(Outcome::Failed)
+    }
+
+    /// It has a prerequisite that failed.
+    fn is_spoiled(&self, job: usize) -> bool {
+        self.jobs[job].prerequisites.iter().any(|prerequisite| self.has_failed(*prerequisite))
+    }
+
     pub fn any_ready(&self) -> bool {
         (0..self.jobs.len()).any(|job| self.is_ready(job))
     }
@@ -164,8 +184,16 @@ impl Book {
         let view = |number: usize| {
             let job = &self.jobs[number];
             let count = self.remaining(number) as u32;
-            let waits = job.label == Label::Unexecuted && count == 0;
-            JobView { name: job.name, class: job.class, grower: job.grower, label: job.label as u32, count, waits }
+            JobView {
+                name: job.name,
+                class: job.class,
+                grower: job.grower,
+                label: job.label as u32,
+                count,
+                waits: job.label == Label::Unexecuted && count == 0,
+                failed: self.has_failed(number),
+                spoiled: self.is_spoiled(number),
+            }
         };
         View { jobs: (0..self.jobs.len()).map(view).collect(), holds: self.holds.clone() }
     }
@@ -213,7 +241,8 @@ mod tests {
         for (name, list) in [(1, &[][..]), (2, &[]), (3, &[1, 2])] {
             assert_eq!(book.feed(0, &add(name, list)), Ending::Accepted);
         }
-        let handed_out = |job| Request::Get(GetAnswer::HandedOut { job });
+        let handed_out = |job| Request::Get(GetAnswer::HandedOut { job, spoiled: false });
+        let good = |name| Request::Finish { name, outcome: Outcome::Good };
         assert_eq!(book.feed(0, &handed_out(2)), Ending::Impossible);
         assert_eq!(book.feed(0, &handed_out(3)), Ending::Impossible);
         assert_eq!(book.feed(0, &Request::Get(GetAnswer::Refused)), Ending::Impossible);
@@ -222,11 +251,39 @@ mod tests {
         assert_eq!(book.feed(1, &handed_out(1)), Ending::Impossible);
         assert_eq!(book.feed(1, &Request::Get(GetAnswer::NoneReady)), Ending::Accepted);
         assert_eq!(book.feed(1, &handed_out(0)), Ending::Accepted);
-        assert_eq!(book.feed(1, &Request::Finish { name: 2 }), refusal(11, 0));
-        assert_eq!(book.feed(1, &Request::Finish { name: 1 }), Ending::Accepted);
+        assert_eq!(book.feed(1, &good(2)), refusal(11, 0));
+        assert_eq!(book.feed(1, &good(1)), Ending::Accepted);
         assert!(!book.any_ready());
-        assert_eq!(book.feed(0, &Request::Finish { name: 2 }), Ending::Accepted);
+        assert_eq!(book.feed(0, &good(2)), Ending::Accepted);
         assert!(book.view().jobs[2].waits);
         assert_eq!(book.view().holds, [None, None]);
+    }
+
+    /// Job 3 needs 1, which fails, and 2; job 4 needs 3, and job 5 needs 2.
+    #[test]
+    fn a_failed_job_spoils_those_that_rest_on_it() {
+        let mut book = book(5, 4);
+        for (name, list) in [(1, &[][..]), (2, &[]), (3, &[1, 2]), (4, &[3]), (5, &[2])] {
+            assert_eq!(book.feed(0, &add(name, list)), Ending::Accepted);
+        }
+        let handed_out = |job, spoiled| Request::Get(GetAnswer::HandedOut { job, spoiled });
+        let finish = |name, outcome| Request::Finish { name, outcome };
+        let spoiled = |book: &Book| book.view().jobs.iter().map(|job| job.spoiled).collect::<Vec<bool>>();
+        assert_eq!(book.feed(0, &handed_out(0, true)), Ending::Impossible);
+        assert_eq!(book.feed(0, &handed_out(0, false)), Ending::Accepted);
+        assert_eq!(book.feed(0, &finish(1, Outcome::Failed)), Ending::Accepted);
+        assert_eq!(spoiled(&book), [false, false, true, false, false], "4 rests on 3, which has not failed yet");
+        assert_eq!(book.feed(0, &handed_out(1, false)), Ending::Accepted);
+        assert_eq!(book.feed(0, &finish(2, Outcome::Good)), Ending::Accepted);
+        assert_eq!(book.feed(0, &handed_out(2, false)), Ending::Impossible);
+        assert_eq!(book.feed(0, &handed_out(2, true)), Ending::Accepted);
+        assert_eq!(book.feed(0, &finish(1, Outcome::Good)), refusal(11, 0), "11 comes before 19");
+        assert_eq!(book.feed(0, &finish(3, Outcome::Good)), refusal(19, 0));
+        assert_eq!(book.view().holds[0], Some(2), "nothing changed");
+        assert_eq!(book.feed(0, &finish(3, Outcome::Failed)), Ending::Accepted);
+        assert_eq!(spoiled(&book), [false, false, true, true, false]);
+        let failed: Vec<bool> = book.view().jobs.iter().map(|job| job.failed).collect();
+        assert_eq!(failed, [true, false, true, false, false]);
+        assert_eq!(book.feed(0, &handed_out(4, false)), Ending::Accepted);
     }
 }

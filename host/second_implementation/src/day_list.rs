@@ -4,7 +4,7 @@
 use std::fmt::Write;
 
 use crate::{
-    graph::{refused, Answer, Graph, Refusal, Reply, Sizes, MAX_WORKERS},
+    graph::{refused, Answer, Graph, Outcome, Refusal, Reply, Sizes, MAX_WORKERS},
     refusal,
     sheet::{read_sheet, Entry},
     totals::Label,
@@ -85,7 +85,7 @@ impl Day {
         }
     }
 
-    /// Each worker gets, then each holder finishes.
+    /// Each worker gets, then each holder finishes, as good.
     fn round(&mut self, handed_out: &mut usize) {
         let sizes = self.graph.sizes();
         let mut held = Vec::new();
@@ -97,7 +97,7 @@ impl Day {
             }
         }
         for (worker, name) in held {
-            let posted = self.graph.post_finish(sizes, worker, name);
+            let posted = self.graph.post_finish(sizes, worker, name, Outcome::Good);
             assert_eq!(posted, Ok(Reply::Posted), "a holder finishes what it holds");
             assert_eq!(self.steps(worker), Ok(Reply::Ended), "a finish ends");
         }

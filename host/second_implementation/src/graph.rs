@@ -52,6 +52,23 @@ pub fn refused<T>(number: u32) -> Result<T, Refusal> {
     Err(Refusal { number, place: 0 })
 }
 
+/// What a finish brings.
+#[derive(Clone, Copy, Debug, PartialEq, Eq)]
+pub enum Outcome {
+    Good,
+    Failed,
+}
+
+impl Outcome {
+    /// As a host brings it: 0 is good, and any other number failed.
+    pub fn of(number: u32) -> Outcome {
+        match number {
+            0 => Outcome::Good,
+            _ => Outcome::Failed,
+        }
+    }
+}
+
 /// What a call that is not turned away answers.
 #[derive(Clone, Copy, Debug, PartialEq, Eq)]
 pub enum Reply {
@@ -60,7 +77,7 @@ pub enum Reply {
     GoingOn,
     Ended,
     NoneReady,
-    HandedOut { job: usize, name: u32 },
+    HandedOut { job: usize, name: u32, spoiled: bool },
 }
 
 pub type Answer = Result<Reply, Refusal>;
@@ -78,6 +95,10 @@ pub struct Job {
     pub grower: u32,
     /// The numbers of its arcs, oldest first.
     pub arcs: Vec<usize>,
+    /// What its finish brought, once it is finished.
+    pub outcome: Option<Outcome>,
+    /// The mark: it has a prerequisite that failed.
+    pub spoiled: bool,
 }
 
 /// An add half done.
@@ -94,17 +115,18 @@ pub struct Add {
 pub enum AddStage {
     /// The name at `place` is looked up next; past the last, the job enters.
     LookingUp { place: usize },
-    /// The name at `place` is linked next; past the last, the job settles.
-    Linking { job: usize, first_arc: usize, place: usize, tally: u32 },
+    /// The name at `place` is linked next; past the last, the job settles. `noted` beside the tally: one of those
+    /// tallied failed.
+    Linking { job: usize, first_arc: usize, place: usize, tally: u32, noted: bool },
 }
 
 /// A finish half done.
 #[derive(Clone, Copy, Debug, PartialEq, Eq)]
 pub enum Finish {
-    /// The held job is marked finished next.
-    Marking,
+    /// The held job is marked finished next, with this outcome.
+    Marking { outcome: Outcome },
     /// The dependent of the arc at place `next` of the job's arcs is told next.
-    Notifying { job: usize, next: usize },
+    Notifying { job: usize, outcome: Outcome, next: usize },
 }
 
 #[derive(Clone, Debug)]
@@ -131,10 +153,18 @@ pub enum HalfDone {
     Finish,
 }
 
-/// What a worker that restarts is told: the held job with its name, and its call.
+/// The job that a worker holds.
+#[derive(Clone, Copy, Debug, PartialEq, Eq)]
+pub struct Held {
+    pub job: usize,
+    pub name: u32,
+    pub spoiled: bool,
+}
+
+/// What a worker that restarts is told: the held job, and its call.
 #[derive(Clone, Copy, Debug, PartialEq, Eq)]
 pub struct Holding {
-    pub held: Option<(usize, u32)>,
+    pub held: Option<Held>,
     pub call: HalfDone,
 }
 
@@ -249,15 +279,17 @@ impl Graph {
         Ok(Reply::Posted)
     }
 
-    pub fn post_finish(&mut self, sizes: Sizes, worker: u32, name: u32) -> Answer {
+    pub fn post_finish(&mut self, sizes: Sizes, worker: u32, name: u32, outcome: Outcome) -> Answer {
         let worker = self.idle_worker(sizes, worker)?;
-        match self.workers[worker].held {
-            Some(job) if self.jobs[job].name == name => {
-                self.workers[worker].call = Some(Call::Finish(Finish::Marking));
-                Ok(Reply::Posted)
-            }
-            _ => refused(refusal::NOT_HELD),
+        let job = match self.workers[worker].held {
+            Some(job) if self.jobs[job].name == name => &self.jobs[job],
+            _ => return refused(refusal::NOT_HELD),
+        };
+        if job.spoiled && outcome == Outcome::Good {
+            return refused(refusal::GOOD_FOR_SPOILED);
         }
+        self.workers[worker].call = Some(Call::Finish(Finish::Marking { outcome }));
+        Ok(Reply::Posted)
     }
 
     pub fn step(&mut self, sizes: Sizes, worker: u32) -> Answer {
@@ -283,13 +315,13 @@ impl Graph {
             Some(job) => {
                 self.jobs[job].label = Label::Executing;
                 self.workers[worker].held = Some(job);
-                Ok(Reply::HandedOut { job, name: self.jobs[job].name })
+                Ok(Reply::HandedOut { job, name: self.jobs[job].name, spoiled: self.jobs[job].spoiled })
             }
         }
     }
 
     /// The waiting job with the most minutes; of equal ones the first that entered the queue.
-    fn heaviest(&self) -> Option<usize> {
+    pub fn heaviest(&self) -> Option<usize> {
         let waiting = self.queue.iter().copied().filter(|job| self.waits(*job));
         // Of equal keys the first is taken.
         waiting.min_by_key(|job| Reverse(self.minutes.of_class(self.jobs[*job].class)))
@@ -302,7 +334,8 @@ impl Graph {
             Some(Call::Add(add)) => HalfDone::Add { name: add.name },
             Some(Call::Finish(_)) => HalfDone::Finish,
         };
-        Ok(Holding { held: worker.held.map(|job| (job, self.jobs[job].name)), call })
+        let held = |job: usize| Held { job, name: self.jobs[job].name, spoiled: self.jobs[job].spoiled };
+        Ok(Holding { held: worker.held.map(held), call })
     }
 
     /// Nothing waits, and no worker holds a job or is in a call.
@@ -345,16 +378,17 @@ impl Graph {
             }
             AddStage::LookingUp { .. } => {
                 let (job, first_arc) = self.enter(&add)?;
-                add.stage = AddStage::Linking { job, first_arc, place: 0, tally: 0 };
+                add.stage = AddStage::Linking { job, first_arc, place: 0, tally: 0, noted: false };
             }
-            AddStage::Linking { job, first_arc, place, tally } if *place < add.list.len() => {
-                if !self.link(add.list[*place], *first_arc + *place, *job) {
+            AddStage::Linking { job, first_arc, place, tally, noted } if *place < add.list.len() => {
+                if let Some(outcome) = self.link(add.list[*place], *first_arc + *place, *job) {
                     *tally += 1;
+                    *noted |= outcome == Outcome::Failed;
                 }
                 *place += 1;
             }
-            AddStage::Linking { job, tally, .. } => {
-                self.settle(*job, *tally, add.list.len());
+            AddStage::Linking { job, tally, noted, .. } => {
+                self.settle(*job, *tally, *noted, add.list.len());
                 return Ok(None);
             }
         }
@@ -379,23 +413,26 @@ impl Graph {
             class: add.class,
             grower: add.grower,
             arcs: Vec::new(),
+            outcome: None,
+            spoiled: false,
         });
         Ok((job, first_arc))
     }
 
-    /// Appends an arc to the job of a listed name, unless that is finished; says whether it did.
-    fn link(&mut self, name: u32, arc: usize, dependent: usize) -> bool {
+    /// The outcome of the job of a listed name, if that is finished; else an arc is appended to it.
+    fn link(&mut self, name: u32, arc: usize, dependent: usize) -> Option<Outcome> {
         let prerequisite = self.find(name).expect("a name that was looked up stays");
         let prerequisite = &mut self.jobs[prerequisite];
         if prerequisite.label == Label::Finished {
-            return false;
+            return Some(prerequisite.outcome.expect("a finish brings an outcome"));
         }
         prerequisite.arcs.push(arc);
         self.arcs[arc] = Some(dependent);
-        true
+        None
     }
 
-    fn settle(&mut self, job: usize, tally: u32, listed: usize) {
+    fn settle(&mut self, job: usize, tally: u32, noted: bool, listed: usize) {
+        self.jobs[job].spoiled |= noted;
         self.jobs[job].count -= tally;
         if self.jobs[job].count == 0 && (tally > 0 || listed == 0) {
             self.queue.push(job);
@@ -404,25 +441,27 @@ impl Graph {
 
     /// One step of a finish, and what is left of it.
     fn step_finish(&mut self, worker: usize, finish: Finish) -> Option<Finish> {
-        let (job, next) = match finish {
-            Finish::Marking => {
+        let (job, outcome, next) = match finish {
+            Finish::Marking { outcome } => {
                 let job = self.workers[worker].held.take().expect("a finish is posted by the holder");
                 self.jobs[job].label = Label::Finished;
-                (job, 0)
+                self.jobs[job].outcome = Some(outcome);
+                (job, outcome, 0)
             }
-            Finish::Notifying { job, next } => {
-                self.notify(self.jobs[job].arcs[next]);
-                (job, next + 1)
+            Finish::Notifying { job, outcome, next } => {
+                self.notify(self.jobs[job].arcs[next], outcome);
+                (job, outcome, next + 1)
             }
         };
-        (next < self.jobs[job].arcs.len()).then_some(Finish::Notifying { job, next })
+        (next < self.jobs[job].arcs.len()).then_some(Finish::Notifying { job, outcome, next })
     }
 
-    fn notify(&mut self, arc: usize) {
+    fn notify(&mut self, arc: usize, outcome: Outcome) {
         let dependent = self.arcs[arc].expect("an arc of a list is linked");
-        let count = &mut self.jobs[dependent].count;
-        *count -= 1;
-        if *count == 0 {
+        let job = &mut self.jobs[dependent];
+        job.spoiled |= outcome == Outcome::Failed;
+        job.count -= 1;
+        if job.count == 0 {
             self.queue.push(dependent);
         }
     }

@@ -6,7 +6,7 @@ use std::collections::HashMap;
 
 use crate::{
     book::{Ending, GetAnswer, Request},
-    graph::{Answer, Refusal, Reply, SheetAnswer},
+    graph::{Answer, Outcome, Refusal, Reply, SheetAnswer},
     refusal,
     sheet::Entry,
 };
@@ -18,9 +18,11 @@ pub enum Item {
         worker: u32,
         entry: Entry,
     },
+    /// With the number of its outcome.
     PostFinish {
         worker: u32,
         name: u32,
+        outcome: u32,
     },
     Step {
         worker: u32,
@@ -37,6 +39,7 @@ pub enum Item {
     Finish {
         worker: u32,
         name: u32,
+        outcome: u32,
     },
     /// The adds of all entries, each run whole; so many words follow that make no whole row.
     AddSheet {
@@ -121,14 +124,14 @@ impl History {
     pub fn take(&mut self, item: &Item, told: &Told) {
         match (item, told) {
             (Item::PostAdd { worker, entry }, Told::One(answer)) => self.post(*worker, Request::Add(*entry), answer),
-            (Item::PostFinish { worker, name }, Told::One(answer)) => {
-                self.post(*worker, Request::Finish { name: *name }, answer);
+            (Item::PostFinish { worker, name, outcome }, Told::One(answer)) => {
+                self.post(*worker, finish(*name, *outcome), answer);
             }
             (Item::Step { worker }, Told::One(answer)) => self.step(*worker, answer),
             (Item::Get { worker }, Told::One(answer)) => self.get(*worker, answer),
             (Item::Add { worker, entry }, Told::One(answer)) => self.whole(*worker, Request::Add(*entry), answer),
-            (Item::Finish { worker, name }, Told::One(answer)) => {
-                self.whole(*worker, Request::Finish { name: *name }, answer);
+            (Item::Finish { worker, name, outcome }, Told::One(answer)) => {
+                self.whole(*worker, finish(*name, *outcome), answer);
             }
             (Item::AddSheet { worker, entries, .. }, Told::Each(Ok(answers))) => {
                 let adds = entries.iter().zip(answers);
@@ -164,8 +167,9 @@ impl History {
 
     fn get(&mut self, worker: u32, answer: &Answer) {
         match answer {
-            Ok(Reply::HandedOut { job, .. }) => {
-                self.ended(worker, Request::Get(GetAnswer::HandedOut { job: *job }), Ending::Accepted);
+            Ok(Reply::HandedOut { job, spoiled, .. }) => {
+                let answer = GetAnswer::HandedOut { job: *job, spoiled: *spoiled };
+                self.ended(worker, Request::Get(answer), Ending::Accepted);
             }
             Ok(_) => self.ended(worker, Request::Get(GetAnswer::NoneReady), Ending::Accepted),
             Err(refusal) if ends_a_call(refusal) => {
@@ -213,7 +217,7 @@ impl History {
                 open.job = Some(self.jobs.len());
                 self.enter(entry);
             }
-            Request::Finish { name } => open.job = self.numbers.get(name).copied(),
+            Request::Finish { name, .. } => open.job = self.numbers.get(name).copied(),
             Request::Get(_) => {}
         }
     }
@@ -250,6 +254,42 @@ impl History {
             wrong.then(|| format!("job {number} entered the queue {count} times; one entry is due: {due}"))
         })
     }
+
+    /// What is wrong with the marks of the jobs: a job that has entered the queue is spoiled exactly if it has a
+    /// prerequisite that failed; one that is spoiled ends as failed; and once no call is half done, one whose
+    /// prerequisites have all ended is spoiled exactly if a chain of prerequisites leads to a job that failed without
+    /// being spoiled.
+    pub fn wrong_marks(&self, entries: &Entries, shown: &[Shown]) -> Option<String> {
+        let mut led: Vec<bool> = Vec::with_capacity(self.jobs.len());
+        for job in &self.jobs {
+            // The prerequisites of a job have lower numbers, so what leads to them is known.
+            let source = |other: &usize| shown[*other].failed && !shown[*other].spoiled || led[*other];
+            led.push(job.prerequisites.iter().any(source));
+        }
+        self.jobs.iter().enumerate().find_map(|(number, job)| {
+            let all_ended = job.prerequisites.iter().all(|other| shown[*other].finished);
+            let any_failed = job.prerequisites.iter().any(|other| shown[*other].failed);
+            let Shown { finished, failed, spoiled } = shown[number];
+            let wrong = entries.of(number) > 0 && spoiled != any_failed
+                || failed && !finished
+                || finished && spoiled && !failed
+                || !self.is_half_done() && all_ended && spoiled != led[number];
+            let chain = led[number];
+            wrong.then(|| format!("job {number}: {:?}, and a chain leads to a failed job: {chain}", shown[number]))
+        })
+    }
+}
+
+/// What is shown of a job: whether it has ended, as what, and its mark.
+#[derive(Clone, Copy, Debug, PartialEq, Eq)]
+pub struct Shown {
+    pub finished: bool,
+    pub failed: bool,
+    pub spoiled: bool,
+}
+
+fn finish(name: u32, outcome: u32) -> Request {
+    Request::Finish { name, outcome: Outcome::of(outcome) }
 }
 
 /// Numbers 1 to 4 end no call, and number 9 leaves it half done.
@@ -337,8 +377,8 @@ mod tests {
             (Item::PostAdd { worker: 0, entry: entry(1, &[]) }, POSTED),
             (Item::Step { worker: 0 }, GOING_ON),
             (Item::Step { worker: 0 }, ENDED),
-            (Item::Get { worker: 1 }, Ok(Reply::HandedOut { job: 0, name: 1 })),
-            (Item::PostFinish { worker: 1, name: 1 }, POSTED),
+            (Item::Get { worker: 1 }, Ok(Reply::HandedOut { job: 0, name: 1, spoiled: false })),
+            (Item::PostFinish { worker: 1, name: 1, outcome: 0 }, POSTED),
             (Item::PostAdd { worker: 0, entry: entry(7, &[8]) }, POSTED),
             (Item::Get { worker: 0 }, refused(3)),
             (Item::Step { worker: 0 }, Err(unknown)),
@@ -367,13 +407,16 @@ mod tests {
         let sheet = Item::AddSheet { worker: 1, entries, stray: 0 };
         history.take(&sheet, &Told::Each(refused(16)));
         history.take(&sheet, &Told::Each(Ok(vec![Err(unknown), ENDED])));
-        history.take(&Item::Get { worker: 1 }, &Told::One(Ok(Reply::HandedOut { job: 0, name: 1 })));
-        history.take(&Item::Finish { worker: 1, name: 1 }, &Told::One(ENDED));
+        let handed_out = Ok(Reply::HandedOut { job: 0, name: 1, spoiled: false });
+        history.take(&Item::Get { worker: 1 }, &Told::One(handed_out));
+        history.take(&Item::Finish { worker: 1, name: 1, outcome: 2 }, &Told::One(ENDED));
         let endings: Vec<_> = history.calls().iter().map(|call| (call.worker, call.ending)).collect();
         let accepted = Some(Ending::Accepted);
         let refused = Some(Ending::Refused(unknown));
         let expected = [(1, accepted), (0, None), (1, refused), (1, accepted), (1, accepted), (1, accepted)];
         assert_eq!(endings, expected);
+        let last = history.calls().last().map(|call| call.request.clone());
+        assert_eq!(last, Some(Request::Finish { name: 1, outcome: Outcome::Failed }), "any number but 0 is failed");
         assert_eq!(history.jobs()[2].prerequisites, [0]);
         assert!(history.jobs()[0].finish_ended && history.jobs()[2].add_ended && !history.jobs()[1].add_ended);
     }
@@ -408,5 +451,36 @@ mod tests {
         assert!(history.wrong_entries(&queued(&[0, 0]), |_| false).is_some(), "at most one");
         assert!(history.wrong_entries(&queued(&[0, 1]), |_| false).is_some(), "nought before the prerequisite");
         assert_eq!(history.wrong_entries(&queued(&[0, 1]), |_| true), None);
+    }
+
+    /// Job 1 rests on 0, and job 2 on 1; worker 1's add of job 3 has not ended.
+    #[test]
+    fn each_clause_on_marks() {
+        let adds = [(1, &[][..]), (2, &[1]), (3, &[2])];
+        let mut quiet = History::default();
+        for (name, list) in adds {
+            quiet.take(&Item::Add { worker: 0, entry: entry(name, list) }, &Told::One(ENDED));
+        }
+        let mut half_done = quiet.clone();
+        half_done.take(&Item::PostAdd { worker: 1, entry: entry(4, &[]) }, &Told::One(POSTED));
+        let mut queued = Entries::default();
+        queued.take(3, [0].into_iter());
+        let open = Shown { finished: false, failed: false, spoiled: false };
+        let good = Shown { finished: true, ..open };
+        let failed = Shown { failed: true, ..good };
+        let spoiled = Shown { spoiled: true, ..open };
+        let ended_spoiled = Shown { spoiled: true, ..failed };
+        for right in [[open; 3], [good, open, open], [failed, spoiled, open], [failed, ended_spoiled, spoiled]] {
+            assert_eq!(quiet.wrong_marks(&queued, &right), None, "{right:?}");
+        }
+        assert!(quiet.wrong_marks(&queued, &[spoiled, open, open]).is_some(), "a queued job that rests on nothing");
+        assert!(quiet.wrong_marks(&queued, &[failed, open, open]).is_some(), "1 rests on a failed job");
+        assert!(quiet.wrong_marks(&queued, &[good, spoiled, open]).is_some(), "1 rests on a good one");
+        assert!(quiet.wrong_marks(&queued, &[Shown { failed: true, ..open }, open, open]).is_some(), "not ended");
+        let ended_good = Shown { spoiled: true, ..good };
+        assert!(quiet.wrong_marks(&queued, &[failed, ended_good, open]).is_some(), "a spoiled job ends as good");
+        assert_eq!(half_done.wrong_marks(&queued, &[failed, open, open]), None, "the arc may yet be stepped");
+        queued.take(3, [1].into_iter());
+        assert!(half_done.wrong_marks(&queued, &[failed, open, open]).is_some(), "queued, so the mark is complete");
     }
 }

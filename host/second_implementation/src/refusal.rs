@@ -36,3 +36,5 @@ pub const TOO_MANY_ENTRIES: u32 = 16;
 pub const MINUTES: u32 = 17;
 /// A load after a job has entered.
 pub const ENTERED: u32 = 18;
+/// A finish as good of a spoiled job.
+pub const GOOD_FOR_SPOILED: u32 = 19;

@@ -19,7 +19,7 @@ use crate::{
 const HEADER_BYTES: usize = 256;
 
 /// What the file starts with; another layout would have another number in it.
-const MAGIC: [u8; 16] = *b"taskgraph file 3";
+const MAGIC: [u8; 16] = *b"taskgraph file 4";
 
 #[repr(C)]
 pub struct Header {

@@ -15,17 +15,17 @@ use Rattle.fused_links.proofs.link_all.Statement.{statement}
 use Rattle.fused_links.proofs.link_all.Tie as tie
 
 abbrev Inv-loop : tie.InvT-loop
-Inv-loop sizes jobs₀ arcs₀ job first found count i₀ tally₀ jobs arcs i tally =
+Inv-loop sizes jobs₀ arcs₀ job first found count i₀ tally₀ note₀ jobs arcs i tally note =
     (i ≤ count)
     × (tally ≤ i)
     × (length jobs ≡ length jobs₀)
     × (length arcs ≡ length arcs₀)
     × ((buckets queue workers : List ℕ)
-    → links sizes job first (drop i (prefix count found)) i (tables jobs arcs buckets queue workers) tally
-    ≡ links sizes job first (prefix count found) 0 (tables jobs₀ arcs₀ buckets queue workers) 0)
+    → links sizes job first (drop i (prefix count found)) i (tables jobs arcs buckets queue workers) tally note
+    ≡ links sizes job first (prefix count found) 0 (tables jobs₀ arcs₀ buckets queue workers) 0 0)
 
 abbrev μ-loop : tie.MeasureT-loop
-μ-loop sizes jobs₀ arcs₀ job first found count i₀ tally₀ jobs arcs i tally = count - i
+μ-loop sizes jobs₀ arcs₀ job first found count i₀ tally₀ note₀ jobs arcs i tally note = count - i
 
 loop-holds : tie.Need-loop-holds Inv-loop μ-loop
 loop-holds c =
@@ -66,16 +66,19 @@ returns c =
     let c12 = c8 .before .before .before .before in
     let l = c8 .before .before .loop in
     let a = c12 .before .before .args in
-    let f = c4 .before .link-one .ensures .1 buckets queue workers (l .i) (l .tally)
+    let f = c4 .before .link-one .ensures .1 buckets queue workers (l .i) (l .tally) (l .note)
     (links (a .sizes) (a .job) (a .first) (drop (l .i + 1) (prefix (a .count) (a .found .now))) (l .i + 1)) in
     rw (c .if1 .left, c4 .before .before .word .ensures) at f
-    ∙ link-next _ _ _ _ _ _ _ _ (c8 .before .loop-test .taken)
+    ∙ link-next _ _ _ _ _ _ _ _ _ (c8 .before .loop-test .taken)
     ∙ l .inv .4 buckets queue workers
 
 add-tally : tie.Need-add-tally Inv-loop μ-loop
 add-tally c =
     let c4 = c .before .before .before .before in
     omega (arith, c4 .before .before .link-one .ensures .0)
+
+note-of-requires : tie.Need-note-of-requires Inv-loop μ-loop
+note-of-requires c κs = search needs
 
 add-i : tie.Need-add-i Inv-loop μ-loop
 add-i c = search needs
@@ -88,18 +91,19 @@ loop-again c =
     let c4 = c .before .before .before .before in
     let c8 = c4 .before .before .before .before in
     let c12 = c8 .before .before .before .before in
-    let l = c8 .before .before .before .loop in
-    let a = c12 .before .before .before .args in (
+    let l = c12 .loop in
+    let a = c12 .before .before .before .before .args in (
       omega arith,
-      omega (arith, c4 .before .before .link-one .ensures .0),
-      c4 .before .before .link-one .kept .1 .0 ∙ l .inv .2,
-      c4 .before .before .link-one .kept .1 .1 .0 ∙ l .inv .3,
+      omega (arith, c4 .before .before .before .link-one .ensures .0),
+      c4 .before .before .before .link-one .kept .1 .0 ∙ l .inv .2,
+      c4 .before .before .before .link-one .kept .1 .1 .0 ∙ l .inv .3,
       λ buckets queue workers.
-          let f = c4 .before .before .link-one .ensures .1 buckets queue workers (l .i) (l .tally)
+          let f = c4 .before .before .before .link-one .ensures .1 buckets queue workers (l .i) (l .tally) (l .note)
           (links (a .sizes) (a .job) (a .first) (drop (l .i + 1) (prefix (a .count) (a .found .now))) (l .i + 1)) in
-          rw (c .before .if1 .taken, c4 .before .before .before .word .ensures) at f
-          ∙ link-next _ _ _ _ _ _ _ _ (c8 .before .before .loop-test .taken)
-          ∙ l .inv .4 buckets queue workers,
+          rw (c .note-of .ensures)
+          (rw (c .before .before .if1 .taken, c8 .word .ensures) at f
+          ∙ link-next _ _ _ _ _ _ _ _ _ (c8 .before .before .before .loop-test .taken)
+          ∙ l .inv .4 buckets queue workers),
     )
 
 same-length-3 : tie.Need-same-length-3 Inv-loop μ-loop
@@ -114,7 +118,7 @@ returns-2 : tie.Need-returns-2 Inv-loop μ-loop
 returns-2 c =
     λ buckets queue workers.
     let l = c .before .loop in
-    link-none _ _ _ _ _ _ _ _ (c .loop-test .left) (l .inv .0) ∙ l .inv .4 buckets queue workers
+    link-none _ _ _ _ _ _ _ _ _ (c .loop-test .left) (l .inv .0) ∙ l .inv .4 buckets queue workers
 
 pub link-all-spec : {M : Type 1} → statement M
 link-all-spec =
@@ -132,6 +136,7 @@ link-all-spec =
     same-length-2
     returns
     add-tally
+    note-of-requires
     add-i
     loop-less
     loop-again

@@ -10,11 +10,11 @@ use Rattle.fused_links.proofs.link_one.Tie as tie
 plan-link-requires : tie.Need-plan-link-requires
 plan-link-requires c κs = search needs
 
-enum-told : tie.Need-enum-told
-enum-told c = search needs
-
 enum-known-plan : tie.Need-enum-known-plan
 enum-known-plan c = search needs
+
+enum-known-plan-2 : tie.Need-enum-known-plan-2
+enum-known-plan-2 c = search needs
 
 put-only-arc-requires : tie.Need-put-only-arc-requires
 put-only-arc-requires c κs = search needs
@@ -22,8 +22,8 @@ put-only-arc-requires c κs = search needs
 new-arc-requires : tie.Need-new-arc-requires
 new-arc-requires c κs = search needs
 
-enum-known-plan-2 : tie.Need-enum-known-plan-2
-enum-known-plan-2 c = search needs
+enum-known-plan-3 : tie.Need-enum-known-plan-3
+enum-known-plan-3 c = search needs
 
 put-job-requires : tie.Need-put-job-requires
 put-job-requires c κs = search needs
@@ -40,8 +40,8 @@ same-length-2 c = search needs
 returns : tie.Need-returns
 returns c = (
   omega arith,
-  λ buckets queue workers i k next. rw
-      (← c .before .before .plan-link .ensures, c .enum-told .given .1, add-one),
+  λ buckets queue workers i k n next. rw
+      (← c .before .before .before .plan-link .ensures, c .before .plan .given .1, add-one),
 )
 
 same-length-3 : tie.Need-same-length-3
@@ -55,10 +55,10 @@ returns-2 c =
     let c4 = c .before .before .before .before in
     let c8 = c4 .before .before .before .before in (
       omega arith,
-      λ buckets queue workers i k next.
+      λ buckets queue workers i k n next.
           rw (
             ← c8 .before .before .before .plan-link .ensures,
-            c8 .before .plan .given .1,
+            c8 .before .plan2 .given .1,
             c .before .before .new-arc .ensures,
             c4 .before .before .put-only-arc .ensures,
             add-zero k,
@@ -76,10 +76,10 @@ returns-3 c =
     let c4 = c .before .before .before .before in
     let c8 = c4 .before .before .before .before in (
       omega arith,
-      λ buckets queue workers i k next.
+      λ buckets queue workers i k n next.
           rw (
             ← c8 .before .before .before .plan-link .ensures,
-            c8 .before .plan2 .given .1,
+            c8 .before .plan3 .given .1,
             c .before .before .append-arc .ensures,
             c4 .before .before .put-job .ensures,
             add-zero k,
@@ -95,9 +95,9 @@ same-length-8 c = search needs
 returns-4 : tie.Need-returns-4
 returns-4 c = (
   omega arith,
-  λ buckets queue workers i k next.
+  λ buckets queue workers i k n next.
       rw (← c .before .plan-link .ensures)
-      (ends (c .before .plan-link .result) (c .match .keys4) _ i k next),
+      (ends (c .before .plan-link .result) (c .match .keys4) _ i k n next),
 )
 
 pub link-one-spec : {M : Type 1} → statement M
@@ -105,11 +105,11 @@ link-one-spec =
     tie.close
     (tie.spec
     plan-link-requires
-    enum-told
     enum-known-plan
+    enum-known-plan-2
     put-only-arc-requires
     new-arc-requires
-    enum-known-plan-2
+    enum-known-plan-3
     put-job-requires
     append-arc-requires
     same-length

@@ -13,8 +13,8 @@ plan-mark-requires c κs = search needs
 enum-known-plan : tie.Need-enum-known-plan
 enum-known-plan c = search needs
 
-put-job-requires : tie.Need-put-job-requires
-put-job-requires c κs = search needs
+put-outcome-requires : tie.Need-put-outcome-requires
+put-outcome-requires c κs = search needs
 
 put-bare-worker-requires : tie.Need-put-bare-worker-requires
 put-bare-worker-requires c κs = search needs
@@ -45,7 +45,7 @@ returns c =
       ← c12 .plan-mark .ensures,
       c8 .before .before .plan .given .1,
       c4 .if1 .taken,
-      c4 .before .before .before .put-job .ensures,
+      c4 .before .before .before .put-outcome .ensures,
       c .before .before .put-bare-worker .ensures,
     )
 
@@ -72,7 +72,7 @@ returns-2 c =
       c8 .before .before .before .if1 .left,
       c .before .before .close .ensures,
       c8 .notices .ensures,
-      c12 .before .before .put-job .ensures,
+      c12 .before .before .put-outcome .ensures,
     )
 
 same-length-6 : tie.Need-same-length-6
@@ -85,14 +85,13 @@ returns-3 : tie.Need-returns-3
 returns-3 c =
     λ h buckets.
     let c4 = c .before .before .before .before in
-    let c8 = c4 .before .before .before .before in
+    let a = c4 .before .before .before .before .before .before .before .args in
     rw (
       ← c4 .before .plan-mark .ensures,
       c .before .before .put-bare-worker2 .ensures,
       h,
     )
-    (halts (c4 .before .plan-mark .result) (c4 .match .keys2) (c8 .before .before .before .args .sizes) _
-    (c8 .before .before .before .args .worker))
+    (halts (c4 .before .plan-mark .result) (c4 .match .keys2) (a .sizes) _ (a .worker) (a .note))
 
 pub mark-and-tell-spec : {M : Type 1} → statement M
 mark-and-tell-spec =
@@ -100,7 +99,7 @@ mark-and-tell-spec =
     (tie.spec
     plan-mark-requires
     enum-known-plan
-    put-job-requires
+    put-outcome-requires
     put-bare-worker-requires
     notices-requires
     close-requires

@@ -13,14 +13,14 @@ use Rattle.fused_notices.proofs.notices.Statement.{statement}
 use Rattle.fused_notices.proofs.notices.Tie as tie
 
 abbrev Inv-loop : tie.InvT-loop
-Inv-loop sizes jobs₀ arcs queue₀ first arc₀ left₀ jobs queue arc left =
+Inv-loop sizes jobs₀ arcs queue₀ note first arc₀ left₀ jobs queue arc left =
     (length jobs ≡ length jobs₀)
     × (length queue ≡ length queue₀)
-    × ((buckets workers : List ℕ) (w : ℕ) → notifyIn left sizes w arc (tables jobs arcs buckets queue workers)
-    ≡ notifyIn (sizes .arcs) sizes w first (tables jobs₀ arcs buckets queue₀ workers))
+    × ((buckets workers : List ℕ) (w : ℕ) → notifyIn left sizes w note arc (tables jobs arcs buckets queue workers)
+    ≡ notifyIn (sizes .arcs) sizes w note first (tables jobs₀ arcs buckets queue₀ workers))
 
 abbrev μ-loop : tie.MeasureT-loop
-μ-loop sizes jobs₀ arcs queue₀ first arc₀ left₀ jobs queue arc left = left
+μ-loop sizes jobs₀ arcs queue₀ note first arc₀ left₀ jobs queue arc left = left
 
 loop-holds : tie.Need-loop-holds Inv-loop μ-loop
 loop-holds c = (refl, refl, λ buckets workers w. refl)
@@ -49,10 +49,10 @@ returns c =
     let c4 = c .before .before .before .before in
     let c8 = c4 .before .before .before .before in
     let l = c8 .before .before .before .before .loop in
-    let f = c8 .tell .ensures buckets workers w (notifyIn (l .left - 1)
-    (c8 .before .before .before .before .before .before .before .before .args .sizes) w) in
+    let a = c8 .before .before .before .before .before .before .before .before .args in
+    let f = c8 .tell .ensures buckets workers w (notifyIn (l .left - 1) (a .sizes) w (a .note)) in
     rw (c .before .before .told .given .1, c .if1 .taken) at f
-    ∙ notify-one _ _ _ _ (l .left) (c8 .before .before .before .loop-test .taken)
+    ∙ notify-one _ _ _ _ _ (l .left) (c8 .before .before .before .loop-test .taken)
     ∙ l .inv .2 buckets workers w
 
 enum-told : tie.Need-enum-told Inv-loop μ-loop
@@ -74,10 +74,11 @@ returns-2 c =
     let c4 = c .before .before .before .before in
     let c8 = c4 .before .before .before .before in
     let l = c8 .before .before .loop in
+    let a = c8 .before .before .before .before .before .before .args in
     let f = c4 .before .before .tell .ensures buckets workers w
-    (notifyIn (l .left - 1) (c8 .before .before .before .before .before .before .args .sizes) w) in
+    (notifyIn (l .left - 1) (a .sizes) w (a .note)) in
     rw (c .enum-told .given .1) at f
-    ∙ notify-one _ _ _ _ (l .left) (c8 .before .loop-test .taken)
+    ∙ notify-one _ _ _ _ _ (l .left) (c8 .before .loop-test .taken)
     ∙ l .inv .2 buckets workers w
 
 sub-left : tie.Need-sub-left Inv-loop μ-loop
@@ -90,15 +91,14 @@ loop-again : tie.Need-loop-again Inv-loop μ-loop
 loop-again c =
     let c4 = c .before .before .before .before in
     let c8 = c4 .before .before .before .before in
+    let a = c8 .before .before .before .before .before .before .before .before .args in
     let l = c8 .before .before .before .before .loop in (
       c8 .tell .kept .1 .0 ∙ l .inv .0,
       c8 .tell .kept .1 .1 .1 .0 ∙ l .inv .1,
       λ buckets workers w.
-          let f = c8 .tell .ensures buckets workers w
-          (notifyIn (l .left - 1)
-          (c8 .before .before .before .before .before .before .before .before .args .sizes) w) in
+          let f = c8 .tell .ensures buckets workers w (notifyIn (l .left - 1) (a .sizes) w (a .note)) in
           rw (c .before .before .told .given .1, c .if1 .left) at f
-          ∙ notify-one _ _ _ _ (l .left) (c8 .before .before .before .loop-test .taken)
+          ∙ notify-one _ _ _ _ _ (l .left) (c8 .before .before .before .loop-test .taken)
           ∙ l .inv .2 buckets workers w,
     )
 
@@ -112,7 +112,7 @@ returns-3 : tie.Need-returns-3 Inv-loop μ-loop
 returns-3 c =
     λ buckets workers w.
     let l = c .before .loop in
-    notify-none _ _ _ _ (l .left) (c .loop-test .left) ∙ l .inv .2 buckets workers w
+    notify-none _ _ _ _ _ (l .left) (c .loop-test .left) ∙ l .inv .2 buckets workers w
 
 pub notices-spec : {M : Type 1} → statement M
 notices-spec =

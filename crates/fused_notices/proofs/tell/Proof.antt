@@ -13,14 +13,14 @@ plan-notify-requires c κs = search needs
 enum-known-plan : tie.Need-enum-known-plan
 enum-known-plan c = search needs
 
-put-job-requires : tie.Need-put-job-requires
-put-job-requires c κs = search needs
+put-count-requires : tie.Need-put-count-requires
+put-count-requires c κs = search needs
 
 enum-known-plan-2 : tie.Need-enum-known-plan-2
 enum-known-plan-2 c = search needs
 
-put-job-requires-2 : tie.Need-put-job-requires-2
-put-job-requires-2 c κs = search needs
+put-count-requires-2 : tie.Need-put-count-requires-2
+put-count-requires-2 c κs = search needs
 
 put-seat-requires : tie.Need-put-seat-requires
 put-seat-requires c κs = search needs
@@ -36,7 +36,7 @@ returns c =
     λ buckets workers w next.
     let c4 = c .before .before .before .before in
     let p = c4 .before .before .before .plan-notify in
-    rw (← p .ensures, c4 .before .plan .given .1, ← c .before .before .put-job .ensures)
+    rw (← p .ensures, c4 .before .plan .given .1, ← c .before .before .put-count .ensures)
 
 same-length-3 : tie.Need-same-length-3
 same-length-3 c = search needs
@@ -57,7 +57,7 @@ returns-2 c =
     rw (
       ← p .ensures,
       e,
-      c4 .before .before .put-job2 .ensures,
+      c4 .before .before .put-count2 .ensures,
       c .before .before .put-seat .ensures (omega (arith, h, g)),
     )
 
@@ -70,8 +70,9 @@ same-length-6 c = search needs
 returns-3 : tie.Need-returns-3
 returns-3 c =
     λ buckets workers w next.
-    rw (← c .before .plan-notify .ensures) (halts (c .before .plan-notify .result) (c .match .keys3)
-    (c .before .before .before .before .before .before .before .args .arc) w _ next)
+    let a = c .before .before .before .before .before .before .before .args in
+    rw (← c .before .plan-notify .ensures) (halts (c .before .plan-notify .result) (c .match .keys3) (a .note)
+    (a .arc) w _ next)
 
 pub tell-spec : {M : Type 1} → statement M
 tell-spec =
@@ -79,9 +80,9 @@ tell-spec =
     (tie.spec
     plan-notify-requires
     enum-known-plan
-    put-job-requires
+    put-count-requires
     enum-known-plan-2
-    put-job-requires-2
+    put-count-requires-2
     put-seat-requires
     same-length
     same-length-2

@@ -19,8 +19,8 @@ seat-for-requires c κs = search needs
 enum-known-seating : tie.Need-enum-known-seating
 enum-known-seating c = search needs
 
-put-job-requires : tie.Need-put-job-requires
-put-job-requires c κs = search needs
+put-count-requires : tie.Need-put-count-requires
+put-count-requires c κs = search needs
 
 put-seat-requires : tie.Need-put-seat-requires
 put-seat-requires c κs = search needs
@@ -28,8 +28,8 @@ put-seat-requires c κs = search needs
 enum-told : tie.Need-enum-told
 enum-told c = search needs
 
-put-job-requires-2 : tie.Need-put-job-requires-2
-put-job-requires-2 c κs = search needs
+put-count-requires-2 : tie.Need-put-count-requires-2
+put-count-requires-2 c κs = search needs
 
 same-length : tie.Need-same-length
 same-length c = search needs
@@ -56,7 +56,7 @@ returns-2 c =
       ← r,
       e,
       c2 .put-seat .ensures (omega (arith, h, g)),
-      c6 .put-job .ensures,
+      c6 .put-count .ensures,
     )
 
 same-length-3 : tie.Need-same-length-3
@@ -85,7 +85,12 @@ returns-4 : tie.Need-returns-4
 returns-4 c =
     λ arcs buckets workers w held stopped.
     let c4 = c .before .before .before .before in
-    rw (c4 .before .before .if1 .taken, ← c4 .before .less .ensures, c4 .if2 .left, c .before .before .put-job2 .ensures)
+    rw (
+      c4 .before .before .if1 .taken,
+      ← c4 .before .less .ensures,
+      c4 .if2 .left,
+      c .before .before .put-count2 .ensures,
+    )
 
 pub settle-spec : {M : Type 1} → statement M
 settle-spec =
@@ -95,10 +100,10 @@ settle-spec =
     less-requires
     seat-for-requires
     enum-known-seating
-    put-job-requires
+    put-count-requires
     put-seat-requires
     enum-told
-    put-job-requires-2
+    put-count-requires-2
     same-length
     same-length-2
     returns-2

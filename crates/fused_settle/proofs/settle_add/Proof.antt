@@ -40,7 +40,8 @@ returns c =
     let c12 = c8 .before .before .before .before in
     let a = c12 .before .before .before .args in
     let stopped : Tables → Outcome Tables = λ t. halted t (a .worker) (addWorker LINKING (a .held)
-    (argumentsOf (a .entry)) (a .linked .tally) (a .linked .place) (a .job) (firstArc (a .entry .count) (a .arc))) in
+    (argumentsOf (a .entry)) (a .linked .tally) (a .linked .place) (a .job) (firstArc (a .entry .count) (a .arc))
+    (a .linked .note)) in
     rw (c .before .before .put-bare-worker .ensures)
     (rw (c4 .if1 .taken) at (c8 .before .settle .ensures arcs buckets (a .workers .now) (a .worker) (a .held) stopped))
 
@@ -63,7 +64,8 @@ returns-2 c =
     let c16 = c12 .before .before .before .before in
     let a = c16 .args in
     let stopped : Tables → Outcome Tables = λ t. halted t (a .worker) (addWorker LINKING (a .held)
-    (argumentsOf (a .entry)) (a .linked .tally) (a .linked .place) (a .job) (firstArc (a .entry .count) (a .arc))) in
+    (argumentsOf (a .entry)) (a .linked .tally) (a .linked .place) (a .job) (firstArc (a .entry .count) (a .arc))
+    (a .linked .note)) in
     rw (c .before .before .stop .ensures, c4 .first-arc .ensures)
     (rw (c4 .before .if1 .left) at (c8 .before .before .settle .ensures arcs buckets (a .workers .now) (a .worker)
     (a .held) stopped))

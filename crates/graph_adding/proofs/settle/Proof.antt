@@ -5,8 +5,11 @@ use borrow.Author.Needs.{needs}
 use Rattle.graph_adding.proofs.settle.Statement.{statement}
 use Rattle.graph_adding.proofs.settle.Tie as tie
 
-put-job-requires : tie.Need-put-job-requires
-put-job-requires c κs = search needs
+worker-word-requires : tie.Need-worker-word-requires
+worker-word-requires c κs = search needs
+
+put-count-requires : tie.Need-put-count-requires
+put-count-requires c κs = search needs
 
 idle-worker-requires : tie.Need-idle-worker-requires
 idle-worker-requires c κs = search needs
@@ -22,11 +25,14 @@ unfolding applied
 returns c =
     λ arcs buckets queue.
     let c4 = c .before .before .before .before in
+    let c8 = c4 .before .before .before .before in
     rw (
       c .before .before .idle-worker .ensures,
-      c4 .before .before .put-job .ensures,
+      c4 .before .before .put-count .ensures,
+      c8 .worker-word .ensures,
     )
 
 pub settle-spec : {M : Type 1} → statement M
 settle-spec =
-    tie.close (tie.spec put-job-requires idle-worker-requires same-length same-length-2 returns)
+    tie.close
+    (tie.spec worker-word-requires put-count-requires idle-worker-requires same-length same-length-2 returns)

@@ -5,8 +5,11 @@ use borrow.Author.Needs.{needs}
 use Rattle.graph_adding.proofs.settle_queue.Statement.{statement}
 use Rattle.graph_adding.proofs.settle_queue.Tie as tie
 
-put-job-requires : tie.Need-put-job-requires
-put-job-requires c κs = search needs
+worker-word-requires : tie.Need-worker-word-requires
+worker-word-requires c κs = search needs
+
+put-count-requires : tie.Need-put-count-requires
+put-count-requires c κs = search needs
 
 put-seat-requires : tie.Need-put-seat-requires
 put-seat-requires c κs = search needs
@@ -29,14 +32,16 @@ returns c =
     λ h arcs buckets.
     let c4 = c .before .before .before .before in
     let c8 = c4 .before .before .before .before in
+    let c12 = c8 .before .before .before .before in
     rw (
       c .before .before .idle-worker .ensures,
       c4 .before .before .put-seat .ensures h,
-      c8 .before .before .put-job .ensures,
+      c8 .before .before .put-count .ensures,
+      c12 .worker-word .ensures,
     )
 
 pub settle-queue-spec : {M : Type 1} → statement M
 settle-queue-spec =
     tie.close
-    (tie.spec put-job-requires put-seat-requires idle-worker-requires same-length same-length-2 same-length-3
-    returns)
+    (tie.spec worker-word-requires put-count-requires put-seat-requires idle-worker-requires same-length same-length-2
+    same-length-3 returns)

@@ -20,8 +20,8 @@ enum-told-2 c = search needs
 count-place-requires : tie.Need-count-place-requires
 count-place-requires c κs = search needs
 
-enum-told-3 : tie.Need-enum-told-3
-enum-told-3 c = search needs
+enum-known-plan : tie.Need-enum-known-plan
+enum-known-plan c = search needs
 
 count-tally-requires : tie.Need-count-tally-requires
 count-tally-requires c κs = search needs
@@ -55,7 +55,7 @@ unfolding applied Fitting
 returns-3 c =
     λ g jobs arcs buckets queue h.
     let c4 = c .before .before .before .before in
-    let e = c4 .enum-told3 .given .1 in
+    let e = c4 .before .plan .given .1 in
     let k = rw e at h in
     rw (e, c .before .before .count-tally .ensures (k .0) (k .1))
 
@@ -67,5 +67,5 @@ returns-4 c =
 pub apply-own-spec : {M : Type 1} → statement M
 apply-own-spec =
     tie.close
-    (tie.spec enum-told idle-worker-requires enum-told-2 count-place-requires enum-told-3 count-tally-requires
+    (tie.spec enum-told idle-worker-requires enum-told-2 count-place-requires enum-known-plan count-tally-requires
     same-length returns same-length-2 returns-2 same-length-3 returns-3 returns-4)

@@ -5,8 +5,11 @@ use borrow.Author.Needs.{needs}
 use Rattle.graph_finishing.proofs.mark.Statement.{statement}
 use Rattle.graph_finishing.proofs.mark.Tie as tie
 
-put-job-requires : tie.Need-put-job-requires
-put-job-requires c κs = search needs
+worker-word-requires : tie.Need-worker-word-requires
+worker-word-requires c κs = search needs
+
+put-outcome-requires : tie.Need-put-outcome-requires
+put-outcome-requires c κs = search needs
 
 mark-worker-requires : tie.Need-mark-worker-requires
 mark-worker-requires c κs = search needs
@@ -22,11 +25,14 @@ unfolding applied
 returns c =
     λ arcs buckets queue.
     let c4 = c .before .before .before .before in
+    let c8 = c4 .before .before .before .before in
     rw (
       c .before .before .mark-worker .ensures,
-      c4 .before .before .put-job .ensures,
+      c4 .before .before .put-outcome .ensures,
+      c8 .worker-word .ensures,
     )
 
 pub mark-spec : {M : Type 1} → statement M
 mark-spec =
-    tie.close (tie.spec put-job-requires mark-worker-requires same-length same-length-2 returns)
+    tie.close
+    (tie.spec worker-word-requires put-outcome-requires mark-worker-requires same-length same-length-2 returns)

@@ -15,8 +15,8 @@ use Rattle.graph_fresh.proofs.fresh_workers.Tie as tie
 
 abbrev Inv-loop : tie.InvT-loop
 Inv-loop workers₀ count i₀ workers i =
-    (sets workers (place workerShape i 0) (repeated (count - i) (bareWorker IDLE none))
-    ≡ sets workers₀ (place workerShape 0 0) (repeated count (bareWorker IDLE none)))
+    (sets workers (place workerShape i 0) (repeated (count - i) (bareWorker IDLE none 0))
+    ≡ sets workers₀ (place workerShape 0 0) (repeated count (bareWorker IDLE none 0)))
     × (i ≤ count)
     × (length workers ≡ length workers₀)
 
@@ -38,7 +38,7 @@ loop-less c = omega arith
 loop-again : tie.Need-loop-again Inv-loop μ-loop
 loop-again c =
     let c4 = c .before .before .before .before in
-    let one = record-one workerShape (bareWorker IDLE none) refl _ _ _
+    let one = record-one workerShape (bareWorker IDLE none 0) refl _ _ _
     (c4 .loop-test .taken) in (
       rw (c .before .before .put-bare-worker .ensures) (one ∙ c4 .before .loop .inv .0),
       omega arith,
@@ -50,7 +50,7 @@ same-length : tie.Need-same-length Inv-loop μ-loop
 same-length c = c .before .loop .inv .2
 
 returns : tie.Need-returns Inv-loop μ-loop
-returns c = record-none workerShape (bareWorker IDLE none) refl _ _ _ (c .loop-test .left) ∙ c .before .loop .inv .0
+returns c = record-none workerShape (bareWorker IDLE none 0) refl _ _ _ (c .loop-test .left) ∙ c .before .loop .inv .0
 
 pub fresh-workers-spec : {M : Type 1} → statement M
 fresh-workers-spec =

@@ -20,14 +20,11 @@ adds-of-requires c κs = search needs
 worker-word-requires-3 : tie.Need-worker-word-requires-3
 worker-word-requires-3 c κs = search needs
 
-job-word-requires : tie.Need-job-word-requires
-job-word-requires c κs = search needs
-
 returns : tie.Need-returns
 unfolding holdingOf
 returns c =
-    let c4 = c .before .before .before .before in
     λ arcs buckets queue.
+    let c4 = c .before .before .before .before in
     rw (
       ← c4 .before .worker-word .ensures,
       ← c4 .call-of .ensures,
@@ -37,30 +34,53 @@ returns c =
       c .if1 .taken,
     )
 
+job-word-requires : tie.Need-job-word-requires
+job-word-requires c κs = search needs
+
+job-word-requires-2 : tie.Need-job-word-requires-2
+job-word-requires-2 c κs = search needs
+
+refused-requires : tie.Need-refused-requires
+refused-requires c κs = search needs
+
 returns-2 : tie.Need-returns-2
 unfolding holdingOf
 returns-2 c =
-    let c4 = c .before .before .before .before in
     λ arcs buckets queue.
+    let c4 = c .before .before .before .before in
+    let c8 = c4 .before .before .before .before in
     rw (
-      ← c4 .before .before .worker-word .ensures,
-      ← c4 .before .call-of .ensures,
-      ← c4 .worker-word2 .ensures,
-      ← c .before .before .before .adds-of .ensures,
-      ← c .before .before .worker-word3 .ensures,
-      c .before .if1 .left,
-      ← c .job-word .ensures,
+      ← c8 .worker-word .ensures,
+      ← c4 .before .before .before .call-of .ensures,
+      ← c4 .before .before .worker-word2 .ensures,
+      ← c4 .before .adds-of .ensures,
+      ← c4 .worker-word3 .ensures,
+      c .before .before .before .if1 .left,
+      ← c .before .before .job-word .ensures,
+      c .before .if2 .taken,
+      ← c .job-word2 .ensures,
+    )
+
+returns-3 : tie.Need-returns-3
+unfolding holdingOf
+returns-3 c =
+    λ arcs buckets queue.
+    let c4 = c .before .before .before .before in
+    let c8 = c4 .before .before .before .before in
+    rw (
+      ← c8 .worker-word .ensures,
+      ← c4 .before .before .before .call-of .ensures,
+      ← c4 .before .before .worker-word2 .ensures,
+      ← c4 .before .adds-of .ensures,
+      ← c4 .worker-word3 .ensures,
+      c .before .before .before .if1 .left,
+      ← c .before .before .job-word .ensures,
+      c .before .if2 .left,
+      ← c .refused .ensures,
     )
 
 pub holding-of-spec : {M : Type 1} → statement M
 holding-of-spec =
     tie.close
-    (tie.spec
-    worker-word-requires
-    call-of-requires
-    worker-word-requires-2
-    adds-of-requires
-    worker-word-requires-3
-    job-word-requires
-    returns
-    returns-2)
+    (tie.spec worker-word-requires call-of-requires worker-word-requires-2 adds-of-requires worker-word-requires-3
+    returns job-word-requires job-word-requires-2 refused-requires returns-2 returns-3)

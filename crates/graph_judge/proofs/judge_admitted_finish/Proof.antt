@@ -12,7 +12,7 @@ worker-word-requires-2 c κs = search needs
 
 returns : tie.Need-returns
 returns c =
-    λ arcs buckets queue.
+    λ buckets queue.
     rw (
       ← c .before .before .before .worker-word .ensures,
       c .before .before .if1 .taken,
@@ -23,12 +23,12 @@ returns c =
 job-word-requires : tie.Need-job-word-requires
 job-word-requires c κs = search needs
 
-judge-counters-requires : tie.Need-judge-counters-requires
-judge-counters-requires c κs = search needs
+judge-outcome-requires : tie.Need-judge-outcome-requires
+judge-outcome-requires c κs = search needs
 
 returns-2 : tie.Need-returns-2
 returns-2 c =
-    λ arcs buckets queue.
+    λ buckets queue.
     let c4 = c .before .before .before .before in
     rw (
       ← c4 .before .before .worker-word .ensures,
@@ -37,12 +37,12 @@ returns-2 c =
       c .before .before .before .if2 .left,
       ← c .before .before .job-word .ensures,
       c .before .if3 .taken,
-      ← c .judge-counters .ensures,
+      ← c .judge-outcome .ensures,
     )
 
 returns-3 : tie.Need-returns-3
 returns-3 c =
-    λ arcs buckets queue.
+    λ buckets queue.
     let c4 = c .before .before .before .before in
     rw (
       ← c4 .before .worker-word .ensures,
@@ -54,10 +54,15 @@ returns-3 c =
     )
 
 returns-4 : tie.Need-returns-4
-returns-4 c = λ arcs buckets queue. rw (← c .before .worker-word .ensures, c .if1 .left)
+returns-4 c =
+    λ buckets queue.
+    rw (
+      ← c .before .worker-word .ensures,
+      c .if1 .left,
+    )
 
 pub judge-admitted-finish-spec : {M : Type 1} → statement M
 judge-admitted-finish-spec =
     tie.close
-    (tie.spec worker-word-requires worker-word-requires-2 returns job-word-requires judge-counters-requires returns-2
+    (tie.spec worker-word-requires worker-word-requires-2 returns job-word-requires judge-outcome-requires returns-2
     returns-3 returns-4)

@@ -1,6 +1,7 @@
 -- `graph_judge::judge_finish` meets its contract: the tests that come first, and then what the worker's words ask for.
 -- Assumes nothing.
 use mathlib.Core.Path.{refl}
+use mathlib.Core.List.{[]}
 use borrow.Author.Needs.{needs}
 use Rattle.graph_own.proofs.Admitted.{wrong-sizes, no-such-worker, unsound, admits}
 use Rattle.graph_judge.proofs.judge_finish.Statement.{statement}
@@ -12,19 +13,15 @@ sizes-fit-requires c κs = search needs
 own-ok-requires : tie.Need-own-ok-requires
 own-ok-requires c κs = search needs
 
-counters-ok-requires : tie.Need-counters-ok-requires
-counters-ok-requires c κs = search needs
-
 judge-admitted-finish-requires : tie.Need-judge-admitted-finish-requires
 judge-admitted-finish-requires c κs = search needs
 
 returns : tie.Need-returns
 returns c =
     let c4 = c .before .before .before .before in
-    admits _ _ _ _ _ (c4 .before .before .before .sizes-fit .ensures)
-    (c .before .before .before .own-ok .ensures _ _) (c4 .before .before .if1 .taken) (c4 .if2 .taken)
-    (c .before .before .if3 .taken)
-    (rw (← c .before .counters-ok .ensures, ← c .judge-admitted-finish .ensures))
+    admits _ _ _ _ _ (c4 .before .before .sizes-fit .ensures) (c .before .before .own-ok .ensures _ _)
+    (c4 .before .if1 .taken) (c .before .before .before .if2 .taken) (c .before .if3 .taken)
+    (c .judge-admitted-finish .ensures [] [])
 
 returns-2 : tie.Need-returns-2
 returns-2 c =
@@ -43,5 +40,4 @@ returns-4 c = wrong-sizes _ _ _ _ _ (c .before .sizes-fit .ensures) (c .if1 .lef
 pub judge-finish-spec : {M : Type 1} → statement M
 judge-finish-spec =
     tie.close
-    (tie.spec sizes-fit-requires own-ok-requires counters-ok-requires judge-admitted-finish-requires returns returns-2
-    returns-3 returns-4)
+    (tie.spec sizes-fit-requires own-ok-requires judge-admitted-finish-requires returns returns-2 returns-3 returns-4)

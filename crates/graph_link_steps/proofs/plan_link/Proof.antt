@@ -1,7 +1,7 @@
 -- `graph_link_steps::plan_link` meets its contract: each way through the code is a case of the definition.
 -- Assumes nothing.
 use borrow.Author.Needs.{needs}
-use Rattle.words.specs.Words.{planLink}
+use Rattle.words.specs.Words.{planTally, planLink}
 use Rattle.graph_link_steps.proofs.plan_link.Statement.{statement}
 use Rattle.graph_link_steps.proofs.plan_link.Tie as tie
 
@@ -10,6 +10,9 @@ enum-known-found c = search needs
 
 job-word-requires : tie.Need-job-word-requires
 job-word-requires c κs = search needs
+
+job-word-requires-2 : tie.Need-job-word-requires-2
+job-word-requires-2 c κs = search needs
 
 plan-append-requires : tie.Need-plan-append-requires
 plan-append-requires c κs = search needs
@@ -21,20 +24,36 @@ enum-told-2 : tie.Need-enum-told-2
 enum-told-2 c = search needs
 
 returns : tie.Need-returns
-unfolding planLink
+unfolding planTally planLink
 returns c =
     λ buckets queue workers.
     let c4 = c .before .before .before .before in
     rw (
-      c4 .found .given .1,
-      ← c .before .before .job-word .ensures,
-      c .before .if1 .taken,
-      c .if2 .taken,
+      c4 .before .before .found .given .1,
+      ← c4 .job-word .ensures,
+      c .before .before .before .if1 .taken,
+      c .before .before .if2 .taken,
+      ← c .before .job-word2 .ensures,
+      c .if3 .taken,
     )
 
 returns-2 : tie.Need-returns-2
-unfolding planLink
+unfolding planTally planLink
 returns-2 c =
+    λ buckets queue workers.
+    let c4 = c .before .before .before .before in
+    rw (
+      c4 .before .before .found .given .1,
+      ← c4 .job-word .ensures,
+      c .before .before .before .if1 .taken,
+      c .before .before .if2 .taken,
+      ← c .before .job-word2 .ensures,
+      c .if3 .left,
+    )
+
+returns-3 : tie.Need-returns-3
+unfolding planTally planLink
+returns-3 c =
     λ buckets queue workers.
     let c4 = c .before .before .before .before in
     rw (
@@ -45,9 +64,9 @@ returns-2 c =
       ← c .plan-append .ensures,
     )
 
-returns-3 : tie.Need-returns-3
-unfolding planLink
-returns-3 c =
+returns-4 : tie.Need-returns-4
+unfolding planTally planLink
+returns-4 c =
     λ buckets queue workers.
     rw (
       c .before .before .before .found .given .1,
@@ -55,22 +74,20 @@ returns-3 c =
       c .if1 .left,
     )
 
-returns-4 : tie.Need-returns-4
-unfolding planLink
-returns-4 c =
-    λ buckets queue workers.
-    rw
-    (c .enum-told .given .1)
-
 returns-5 : tie.Need-returns-5
-unfolding planLink
+unfolding planTally planLink
 returns-5 c =
     λ buckets queue workers.
-    rw
-    (c .enum-told2 .given .1)
+    rw (c .enum-told .given .1)
+
+returns-6 : tie.Need-returns-6
+unfolding planTally planLink
+returns-6 c =
+    λ buckets queue workers.
+    rw (c .enum-told2 .given .1)
 
 pub plan-link-spec : {M : Type 1} → statement M
 plan-link-spec =
     tie.close
-    (tie.spec enum-known-found job-word-requires plan-append-requires enum-told enum-told-2 returns returns-2
-    returns-3 returns-4 returns-5)
+    (tie.spec enum-known-found job-word-requires job-word-requires-2 plan-append-requires enum-told enum-told-2
+    returns returns-2 returns-3 returns-4 returns-5 returns-6)

@@ -47,6 +47,9 @@ header-requires-2 c κs = search needs
 place-ok-requires-3 : tie.Need-place-ok-requires-3
 place-ok-requires-3 c κs = search needs
 
+worker-word-requires-10 : tie.Need-worker-word-requires-10
+worker-word-requires-10 c κs = search needs
+
 returns : tie.Need-returns
 unfolding ownOk
 returns c =
@@ -56,29 +59,61 @@ returns c =
     let c12 = c8 .before .before .before .before in
     let c16 = c12 .before .before .before .before in
     rw (
-      ← c16 .before .header .ensures,
-      ← c16 .worker-word .ensures,
-      ← c12 .before .before .before .worker-word2 .ensures,
-      c12 .before .before .if1 .taken,
-      ← c12 .before .worker-word3 .ensures,
-      ← c12 .place-ok .ensures,
-      c8 .before .before .before .if2 .taken,
-      ← c8 .before .before .worker-word4 .ensures,
-      ← c8 .before .worker-word5 .ensures,
-      ← c8 .worker-word6 .ensures,
-      ← c4 .before .before .before .worker-word7 .ensures,
-      c4 .before .before .if3 .taken,
-      ← c4 .before .worker-word8 .ensures,
-      ← c4 .place-ok2 .ensures,
-      c .before .before .before .if4 .taken,
-      ← c .before .before .worker-word9 .ensures,
-      ← c .before .header2 .ensures,
-      ← c .place-ok3 .ensures,
+      ← c16 .before .before .before .header .ensures,
+      ← c16 .before .before .worker-word .ensures,
+      ← c16 .before .worker-word2 .ensures,
+      c16 .if1 .taken,
+      ← c12 .before .before .before .worker-word3 .ensures,
+      ← c12 .before .before .place-ok .ensures,
+      c12 .before .if2 .taken,
+      ← c12 .worker-word4 .ensures,
+      ← c8 .before .before .before .worker-word5 .ensures,
+      ← c8 .before .before .worker-word6 .ensures,
+      ← c8 .before .worker-word7 .ensures,
+      c8 .if3 .taken,
+      ← c4 .before .before .before .worker-word8 .ensures,
+      ← c4 .before .before .place-ok2 .ensures,
+      c4 .before .if4 .taken,
+      ← c4 .worker-word9 .ensures,
+      ← c .before .before .before .header2 .ensures,
+      ← c .before .before .place-ok3 .ensures,
+      c .before .if5 .taken,
+      ← c .worker-word10 .ensures,
     )
 
 returns-2 : tie.Need-returns-2
 unfolding ownOk
 returns-2 c =
+    λ buckets queue.
+    let c4 = c .before .before .before .before in
+    let c8 = c4 .before .before .before .before in
+    let c12 = c8 .before .before .before .before in
+    let c16 = c12 .before .before .before .before in
+    rw (
+      ← c16 .before .before .header .ensures,
+      ← c16 .before .worker-word .ensures,
+      ← c16 .worker-word2 .ensures,
+      c12 .before .before .before .if1 .taken,
+      ← c12 .before .before .worker-word3 .ensures,
+      ← c12 .before .place-ok .ensures,
+      c12 .if2 .taken,
+      ← c8 .before .before .before .worker-word4 .ensures,
+      ← c8 .before .before .worker-word5 .ensures,
+      ← c8 .before .worker-word6 .ensures,
+      ← c8 .worker-word7 .ensures,
+      c4 .before .before .before .if3 .taken,
+      ← c4 .before .before .worker-word8 .ensures,
+      ← c4 .before .place-ok2 .ensures,
+      c4 .if4 .taken,
+      ← c .before .before .before .worker-word9 .ensures,
+      ← c .before .before .header2 .ensures,
+      ← c .before .place-ok3 .ensures,
+      c .if5 .left,
+    )
+
+returns-3 : tie.Need-returns-3
+unfolding ownOk
+returns-3 c =
     λ buckets queue.
     let c4 = c .before .before .before .before in
     let c8 = c4 .before .before .before .before in
@@ -101,9 +136,9 @@ returns-2 c =
       c .if4 .left,
     )
 
-returns-3 : tie.Need-returns-3
+returns-4 : tie.Need-returns-4
 unfolding ownOk
-returns-3 c =
+returns-4 c =
     λ buckets queue.
     let c4 = c .before .before .before .before in
     let c8 = c4 .before .before .before .before in
@@ -122,9 +157,9 @@ returns-3 c =
       c .if3 .left,
     )
 
-returns-4 : tie.Need-returns-4
+returns-5 : tie.Need-returns-5
 unfolding ownOk
-returns-4 c =
+returns-5 c =
     λ buckets queue.
     let c4 = c .before .before .before .before in
     rw (
@@ -137,9 +172,9 @@ returns-4 c =
       c .if2 .left,
     )
 
-returns-5 : tie.Need-returns-5
+returns-6 : tie.Need-returns-6
 unfolding ownOk
-returns-5 c =
+returns-6 c =
     λ buckets queue.
     rw (
       ← c .before .before .before .header .ensures,
@@ -153,5 +188,5 @@ own-sound-spec =
     tie.close
     (tie.spec header-requires worker-word-requires worker-word-requires-2 worker-word-requires-3 place-ok-requires
     worker-word-requires-4 worker-word-requires-5 worker-word-requires-6 worker-word-requires-7 worker-word-requires-8
-    place-ok-requires-2 worker-word-requires-9 header-requires-2 place-ok-requires-3 returns returns-2 returns-3
-    returns-4 returns-5)
+    place-ok-requires-2 worker-word-requires-9 header-requires-2 place-ok-requires-3 worker-word-requires-10 returns
+    returns-2 returns-3 returns-4 returns-5 returns-6)

@@ -23,6 +23,9 @@ job-word-requires c κs = search needs
 job-word-requires-2 : tie.Need-job-word-requires-2
 job-word-requires-2 c κs = search needs
 
+job-word-requires-3 : tie.Need-job-word-requires-3
+job-word-requires-3 c κs = search needs
+
 enum-told : tie.Need-enum-told
 enum-told c = search needs
 
@@ -33,13 +36,14 @@ returns c =
     let c4 = c .before .before .before .before in
     let c8 = c4 .before .before .before .before in
     rw (
-      ← c8 .first-seat .ensures arcs buckets workers,
-      c4 .before .before .seating .given .1,
-      ← c4 .queue-word .ensures,
-      ← c .before .before .before .queue-word2 .ensures,
-      ← c .before .before .job-word .ensures,
+      ← c8 .before .first-seat .ensures arcs buckets workers,
+      c4 .before .before .before .seating .given .1,
+      ← c4 .before .queue-word .ensures,
+      ← c4 .queue-word2 .ensures,
+      ← c .before .before .before .job-word .ensures,
+      ← c .before .before .job-word2 .ensures,
       c .before .if1 .taken,
-      ← c .job-word2 .ensures,
+      ← c .job-word3 .ensures,
     )
 
 returns-2 : tie.Need-returns-2
@@ -47,12 +51,14 @@ unfolding planTake
 returns-2 c =
     λ arcs buckets workers.
     let c4 = c .before .before .before .before in
+    let c8 = c4 .before .before .before .before in
     rw (
-      ← c4 .before .before .before .first-seat .ensures arcs buckets workers,
-      c4 .before .seating .given .1,
-      ← c .before .before .before .queue-word .ensures,
-      ← c .before .before .queue-word2 .ensures,
-      ← c .before .job-word .ensures,
+      ← c8 .first-seat .ensures arcs buckets workers,
+      c4 .before .before .seating .given .1,
+      ← c4 .queue-word .ensures,
+      ← c .before .before .before .queue-word2 .ensures,
+      ← c .before .before .job-word .ensures,
+      ← c .before .job-word2 .ensures,
       c .if1 .left,
     )
 
@@ -69,4 +75,4 @@ pub plan-take-spec : {M : Type 1} → statement M
 plan-take-spec =
     tie.close
     (tie.spec first-seat-requires enum-known-seating queue-word-requires queue-word-requires-2 job-word-requires
-    job-word-requires-2 enum-told returns returns-2 returns-3)
+    job-word-requires-2 job-word-requires-3 enum-told returns returns-2 returns-3)

@@ -14,6 +14,9 @@ judge-finish-requires c κs = search needs
 worker-word-requires : tie.Need-worker-word-requires
 worker-word-requires c κs = search needs
 
+bit-requires : tie.Need-bit-requires
+bit-requires c κs = search needs
+
 put-bare-worker-requires : tie.Need-put-bare-worker-requires
 put-bare-worker-requires c κs = search needs
 
@@ -36,11 +39,13 @@ returns : tie.Need-returns
 unfolding finishWords posted
 returns c =
     let c4 = c .before .before .before .before in
+    let c8 = c4 .before .before .before .before in
     rw (
-      ← c4 .before .before .before .judge-finish .ensures,
-      c4 .before .before .if1 .taken,
+      ← c8 .judge-finish .ensures,
+      c4 .before .before .before .if1 .taken,
       c .before .before .put-bare-worker .ensures,
-      c4 .worker-word .ensures,
+      c .before .before .before .bit .ensures,
+      c4 .before .worker-word .ensures,
     )
 
 same-length-6 : tie.Need-same-length-6
@@ -65,6 +70,6 @@ returns-2 c = let h = c .if1 .left in rw (← c .before .judge-finish .ensures, 
 pub post-finish-spec : {M : Type 1} → statement M
 post-finish-spec =
     tie.close
-    (tie.spec judge-finish-requires worker-word-requires put-bare-worker-requires same-length same-length-2
-    same-length-3 same-length-4 same-length-5 returns same-length-6 same-length-7 same-length-8 same-length-9
-    same-length-10 returns-2)
+    (tie.spec judge-finish-requires worker-word-requires bit-requires put-bare-worker-requires same-length
+    same-length-2 same-length-3 same-length-4 same-length-5 returns same-length-6 same-length-7 same-length-8
+    same-length-9 same-length-10 returns-2)

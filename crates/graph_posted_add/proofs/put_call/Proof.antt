@@ -34,7 +34,7 @@ returns c =
     )
     (worker-record (a .workers .now) (a .worker)
     (a .phase ∷ a .held ∷ a .name ∷ a .count ∷ a .class ∷ a .grower ∷ [])
-    (a .tally ∷ a .position ∷ a .job ∷ a .arc ∷ [])
+    (a .tally ∷ a .position ∷ a .job ∷ a .arc ∷ a .note ∷ [])
     (prefix mostNames (prefix (a .count) (a .names .now)))
     refl
     refl)

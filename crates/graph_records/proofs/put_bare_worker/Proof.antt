@@ -26,6 +26,9 @@ put-worker-requires-3 c κs = search needs
 put-worker-requires-4 : tie.Need-put-worker-requires-4
 put-worker-requires-4 c κs = search needs
 
+put-worker-requires-5 : tie.Need-put-worker-requires-5
+put-worker-requires-5 c κs = search needs
+
 same-length : tie.Need-same-length
 same-length c = search needs
 
@@ -36,19 +39,21 @@ returns c =
     let c12 = c8 .before .before .before .before in
     let c16 = c12 .before .before .before .before in
     let c20 = c16 .before .before .before .before in
-    let a = c20 .before .before .args in
+    let c24 = c20 .before .before .before .before in
+    let a = c24 .before .before .args in
     rw (
-      c .before .before .put-worker4 .ensures,
-      c4 .before .before .put-worker3 .ensures,
-      c8 .before .before .put-worker2 .ensures,
-      c12 .before .before .put-worker .ensures,
-      c16 .before .before .fill .ensures,
-      c16 .before .before .before .record-at .ensures,
+      c .before .before .put-worker5 .ensures,
+      c4 .before .before .put-worker4 .ensures,
+      c8 .before .before .put-worker3 .ensures,
+      c12 .before .before .put-worker2 .ensures,
+      c16 .before .before .put-worker .ensures,
+      c20 .before .before .fill .ensures,
+      c20 .before .before .before .record-at .ensures,
     )
-    (bare-record (a .workers .now) (a .worker) (a .phase) (a .held))
+    (bare-record (a .workers .now) (a .worker) (a .phase) (a .held) (a .note))
 
 pub put-bare-worker-spec : {M : Type 1} → statement M
 put-bare-worker-spec =
     tie.close
     (tie.spec record-at-requires cast-fill fill-requires put-worker-requires put-worker-requires-2
-    put-worker-requires-3 put-worker-requires-4 same-length returns)
+    put-worker-requires-3 put-worker-requires-4 put-worker-requires-5 same-length returns)

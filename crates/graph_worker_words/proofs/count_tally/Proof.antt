@@ -8,6 +8,12 @@ use Rattle.graph_worker_words.proofs.count_tally.Tie as tie
 worker-word-requires : tie.Need-worker-word-requires
 worker-word-requires c κs = search needs
 
+worker-word-requires-2 : tie.Need-worker-word-requires-2
+worker-word-requires-2 c κs = search needs
+
+note-of-requires : tie.Need-note-of-requires
+note-of-requires c κs = search needs
+
 count-place-requires : tie.Need-count-place-requires
 count-place-requires c κs = search needs
 
@@ -17,6 +23,9 @@ sum-requires c κs = search needs
 put-worker-requires : tie.Need-put-worker-requires
 put-worker-requires c κs = search needs
 
+put-worker-requires-2 : tie.Need-put-worker-requires-2
+put-worker-requires-2 c κs = search needs
+
 same-length : tie.Need-same-length
 same-length c = search needs
 
@@ -25,17 +34,23 @@ returns c =
     λ h k.
     let c4 = c .before .before .before .before in
     let c8 = c4 .before .before .before .before in
+    let c12 = c8 .before .before .before .before in
+    let c16 = c12 .before .before .before .before in
     rw (
-      c .before .before .put-worker .ensures,
-      c4 .before .before .before .count-place .ensures h,
-      c .before .before .before .sum .ensures
+      c .before .before .put-worker2 .ensures,
+      c4 .before .before .put-worker .ensures,
+      c8 .before .before .before .count-place .ensures h,
+      c4 .before .before .before .sum .ensures
           (let m =
-          rw (← c8 .before .worker-word .ensures) at k
+          rw (← c16 .worker-word .ensures) at k
           in omega arith),
-      c8 .before .worker-word .ensures,
+      c12 .before .note-of .ensures,
+      c12 .before .before .worker-word2 .ensures,
+      c16 .worker-word .ensures,
     )
 
 pub count-tally-spec : {M : Type 1} → statement M
 count-tally-spec =
     tie.close
-    (tie.spec worker-word-requires count-place-requires sum-requires put-worker-requires same-length returns)
+    (tie.spec worker-word-requires worker-word-requires-2 note-of-requires count-place-requires sum-requires
+    put-worker-requires put-worker-requires-2 same-length returns)

@@ -45,6 +45,9 @@ plain-requires-6 c κs = search needs
 enum-known-answer : tie.Need-enum-known-answer
 enum-known-answer c = search needs
 
+bit-requires : tie.Need-bit-requires
+bit-requires c κs = search needs
+
 enum-known-answer-2 : tie.Need-enum-known-answer-2
 enum-known-answer-2 c = search needs
 
@@ -67,7 +70,7 @@ returns-6 : tie.Need-returns-6
 returns-6 c = c .plain6 .ensures ∙ ap graphAnswer (sym (c .before .enum-told6 .given .1))
 
 returns-7 : tie.Need-returns-7
-returns-7 c = ap graphAnswer (sym (c .before .answer .given .1))
+returns-7 c = rw (c .bit .ensures) (ap graphAnswer (sym (c .before .before .answer .given .1)))
 
 returns-8 : tie.Need-returns-8
 returns-8 c = ap graphAnswer (sym (c .before .answer2 .given .1))
@@ -76,5 +79,5 @@ pub answered-spec : {M : Type 1} → statement M
 answered-spec =
     tie.close
     (tie.spec enum-told plain-requires enum-told-2 plain-requires-2 enum-told-3 plain-requires-3 enum-told-4
-    plain-requires-4 enum-told-5 plain-requires-5 enum-told-6 plain-requires-6 enum-known-answer enum-known-answer-2
-    returns returns-2 returns-3 returns-4 returns-5 returns-6 returns-7 returns-8)
+    plain-requires-4 enum-told-5 plain-requires-5 enum-told-6 plain-requires-6 enum-known-answer bit-requires
+    enum-known-answer-2 returns returns-2 returns-3 returns-4 returns-5 returns-6 returns-7 returns-8)

@@ -2,6 +2,7 @@
 -- Assumes nothing.
 use mathlib.Core.Path.{refl, sym, _∙_}
 use borrow.Author.Needs.{needs}
+use Rattle.terms.specs.Terms.{finishOf}
 use Rattle.graph_own.proofs.Admitted.{wrong-sizes, no-such-worker, unsound, admits}
 use Rattle.fused_finish_laws.specs.Finish.{whole-finish}
 use Rattle.whole_finish.proofs.finish_whole.Statement.{statement}
@@ -40,7 +41,7 @@ returns c =
     let a = c24 .before .before .before .before .before .before .before .before .before .before .before .args in
     admits _ _ _ _ _ (c24 .sizes-fit .ensures) (c16 .before .own-ok .ensures _ _)
     (c21 .before .before .if1 .taken) (c21 .if2 .taken) (c16 .if3 .taken) (c10 .finish-if-idle .ensures)
-    ∙ sym (whole-finish (a .sizes) _ (a .worker) (a .name))
+    ∙ sym (whole-finish (a .sizes) _ (a .worker) (finishOf (a .name) (a .failed)))
 
 same-length-6 : tie.Need-same-length-6
 same-length-6 c = search needs
@@ -64,7 +65,7 @@ returns-2 c =
     let c5 = c .before .before .before .before .before in
     unsound _ _ _ _ _ (c8 .sizes-fit .ensures) (c .before .own-ok .ensures _ _) (c5 .before .before .if1 .taken)
     (c5 .if2 .taken) (c .if3 .left) refl
-    ∙ sym (whole-finish (a .sizes) _ (a .worker) (a .name))
+    ∙ sym (whole-finish (a .sizes) _ (a .worker) (finishOf (a .name) (a .failed)))
 
 same-length-11 : tie.Need-same-length-11
 same-length-11 c = search needs
@@ -86,7 +87,7 @@ returns-3 c =
     let c3 = c .before .before .before in
     let a = c3 .before .before .before .before .before .before .before .before .before .before .before .args in
     no-such-worker _ _ _ _ _ (c3 .sizes-fit .ensures) (c .before .before .if1 .taken) (c .if2 .left) refl
-    ∙ sym (whole-finish (a .sizes) _ (a .worker) (a .name))
+    ∙ sym (whole-finish (a .sizes) _ (a .worker) (finishOf (a .name) (a .failed)))
 
 same-length-16 : tie.Need-same-length-16
 same-length-16 c = search needs
@@ -107,7 +108,7 @@ returns-4 : tie.Need-returns-4
 returns-4 c =
     let a = c .before .before .before .before .before .before .before .before .before .before .before .before .args in
     wrong-sizes _ _ _ _ _ (c .before .sizes-fit .ensures) (c .if1 .left) refl
-    ∙ sym (whole-finish (a .sizes) _ (a .worker) (a .name))
+    ∙ sym (whole-finish (a .sizes) _ (a .worker) (finishOf (a .name) (a .failed)))
 
 pub finish-whole-spec : {M : Type 1} → statement M
 finish-whole-spec =

@@ -2,19 +2,20 @@
 //! nothing is stored yet, and it runs by steps, which leave what they must. A finish stores as it goes.
 
 use compare_graph::layout::{job, phase, worker, NONE, WORKER_WORDS};
-use taskgraph::raw::{kind, Answer, Entry, SheetAdded, Sizes, Tables, ENTRY_WORDS, MAX_ENTRIES};
+use taskgraph::raw::{kind, Answer, Entry, SheetAdded, Sizes, Tables, ENTRY_WORDS, GOOD, MAX_ENTRIES};
 
 use super::{
     answer, answered, index::Seat, inlined::judged_list, post_add, step, Graph, Outcome, DAMAGED, EXECUTING, FINISHED,
-    MAX_NAMES, UNEXECUTED,
+    MAX_NAMES, SET, UNEXECUTED,
 };
 
 /// What an add found, if it met no damage.
 enum Found {
     /// It is refused by this number and place.
     Refused(u32, u32),
-    /// It enters: the jobs of its listed names, how many of these are finished, and its seat where all are.
-    Enters { prerequisites: [u32; MAX_NAMES as usize], tally: u32, seat: Option<Seat> },
+    /// It enters: the jobs of its listed names, how many of these are finished, whether one of them failed, and its seat
+    /// where all are.
+    Enters { prerequisites: [u32; MAX_NAMES as usize], tally: u32, note: u32, seat: Option<Seat> },
 }
 
 #[inline(never)]
@@ -25,10 +26,10 @@ pub fn add<const INDEXED: bool>(sizes: Sizes, tables: &mut Tables, worker: u32, 
 }
 
 #[inline(never)]
-pub fn finish<const INDEXED: bool>(sizes: Sizes, tables: &mut Tables, worker: u32, name: u32) -> Answer {
+pub fn finish<const INDEXED: bool>(sizes: Sizes, tables: &mut Tables, worker: u32, name: u32, outcome: u32) -> Answer {
     answered(Graph::<INDEXED>::admitted(sizes, tables, worker).and_then(|(mut graph, at)| {
         graph.judge_idle(at)?;
-        graph.finish(at, name)
+        graph.finish(at, name, outcome)
     }))
 }
 
@@ -103,8 +104,8 @@ impl<const INDEXED: bool> Graph<'_, INDEXED> {
         }
         match found {
             Found::Refused(number, place) => Err((number, place)),
-            Found::Enters { prerequisites, tally, seat } => {
-                self.store(entry, &prerequisites[..list.len()], tally, seat);
+            Found::Enters { prerequisites, tally, note, seat } => {
+                self.store(entry, &prerequisites[..list.len()], tally, note, seat);
                 Ok(answer(kind::ENDED))
             }
         }
@@ -127,32 +128,36 @@ impl<const INDEXED: bool> Graph<'_, INDEXED> {
         if self.made() == self.sizes.jobs || self.sizes.arcs - self.reserved() < entry.count {
             return Ok(Found::Refused(8, 0));
         }
-        let mut tally = 0;
+        let (mut tally, mut note) = (0, 0);
         for prerequisite in &prerequisites[..list.len()] {
-            tally += self.finished(*prerequisite)?;
+            if let Some(outcome) = self.ended(*prerequisite)? {
+                tally += 1;
+                note |= outcome;
+            }
         }
         let seat = if tally == entry.count { Some(self.seat_for(entry.class)?) } else { None };
-        Ok(Found::Enters { prerequisites, tally, seat })
+        Ok(Found::Enters { prerequisites, tally, note, seat })
     }
 
-    /// 1 for a finished prerequisite, else 0. An arc that was not in use before the add is left to the steps.
+    /// The outcome of a finished prerequisite. An arc that was not in use before the add is left to the steps.
     #[inline(always)]
-    fn finished(&self, prerequisite: u32) -> Outcome<u32> {
+    fn ended(&self, prerequisite: u32) -> Outcome<Option<u32>> {
         let words = self.job_read(prerequisite);
         match words[job::LABEL] {
-            FINISHED => Ok(1),
-            label if label < FINISHED && self.arc_is_none_or_used(words[job::LAST]) => Ok(0),
+            FINISHED if words[job::OUTCOME] <= SET => Ok(Some(words[job::OUTCOME])),
+            label if label < FINISHED && self.arc_is_none_or_used(words[job::LAST]) => Ok(None),
             _ => Err(DAMAGED),
         }
     }
 
     /// All that the add stores but the worker's words.
     #[inline(always)]
-    fn store(&mut self, entry: &Entry, prerequisites: &[u32], tally: u32, seat: Option<Seat>) {
+    fn store(&mut self, entry: &Entry, prerequisites: &[u32], tally: u32, note: u32, seat: Option<Seat>) {
         let (made, reserved, bucket) = (self.made(), self.reserved(), self.bucket(entry.name));
         let Entry { name, count, class, grower, .. } = *entry;
         let head = self.buckets[bucket];
-        self.job_words(made).copy_from_slice(&[name, UNEXECUTED, count - tally, class, grower, NONE, NONE, head]);
+        let record = [name, UNEXECUTED, count - tally, class, grower, NONE, NONE, head, 0, note];
+        self.job_words(made).copy_from_slice(&record);
         self.buckets[bucket] = made;
         self.jobs[4] = made + 1;
         self.arcs[0] = reserved + count;
@@ -185,35 +190,39 @@ impl<const INDEXED: bool> Graph<'_, INDEXED> {
 
     /// A finish by an idle worker whose own words fit.
     #[inline(always)]
-    fn finish(&mut self, at: usize, name: u32) -> Outcome<Answer> {
+    fn finish(&mut self, at: usize, name: u32, outcome: u32) -> Outcome<Answer> {
         let held = self.workers[at + worker::HELD];
         if held == NONE || self.job_read(held)[job::NAME] != name {
             return Err((11, 0));
         }
         self.judge_counters()?;
+        self.judge_outcome(held, outcome)?;
         self.clear(at);
+        let note = u32::from(outcome != GOOD);
         let first = self.job_read(held)[job::FIRST];
         if self.job_read(held)[job::LABEL] != EXECUTING || !self.arc_is_none_or_used(first) {
             self.workers[at + worker::PHASE] = phase::MARKING;
+            self.workers[at + worker::NOTE] = note;
             return Err(DAMAGED);
         }
         self.job_words(held)[job::LABEL] = FINISHED;
+        self.job_words(held)[job::OUTCOME] = note;
         self.workers[at + worker::HELD] = NONE;
-        self.tell_dependents(at, first)
+        self.tell_dependents(at, first, note)
     }
 
     /// A step for each arc, and no more than there are arcs; what is left is left to the worker's words.
     #[inline(always)]
-    fn tell_dependents(&mut self, at: usize, first: u32) -> Outcome<Answer> {
+    fn tell_dependents(&mut self, at: usize, first: u32, note: u32) -> Outcome<Answer> {
         let mut arc = first;
         for _ in 0..self.sizes.arcs {
             if arc == NONE {
                 return Ok(answer(kind::ENDED));
             }
-            match self.tell(arc) {
+            match self.tell(arc, note) {
                 Ok(next) => arc = next,
                 Err(damaged) => {
-                    self.leave_half_done(at, arc);
+                    self.leave_half_done(at, arc, note);
                     return Err(damaged);
                 }
             }
@@ -221,13 +230,13 @@ impl<const INDEXED: bool> Graph<'_, INDEXED> {
         if arc == NONE {
             return Ok(answer(kind::ENDED));
         }
-        self.leave_half_done(at, arc);
+        self.leave_half_done(at, arc, note);
         Ok(answer(kind::GOING_ON))
     }
 
-    /// Lowers the count of an arc's dependent, and gives the next arc.
+    /// Lowers the count of an arc's dependent, marks it where the finish is failed, and gives the next arc.
     #[inline(always)]
-    fn tell(&mut self, arc: u32) -> Outcome<u32> {
+    fn tell(&mut self, arc: u32, note: u32) -> Outcome<u32> {
         let (dependent, next) = (self.arc_words(arc)[0], self.arc_words(arc)[1]);
         if dependent >= self.made() || !self.arc_is_none_or_used(next) {
             return Err(DAMAGED);
@@ -241,12 +250,14 @@ impl<const INDEXED: bool> Graph<'_, INDEXED> {
             self.enqueue(seat, dependent);
         }
         self.job_words(dependent)[job::COUNT] = count - 1;
+        self.spoil(dependent, note);
         Ok(next)
     }
 
     #[cold]
-    fn leave_half_done(&mut self, at: usize, arc: u32) {
+    fn leave_half_done(&mut self, at: usize, arc: u32, note: u32) {
         self.workers[at + worker::PHASE] = phase::NOTIFYING;
         self.workers[at + worker::ARC] = arc;
+        self.workers[at + worker::NOTE] = note;
     }
 }

@@ -12,7 +12,7 @@ use second_implementation::{
     sheet::{Entry, MAX_CLASS, MAX_GROWER, MAX_NAMES},
     totals::{self, Record, Totals, TotalsError},
 };
-use taskgraph::raw::{kind, Answer, DrainedAnswer, Holding, CALL_ADD, CALL_FINISH, CALL_NONE};
+use taskgraph::raw::{kind, Answer, DrainedAnswer, Holding, CALL_ADD, CALL_FINISH, CALL_NONE, GOOD};
 
 use crate::{
     event::{worker_of, Call},
@@ -32,17 +32,27 @@ pub fn refused(number: u32) -> Answer {
 /// A table, a place in it, and the word that is written there.
 type Write = (usize, usize, u32);
 
+/// A word that is 0 or 1.
+#[derive(Clone, Copy, Debug, PartialEq, Eq, PartialOrd, Ord)]
+pub enum Flag {
+    Outcome,
+    Mark,
+    Note,
+}
+
 /// What the list settles for a call.
 pub struct Expected {
     pub answer: Answer,
     pub writes: Vec<Write>,
     /// For number 9, what is wrong with the index, if that is why.
     pub wrong_slot: Option<WrongSlot>,
+    /// For number 9, the word that is not 0 or 1, if that is why.
+    pub wrong_flag: Option<Flag>,
 }
 
 impl Expected {
     fn new(answer: Answer, writes: Vec<Write>) -> Expected {
-        Expected { answer, writes, wrong_slot: None }
+        Expected { answer, writes, wrong_slot: None, wrong_flag: None }
     }
 
     /// Turned away with nothing changed.
@@ -83,6 +93,14 @@ fn admitted<'a>(tables: &'a Tables, sizes: Sizes, call: &Call) -> Result<(Words<
     }
 }
 
+/// Whether of the worker's own words the note is wrong and nothing else.
+fn note_alone_is_wrong(tables: &Tables, sizes: Sizes, call: &Call) -> bool {
+    sized(tables, sizes, call.short).map_or(false, |words| {
+        let own = || words.worker(worker_asked(call));
+        worker_asked(call) < sizes.workers && words.call_words_fit(own()) && own()[worker::NOTE] > 1
+    })
+}
+
 /// What the worker of a call holds, whatever the words.
 pub fn expected_holding(tables: &Tables, sizes: Sizes, call: &Call) -> Holding {
     let found = admitted(tables, sizes, call)
@@ -96,9 +114,16 @@ pub fn expected_holding(tables: &Tables, sizes: Sizes, call: &Call) -> Holding {
         phase::LOOKING_UP | phase::LINKING => (CALL_ADD, own[worker::NAME]),
         _ => (CALL_FINISH, 0),
     };
-    match own[worker::HELD] {
-        NONE => Holding { call, adds, ..Holding::default() },
-        held => Holding { number: 0, holds: 1, job: held, name: words.job(held)[job::NAME], call, adds },
+    let held = match own[worker::HELD] {
+        NONE => return Holding { call, adds, ..Holding::default() },
+        held => words.job(held),
+    };
+    match held[job::MARK] {
+        mark @ 0..=1 => {
+            let (job, name) = (own[worker::HELD], held[job::NAME]);
+            Holding { number: 0, holds: 1, job, name, call, adds, spoiled: mark }
+        }
+        _ => Holding { number: refusal::DAMAGED, ..Holding::default() },
     }
 }
 
@@ -169,7 +194,10 @@ pub fn expected_minutes(jobs: &[u32], sizes: Sizes) -> Result<Minutes, u32> {
 pub fn expected(tables: &Tables, sizes: Sizes, call: &Call) -> Expected {
     let (words, own) = match admitted(tables, sizes, call) {
         Ok(found) => found,
-        Err(number) => return Expected::refused(number),
+        Err(number) => {
+            let wrong_flag = note_alone_is_wrong(tables, sizes, call).then_some(Flag::Note);
+            return Expected { wrong_flag, ..Expected::refused(number) };
+        }
     };
     let idle = own[worker::PHASE] == phase::IDLE;
     let held = own[worker::HELD];
@@ -192,10 +220,15 @@ pub fn expected(tables: &Tables, sizes: Sizes, call: &Call) -> Expected {
     let served = words.judge_counters().and_then(|()| match &call.item {
         Item::Step { .. } => words.step(own),
         Item::Get { .. } => words.get(own),
+        Item::PostFinish { outcome, .. } => words.post_finish(own, *outcome),
         Item::PostAdd { entry, .. } => Ok(Expected::new(of_kind(kind::POSTED), own.all(posted_add(held, entry)))),
-        _ => Ok(Expected::new(of_kind(kind::POSTED), own.all(posted_finish(held)))),
+        _ => unreachable!("other items are no single call of a worker"),
     });
-    served.unwrap_or_else(|Harm(wrong_slot)| Expected { wrong_slot, ..Expected::refused(refusal::DAMAGED) })
+    served.unwrap_or_else(|harm| match harm {
+        Harm::Other => Expected::refused(refusal::DAMAGED),
+        Harm::Slot(wrong) => Expected { wrong_slot: Some(wrong), ..Expected::refused(refusal::DAMAGED) },
+        Harm::Flag(wrong) => Expected { wrong_flag: Some(wrong), ..Expected::refused(refusal::DAMAGED) },
+    })
 }
 
 /// The words of a worker that has posted an add.
@@ -211,19 +244,26 @@ fn posted_add(held: u32, entry: &Entry) -> [u32; layout::WORKER_WORDS] {
     own
 }
 
-/// The words of a worker that has posted a finish.
-fn posted_finish(held: u32) -> [u32; layout::WORKER_WORDS] {
+/// The words of a worker that has posted a finish with this outcome.
+fn posted_finish(held: u32, outcome: u32) -> [u32; layout::WORKER_WORDS] {
     let mut own = idle_worker(held);
     own[worker::PHASE] = phase::MARKING;
+    own[worker::NOTE] = u32::from(outcome != GOOD);
     own
 }
 
-/// A word that a call reads lies off its range, or does not go with another; where it is one of the index, how.
-struct Harm(Option<WrongSlot>);
+/// A word that a call reads lies off its range, or does not go with another.
+enum Harm {
+    Other,
+    /// One of the index.
+    Slot(WrongSlot),
+    /// A word that is to be 0 or 1.
+    Flag(Flag),
+}
 
 impl From<WrongSlot> for Harm {
     fn from(wrong: WrongSlot) -> Harm {
-        Harm(Some(wrong))
+        Harm::Slot(wrong)
     }
 }
 
@@ -231,7 +271,16 @@ fn harm_unless(right: bool) -> Result<(), Harm> {
     if right {
         Ok(())
     } else {
-        Err(Harm(None))
+        Err(Harm::Other)
+    }
+}
+
+/// A word that is to be 0 or 1, as what it says.
+fn flag(word: u32, which: Flag) -> Result<bool, Harm> {
+    match word {
+        0 => Ok(false),
+        1 => Ok(true),
+        _ => Err(Harm::Flag(which)),
     }
 }
 
@@ -300,8 +349,13 @@ impl<'a> Words<'a> {
         place == NONE || self.arc_in_use(place)
     }
 
-    /// A worker's own words: places are none or in use, the others in their ranges.
+    /// A worker's own words.
     fn own_words_fit(&self, own: Own) -> bool {
+        self.call_words_fit(own) && own[worker::NOTE] <= 1
+    }
+
+    /// A worker's own words but the note: places are none or in use, the others in their ranges.
+    fn call_words_fit(&self, own: Own) -> bool {
         let count = own[worker::COUNT];
         own[worker::PHASE] <= phase::NOTIFYING
             && [own[worker::HELD], own[worker::JOB]].iter().all(|place| *place == NONE || self.job_in_use(*place))
@@ -406,13 +460,25 @@ impl<'a> Words<'a> {
         let first = self.tables.words(QUEUE)[layout::slot_at(0)] as usize;
         let number = self.tables.words(QUEUE)[layout::cell_at(first)];
         harm_unless(self.job(number)[job::LABEL] == 0)?;
+        let spoiled = flag(self.job(number)[job::MARK], Flag::Mark)?;
         let mut writes = moved(moves);
         let emptied = [layout::slot_at(filled - 1), layout::cell_at(first), layout::position_at(first)];
         writes.extend(emptied.map(|place| (QUEUE, place, NONE)));
         writes.push((QUEUE, layout::TAKEN, taken + 1));
         writes.extend([field_of(number, job::LABEL, 1), own.write(worker::HELD, number)]);
-        let name = self.job(number)[job::NAME];
-        Ok(Expected::new(Answer { job: number, name, ..of_kind(kind::HANDED_OUT) }, writes))
+        let (name, spoiled) = (self.job(number)[job::NAME], u32::from(spoiled));
+        Ok(Expected::new(Answer { job: number, name, spoiled, ..of_kind(kind::HANDED_OUT) }, writes))
+    }
+
+    /// What a post of a finish by an idle worker that holds the job of its name does. The mark is read whatever the
+    /// outcome.
+    fn post_finish(&self, own: Own, outcome: u32) -> Result<Expected, Harm> {
+        let held = own[worker::HELD];
+        let spoiled = flag(self.job(held)[job::MARK], Flag::Mark)?;
+        if spoiled && outcome == GOOD {
+            return Ok(Expected::refused(refusal::GOOD_FOR_SPOILED));
+        }
+        Ok(Expected::new(of_kind(kind::POSTED), own.all(posted_finish(held, outcome))))
     }
 
     /// What a step of a worker half done does.
@@ -426,7 +492,7 @@ impl<'a> Words<'a> {
                 None => own.refused(Answer { place, ..refused(refusal::UNKNOWN_NAME) }),
             }),
             phase::LOOKING_UP => self.enter(own),
-            phase::LINKING if more => self.link(own, listed()?.ok_or(Harm(None))?),
+            phase::LINKING if more => self.link(own, listed()?.ok_or(Harm::Other)?),
             phase::LINKING => self.settle(own),
             phase::MARKING => self.mark(own),
             _ => self.notify(own),
@@ -444,7 +510,7 @@ impl<'a> Words<'a> {
         }
         let bucket = bucket(name, self.sizes.bits) as usize;
         let head = self.tables.words(BUCKETS)[bucket];
-        let record = [name, 0, count, own[worker::CLASS], own[worker::GROWER], NONE, NONE, head];
+        let record = [name, 0, count, own[worker::CLASS], own[worker::GROWER], NONE, NONE, head, 0, 0];
         let mut writes: Vec<Write> =
             record.into_iter().enumerate().map(|(field, word)| field_of(made, field, word)).collect();
         writes.extend([
@@ -465,6 +531,9 @@ impl<'a> Words<'a> {
         let mut writes = vec![own.write(worker::PLACE, own[worker::PLACE] + 1)];
         if words[job::LABEL] == 2 {
             writes.push(own.write(worker::TALLY, own[worker::TALLY] + 1));
+            if flag(words[job::OUTCOME], Flag::Outcome)? {
+                writes.push(own.write(worker::NOTE, 1));
+            }
         } else {
             let dependent = own[worker::JOB];
             let arc = u64::from(own[worker::ARC]) + u64::from(own[worker::PLACE]);
@@ -489,6 +558,7 @@ impl<'a> Words<'a> {
         harm_unless(count as usize <= MAX_NAMES && tally <= count)?;
         let mut writes = own.idle(own[worker::HELD]);
         writes.push(field_of(number, job::COUNT, count - tally));
+        writes.extend(spoils(own, number));
         if count == tally && (tally > 0 || own[worker::COUNT] == 0) {
             writes.extend(self.queued(number)?);
         }
@@ -498,8 +568,8 @@ impl<'a> Words<'a> {
     fn mark(&self, own: Own) -> Result<Expected, Harm> {
         let held = own[worker::HELD];
         harm_unless(held != NONE && self.job(held)[job::LABEL] == 1)?;
-        let mut writes = vec![field_of(held, job::LABEL, 2), own.write(worker::HELD, NONE)];
-        writes.push(own.write(worker::PHASE, phase::NOTIFYING));
+        let mut writes = vec![field_of(held, job::LABEL, 2), field_of(held, job::OUTCOME, own[worker::NOTE])];
+        writes.extend([own.write(worker::HELD, NONE), own.write(worker::PHASE, phase::NOTIFYING)]);
         self.goes_on(own, NONE, self.job(held)[job::FIRST], writes)
     }
 
@@ -512,6 +582,7 @@ impl<'a> Words<'a> {
         let count = self.job(dependent)[job::COUNT];
         harm_unless(count > 0 && count as usize <= MAX_NAMES)?;
         let mut writes = vec![field_of(dependent, job::COUNT, count - 1)];
+        writes.extend(spoils(own, dependent));
         if count == 1 {
             writes.extend(self.queued(dependent)?);
         }
@@ -528,6 +599,11 @@ impl<'a> Words<'a> {
         writes.push(own.write(worker::ARC, arc));
         Ok(Expected::new(of_kind(kind::GOING_ON), writes))
     }
+}
+
+/// The mark of a job where the worker's note says that it is spoiled; its old mark is not read.
+fn spoils(own: Own, number: u32) -> Option<Write> {
+    (own[worker::NOTE] == 1).then(|| field_of(number, job::MARK, 1))
 }
 
 /// A word of a job.

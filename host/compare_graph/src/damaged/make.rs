@@ -2,14 +2,14 @@
 
 use compare_sheets::random::Random;
 use second_implementation::{
-    graph::{Graph, Sizes},
+    graph::{AddStage, Call as Half, Finish, Graph, Outcome, Sizes},
     history::Item,
     minutes::{CLASSES, MAX_MINUTES},
-    sheet::MAX_NAMES,
+    sheet::{Names, MAX_NAMES},
 };
 
 use crate::{
-    event::{Call, Event, History},
+    event::{worker_of, Call, Event, History},
     generate,
     index::Index,
     layout::{self, job, worker, NONE},
@@ -35,6 +35,9 @@ pub fn history(random: &mut Random) -> History {
     }
     if random.once_in(2) {
         history = with_index_altered(random, history);
+    }
+    if random.once_in(2) {
+        history = with_flags_altered(random, history);
     }
     let sizes = history.setup.sizes;
     for _ in 0..1 + random.below(6) {
@@ -114,6 +117,87 @@ fn damaged_minutes(random: &mut Random, values: &[u32], class: usize) -> u32 {
     let below = if class == 0 { 0 } else { values[class - 1] };
     let above = values.get(class + 1).copied().unwrap_or(MAX_MINUTES + 1);
     random.pick(&[below, below + 1, above - 1, above, above + 1, 0, 1, MAX_MINUTES, MAX_MINUTES + 1, NONE])
+}
+
+/// Before some of the calls an outcome, a mark or a note that they read, or store without reading it, is altered, or the
+/// label of a job that is to end; then it is mostly put back, and the call comes again.
+fn with_flags_altered(random: &mut Random, history: History) -> History {
+    let History { setup, events } = history;
+    let mut graph = Graph::lay_out(setup.sizes).expect("the sizes are within their limits");
+    let mut altered = Vec::with_capacity(2 * events.len());
+    for event in events {
+        if let (Event::Call(Call { item, sizes: None, short: None }), true) = (&event, random.once_in(4)) {
+            let flags = flags_near(&graph, item);
+            if !flags.is_empty() {
+                let (table, place, right) = random.pick(&flags);
+                let value = random.pick(&[1 - right, 1 - right, 2, 2, 3, 1 << 31, NONE]);
+                altered.push(Event::Set { table, place, value });
+                altered.push(event.clone());
+                // A wrong note that stays turns all later calls of its worker away.
+                if !random.once_in(if table == WORKERS { 60 } else { 6 }) {
+                    altered.push(Event::Set { table, place, value: right });
+                }
+            }
+        }
+        generate::follow(&mut graph, &setup, &event);
+        altered.push(event);
+    }
+    History { setup, events: altered }
+}
+
+/// The outcomes, marks and notes that a call comes near to, with what they are: the note of its worker, the mark of the job
+/// that it takes, holds or tells, and the outcomes of the jobs that it links to; of a finish run whole also the label of
+/// its job, by which it stops before its mark.
+fn flags_near(graph: &Graph, item: &Item) -> Vec<(usize, usize, u32)> {
+    let worker = match worker_of(item).filter(|worker| (*worker as usize) < graph.workers().len()) {
+        Some(worker) => worker as usize,
+        None => return Vec::new(),
+    };
+    let state = &graph.workers()[worker];
+    let mark = |job: usize| (JOBS, layout::job_at(job) + job::MARK, u32::from(graph.jobs()[job].spoiled));
+    let outcome = |job: usize| {
+        let failed = graph.jobs()[job].outcome == Some(Outcome::Failed);
+        (JOBS, layout::job_at(job) + job::OUTCOME, u32::from(failed))
+    };
+    let dependents = |job: usize| graph.jobs()[job].arcs.iter().filter_map(|arc| graph.arcs()[*arc]);
+    let found = |names: &[u32]| names.iter().filter_map(|name| graph.find(*name)).collect::<Vec<usize>>();
+    let (mut note, mut flags) = (0, Vec::new());
+    match (&state.call, item) {
+        (Some(Half::Add(add)), Item::Step { .. }) => {
+            flags.extend(found(&add.list).into_iter().map(outcome));
+            if let AddStage::Linking { job, noted, .. } = add.stage {
+                note = u32::from(noted);
+                flags.push(mark(job));
+            }
+        }
+        (Some(Half::Finish(finish)), Item::Step { .. }) => {
+            let (job, brought) = match *finish {
+                Finish::Marking { outcome } => (state.held, outcome),
+                Finish::Notifying { job, outcome, .. } => (Some(job), outcome),
+            };
+            note = u32::from(brought == Outcome::Failed);
+            flags.extend(job.into_iter().flat_map(|job| dependents(job).map(mark).chain([outcome(job)])));
+        }
+        (None, Item::Get { .. }) => flags.extend(graph.heaviest().map(mark)),
+        (None, Item::PostFinish { .. }) => flags.extend(state.held.map(mark)),
+        (None, Item::Finish { .. }) => {
+            if let Some(job) = state.held {
+                let label = (JOBS, layout::job_at(job) + job::LABEL, graph.jobs()[job].label as u32);
+                flags.extend(dependents(job).map(mark).chain([mark(job), mark(job), label]));
+            }
+        }
+        (None, Item::PostAdd { entry, .. } | Item::Add { entry, .. }) => {
+            let Names { count, names } = &entry.prerequisites;
+            flags.extend(found(&names[..*count.min(&MAX_NAMES)]).into_iter().map(outcome));
+        }
+        (None, Item::AddSheet { entries, .. }) => {
+            let listed = entries.iter().flat_map(|entry| entry.prerequisites.names);
+            flags.extend(found(&listed.collect::<Vec<u32>>()).into_iter().map(outcome));
+        }
+        _ => {}
+    }
+    flags.push((WORKERS, layout::worker_at(worker) + worker::NOTE, note));
+    flags
 }
 
 /// Before some of the calls that use the index words that they may read are altered; then these are mostly put back,

@@ -1,14 +1,14 @@
-//! What the calls over damaged tables meet of the index beside the queue.
+//! What the calls over damaged tables meet of the index beside the queue, and of outcomes, marks and notes.
 
 use std::{cell::RefCell, cmp::Reverse, collections::BTreeMap, fmt};
 
-use second_implementation::sheet::MAX_CLASS;
+use second_implementation::{history::Item, refusal, sheet::MAX_CLASS};
 use taskgraph::raw::{GraphMinutes, Totals};
 
-use super::answer::Expected;
+use super::answer::{Expected, Flag};
 use crate::{
     index::WrongSlot,
-    layout::{self, cell_at, job, job_at, position_at, slot_at, NONE},
+    layout::{self, cell_at, job, job_at, position_at, slot_at, JOB_WORDS, NONE},
     tables::{Tables, JOBS, QUEUE},
 };
 
@@ -32,9 +32,36 @@ pub enum Way {
     OverRight,
 }
 
-/// How many calls met each way, and how many boards and minutes of graphs were answered by each number.
+/// What a single call meets of outcomes, marks and notes.
+#[derive(Clone, Copy, Debug, PartialEq, Eq, PartialOrd, Ord)]
+pub enum Meeting {
+    /// Number 9 for a word that is not 0 or 1.
+    Wrong(Flag),
+    /// Number 19.
+    GoodForSpoiled,
+    /// A spoiled job is handed out.
+    HandedOut,
+    /// A job is marked spoiled.
+    Spoils,
+}
+
+/// The calls that meet them.
+#[derive(Clone, Copy, Debug, PartialEq, Eq, PartialOrd, Ord)]
+pub enum By {
+    PostAdd,
+    PostFinish,
+    Step,
+    Get,
+}
+
+/// How many calls met each way, how many boards and minutes of graphs were answered by each number, and how many calls met
+/// what of outcomes, marks and notes.
 #[derive(Debug, Default)]
-pub struct Met(RefCell<BTreeMap<(Use, Way), u64>>, RefCell<BTreeMap<Board, u64>>);
+pub struct Met(
+    RefCell<BTreeMap<(Use, Way), u64>>,
+    RefCell<BTreeMap<Board, u64>>,
+    RefCell<BTreeMap<(By, Meeting), u64>>,
+);
 
 /// The numbers of the board over a graph and of its minutes.
 pub type Board = (u32, u32);
@@ -63,6 +90,36 @@ impl Met {
     pub fn has(&self, way: &(Use, Way)) -> bool {
         self.0.borrow().contains_key(way)
     }
+
+    /// Notes what an item that is a single call meets of outcomes, marks and notes, by what is expected of it.
+    pub(super) fn note_flags(&self, item: &Item, expected: &Expected) {
+        let by = match item {
+            Item::PostAdd { .. } => By::PostAdd,
+            Item::PostFinish { .. } => By::PostFinish,
+            Item::Step { .. } => By::Step,
+            Item::Get { .. } => By::Get,
+            _ => return,
+        };
+        let is_mark = |place: usize| place >= job_at(0) && (place - job_at(0)) % JOB_WORDS == job::MARK;
+        let meeting = match expected.wrong_flag {
+            Some(wrong) => Meeting::Wrong(wrong),
+            None if expected.answer.number == refusal::GOOD_FOR_SPOILED => Meeting::GoodForSpoiled,
+            None if expected.answer.spoiled == 1 => Meeting::HandedOut,
+            None if expected
+                .writes
+                .iter()
+                .any(|(table, place, word)| *table == JOBS && is_mark(*place) && *word == 1) =>
+            {
+                Meeting::Spoils
+            }
+            None => return,
+        };
+        *self.2.borrow_mut().entry((by, meeting)).or_insert(0) += 1;
+    }
+
+    pub fn has_meeting(&self, meeting: &(By, Meeting)) -> bool {
+        self.2.borrow().contains_key(meeting)
+    }
 }
 
 impl fmt::Display for Met {
@@ -81,7 +138,8 @@ impl fmt::Display for Met {
                 count(Way::OverRight),
             )?;
         }
-        writeln!(f, "boards of graphs, by their number and that of the minutes: {:?}", self.1.borrow())
+        writeln!(f, "boards of graphs, by their number and that of the minutes: {:?}", self.1.borrow())?;
+        writeln!(f, "what single calls met of outcomes, marks and notes: {:?}", self.2.borrow())
     }
 }
 

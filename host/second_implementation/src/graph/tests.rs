@@ -28,7 +28,11 @@ impl Small {
     }
 
     fn post_finish(&mut self, worker: u32, name: u32) -> Answer {
-        self.0.post_finish(self.0.sizes(), worker, name)
+        self.0.post_finish(self.0.sizes(), worker, name, Outcome::Good)
+    }
+
+    fn finish(&mut self, worker: u32, name: u32, outcome: Outcome) -> Answer {
+        self.0.finish(self.0.sizes(), worker, name, outcome)
     }
 
     fn step(&mut self, worker: u32) -> Answer {
@@ -54,7 +58,11 @@ impl Small {
 }
 
 fn handed_out(job: usize, name: u32) -> Answer {
-    Ok(Reply::HandedOut { job, name })
+    Ok(Reply::HandedOut { job, name, spoiled: false })
+}
+
+fn handed_out_spoiled(job: usize, name: u32) -> Answer {
+    Ok(Reply::HandedOut { job, name, spoiled: true })
 }
 
 #[test]
@@ -67,20 +75,21 @@ fn case_1_a_job_without_prerequisites() {
     assert_eq!(graph.queued(), [0]);
 }
 
-/// Worker 0 holds job 1, and worker 1 has posted an add of 4 needing 1 and taken `steps` steps.
-fn beside_a_finish(steps: usize) -> Small {
+/// Worker 0 holds job 1, and worker 1 has posted an add of 4 needing 1 and taken `steps` steps; then worker 0 posts its
+/// finish.
+fn beside_an_add(steps: usize, outcome: Outcome) -> Small {
     let mut graph = Small::new(4, 4);
     assert_eq!(graph.add(0, 1, &[]), ENDED);
     assert_eq!(graph.get(0), handed_out(0, 1));
     assert_eq!(graph.post_add(1, 4, &[1]), POSTED);
     (0..steps).for_each(|_| assert_eq!(graph.step(1), GOING_ON));
-    assert_eq!(graph.post_finish(0, 1), POSTED);
+    assert_eq!(graph.0.post_finish(graph.0.sizes(), 0, 1, outcome), POSTED);
     graph
 }
 
 #[test]
 fn case_2_marked_before_the_link() {
-    let mut graph = beside_a_finish(2);
+    let mut graph = beside_an_add(2, Outcome::Good);
     assert_eq!(graph.step(0), ENDED, "a mark with no arcs ends the call");
     assert_eq!(graph.step(1), GOING_ON);
     assert_eq!(graph.0.jobs()[1].count, 1);
@@ -91,7 +100,7 @@ fn case_2_marked_before_the_link() {
 
 #[test]
 fn case_3_linked_before_the_mark() {
-    let mut graph = beside_a_finish(3);
+    let mut graph = beside_an_add(3, Outcome::Good);
     assert_eq!(graph.run(0), (2, ENDED));
     assert_eq!(graph.queued(), [0, 1]);
     assert_eq!(graph.step(1), ENDED);
@@ -229,8 +238,8 @@ fn a_sheet_goes_on_after_a_refused_entry() {
     assert_eq!(graph.queued(), [0, 2]);
     assert_eq!(graph.0.add_sheet(sizes, 0, &[]), Ok(vec![]), "nothing to do");
     assert_eq!(graph.get(0), handed_out(0, 1));
-    assert_eq!(graph.0.finish(sizes, 0, 2), refused(11));
-    assert_eq!(graph.0.finish(sizes, 0, 1), ENDED);
+    assert_eq!(graph.finish(0, 2, Outcome::Good), refused(11));
+    assert_eq!(graph.finish(0, 1, Outcome::Good), ENDED);
     assert_eq!(graph.queued(), [0, 2, 1]);
     assert_eq!(graph.0.add(sizes, 0, &entry(3, &[])), refused(7));
 }
@@ -291,7 +300,7 @@ fn handed_out_in_order(graph: &mut Small, names: &[u32]) {
     for name in names {
         let job = graph.0.find(*name).unwrap();
         assert_eq!(graph.get(0), handed_out(job, *name));
-        assert_eq!(graph.0.finish(graph.0.sizes(), 0, *name), ENDED);
+        assert_eq!(graph.finish(0, *name, Outcome::Good), ENDED);
     }
 }
 
@@ -318,7 +327,7 @@ fn equal_minutes_by_entry_into_the_queue() {
     assert_eq!(graph.add(0, 2, &[1]), ENDED);
     assert_eq!(graph.get(0), handed_out(0, 1));
     assert_eq!(graph.add(1, 3, &[]), ENDED);
-    assert_eq!(graph.0.finish(graph.0.sizes(), 0, 1), ENDED);
+    assert_eq!(graph.finish(0, 1, Outcome::Good), ENDED);
     handed_out_in_order(&mut graph, &[3, 2]);
 }
 
@@ -334,10 +343,10 @@ fn what_a_worker_holds_and_when_all_is_done() {
     assert_eq!(graph.run(1), (2, ENDED));
     assert_eq!(told(&graph), (holding(None, HalfDone::Nothing), Ok(false)), "a job waits");
     assert_eq!(graph.get(1), handed_out(0, 9));
-    assert_eq!(told(&graph), (holding(Some((0, 9)), HalfDone::Nothing), Ok(false)));
+    assert_eq!(told(&graph), (holding(Some(Held { job: 0, name: 9, spoiled: false }), HalfDone::Nothing), Ok(false)));
     assert_eq!(graph.add(0, 8, &[9]), ENDED);
     assert_eq!(graph.post_finish(1, 9), POSTED);
-    assert_eq!(told(&graph), (holding(Some((0, 9)), HalfDone::Finish), Ok(false)));
+    assert_eq!(told(&graph), (holding(Some(Held { job: 0, name: 9, spoiled: false }), HalfDone::Finish), Ok(false)));
     assert_eq!(graph.step(1), GOING_ON);
     assert_eq!(told(&graph), (holding(None, HalfDone::Finish), Ok(false)), "the mark frees the hold");
     assert_eq!(graph.step(1), ENDED);
@@ -388,4 +397,69 @@ fn the_order_of_what_turns_a_load_away() {
     assert_eq!(graph.0.load_minutes(sizes, &district()), refused(refusal::ENTERED));
     assert_eq!(graph.0.minutes(other), refused(refusal::SIZE));
     assert_eq!(graph.0.totals(other), Err(TotalsError::Size));
+}
+
+/// What of the jobs is spoiled.
+fn spoiled(graph: &Small) -> Vec<bool> {
+    graph.0.jobs().iter().map(|job| job.spoiled).collect()
+}
+
+/// Jobs 1 and 2; 3 needs both, 4 needs 3, and 5 needs 2. Job 1 fails.
+#[test]
+fn a_failed_finish_spoils_the_dependents_of_its_arcs() {
+    let mut graph = Small::new(5, 4);
+    for (name, list) in [(1, &[][..]), (2, &[]), (3, &[1, 2]), (4, &[3]), (5, &[2])] {
+        assert_eq!(graph.add(0, name, list), ENDED);
+    }
+    assert_eq!(graph.get(0), handed_out(0, 1));
+    assert_eq!(graph.finish(0, 1, Outcome::Failed), ENDED);
+    assert_eq!(spoiled(&graph), [false, false, true, false, false], "4 rests on 3, which has not failed yet");
+    assert_eq!(graph.get(0), handed_out(1, 2));
+    assert_eq!(graph.finish(0, 2, Outcome::Good), ENDED);
+    assert_eq!(graph.get(1), handed_out_spoiled(2, 3), "it is queued and handed out all the same");
+    assert_eq!(graph.finish(1, 2, Outcome::Good), refused(refusal::NOT_HELD), "11 comes before 19");
+    assert_eq!(graph.finish(1, 3, Outcome::Good), refused(refusal::GOOD_FOR_SPOILED));
+    assert_eq!(graph.post_finish(1, 3), refused(refusal::GOOD_FOR_SPOILED));
+    let held = Some(Held { job: 2, name: 3, spoiled: true });
+    assert_eq!(graph.0.held(graph.0.sizes(), 1), Ok(Holding { held, call: HalfDone::Nothing }), "nothing changed");
+    assert_eq!(graph.finish(1, 3, Outcome::Failed), ENDED);
+    assert_eq!(spoiled(&graph), [false, false, true, true, false]);
+    assert_eq!(graph.get(0), handed_out(4, 5), "it rests on 2, which is good");
+    assert_eq!(graph.finish(0, 5, Outcome::Failed), ENDED, "a job that is not spoiled may fail too");
+    assert_eq!(graph.get(0), handed_out_spoiled(3, 4));
+    assert_eq!(graph.post_add(0, 6, &[]), POSTED);
+    assert_eq!(graph.finish(0, 4, Outcome::Good), refused(refusal::HALF_DONE), "3 comes before 19");
+}
+
+#[test]
+fn a_link_to_a_failed_job_is_noted_and_settling_spoils() {
+    let mut graph = Small::new(4, 4);
+    assert_eq!(graph.add(0, 1, &[]), ENDED);
+    assert_eq!(graph.add(0, 2, &[]), ENDED);
+    assert_eq!(graph.get(0), handed_out(0, 1));
+    assert_eq!(graph.finish(0, 1, Outcome::Failed), ENDED);
+    assert_eq!(graph.post_add(1, 3, &[1, 2]), POSTED);
+    (0..4).for_each(|_| assert_eq!(graph.step(1), GOING_ON));
+    assert_eq!(spoiled(&graph), [false; 3], "noted, and not settled");
+    // The other prerequisite ends meanwhile, as good; the note keeps the job from the queue until it settles.
+    assert_eq!(graph.get(0), handed_out(1, 2));
+    assert_eq!(graph.step(1), GOING_ON);
+    assert_eq!(graph.finish(0, 2, Outcome::Good), ENDED);
+    assert_eq!(graph.get(0), NONE_READY);
+    assert_eq!(graph.step(1), ENDED);
+    assert_eq!(graph.get(0), handed_out_spoiled(2, 3));
+    assert_eq!(graph.add(1, 4, &[2]), ENDED);
+    assert_eq!(graph.get(1), handed_out(3, 4), "it rests on a good one");
+}
+
+/// Cases 2 and 3 with a failed finish: the mark before the link, and after it.
+#[test]
+fn a_failed_finish_beside_an_add() {
+    for steps in 0..=3 {
+        let mut graph = beside_an_add(steps, Outcome::Failed);
+        assert_eq!(graph.run(0).1, ENDED);
+        assert_eq!(graph.run(1).1, ENDED);
+        assert_eq!((spoiled(&graph), graph.queued()), (vec![false, true], &[0, 1][..]), "after {steps} steps");
+        assert_eq!(graph.get(0), handed_out_spoiled(1, 4));
+    }
 }

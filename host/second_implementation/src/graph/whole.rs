@@ -1,7 +1,7 @@
 //! Calls run whole (docs/RULES.md, "Whole calls"): an add or a finish from its post to the answer that ends it, and a
 //! sheet of adds, one after another, in one call.
 
-use super::{refused, Answer, Graph, Refusal, Reply, Sizes};
+use super::{refused, Answer, Graph, Outcome, Refusal, Reply, Sizes};
 use crate::{
     refusal,
     sheet::{Entry, ROW_WORDS},
@@ -21,8 +21,8 @@ impl Graph {
     }
 
     /// A finish, run whole. It has no more arcs than there are, so it ends within arcs + 1 steps.
-    pub fn finish(&mut self, sizes: Sizes, worker: u32, name: u32) -> Answer {
-        self.post_finish(sizes, worker, name)?;
+    pub fn finish(&mut self, sizes: Sizes, worker: u32, name: u32, outcome: Outcome) -> Answer {
+        self.post_finish(sizes, worker, name, outcome)?;
         self.run(sizes, worker)
     }
 

@@ -1,0 +1,1 @@
+// What is proved of the plain book's spoiled jobs stands in specs/.
