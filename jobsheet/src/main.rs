@@ -1,0 +1,3 @@
+//! The program `jobsheet`.
+
+fn main() {}
