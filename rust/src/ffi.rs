@@ -3,8 +3,20 @@
 
 use std::{mem::size_of, os::raw::c_char};
 
+/// The most jobs of a graph.
+pub const MAX_JOBS: u32 = 4_096;
+/// The most arcs of a graph.
+pub const MAX_ARCS: u32 = 32_768;
+/// The most bucket bits of a graph.
+pub const MAX_BITS: u32 = 8;
+/// The most workers of a graph.
+pub const MAX_WORKERS: u32 = 16;
 /// The longest list of prerequisites.
 pub const MAX_NAMES: usize = 32;
+/// The greatest class.
+pub const MAX_CLASS: u32 = 15;
+/// The greatest grower.
+pub const MAX_GROWER: u32 = 65_535;
 /// The words of an entry, which is a row of a sheet that was read.
 pub const ENTRY_WORDS: usize = 36;
 /// The longest entry of a sheet, in bytes.
@@ -15,10 +27,16 @@ pub const MAX_ENTRIES: usize = 64;
 pub const CLASSES: usize = 16;
 /// The most minutes of a class.
 pub const MAX_MINUTES: u32 = 1_440;
+/// The longest sheet that the day list reads, in bytes.
+pub const MAX_DAY_SHEET: usize = 32_768;
 /// The longest day list of two workers, in bytes.
 pub const MAX_DAY_LIST: usize = 97_979;
 /// The jobs that a day list has room for.
 pub const DAY_JOBS: usize = 256;
+/// The arcs that a day list has room for.
+pub const DAY_ARCS: u32 = 1_024;
+/// The bucket bits of a day list.
+pub const DAY_BITS: u32 = 4;
 
 /// A job as an entry of a sheet: the first `count` of `names` are its prerequisites.
 #[repr(C)]

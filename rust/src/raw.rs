@@ -7,8 +7,9 @@ use crate::ffi;
 
 pub use crate::ffi::{
     Answer, Day, DrainedAnswer, Entry, GraphMinutes, Holding, JobRecord, Need, Reading, Sheet, SheetAdded,
-    SheetWritten, Sizes, Totals, Written, CLASSES, DAY_JOBS, ENTRY_WORDS, MAX_DAY_LIST, MAX_ENTRIES, MAX_ENTRY_BYTES,
-    MAX_MINUTES, MAX_NAMES,
+    SheetWritten, Sizes, Totals, Written, CLASSES, DAY_ARCS, DAY_BITS, DAY_JOBS, ENTRY_WORDS, MAX_ARCS, MAX_BITS,
+    MAX_CLASS, MAX_DAY_LIST, MAX_DAY_SHEET, MAX_ENTRIES, MAX_ENTRY_BYTES, MAX_GROWER, MAX_JOBS, MAX_MINUTES, MAX_NAMES,
+    MAX_WORKERS,
 };
 
 /// The kinds of an answer.

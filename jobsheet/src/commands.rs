@@ -1,0 +1,81 @@
+//! What each command does.
+
+mod check;
+mod day;
+mod draw;
+mod pack;
+mod show;
+
+use taskgraph::Sizes;
+
+use crate::{
+    arguments::{Arguments, Command},
+    fault::Fault,
+    input::{self, Source, Stop},
+    judge,
+    picture::{Drawn, Refused},
+    terminal::{painted, tell, Paint, Progress, Stage, Stream},
+    Judged, Sheet,
+};
+
+/// What a command found.
+#[derive(Clone, Copy, Debug, PartialEq, Eq)]
+pub enum Verdict {
+    /// Nothing is wrong with the sheet.
+    Good,
+    /// Something is wrong with it.
+    Fault,
+}
+
+impl Verdict {
+    fn of(faults: &[Fault]) -> Verdict {
+        if faults.is_empty() {
+            Verdict::Good
+        } else {
+            Verdict::Fault
+        }
+    }
+}
+
+/// Does a command.
+///
+/// # Errors
+/// Where there is no answer.
+pub fn run(command: Command, arguments: &Arguments) -> Result<Verdict, Stop> {
+    let progress = Progress::shown();
+    let source = input::take(&arguments.file, arguments.from, &progress)?;
+    match command {
+        Command::Pack => pack::run(arguments, source, progress),
+        Command::Show => show::run(arguments, source, progress),
+        Command::Check => check::run(arguments, source, progress),
+        Command::Draw => draw::run(arguments, source, progress),
+        Command::Run => day::run(arguments, source, progress),
+    }
+}
+
+/// The sheet judged by a graph of these sizes; the command line has seen to it that they are within their limits.
+fn judged(sheet: &Sheet, sizes: Sizes, progress: &Progress) -> Result<Judged, Stop> {
+    progress.begin(Stage::Judging);
+    judge(sheet, sizes, progress).map_err(|refusal| Stop(format!("no graph can be made: {refusal}")))
+}
+
+/// Tells faults beside an answer that is something else.
+fn tell_faults(source: &Source, faults: &[Fault]) {
+    let colours = Stream::Error.has_colours();
+    for fault in faults {
+        let place = painted(&fault.place(), Paint::Red, colours);
+        tell(&format!("{}: {place}: {} {}", source.name, fault.kind.what(), fault.kind.advice()));
+    }
+}
+
+/// What is drawn of a judged sheet.
+fn drawn(source: &Source, judged: Judged) -> Drawn {
+    let entries = source.sheet.entries.iter().zip(&judged.answers).enumerate();
+    let refused = entries.filter(|(_, (_, answer))| **answer != Some(Ok(()))).map(|(number, (entry, _))| {
+        let why = judged.faults.iter().find(|fault| fault.entry == Some(number));
+        let why = why.map_or_else(String::new, |fault| fault.kind.what());
+        Refused { entry: number, name: entry.name, why }
+    });
+    let refused = refused.collect();
+    Drawn { title: source.name.clone(), nodes: judged.nodes, refused }
+}

@@ -1,0 +1,38 @@
+//! `jobsheet pack`: text or a table to bytes.
+
+use super::{judged, tell_faults, Verdict};
+use crate::{
+    arguments::Arguments,
+    input::{Source, Stop},
+    judge::LARGEST,
+    number::counted,
+    output::Output,
+    terminal::{tell, Progress, Stream},
+};
+
+/// Writes the packed sheet, if every entry can be written. What a fresh graph would refuse of it is no hindrance, as
+/// the jobs that it needs may be another sheet's; but it is said.
+pub(super) fn run(arguments: &Arguments, source: Source, progress: Progress) -> Result<Verdict, Stop> {
+    if arguments.out.is_none() && Stream::Output.is_terminal() {
+        return Err(Stop("a packed sheet is not for a terminal; say -o FILE, or send it on".into()));
+    }
+    let judged = judged(&source.sheet, LARGEST, &progress)?;
+    drop(progress);
+    let sheet = match source.sheet.packed() {
+        Some(sheet) => sheet,
+        None => {
+            tell_faults(&source, &judged.faults);
+            tell(&format!("jobsheet: {} cannot be packed: {}", source.name, counted(judged.faults.len(), "fault")));
+            return Ok(Verdict::Fault);
+        }
+    };
+    Output::open(&arguments.out)?.write_by(|out| out.write_all(&sheet))?;
+    if judged.refused() > 0 {
+        let refused = counted(judged.refused(), "entry");
+        tell(&format!(
+            "jobsheet: packed; but a fresh graph would refuse {refused}: jobsheet check {} says why",
+            source.name
+        ));
+    }
+    Ok(Verdict::Good)
+}

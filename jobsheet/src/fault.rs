@@ -1,0 +1,289 @@
+//! What can be wrong with a sheet, and the words for it.
+
+use std::fmt;
+
+use taskgraph::{raw::MAX_NAMES, Refusal};
+
+use crate::number::{counted, grouped, Part};
+
+/// Something wrong, and where.
+#[derive(Clone, Debug, PartialEq, Eq)]
+pub struct Fault {
+    /// The entry's number, from 0; the header of a table is no entry.
+    pub entry: Option<usize>,
+    /// The line, from 1; bytes have none.
+    pub line: Option<usize>,
+    /// The offset of what is wrong, in bytes from the file's start.
+    pub at: usize,
+    /// The entry's name, where it can be read.
+    pub job: Option<u32>,
+    /// What is wrong.
+    pub kind: Kind,
+}
+
+impl fmt::Display for Fault {
+    /// The place, what is wrong, and what to do.
+    fn fmt(&self, f: &mut fmt::Formatter<'_>) -> fmt::Result {
+        write!(f, "{}: {} {}", self.place(), self.kind.what(), self.kind.advice())
+    }
+}
+
+impl Fault {
+    /// What is wrong with a line that is no entry.
+    pub(crate) fn of_line(line: usize, (at, kind): (usize, Kind)) -> Fault {
+        Fault { entry: None, line: Some(line), at, job: None, kind }
+    }
+
+    /// Where it is, as a person finds it.
+    pub fn place(&self) -> String {
+        let line = self.line.map(|line| format!("line {line}"));
+        let entry = self.entry.map(|entry| format!("entry {entry}"));
+        let job = self.job.map(|job| format!("job {job}"));
+        let parts: Vec<String> = [line, entry, job].into_iter().flatten().collect();
+        format!("{} (byte {})", parts.join(", "), self.at)
+    }
+}
+
+/// A field of an entry in a packed sheet.
+#[derive(Clone, Copy, Debug, PartialEq, Eq)]
+pub enum Field {
+    /// The job's name.
+    Name,
+    /// The list: its count and its names.
+    List,
+    /// The class.
+    Class,
+    /// The grower.
+    Grower,
+}
+
+impl fmt::Display for Field {
+    fn fmt(&self, f: &mut fmt::Formatter<'_>) -> fmt::Result {
+        f.write_str(match self {
+            Field::Name => "name",
+            Field::List => "list",
+            Field::Class => "class",
+            Field::Grower => "grower",
+        })
+    }
+}
+
+/// Another entry than the one that is wrong.
+#[derive(Clone, Copy, Debug, PartialEq, Eq)]
+pub struct Other {
+    /// Its number, from 0.
+    pub entry: usize,
+    /// Its line, from 1; bytes have none.
+    pub line: Option<usize>,
+}
+
+impl fmt::Display for Other {
+    fn fmt(&self, f: &mut fmt::Formatter<'_>) -> fmt::Result {
+        write!(f, "entry {}", self.entry)?;
+        self.line.map_or(Ok(()), |line| write!(f, " (line {line})"))
+    }
+}
+
+/// Where a job that is needed and is not there could be.
+#[derive(Clone, Copy, Debug, PartialEq, Eq)]
+pub enum Elsewhere {
+    /// No entry has its name.
+    Nowhere,
+    /// This entry has it, which comes later.
+    Later(Other),
+    /// This entry has it, and is refused.
+    Refused(Other),
+    /// This entry has it, and needs the one that is wrong in turn.
+    Circle(Other),
+}
+
+/// What is wrong. Words that a file has are kept as they are shown.
+#[derive(Clone, Debug, PartialEq, Eq)]
+pub enum Kind {
+    /// A line of more bytes than are read.
+    LongLine(usize),
+    /// A byte that no text has.
+    NoText(u8),
+    /// A word that is no number where one should stand.
+    NotANumber(Part, String),
+    /// Numbers with a comma or another mark between them.
+    Marks(String),
+    /// A number above the greatest that this part may be.
+    Above(Part, String),
+    /// A word that is none of the form's.
+    UnknownWord(String),
+    /// A word of the form for the second time, or after one that it comes before.
+    Order(&'static str),
+    /// A word of the form with nothing after it.
+    Nothing(&'static str),
+    /// A number after the job's name, or after that of its class or grower.
+    Stray(String, Option<&'static str>),
+    /// A header without a column of names.
+    NoNameColumn,
+    /// A column that the form does not have.
+    UnknownColumn(String),
+    /// A column for the second time.
+    SecondColumn(&'static str),
+    /// A row with more cells than the header.
+    ManyCells(usize, usize),
+    /// A row whose name is empty.
+    NoName,
+    /// A quoted cell that does not end on its line.
+    OpenQuote,
+    /// Something between a closing quote and the next cell.
+    AfterQuote,
+    /// The sheet ends inside this field (12).
+    Cut(Field),
+    /// A byte with which no entry can start (13).
+    Map(u8),
+    /// A value that this field may not have (14).
+    Value(Field, u32),
+    /// A list that is too long (5).
+    LongList(usize),
+    /// The job's own name in its list (5).
+    OwnName,
+    /// A name for the second time in the list (5).
+    NameTwice(u32),
+    /// The job's name, and a name in its list that no job has (6).
+    UnknownName(u32, u32, Elsewhere),
+    /// The name has a job already, of this entry (7).
+    NamePresent(u32, Other),
+    /// As many jobs as the graph takes are there (8).
+    NoRoomForJob(u32),
+    /// So many arcs are needed, so many left, of so many (8).
+    NoRoomForArcs(usize, usize, u32),
+    /// Another answer of the library.
+    Other(Refusal),
+}
+
+impl Kind {
+    /// The number of the list in `docs/NUMBERS.md`, where what is wrong has one.
+    pub fn number(&self) -> Option<u32> {
+        Some(match self {
+            Kind::Above(Part::Class | Part::Grower, _) => 5,
+            Kind::LongList(_) | Kind::OwnName | Kind::NameTwice(_) => 5,
+            Kind::UnknownName(..) => 6,
+            Kind::NamePresent(..) => 7,
+            Kind::NoRoomForJob(_) | Kind::NoRoomForArcs(..) => 8,
+            Kind::Cut(_) => 12,
+            Kind::Map(_) => 13,
+            Kind::Value(..) => 14,
+            Kind::Other(refusal) => refusal.number(),
+            _ => return None,
+        })
+    }
+
+    /// What is wrong, as a sentence.
+    pub fn what(&self) -> String {
+        match self {
+            Kind::LongLine(most) => format!("the line has more than {} bytes.", grouped(*most as u64)),
+            Kind::NoText(byte) => format!("the line has the byte {byte:#04x}, which no text has."),
+            Kind::NotANumber(part, word) => format!("{word} is no number, and cannot be a {part}."),
+            Kind::Marks(word) => format!("{word} is not one number."),
+            Kind::Above(part, word) => format!("{part} {word} is above {}.", grouped(part.most())),
+            Kind::UnknownWord(word) => format!("{word} is no word of a sheet."),
+            Kind::Order(word) => format!("the word {word} stands twice, or too late."),
+            Kind::Nothing(word) => format!("nothing stands after the word {word}."),
+            Kind::Stray(word, None) => format!("{word} stands after the job's name."),
+            Kind::Stray(word, Some(after)) => format!("{word} stands after the number of the {after}."),
+            Kind::NoNameColumn => "the header has no column name.".into(),
+            Kind::UnknownColumn(word) => format!("the header has a column {word}, which is not known."),
+            Kind::SecondColumn(word) => format!("the header has two columns {word}."),
+            Kind::ManyCells(cells, columns) => {
+                format!("the row has {}, and the header {columns}.", counted(*cells, "cell"))
+            }
+            Kind::NoName => "the cell of the name is empty.".into(),
+            Kind::OpenQuote => "a quoted cell does not end on its line.".into(),
+            Kind::AfterQuote => "something stands between a closing quote and the end of its cell.".into(),
+            Kind::Cut(field) => format!("the sheet ends inside this entry, in its {field}."),
+            Kind::Map(byte) => format!("no entry can start with the byte {byte:#04x}."),
+            Kind::Value(field, value) => wrong_value(*field, *value),
+            Kind::LongList(count) => format!("it needs {}; at most {MAX_NAMES} are taken.", counted(*count, "job")),
+            Kind::OwnName => "it needs itself.".into(),
+            Kind::NameTwice(name) => format!("it lists job {name} twice."),
+            Kind::UnknownName(_, name, place) => unknown_name(*name, *place),
+            Kind::NamePresent(name, other) => format!("the name {name} is taken by {other}."),
+            Kind::NoRoomForJob(jobs) => format!("there is no room for it: the graph takes {} jobs.", grouped(*jobs)),
+            Kind::NoRoomForArcs(needed, left, arcs) => format!(
+                "there is no room for its list: it needs {}, and {} of {} are left.",
+                counted(*needed, "arc"),
+                grouped(*left as u64),
+                grouped(*arcs)
+            ),
+            Kind::Other(refusal) => format!("{refusal}."),
+        }
+    }
+
+    /// What to do about it, as a sentence.
+    pub fn advice(&self) -> String {
+        match self {
+            Kind::LongLine(_) => "Write one job a line, and long comments on several lines.".into(),
+            Kind::NoText(_) => "Save the sheet as plain text; a packed sheet is read with --from bytes.".into(),
+            Kind::NotANumber(Part::Name, _) => "A line begins with the job's name, in decimal digits alone; \
+                a comment begins with #."
+                .into(),
+            Kind::NotANumber(..) => "Write decimal digits alone.".into(),
+            Kind::Marks(_) => "Put spaces between numbers, and no other marks in them; a table begins with the line \
+                name,needs,class,grower."
+                .into(),
+            Kind::Above(part, _) => format!("Choose one from 0 to {}.", grouped(part.most())),
+            Kind::UnknownWord(_) | Kind::Order(_) => {
+                "The words after a name are needs, class and grower, each at most once, in that order.".into()
+            }
+            Kind::Nothing("needs") => "List the names that it needs, or leave the word out.".into(),
+            Kind::Nothing(word) => format!("Write the number of the {word}, or leave the word out."),
+            Kind::Stray(_, None) => "Write the word needs before the names that it needs.".into(),
+            Kind::Stray(..) => "One number stands there; names that it needs stand after the word needs.".into(),
+            Kind::NoNameColumn | Kind::UnknownColumn(_) | Kind::SecondColumn(_) => {
+                "The columns are name, needs, class and grower.".into()
+            }
+            Kind::ManyCells(..) => "Put spaces, and no commas, between the names that it needs.".into(),
+            Kind::NoName => "Write the job's name, a number.".into(),
+            Kind::OpenQuote => "Close it on the same line; a quote inside is written twice.".into(),
+            Kind::AfterQuote => "Quote all of the cell, or nothing of it; a quote inside is written twice.".into(),
+            Kind::Cut(_) => "Was it sent whole? Get it again from where it was packed.".into(),
+            Kind::Map(_) => "It is damaged here, or is no packed sheet; what follows is not read.".into(),
+            Kind::Value(..) => "Pack the sheet again.".into(),
+            Kind::LongList(_) => "Let another job need some of them, and need that one.".into(),
+            Kind::OwnName => "Remove its own name from the list.".into(),
+            Kind::NameTwice(_) => "List each job once.".into(),
+            Kind::UnknownName(own, name, place) => find_name(*own, *name, *place),
+            Kind::NamePresent(..) => "Choose another for this job, and in the lists that mean it.".into(),
+            Kind::NoRoomForJob(_) | Kind::NoRoomForArcs(..) => "Leave it for another sheet, on another day.".into(),
+            Kind::Other(_) => "docs/NUMBERS.md says what a host does.".into(),
+        }
+    }
+}
+
+fn wrong_value(field: Field, value: u32) -> String {
+    let (what, most) = match field {
+        Field::Name => ("name", u32::MAX),
+        Field::List => ("count of its list", MAX_NAMES as u32),
+        Field::Class => ("class", Part::Class.most()),
+        Field::Grower => ("grower", Part::Grower.most()),
+    };
+    format!("the {what} is written as {value}; what is written there is 1 to {}.", grouped(most))
+}
+
+fn unknown_name(name: u32, place: Elsewhere) -> String {
+    match place {
+        Elsewhere::Refused(other) => format!("it needs job {name}, which {other} does not add, as it is refused."),
+        _ => format!("it needs job {name}, which no earlier entry adds."),
+    }
+}
+
+fn find_name(own: u32, name: u32, place: Elsewhere) -> String {
+    match place {
+        Elsewhere::Nowhere => {
+            format!("No entry has that name: write one for job {name} before job {own}, or remove it from the list.")
+        }
+        Elsewhere::Later(other) => format!(
+            "Entries are added in order: put job {name}, {other}, before job {own}, or remove it from the list."
+        ),
+        Elsewhere::Refused(other) => format!("Mend {other} first, or remove job {name} from the list."),
+        Elsewhere::Circle(other) => format!(
+            "Job {name}, {other}, needs job {own} in turn, itself or through others: no order helps. Remove a name \
+             from one of their lists."
+        ),
+    }
+}

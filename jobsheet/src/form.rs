@@ -1,0 +1,70 @@
+//! The three forms of a sheet, and which one a file has.
+
+use taskgraph::raw;
+
+use crate::{bytes, csv, text, Sheet};
+
+/// A form of a sheet.
+#[derive(Clone, Copy, Debug, PartialEq, Eq)]
+pub enum Form {
+    /// A packed sheet.
+    Bytes,
+    /// One job a line.
+    Text,
+    /// A table with a header line.
+    Csv,
+}
+
+impl Form {
+    /// As it is said on the command line and in answers.
+    pub fn name(self) -> &'static str {
+        match self {
+            Form::Bytes => "bytes",
+            Form::Text => "text",
+            Form::Csv => "csv",
+        }
+    }
+
+    /// The form of this name.
+    pub fn named(name: &str) -> Option<Form> {
+        [Form::Bytes, Form::Text, Form::Csv].into_iter().find(|form| form.name() == name)
+    }
+
+    /// The form of a file, or nothing where it could be bytes as well as text.
+    ///
+    /// An entry of a packed sheet begins with a byte below 16, and a text with one that is printed. Only tab and
+    /// carriage return are both: there the whole file must tell.
+    pub fn of(content: &[u8]) -> Option<Form> {
+        let printed = |byte: &u8| !byte.is_ascii_control() || matches!(byte, b'\t' | b'\n' | b'\r');
+        let mark = content.starts_with(b"\xef\xbb\xbf");
+        match content.first() {
+            Some(b'\t' | b'\r') => match (content.iter().all(printed), raw::scan_sheet(content).number == 0) {
+                (true, true) => None,
+                (true, false) => Some(text_or_csv(content)),
+                (false, _) => Some(Form::Bytes),
+            },
+            Some(b'\n' | b' '..=b'~') => Some(text_or_csv(content)),
+            Some(_) if mark => Some(text_or_csv(content)),
+            Some(_) => Some(Form::Bytes),
+            None => Some(Form::Text),
+        }
+    }
+}
+
+/// A table has a header as its first line that says anything.
+fn text_or_csv(content: &[u8]) -> Form {
+    let first = text::lines(content).map(|(_, (_, line))| line).find(|line| !csv::is_blank(line));
+    match first {
+        Some(line) if csv::is_header(line) => Form::Csv,
+        _ => Form::Text,
+    }
+}
+
+/// Reads a file's content in a form.
+pub fn read(content: &[u8], form: Form) -> Sheet {
+    match form {
+        Form::Bytes => bytes::read(content),
+        Form::Text => text::read(content),
+        Form::Csv => csv::read(content),
+    }
+}

@@ -1,0 +1,106 @@
+//! Files, read within bounds.
+
+use std::{
+    ffi::{OsStr, OsString},
+    fs::File,
+    io::{self, ErrorKind, Read},
+};
+
+use taskgraph::raw::{MAX_ARCS, MAX_JOBS};
+
+use crate::{
+    number::{grouped, plain},
+    read,
+    terminal::{tell, Progress, Stage, Stream},
+    Form, Sheet,
+};
+
+/// The longest file that is read, in bytes: twice the longest that says all that a graph can take, in any form.
+pub const MOST_BYTES: usize = 1 << 20;
+
+/// How much is read at a time.
+const PART: usize = 1 << 16;
+
+/// Why there is no answer. The program says so and ends with status 2.
+#[derive(Clone, Debug, PartialEq, Eq)]
+pub struct Stop(pub String);
+
+/// A file that was read.
+pub struct Source {
+    /// Its name, as it may be shown.
+    pub name: String,
+    /// What stands in it.
+    pub sheet: Sheet,
+}
+
+/// A file's name as it may be shown: a stranger may have chosen it.
+pub fn shown_name(file: &OsStr) -> String {
+    plain(file.to_string_lossy().as_bytes(), 200)
+}
+
+/// Reads a file, or standard input, in a form that is said or that its content shows.
+pub fn take(file: &Option<OsString>, from: Option<Form>, progress: &Progress) -> Result<Source, Stop> {
+    progress.begin(Stage::Reading);
+    let (name, content) = match file {
+        Some(file) if file != "-" => {
+            let name = shown_name(file);
+            let content = open(file, &name).and_then(|opened| contents(opened, &name, progress))?;
+            (name, content)
+        }
+        _ => {
+            if Stream::Input.is_terminal() {
+                tell("jobsheet: the sheet is read from here; Ctrl-D ends it");
+            }
+            let name = "standard input".to_string();
+            let content = contents(io::stdin().lock(), &name, progress)?;
+            (name, content)
+        }
+    };
+    let both = || Stop(format!("{name} can be read as bytes and as text; say --from bytes or --from text"));
+    let form = from.or_else(|| Form::of(&content)).ok_or_else(both)?;
+    Ok(Source { name, sheet: read(&content, form) })
+}
+
+fn open(file: &OsStr, name: &str) -> Result<File, Stop> {
+    let opened = File::open(file).map_err(|error| match error.kind() {
+        ErrorKind::NotFound => Stop(format!("there is no file {name}")),
+        ErrorKind::PermissionDenied => Stop(format!("{name} may not be read")),
+        _ => cannot(name, &error),
+    })?;
+    match opened.metadata() {
+        Ok(found) if found.is_dir() => Err(Stop(format!("{name} is a folder"))),
+        _ => Ok(opened),
+    }
+}
+
+fn cannot(name: &str, error: &io::Error) -> Stop {
+    Stop(format!("{name} cannot be read: {error}"))
+}
+
+/// All of a file, if it is not too long. Of one that is, no more than that is read.
+fn contents(mut from: impl Read, name: &str, progress: &Progress) -> Result<Vec<u8>, Stop> {
+    let mut content = Vec::new();
+    loop {
+        let before = content.len();
+        let part = from.by_ref().take(PART as u64).read_to_end(&mut content);
+        part.map_err(|error| cannot(name, &error))?;
+        progress.at(content.len());
+        if content.len() > MOST_BYTES {
+            return Err(too_long(name));
+        }
+        if content.len() == before {
+            return Ok(content);
+        }
+    }
+}
+
+/// The longest packed sheet of which every entry can be accepted: each job with a map byte, a name, a count, a class and
+/// a grower, and the names of all lists.
+const LONGEST_ACCEPTED: u32 = 9 * MAX_JOBS + 4 * MAX_ARCS;
+
+fn too_long(name: &str) -> Stop {
+    let [most, longest] = [MOST_BYTES as u32, LONGEST_ACCEPTED].map(grouped);
+    Stop(format!(
+        "{name} has more than {most} bytes, and is not read; the largest graph takes a packed sheet of at most {longest}"
+    ))
+}

@@ -1,0 +1,172 @@
+//! A sheet judged: its jobs added to a fresh graph of the library, and the words for what that refuses.
+
+use std::collections::{HashMap, HashSet};
+
+use taskgraph::{
+    raw::{MAX_ARCS, MAX_BITS, MAX_ENTRIES, MAX_JOBS, MAX_NAMES},
+    Graph, Job, Refusal, Sizes, TaskGraph, Totals,
+};
+
+use crate::{
+    circles::circles,
+    fault::{Elsewhere, Fault, Kind, Other},
+    number::Part,
+    picture::Node,
+    sheet::Entry,
+    terminal::Progress,
+    Sheet,
+};
+
+/// The sizes of the largest graph, with one worker.
+pub const LARGEST: Sizes = Sizes { jobs: MAX_JOBS, arcs: MAX_ARCS, bits: MAX_BITS, workers: 1 };
+
+/// What a fresh graph makes of a sheet.
+#[derive(Clone, Debug)]
+pub struct Judged {
+    /// How the add of each entry ended; nothing of entries that cannot be read.
+    pub answers: Vec<Option<Result<(), Refusal>>>,
+    /// The jobs that entered, in order.
+    pub nodes: Vec<Node>,
+    /// All that is wrong, in the order of the file.
+    pub faults: Vec<Fault>,
+    /// The board over the graph.
+    pub totals: Totals,
+}
+
+impl Judged {
+    /// How many entries are refused or cannot be read.
+    pub fn refused(&self) -> usize {
+        self.answers.iter().filter(|answer| **answer != Some(Ok(()))).count()
+    }
+}
+
+/// Adds the jobs of a sheet to a fresh graph.
+///
+/// # Errors
+/// [`Refusal::Size`] where a size is off its limits.
+pub fn judge(sheet: &Sheet, sizes: Sizes, progress: &Progress) -> Result<Judged, Refusal> {
+    let mut graph = Graph::create(sizes)?;
+    let answers = add_all(&mut graph, sheet, progress)?;
+    let mut faults = sheet.faults.clone();
+    let mut book = Book::new(sheet, sizes);
+    for (number, (entry, answer)) in sheet.entries.iter().zip(&answers).enumerate() {
+        match (&entry.job, answer) {
+            (Some(job), Some(Ok(()))) => book.enter(number, job),
+            (Some(job), Some(Err(refusal))) => faults.extend(book.explain(number, entry, job, *refusal)),
+            _ => {}
+        }
+    }
+    faults.sort_by_key(|fault| fault.at);
+    Ok(Judged { answers, nodes: book.nodes, faults, totals: graph.totals()? })
+}
+
+/// How the add of each entry ended; those that cannot be read are passed over.
+fn add_all(graph: &mut Graph, sheet: &Sheet, progress: &Progress) -> Result<Vec<Option<Result<(), Refusal>>>, Refusal> {
+    let mut answers = Vec::with_capacity(sheet.entries.len());
+    for part in sheet.entries.chunks(MAX_ENTRIES) {
+        let jobs: Vec<Job> = part.iter().filter_map(|entry| entry.job.clone()).collect();
+        let mut ended = graph.add_sheet(0, &jobs)?.into_iter();
+        answers.extend(part.iter().map(|entry| entry.job.as_ref().and_then(|_| ended.next())));
+        progress.at(answers.len());
+    }
+    Ok(answers)
+}
+
+/// What has entered so far, to find the words for a refusal.
+struct Book<'a> {
+    sheet: &'a Sheet,
+    sizes: Sizes,
+    nodes: Vec<Node>,
+    arcs: usize,
+    /// The node of each name that has entered, and its entry.
+    entered: HashMap<u32, (usize, usize)>,
+    /// The last entry of each name, whether or not it enters.
+    written: HashMap<u32, usize>,
+    /// The circle of each entry.
+    circle: Vec<usize>,
+}
+
+impl<'a> Book<'a> {
+    fn new(sheet: &'a Sheet, sizes: Sizes) -> Book<'a> {
+        let named = sheet.entries.iter().enumerate().filter_map(|(number, entry)| Some((entry.name?, number)));
+        let written = named.collect();
+        let circle = circles(sheet, &written);
+        Book { sheet, sizes, nodes: Vec::new(), arcs: 0, entered: HashMap::new(), written, circle }
+    }
+
+    fn enter(&mut self, number: usize, job: &Job) {
+        let needs: Vec<usize> = job.prerequisites.iter().filter_map(|name| Some(self.entered.get(name)?.0)).collect();
+        let depth = needs.iter().map(|node| self.nodes[*node].depth).max().unwrap_or(0) + 1;
+        self.entered.insert(job.name, (self.nodes.len(), number));
+        self.arcs += needs.len();
+        self.nodes.push(Node { name: job.name, class: job.class, grower: job.grower, depth, needs });
+    }
+
+    /// All that is wrong with an entry that was refused. If the refusal's own number is not among it, that comes first.
+    fn explain(&self, number: usize, entry: &Entry, job: &Job, refusal: Refusal) -> Vec<Fault> {
+        let mut wrong = Vec::new();
+        self.arguments(entry, job, &mut wrong);
+        self.names(number, entry, job, &mut wrong);
+        self.room(entry, job, &mut wrong);
+        if !wrong.iter().any(|(_, kind)| kind.number() == Some(refusal.number())) {
+            wrong.insert(0, (entry.at.entry, Kind::Other(refusal)));
+        }
+        let fault = |(at, kind)| Fault { entry: Some(number), line: entry.line, at, job: entry.name, kind };
+        wrong.into_iter().map(fault).collect()
+    }
+
+    /// Number 5, by the sizes of the arguments.
+    fn arguments(&self, entry: &Entry, job: &Job, wrong: &mut Vec<(usize, Kind)>) {
+        let list = &job.prerequisites;
+        if list.len() > MAX_NAMES {
+            wrong.push((entry.at.needs[MAX_NAMES], Kind::LongList(list.len())));
+        }
+        for (at, part, value) in [(entry.at.class, Part::Class, job.class), (entry.at.grower, Part::Grower, job.grower)]
+        {
+            if value > part.most() {
+                wrong.push((at, Kind::Above(part, value.to_string())));
+            }
+        }
+    }
+
+    /// Numbers 5 to 7, by the names.
+    fn names(&self, number: usize, entry: &Entry, job: &Job, wrong: &mut Vec<(usize, Kind)>) {
+        let mut met = HashSet::new();
+        for (name, at) in job.prerequisites.iter().zip(&entry.at.needs) {
+            if *name == job.name {
+                wrong.push((*at, Kind::OwnName));
+            } else if !met.insert(*name) {
+                wrong.push((*at, Kind::NameTwice(*name)));
+            } else if !self.entered.contains_key(name) {
+                wrong.push((*at, Kind::UnknownName(job.name, *name, self.elsewhere(number, *name))));
+            }
+        }
+        if let Some((_, first)) = self.entered.get(&job.name) {
+            wrong.push((entry.at.name, Kind::NamePresent(job.name, self.other(*first))));
+        }
+    }
+
+    fn elsewhere(&self, number: usize, name: u32) -> Elsewhere {
+        match self.written.get(&name) {
+            Some(entry) if self.circle[*entry] == self.circle[number] => Elsewhere::Circle(self.other(*entry)),
+            Some(entry) if *entry > number => Elsewhere::Later(self.other(*entry)),
+            Some(entry) => Elsewhere::Refused(self.other(*entry)),
+            None => Elsewhere::Nowhere,
+        }
+    }
+
+    fn other(&self, entry: usize) -> Other {
+        Other { entry, line: self.sheet.entries[entry].line }
+    }
+
+    /// Number 8.
+    fn room(&self, entry: &Entry, job: &Job, wrong: &mut Vec<(usize, Kind)>) {
+        let left = self.sizes.arcs as usize - self.arcs;
+        if self.nodes.len() == self.sizes.jobs as usize {
+            wrong.push((entry.at.entry, Kind::NoRoomForJob(self.sizes.jobs)));
+        }
+        if job.prerequisites.len() > left {
+            wrong.push((entry.at.entry, Kind::NoRoomForArcs(job.prerequisites.len(), left, self.sizes.arcs)));
+        }
+    }
+}
