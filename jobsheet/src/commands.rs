@@ -13,6 +13,7 @@ use crate::{
     fault::Fault,
     input::{self, Source, Stop},
     judge,
+    number::counted,
     picture::{Drawn, Refused},
     terminal::{painted, tell, Paint, Progress, Stage, Stream},
     Judged, Sheet,
@@ -66,6 +67,14 @@ fn tell_faults(source: &Source, faults: &[Fault]) {
         let place = painted(&fault.place(), Paint::Red, colours);
         tell(&format!("{}: {place}: {} {}", source.name, fault.kind.what(), fault.kind.advice()));
     }
+}
+
+/// Tells what hinders the packing of a sheet, without which something cannot be done.
+fn cannot(source: &Source, mut faults: Vec<Fault>, done: &str) -> Verdict {
+    faults.retain(|fault| fault.kind.hinders_packing());
+    tell_faults(source, &faults);
+    tell(&format!("jobsheet: {} cannot be {done}: {}", source.name, counted(faults.len(), "fault")));
+    Verdict::Fault
 }
 
 /// What is drawn of a judged sheet.

@@ -37,9 +37,12 @@ fn column(cell: &[u8]) -> Option<usize> {
     COLUMNS.iter().position(|known| cell.eq_ignore_ascii_case(known.as_bytes()))
 }
 
-/// The cells of a line, each with its offset and without quotes, and what is wrong with the quotes.
+/// A cell without its quotes, and its offset.
+type Cell<'a> = (usize, Cow<'a, [u8]>);
+
+/// The cells of a line, and what is wrong with the quotes.
 struct Cells<'a> {
-    cells: Vec<(usize, Cow<'a, [u8]>)>,
+    cells: Vec<Cell<'a>>,
     wrong: Vec<Wrong>,
 }
 
@@ -97,11 +100,16 @@ fn find(line: &[u8], start: usize, separator: u8) -> usize {
     line[start..].iter().position(|byte| *byte == separator).map_or(line.len(), |more| start + more)
 }
 
+/// How many cells there are without the empty ones at the end, which a spreadsheet leaves of what was wider.
+fn filled(cells: &[Cell<'_>]) -> usize {
+    cells.iter().rposition(|(_, cell)| !cell.is_empty()).map_or(0, |last| last + 1)
+}
+
 /// The columns by their places in [`COLUMNS`], or what is wrong with the header.
 fn header(line: Piece<'_>, separator: u8) -> Result<Vec<usize>, Vec<Wrong>> {
     let Cells { cells, mut wrong } = Cells::of(line, separator);
     let mut columns = Vec::new();
-    for (at, cell) in &cells {
+    for (at, cell) in &cells[..filled(&cells)] {
         match column(cell) {
             Some(known) if columns.contains(&known) => wrong.push((*at, Kind::SecondColumn(COLUMNS[known]))),
             Some(known) => columns.push(known),
@@ -148,10 +156,8 @@ pub fn read(content: &[u8]) -> Sheet {
 fn row(Cells { cells, wrong }: Cells<'_>, columns: &[usize], line: usize) -> Draft {
     let mut draft = Draft::new(line, cells[0].0);
     draft.wrong = wrong;
-    // Cells that are empty after the last column are what a spreadsheet leaves of a row that was longer.
-    let last = cells.iter().rposition(|(_, cell)| !cell.is_empty()).map_or(0, |last| last + 1);
-    if last > columns.len() {
-        draft.wrong.push((cells[columns.len()].0, Kind::ManyCells(last, columns.len())));
+    if filled(&cells) > columns.len() {
+        draft.wrong.push((cells[columns.len()].0, Kind::ManyCells(filled(&cells), columns.len())));
     }
     for (place, known) in columns.iter().enumerate() {
         let cell = cells.get(place).map_or((cells[0].0, &[][..]), |(at, cell)| (*at, &cell[..]));

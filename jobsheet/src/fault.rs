@@ -173,6 +173,20 @@ impl Kind {
         })
     }
 
+    /// Whether the sheet cannot be packed for it. What only a graph refuses can be.
+    pub fn hinders_packing(&self) -> bool {
+        let of_a_graph = matches!(
+            self,
+            Kind::OwnName
+                | Kind::NameTwice(_)
+                | Kind::UnknownName(..)
+                | Kind::NamePresent(..)
+                | Kind::NoRoomForJob(_)
+                | Kind::NoRoomForArcs(..)
+        );
+        !of_a_graph
+    }
+
     /// What is wrong, as a sentence.
     pub fn what(&self) -> String {
         match self {
@@ -203,7 +217,9 @@ impl Kind {
             Kind::NameTwice(name) => format!("it lists job {name} twice."),
             Kind::UnknownName(_, name, place) => unknown_name(*name, *place),
             Kind::NamePresent(name, other) => format!("the name {name} is taken by {other}."),
-            Kind::NoRoomForJob(jobs) => format!("there is no room for it: the graph takes {} jobs.", grouped(*jobs)),
+            Kind::NoRoomForJob(jobs) => {
+                format!("there is no room for it: the graph takes {}.", counted(*jobs as usize, "job"))
+            }
             Kind::NoRoomForArcs(needed, left, arcs) => format!(
                 "there is no room for its list: it needs {}, and {} of {} are left.",
                 counted(*needed, "arc"),
@@ -219,9 +235,9 @@ impl Kind {
         match self {
             Kind::LongLine(_) => "Write one job a line, and long comments on several lines.".into(),
             Kind::NoText(_) => "Save the sheet as plain text; a packed sheet is read with --from bytes.".into(),
-            Kind::NotANumber(Part::Name, _) => "A line begins with the job's name, in decimal digits alone; \
-                a comment begins with #."
-                .into(),
+            Kind::NotANumber(Part::Name, _) => {
+                "A job's name is written in decimal digits alone; a comment begins with #.".into()
+            }
             Kind::NotANumber(..) => "Write decimal digits alone.".into(),
             Kind::Marks(_) => "Put spaces between numbers, and no other marks in them; a table begins with the line \
                 name,needs,class,grower."

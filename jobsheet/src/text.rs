@@ -66,8 +66,9 @@ pub fn read(content: &[u8]) -> Sheet {
 }
 
 fn read_line<'a>(line: usize, name: Piece<'a>, words: impl Iterator<Item = Piece<'a>>) -> Draft {
-    let mut reader = Reader { draft: Draft::new(line, name.0), word: None };
+    let mut reader = Reader { draft: Draft::new(line, name.0), word: None, astray: false };
     reader.draft.name(name);
+    reader.astray = reader.draft.entry.name.is_none();
     words.for_each(|word| reader.take(word));
     reader.close();
     reader.draft
@@ -78,21 +79,28 @@ struct Reader {
     draft: Draft,
     /// The word of the form that was met last, by its place in [`WORDS`], its offset, and whether anything followed.
     word: Option<(usize, usize, bool)>,
+    /// Whether a word came since that is none of the form's, or the name is none: who knows what numbers after it mean?
+    astray: bool,
 }
 
 impl Reader {
     fn take(&mut self, word: Piece<'_>) {
-        match WORDS.iter().position(|known| word.1.eq_ignore_ascii_case(known.as_bytes())) {
+        let known = WORDS.iter().position(|known| word.1.eq_ignore_ascii_case(known.as_bytes()));
+        let number_due = matches!(self.word, Some((_, _, false)));
+        match known {
             Some(known) => self.take_word(known, word.0),
-            None if word.1.iter().all(u8::is_ascii_alphabetic) => {
+            None if !number_due && word.1.iter().all(u8::is_ascii_alphabetic) => {
                 self.draft.wrong.push((word.0, Kind::UnknownWord(quoted(word.1))));
+                self.astray = true;
             }
-            None => self.take_number(word),
+            None if !self.astray => self.take_number(word),
+            None => {}
         }
     }
 
     fn take_word(&mut self, known: usize, at: usize) {
         self.close();
+        self.astray = false;
         if self.word.map_or(false, |(last, ..)| known <= last) {
             self.draft.wrong.push((at, Kind::Order(WORDS[known])));
         }

@@ -63,6 +63,7 @@ impl Answer {
             return format!("{start}, all accepted");
         }
         let end = match sheet.form {
+            _ if self.packs && self.judged.nodes.is_empty() => "a host adds nothing of it",
             _ if self.packs => "a host adds the others",
             Form::Bytes => "it is broken, and a host adds nothing of it",
             Form::Text | Form::Csv => "it cannot be packed",

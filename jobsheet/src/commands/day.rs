@@ -10,7 +10,7 @@ use taskgraph::{
     Sizes,
 };
 
-use super::{drawn, judged, tell_faults, Verdict};
+use super::{cannot, drawn, judged, tell_faults, Verdict};
 use crate::{
     arguments::{Arguments, To},
     day::{Day, Worked},
@@ -19,7 +19,7 @@ use crate::{
     number::{counted, grouped},
     output::Output,
     picture::{self, Rounds},
-    terminal::{painted, tell, Paint, Progress, Stage, Stream},
+    terminal::{painted, Paint, Progress, Stage, Stream},
 };
 
 /// The sizes of the day list's graph; the adds are one worker's.
@@ -33,9 +33,7 @@ pub(super) fn run(arguments: &Arguments, source: Source, progress: Progress) -> 
         Some(sheet) => sheet,
         None => {
             drop(progress);
-            tell_faults(&source, &faults);
-            tell(&format!("jobsheet: {} cannot be run: it must be readable as a whole", source.name));
-            return Ok(Verdict::Fault);
+            return Ok(cannot(&source, faults, "run"));
         }
     };
     if sheet.len() > MAX_DAY_SHEET {

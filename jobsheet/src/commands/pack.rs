@@ -1,6 +1,6 @@
 //! `jobsheet pack`: text or a table to bytes.
 
-use super::{judged, tell_faults, Verdict};
+use super::{cannot, judged, Verdict};
 use crate::{
     arguments::Arguments,
     input::{Source, Stop},
@@ -20,19 +20,12 @@ pub(super) fn run(arguments: &Arguments, source: Source, progress: Progress) -> 
     drop(progress);
     let sheet = match source.sheet.packed() {
         Some(sheet) => sheet,
-        None => {
-            tell_faults(&source, &judged.faults);
-            tell(&format!("jobsheet: {} cannot be packed: {}", source.name, counted(judged.faults.len(), "fault")));
-            return Ok(Verdict::Fault);
-        }
+        None => return Ok(cannot(&source, judged.faults, "packed")),
     };
     Output::open(&arguments.out)?.write_by(|out| out.write_all(&sheet))?;
     if judged.refused() > 0 {
         let refused = counted(judged.refused(), "entry");
-        tell(&format!(
-            "jobsheet: packed; but a fresh graph would refuse {refused}: jobsheet check {} says why",
-            source.name
-        ));
+        tell(&format!("jobsheet: packed, but a fresh graph would refuse {refused}; jobsheet check says why"));
     }
     Ok(Verdict::Good)
 }
