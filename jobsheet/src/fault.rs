@@ -234,7 +234,7 @@ impl Kind {
     pub fn advice(&self) -> String {
         match self {
             Kind::LongLine(_) => "Write one job a line, and long comments on several lines.".into(),
-            Kind::NoText(_) => "Save the sheet as plain text; a packed sheet is read with --from bytes.".into(),
+            Kind::NoText(_) => "Save the sheet as plain text (UTF-8); a packed sheet is read with --from bytes.".into(),
             Kind::NotANumber(Part::Name, _) => {
                 "A job's name is written in decimal digits alone; a comment begins with #.".into()
             }

@@ -4,6 +4,9 @@ use taskgraph::raw;
 
 use crate::{bytes, csv, text, Sheet};
 
+/// What editors put before a text: marks of UTF-8, and of UTF-16, which cannot be read and is said to be no text.
+const MARKS: [&[u8]; 3] = [b"\xef\xbb\xbf", b"\xff\xfe", b"\xfe\xff"];
+
 /// A form of a sheet.
 #[derive(Clone, Copy, Debug, PartialEq, Eq)]
 pub enum Form {
@@ -35,19 +38,26 @@ impl Form {
     /// An entry of a packed sheet begins with a byte below 16, and a text with one that is printed. Only tab and
     /// carriage return are both: there the whole file must tell.
     pub fn of(content: &[u8]) -> Option<Form> {
-        let printed = |byte: &u8| !byte.is_ascii_control() || matches!(byte, b'\t' | b'\n' | b'\r');
-        let mark = content.starts_with(b"\xef\xbb\xbf");
         match content.first() {
-            Some(b'\t' | b'\r') => match (content.iter().all(printed), raw::scan_sheet(content).number == 0) {
-                (true, true) => None,
-                (true, false) => Some(text_or_csv(content)),
-                (false, _) => Some(Form::Bytes),
-            },
-            Some(b'\n' | b' '..=b'~') => Some(text_or_csv(content)),
-            Some(_) if mark => Some(text_or_csv(content)),
+            Some(b'\t' | b'\r') => by_all(content),
+            Some(b'\n' | b' '..=b'~') | None => Some(text_or_csv(content)),
+            Some(_) if MARKS.iter().any(|mark| content.starts_with(mark)) => Some(text_or_csv(content)),
             Some(_) => Some(Form::Bytes),
-            None => Some(Form::Text),
         }
+    }
+}
+
+/// The form in which all of it can be read; if there is none, text where no byte says otherwise.
+fn by_all(content: &[u8]) -> Option<Form> {
+    let written = text_or_csv(content);
+    let packed = raw::scan_sheet(content).number == 0;
+    let strange = |byte: &u8| byte.is_ascii_control() && !matches!(byte, b'\t' | b'\n' | b'\r');
+    match (packed, read(content, written).faults.is_empty()) {
+        (true, true) => None,
+        (true, false) => Some(Form::Bytes),
+        (false, true) => Some(written),
+        (false, false) if content.iter().any(strange) => Some(Form::Bytes),
+        (false, false) => Some(written),
     }
 }
 
