@@ -1,91 +1,64 @@
 //! The picture of a sheet of many jobs: its layers as bars.
 
 use super::canvas::{Anchor, Canvas, MARGIN, NORMAL, SMALL};
-use super::fill::{Growers, OTHERS};
 use super::grid::layers;
-use super::heading::{classes, grower, heading, samples, tally, Sample};
+use super::heading::{classes, heading, samples};
 use super::refused::band;
-use super::shape::Rect;
+use super::shape::{Rect, CLASSES};
 use super::sheet::summary;
-use super::text::{counted, grouped, plain};
-use super::Drawn;
+use super::text::{grouped, plain};
+use super::{Drawn, Node};
 
 /// At most this many bars. With more layers a bar stands for several, since no fill can be seen in a thinner one.
 pub(super) const BARS: usize = 64;
 
-/// At most this many growers have a fill of their own, those with the most jobs; the network has one in any case.
-const TOLD: usize = 15;
-
 const LABELS: i64 = 150;
 const LENGTH: i64 = 840;
+const SHORTEST: i64 = 2;
 const THICK: i64 = 18;
 const STEP: i64 = 24;
 
-/// The growers with the most jobs.
-fn told(drawn: &Drawn) -> Growers {
-    let mut most: Vec<(usize, u32)> =
-        tally(&drawn.nodes, |node| node.grower).into_iter().map(|(g, n)| (n, g)).collect();
-    most.sort_unstable_by(|a, b| b.0.cmp(&a.0).then(a.1.cmp(&b.1)));
-    Growers::from(most.into_iter().take(TOLD).map(|(_, grower)| grower).collect())
-}
+/// What a bar means. Its parts are classes: there are few of them, so that each has a fill of its own.
+const BAR: &str = "a bar is as long as its layer has jobs; its parts are the classes, which the fill tells here";
 
-/// The samples of the growers that are told apart, and of the others together.
-fn growers(drawn: &Drawn, told: &Growers) -> Vec<Sample> {
-    let mut shown = Vec::new();
-    let (mut others, mut jobs) = (0, 0);
-    for (who, count) in tally(&drawn.nodes, |node| node.grower) {
-        if told.fill(who) == OTHERS {
-            others += 1;
-            jobs += count;
-        } else {
-            shown.push(grower(told, who, count));
-        }
-    }
-    if others > 0 {
-        let meaning = format!("{} · {}", counted(others, "grower", "growers"), counted(jobs, "job", "jobs"));
-        shown.push(Sample { class: 0, fill: OTHERS, inside: "others".to_string(), meaning });
-    }
-    shown
-}
-
-/// One bar: the first and the last depth, and the jobs by fill.
+/// One bar: the first and the last depth, and the jobs of each class.
 pub(super) struct Bar {
     pub(super) depths: (usize, usize),
-    pub(super) jobs: usize,
-    pub(super) fills: [usize; OTHERS + 1],
+    pub(super) classes: [usize; CLASSES as usize],
 }
 
-/// The bars, with the same number of layers in each but the last.
-pub(super) fn cut(drawn: &Drawn, told: &Growers) -> Vec<Bar> {
-    let layers: Vec<(usize, Vec<usize>)> = layers(&drawn.nodes).into_iter().collect();
+impl Bar {
+    pub(super) fn jobs(&self) -> usize {
+        self.classes.iter().sum()
+    }
+}
+
+/// The bars, and how many layers each but the last stands for.
+pub(super) fn cut(nodes: &[Node]) -> (Vec<Bar>, usize) {
+    let layers: Vec<(usize, Vec<usize>)> = layers(nodes).into_iter().collect();
     let each = ((layers.len() + BARS - 1) / BARS).max(1);
     let bar = |layers: &[(usize, Vec<usize>)]| {
-        let mut bar = Bar { depths: (layers[0].0, layers[layers.len() - 1].0), jobs: 0, fills: [0; OTHERS + 1] };
+        let mut classes = [0; CLASSES as usize];
         for &place in layers.iter().flat_map(|(_, places)| places) {
-            bar.jobs += 1;
-            bar.fills[told.fill(drawn.nodes[place].grower)] += 1;
+            classes[(nodes[place].class % CLASSES) as usize] += 1;
         }
-        bar
+        Bar { depths: (layers[0].0, layers[layers.len() - 1].0), classes }
     };
-    layers.chunks(each).map(bar).collect()
+    (layers.chunks(each).map(bar).collect(), each)
 }
 
 /// The sheet as bars.
 pub(super) fn bars(drawn: &Drawn) -> String {
-    let told = told(drawn);
-    let bars = cut(drawn, &told);
-    let depths = layers(&drawn.nodes).len();
-    let mut lines = vec![summary(drawn, depths)];
-    lines.push("a bar is as long as its layer has jobs; its parts are the growers' jobs".to_string());
-    if depths > bars.len() {
-        lines.push(format!("each bar stands for {} layers", grouped((depths + BARS - 1) / BARS)));
+    let (bars, each) = cut(&drawn.nodes);
+    let mut lines = vec![summary(drawn), BAR.to_string()];
+    if each > 1 {
+        lines.push(format!("each bar stands for {} layers", grouped(each)));
     }
     let mut canvas = Canvas::new();
-    let right = MARGIN + LABELS + LENGTH;
     let y = heading(&mut canvas, &drawn.title, &lines);
-    let y = samples(&mut canvas, &classes(&drawn.nodes), 0, y, right);
-    let y = samples(&mut canvas, &growers(drawn, &told), 0, y, right) + MARGIN / 2;
-    let most = bars.iter().map(|bar| bar.jobs).max().unwrap_or(1);
+    let right = MARGIN + LABELS + LENGTH;
+    let y = samples(&mut canvas, &classes(&drawn.nodes, |class| class as usize), 0, y, right) + MARGIN / 2;
+    let most = bars.iter().map(Bar::jobs).max().unwrap_or(1);
     for (place, bar) in bars.iter().enumerate() {
         one(&mut canvas, bar, most, y + STEP * place as i64);
     }
@@ -101,15 +74,14 @@ fn one(canvas: &mut Canvas, bar: &Bar, most: usize, y: i64) {
         (first, last) => format!("depth {} to {}", first, last),
     };
     canvas.text(left - MARGIN / 2, line, NORMAL, Anchor::End, &depths);
-    let long = |jobs: usize| (jobs as i64 * LENGTH / most.max(1) as i64).max(2);
-    let mut before = 0;
-    for (fill, &jobs) in bar.fills.iter().enumerate().filter(|&(_, &jobs)| jobs > 0) {
-        let (from, to) = (long(before), long(before + jobs));
-        let from = if before == 0 { 0 } else { from };
-        before += jobs;
-        let paint = canvas.paint(fill);
+    let (mut jobs, mut from) = (0, 0);
+    for (class, &more) in bar.classes.iter().enumerate().filter(|&(_, &more)| more > 0) {
+        jobs += more;
+        let to = (jobs as i64 * LENGTH / most as i64).max(SHORTEST);
+        let paint = canvas.paint(class);
         let at = Rect { x: left + from, y, w: to - from, h: THICK };
         canvas.rect(at, &format!("fill=\"{}\" stroke=\"#000\" stroke-width=\"0.8\"", paint));
+        from = to;
     }
-    canvas.text(left + long(bar.jobs) + MARGIN / 3, line, SMALL, Anchor::Start, &grouped(bar.jobs));
+    canvas.text(left + from + MARGIN / 3, line, SMALL, Anchor::Start, &grouped(jobs));
 }

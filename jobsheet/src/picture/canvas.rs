@@ -1,6 +1,6 @@
 //! The SVG text: what is drawn so far, and how large it has become.
 
-use super::fill::{colour, drawn_over, paint, pattern, OTHERS};
+use super::fill::{colour, drawn_over, paint, pattern, FILLS};
 use super::shape::{outline, Rect};
 use super::text::{escaped, width};
 use std::fmt::Write;
@@ -27,12 +27,12 @@ pub(super) struct Canvas {
     right: i64,
     bottom: i64,
     lowered: i64,
-    fills: [bool; OTHERS + 1],
+    fills: [bool; FILLS],
 }
 
 impl Canvas {
     pub(super) fn new() -> Canvas {
-        Canvas { body: String::new(), right: 0, bottom: 0, lowered: 0, fills: [false; OTHERS + 1] }
+        Canvas { body: String::new(), right: 0, bottom: 0, lowered: 0, fills: [false; FILLS] }
     }
 
     fn grow(&mut self, right: i64, bottom: i64) {
@@ -105,7 +105,7 @@ impl Canvas {
 
     /// What the attribute `fill` says, with its pattern kept in the picture.
     pub(super) fn paint(&mut self, fill: usize) -> String {
-        let fill = fill.min(OTHERS);
+        let fill = fill % FILLS;
         self.fills[fill] = true;
         paint(fill)
     }
@@ -113,7 +113,7 @@ impl Canvas {
     /// The whole picture.
     pub(super) fn finish(self, title: &str, description: &str) -> String {
         let (w, h) = (self.right + MARGIN, self.bottom + MARGIN);
-        let patterns: String = (0..=OTHERS).filter(|&fill| self.fills[fill]).map(pattern).collect();
+        let patterns: String = (0..FILLS).filter(|&fill| self.fills[fill]).map(pattern).collect();
         format!(
             "<svg xmlns=\"http://www.w3.org/2000/svg\" width=\"{w}\" height=\"{h}\" viewBox=\"0 0 {w} {h}\" \
              role=\"img\" font-family=\"DejaVu Sans, Verdana, sans-serif\">\n\

@@ -13,7 +13,7 @@ pub(super) const ROUNDS: usize = 256;
 pub(super) const WORKERS: usize = 16;
 
 /// A line of rounds is about as wide as a sheet of paper, and the next ones stand below it.
-const PAPER: i64 = 1_100;
+const PAPER: i64 = 1_200;
 
 /// Lines of rounds begin at multiples of this.
 const STEP: usize = 5;

@@ -38,7 +38,7 @@ pub fn dot(drawn: &Drawn) -> String {
     let layers = layers(&drawn.nodes);
     let growers = Growers::of(&drawn.nodes);
     let mut out = String::from("digraph jobsheet {\n");
-    let words = format!("{}; {}; c is the class, g the grower", summary(drawn, layers.len()), ARROW);
+    let words = format!("{}; {}; c is the class, g the grower", summary(drawn), ARROW);
     put(&mut out, format_args!("  label=\"{}\\n{}\";\n", quoted(&plain(&drawn.title)), words));
     out.push_str("  labelloc=t;\n  fontname=\"DejaVu Sans\";\n");
     out.push_str("  node [style=filled, fontname=\"DejaVu Sans\"];\n");

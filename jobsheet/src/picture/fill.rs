@@ -8,32 +8,25 @@ pub(super) const COLOURS: [&str; 6] = ["#ffffff", "#a8d196", "#fceb9c", "#b287c2
 /// The ink of the drawings over each colour. Black words are to be read on it too, so it is no dark one.
 pub(super) const INKS: [&str; 6] = ["#a0a0a0", "#ffffff", "#a8a080", "#ffffff", "#8f9ca8", "#ffffff"];
 
-/// The drawings over a colour: none, rising lines, dots, upright lines.
+/// The drawings over a colour: none, rising lines, dots, level lines.
 const DRAWINGS: [&str; 4] = [
     "",
     "<path d=\"M-2 2L2 -2M0 8L8 0M6 10L10 6\" stroke=\"INK\" stroke-width=\"2\"/>",
     "<circle cx=\"2\" cy=\"2\" r=\"1.6\" fill=\"INK\"/><circle cx=\"6\" cy=\"6\" r=\"1.6\" fill=\"INK\"/>",
-    "<path d=\"M4 0V8\" stroke=\"INK\" stroke-width=\"2\"/>",
+    "<path d=\"M0 4H8\" stroke=\"INK\" stroke-width=\"2\"/>",
 ];
 
 /// How many fills growers have.
 pub(super) const FILLS: usize = COLOURS.len() * DRAWINGS.len();
 
-/// The fill of what is not told apart: a grid.
-pub(super) const OTHERS: usize = FILLS;
-
-/// The growers that are told apart, rising, with the network first whether it has jobs or not.
+/// The growers of a sheet, rising, with the network first whether it has jobs or not.
 pub(super) struct Growers {
     rising: Vec<u32>,
 }
 
 impl Growers {
-    /// All growers of the nodes.
     pub(super) fn of(nodes: &[Node]) -> Growers {
-        Growers::from(nodes.iter().map(|node| node.grower).collect())
-    }
-
-    pub(super) fn from(mut rising: Vec<u32>) -> Growers {
+        let mut rising: Vec<u32> = nodes.iter().map(|node| node.grower).collect();
         rising.push(0);
         rising.sort_unstable();
         rising.dedup();
@@ -44,9 +37,8 @@ impl Growers {
     /// begin again, and the number in the box tells.
     pub(super) fn fill(&self, grower: u32) -> usize {
         match self.rising.binary_search(&grower) {
-            Ok(0) => 0,
+            Ok(0) | Err(_) => 0,
             Ok(place) => 1 + (place - 1) % (FILLS - 1),
-            Err(_) => OTHERS,
         }
     }
 }
@@ -75,10 +67,7 @@ pub(super) fn pattern(fill: usize) -> String {
         return String::new();
     }
     let ink = INKS[fill % INKS.len()];
-    let drawing = match fill {
-        OTHERS => "<path d=\"M0 4H8M4 0V8\" stroke=\"INK\" stroke-width=\"1.5\"/>",
-        _ => DRAWINGS[fill / COLOURS.len() % DRAWINGS.len()],
-    };
+    let drawing = DRAWINGS[fill / COLOURS.len() % DRAWINGS.len()];
     format!(
         "<pattern id=\"fill{}\" width=\"8\" height=\"8\" patternUnits=\"userSpaceOnUse\">\
          <rect width=\"8\" height=\"8\" fill=\"{}\"/>{}</pattern>\n",

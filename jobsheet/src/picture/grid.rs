@@ -33,6 +33,12 @@ pub(super) fn arcs(nodes: &[Node]) -> Vec<(usize, usize)> {
     arcs
 }
 
+/// How many columns a layer takes if its rows are about equally long.
+fn balanced(jobs: usize) -> usize {
+    let rows = ((jobs + COLUMNS - 1) / COLUMNS).max(1);
+    (jobs + rows - 1) / rows
+}
+
 /// The rows of one depth.
 pub(super) struct Layer {
     pub(super) depth: usize,
@@ -72,7 +78,7 @@ impl Grid {
     /// Each layer in the order of the entries, its rows in the middle.
     fn in_order(nodes: &[Node]) -> Grid {
         let layers = layers(nodes);
-        let columns = layers.values().map(Vec::len).max().unwrap_or(0).clamp(1, COLUMNS);
+        let columns = layers.values().map(|places| balanced(places.len())).max().unwrap_or(1);
         let mut grid = Grid { columns, layers: Vec::new(), at: vec![(0, 0); nodes.len()] };
         let mut first_row = 0;
         for (depth, places) in layers {

@@ -11,11 +11,12 @@ use std::collections::BTreeMap;
 pub(super) const GROWERS: usize = 24;
 
 /// A legend is at least this wide before it goes to the next line.
-pub(super) const WIDE: i64 = 820;
+pub(super) const WIDE: i64 = 920;
 
 const SAMPLE: i64 = 24;
 const LINE: i64 = 30;
-const APART: i64 = 14;
+const BESIDE: i64 = 6;
+const APART: i64 = 20;
 const GROUND: i64 = 5;
 
 /// A sample and what it means.
@@ -39,7 +40,7 @@ pub(super) fn heading(canvas: &mut Canvas, title: &str, lines: &[String]) -> i64
 }
 
 /// How often each value occurs.
-pub(super) fn tally<F: Fn(&Node) -> u32>(nodes: &[Node], value: F) -> BTreeMap<u32, usize> {
+fn tally<F: Fn(&Node) -> u32>(nodes: &[Node], value: F) -> BTreeMap<u32, usize> {
     let mut tally = BTreeMap::new();
     for node in nodes {
         *tally.entry(value(node)).or_insert(0) += 1;
@@ -47,11 +48,11 @@ pub(super) fn tally<F: Fn(&Node) -> u32>(nodes: &[Node], value: F) -> BTreeMap<u
     tally
 }
 
-/// The classes that occur.
-pub(super) fn classes(nodes: &[Node]) -> Vec<Sample> {
+/// The classes that occur, each with the fill that is given for it.
+pub(super) fn classes<F: Fn(u32) -> usize>(nodes: &[Node], fill: F) -> Vec<Sample> {
     let sample = |(class, jobs): (u32, usize)| Sample {
         class,
-        fill: 0,
+        fill: fill(class),
         inside: format!("c{}", class),
         meaning: format!("class {} · {}", class, counted(jobs, "job", "jobs")),
     };
@@ -59,7 +60,7 @@ pub(super) fn classes(nodes: &[Node]) -> Vec<Sample> {
 }
 
 /// A grower with a number of jobs.
-pub(super) fn grower(growers: &Growers, grower: u32, jobs: usize) -> Sample {
+fn grower(growers: &Growers, grower: u32, jobs: usize) -> Sample {
     let who = if grower == 0 { "network".to_string() } else { format!("grower {}", grower) };
     Sample {
         class: 0,
@@ -74,37 +75,34 @@ pub(super) fn legend(canvas: &mut Canvas, nodes: &[Node], growers: &Growers, y: 
     let tally = tally(nodes, |node| node.grower);
     let shown: Vec<Sample> = tally.iter().take(GROWERS).map(|(&who, &jobs)| grower(growers, who, jobs)).collect();
     let more = tally.len() - shown.len();
-    let y = samples(canvas, &classes(nodes), 0, y, right);
+    let y = samples(canvas, &classes(nodes, |_| 0), 0, y, right);
     samples(canvas, &shown, more, y, right)
 }
 
-/// Draws samples in lines, then how many more there are, and gives the end.
+/// Draws samples in lines and columns, then how many more there are, and gives the end.
 pub(super) fn samples(canvas: &mut Canvas, samples: &[Sample], more: usize, top: i64, right: i64) -> i64 {
-    let right = right.max(WIDE);
-    let (mut x, mut y) = (MARGIN, top);
-    for sample in samples {
-        let wide = width(&sample.inside, SMALL) + 2 * END + 4;
-        let whole = wide + MARGIN / 3 + width(&sample.meaning, SMALL) + APART;
-        if x > MARGIN && x + whole > right {
-            x = MARGIN;
-            y += LINE;
-        }
-        let at = Rect { x, y, w: wide, h: SAMPLE };
-        canvas.shape(sample.class, sample.fill, at);
-        let inside = width(&sample.inside, SMALL);
-        let ground = Rect { x: at.middle() - inside / 2, y: y + GROUND, w: inside, h: SAMPLE - 2 * GROUND };
-        canvas.ground(ground, sample.fill);
-        let line = y + SAMPLE / 2 + SMALL / 3;
-        canvas.text(at.middle(), line, SMALL, Anchor::Middle, &sample.inside);
-        canvas.text(at.right() + MARGIN / 3, line, SMALL, Anchor::Start, &sample.meaning);
-        x += whole;
+    let inside = samples.iter().map(|sample| width(&sample.inside, SMALL)).max().unwrap_or(0) + 2 * END + 4;
+    let meaning = samples.iter().map(|sample| width(&sample.meaning, SMALL)).max().unwrap_or(0);
+    let cell = inside + meaning + APART;
+    let columns = ((right.max(WIDE) - MARGIN) / cell).max(1);
+    for (place, sample) in samples.iter().enumerate() {
+        let (x, y) = (MARGIN + place as i64 % columns * cell, top + place as i64 / columns * LINE);
+        one(canvas, sample, Rect { x, y, w: inside, h: SAMPLE });
     }
+    let lines = (samples.len() as i64 + columns - 1) / columns;
     if more > 0 {
-        let line = y + SAMPLE / 2 + SMALL / 3;
-        canvas.text(x, line, SMALL, Anchor::Start, &format!("and {} more", grouped(more)));
+        let y = top + lines * LINE + SMALL;
+        canvas.text(MARGIN, y, SMALL, Anchor::Start, &format!("and {} more", grouped(more)));
+        return y + MARGIN / 2;
     }
-    if samples.is_empty() {
-        return top;
-    }
-    y + LINE
+    top + lines * LINE + MARGIN / 5
+}
+
+fn one(canvas: &mut Canvas, sample: &Sample, at: Rect) {
+    canvas.shape(sample.class, sample.fill, at);
+    let w = width(&sample.inside, SMALL);
+    canvas.ground(Rect { x: at.middle() - w / 2, y: at.y + GROUND, w, h: at.h - 2 * GROUND }, sample.fill);
+    let line = at.y + at.h / 2 + SMALL / 3;
+    canvas.text(at.middle(), line, SMALL, Anchor::Middle, &sample.inside);
+    canvas.text(at.right() + BESIDE, line, SMALL, Anchor::Start, &sample.meaning);
 }

@@ -3,6 +3,7 @@
 use super::bars::bars;
 use super::boxes::Boxes;
 use super::canvas::{Anchor, Canvas, MARGIN, NORMAL, SMALL};
+use super::grid::layers;
 use super::heading::{heading, legend};
 use super::layout::{Arc, Band, Layout};
 use super::refused::band;
@@ -12,8 +13,10 @@ use super::Drawn;
 /// Up to this many jobs each has a box with its name; above, the layers are bars.
 pub(super) const NAMED: usize = 200;
 
-/// The space for the labels of the layers.
+/// The space for the labels of the layers, and where their lines stand.
 const LABELS: i64 = 84;
+const LABEL_DOWN: i64 = 24;
+const LABEL_LINE: i64 = 15;
 
 /// The head of an arrow.
 const HEAD: i64 = 7;
@@ -25,11 +28,17 @@ pub(super) const ARROW: &str = "an arrow runs from a job to one that needs it";
 const LINES: [&str; 6] = ["#222222", "#8a1c1c", "#1c4f8a", "#1f6b2d", "#6b1f7a", "#7a5200"];
 
 /// What is on the sheet, in words.
-pub(super) fn summary(drawn: &Drawn, layers: usize) -> String {
-    let jobs = counted(drawn.nodes.len(), "job", "jobs");
-    let layers = counted(layers, "layer", "layers");
-    let refused = counted(drawn.refused.len(), "refused entry", "refused entries");
-    format!("{} in {}, {}", jobs, layers, refused)
+pub(super) fn summary(drawn: &Drawn) -> String {
+    let mut growers: Vec<u32> = drawn.nodes.iter().map(|node| node.grower).filter(|&grower| grower > 0).collect();
+    growers.sort_unstable();
+    growers.dedup();
+    format!(
+        "{} in {} for {}, {}",
+        counted(drawn.nodes.len(), "job", "jobs"),
+        counted(layers(&drawn.nodes).len(), "layer", "layers"),
+        counted(growers.len(), "grower", "growers"),
+        counted(drawn.refused.len(), "refused entry", "refused entries")
+    )
 }
 
 /// The sheet as SVG: up to 200 jobs in layers with names and arrows, above that the layers as bars.
@@ -39,18 +48,18 @@ pub fn svg(drawn: &Drawn) -> String {
     }
     let boxes = Boxes::of(drawn);
     let layout = Layout::of(&drawn.nodes, boxes.width, MARGIN + LABELS);
-    let summary = summary(drawn, layout.bands.len());
+    let summary = summary(drawn);
     let mut canvas = Canvas::new();
     let y = heading(&mut canvas, &drawn.title, &[format!("{}; {}", summary, ARROW)]);
     let y = legend(&mut canvas, &drawn.nodes, &boxes.growers, y, layout.right());
-    canvas.lower(y + MARGIN / 2, |canvas| layers(canvas, drawn, &boxes, &layout));
+    canvas.lower(y + MARGIN / 2, |canvas| graph(canvas, drawn, &boxes, &layout));
     let y = canvas.bottom();
     band(&mut canvas, &drawn.refused, y);
     canvas.finish(&plain(&drawn.title), &format!("Job sheet: {}; {}.", summary, ARROW))
 }
 
 /// Bands, arcs above them, and boxes above those.
-fn layers(canvas: &mut Canvas, drawn: &Drawn, boxes: &Boxes, layout: &Layout) {
+fn graph(canvas: &mut Canvas, drawn: &Drawn, boxes: &Boxes, layout: &Layout) {
     layout.bands.iter().for_each(|band| layer(canvas, band));
     layout.arcs.iter().for_each(|arc| arrow(canvas, drawn, arc));
     for (node, at) in drawn.nodes.iter().zip(&layout.boxes) {
@@ -60,10 +69,9 @@ fn layers(canvas: &mut Canvas, drawn: &Drawn, boxes: &Boxes, layout: &Layout) {
 
 fn layer(canvas: &mut Canvas, band: &Band) {
     canvas.rect(band.at, "rx=\"6\" fill=\"#efefef\"");
-    let middle = band.at.y + band.at.h / 2;
-    let jobs = counted(band.jobs, "job", "jobs");
-    canvas.text(MARGIN, middle - 2, NORMAL, Anchor::Start, &format!("depth {}", band.depth));
-    canvas.text(MARGIN, middle + NORMAL, SMALL, Anchor::Start, &jobs);
+    let y = band.at.y + LABEL_DOWN;
+    canvas.text(MARGIN, y, NORMAL, Anchor::Start, &format!("depth {}", band.depth));
+    canvas.text(MARGIN, y + LABEL_LINE, SMALL, Anchor::Start, &counted(band.jobs, "job", "jobs"));
 }
 
 /// A curve down from one point to another, which stays between their heights.

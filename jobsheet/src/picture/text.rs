@@ -72,9 +72,11 @@ pub(super) fn width(words: &str, size: i64) -> i64 {
     (hundredths * size + 99) / 100
 }
 
+/// Of DejaVu Sans, in hundredths of the size.
 fn hundredths(c: char) -> i64 {
     match c {
-        ' ' | '·' | ',' | '.' | ':' | 'i' | 'j' | 'l' | 't' | 'f' | 'r' | '(' | ')' => 42,
+        ' ' | '·' | ',' | '.' | ':' | ';' | 'i' | 'j' | 'l' => 34,
+        'f' | 'r' | 't' | '(' | ')' => 42,
         'm' | 'w' | 'M' | 'W' | '@' | '%' => 100,
         'A'..='Z' => 78,
         ' '..='~' => 64,
