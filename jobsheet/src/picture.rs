@@ -1,5 +1,27 @@
 //! What is drawn of a sheet and of its day.
 
+mod arcs;
+mod bars;
+mod boxes;
+mod canvas;
+mod day;
+mod dot;
+mod fill;
+mod grid;
+mod heading;
+mod layout;
+mod refused;
+mod shape;
+mod sheet;
+mod text;
+
+#[cfg(test)]
+mod tests;
+
+pub use day::day;
+pub use dot::dot;
+pub use sheet::svg;
+
 /// A job that the graph accepts, as it is drawn.
 #[derive(Clone, Debug, PartialEq, Eq)]
 pub struct Node {
