@@ -96,6 +96,7 @@ fn a_day_has_each_job_at_its_place_and_idle_places() {
     assert!(picture.contains("3 jobs in 2 rounds by 2 workers, 1 idle place<"));
     assert!(picture.contains(">a round is one job for each worker, however many minutes it takes<"));
     assert_eq!(picture.matches("stroke-dasharray").count(), 1);
+    assert_eq!(picture.matches(">idle<").count(), 1);
     for node in &drawn.nodes {
         assert_eq!(picture.matches(&format!(">{}</text>", node.name)).count(), 1);
     }
