@@ -6,7 +6,7 @@ use super::heading::{classes, heading, samples};
 use super::refused::band;
 use super::shape::{Rect, CLASSES};
 use super::sheet::summary;
-use super::text::{grouped, plain};
+use super::text::{grouped, titled};
 use super::{Drawn, Node};
 
 /// At most this many bars. With more layers a bar stands for several, since no fill can be seen in a thinner one.
@@ -63,7 +63,7 @@ pub(super) fn bars(drawn: &Drawn) -> String {
         one(&mut canvas, bar, most, y + STEP * place as i64);
     }
     band(&mut canvas, &drawn.refused, y + STEP * bars.len() as i64);
-    canvas.finish(&plain(&drawn.title), &format!("Job sheet as bars: {}.", lines.join("; ")))
+    canvas.finish(&titled(&drawn.title), &format!("Job sheet as bars: {}.", lines.join("; ")))
 }
 
 fn one(canvas: &mut Canvas, bar: &Bar, most: usize, y: i64) {

@@ -5,7 +5,7 @@ use super::canvas::{Anchor, Canvas, MARGIN, NORMAL, SMALL};
 use super::heading::{heading, legend};
 use super::refused::band;
 use super::shape::Rect;
-use super::text::{counted, plain};
+use super::text::{counted, titled};
 use super::{Drawn, Rounds};
 
 /// At most this many rounds and workers are drawn.
@@ -26,7 +26,7 @@ const APART: i64 = 8;
 const ROUND: &str = "a round is one job for each worker, however many minutes it takes";
 
 /// How an idle place looks.
-const IDLE: &str = "fill=\"#fff\" stroke=\"#8a8a8a\" stroke-dasharray=\"1 4\"";
+const IDLE: &str = "fill=\"#fff\" stroke=\"#6a6a6a\" stroke-dasharray=\"2 3\"";
 
 /// Which job each worker has in each round that is drawn. What names no worker and no job is left out.
 pub(super) fn cells(drawn: &Drawn, rounds: &Rounds, workers: usize) -> Vec<Vec<Option<usize>>> {
@@ -58,7 +58,7 @@ pub fn day(drawn: &Drawn, rounds: &Rounds, workers: u32) -> String {
         y = rounds_line(&mut canvas, drawn, &boxes, line, (place * in_line, y));
     }
     band(&mut canvas, &drawn.refused, y);
-    canvas.finish(&plain(&drawn.title), &format!("A day: {}.", lines.join("; ")))
+    canvas.finish(&titled(&drawn.title), &format!("A day: {}.", lines.join("; ")))
 }
 
 /// What the day shows, in words.
@@ -108,9 +108,14 @@ fn rounds_line(
         for (worker, cell) in cells.iter().enumerate() {
             match cell {
                 Some(place) => boxes.draw(canvas, &drawn.nodes[*place], x, lane(worker)),
-                None => canvas.rect(Rect { x, y: lane(worker), w: boxes.width, h: HEIGHT }, IDLE),
+                None => idle(canvas, Rect { x, y: lane(worker), w: boxes.width, h: HEIGHT }),
             }
         }
     }
     lane(workers) + MARGIN
+}
+
+fn idle(canvas: &mut Canvas, at: Rect) {
+    canvas.rect(at, IDLE);
+    canvas.text(at.middle(), at.y + HEIGHT / 2 + SMALL / 3, SMALL, Anchor::Middle, "idle");
 }

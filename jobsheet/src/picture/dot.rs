@@ -4,7 +4,7 @@ use super::fill::{colour, Growers};
 use super::grid::{arcs, layers};
 use super::refused::{name, why, SHOWN};
 use super::sheet::{summary, ARROW};
-use super::text::{grouped, plain};
+use super::text::{grouped, titled};
 use super::{Drawn, Node};
 use std::fmt::Write;
 
@@ -39,7 +39,7 @@ pub fn dot(drawn: &Drawn) -> String {
     let growers = Growers::of(&drawn.nodes);
     let mut out = String::from("digraph jobsheet {\n");
     let words = format!("{}; {}; c is the class, g the grower", summary(drawn), ARROW);
-    put(&mut out, format_args!("  label=\"{}\\n{}\";\n", quoted(&plain(&drawn.title)), words));
+    put(&mut out, format_args!("  label=\"{}\\n{}\";\n", quoted(&titled(&drawn.title)), words));
     out.push_str("  labelloc=t;\n  fontname=\"DejaVu Sans\";\n");
     out.push_str("  node [style=filled, fontname=\"DejaVu Sans\"];\n");
     for places in layers.values() {

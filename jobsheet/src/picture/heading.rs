@@ -3,7 +3,7 @@
 use super::canvas::{Anchor, Canvas, LARGE, MARGIN, NORMAL, SMALL};
 use super::fill::Growers;
 use super::shape::{Rect, CLASSES, END};
-use super::text::{counted, grouped, plain, width};
+use super::text::{counted, grouped, titled, width};
 use super::Node;
 use std::collections::BTreeMap;
 
@@ -30,7 +30,7 @@ pub(super) struct Sample {
 /// Writes title and lines and gives how far down they reach.
 pub(super) fn heading(canvas: &mut Canvas, title: &str, lines: &[String]) -> i64 {
     let mut y = MARGIN + LARGE;
-    canvas.text(MARGIN, y, LARGE, Anchor::Start, &plain(title));
+    canvas.text(MARGIN, y, LARGE, Anchor::Start, &titled(title));
     y += MARGIN / 4;
     for line in lines {
         y += LARGE;

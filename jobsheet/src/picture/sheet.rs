@@ -7,7 +7,7 @@ use super::grid::layers;
 use super::heading::{heading, legend};
 use super::layout::{Arc, Band, Layout};
 use super::refused::band;
-use super::text::{counted, plain};
+use super::text::{counted, titled};
 use super::Drawn;
 
 /// Up to this many jobs each has a box with its name; above, the layers are bars.
@@ -55,7 +55,7 @@ pub fn svg(drawn: &Drawn) -> String {
     canvas.lower(y + MARGIN / 2, |canvas| graph(canvas, drawn, &boxes, &layout));
     let y = canvas.bottom();
     band(&mut canvas, &drawn.refused, y);
-    canvas.finish(&plain(&drawn.title), &format!("Job sheet: {}; {}.", summary, ARROW))
+    canvas.finish(&titled(&drawn.title), &format!("Job sheet: {}; {}.", summary, ARROW))
 }
 
 /// Bands, arcs above them, and boxes above those.

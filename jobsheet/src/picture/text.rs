@@ -28,6 +28,15 @@ pub(super) fn plain(words: &str) -> String {
     seen
 }
 
+/// A stranger's title, or what it is if nothing of that can be seen.
+pub(super) fn titled(words: &str) -> String {
+    let seen = plain(words);
+    if seen.trim().is_empty() {
+        return "job sheet".to_string();
+    }
+    seen
+}
+
 /// Escaped for the text and the attributes of XML.
 pub(super) fn escaped(words: &str) -> String {
     let mut safe = String::with_capacity(words.len());

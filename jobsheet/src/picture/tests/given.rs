@@ -27,8 +27,8 @@ pub(super) fn add(nodes: &mut Vec<Node>, class: u32, grower: u32, mut needs: Vec
 /// A sheet of up to `most` jobs, wide or deep, with few arcs or many.
 pub(super) fn sheet(seed: u64, most: usize) -> Drawn {
     println!("seed {}", seed);
-    let mut random = Random(seed * 0x9e37_79b9_7f4a_7c15 + 1);
-    let (count, first, degree) = (random.below(most + 1), 1 + random.below(40), 1 + random.below(8));
+    let mut random = Random(seed.wrapping_mul(0x9e37_79b9_7f4a_7c15) | 1);
+    let (count, first, degree) = (random.below(most + 1), 1 + random.below(40), 1 + random.below(32));
     let mut nodes = Vec::new();
     for place in 0..count {
         let wanted = if place < first { 0 } else { random.below(degree + 1) };

@@ -5,7 +5,7 @@ use crate::picture::dot::{quoted, SHAPES};
 use crate::picture::fill::{drawn_over, paint, Growers, COLOURS, FILLS, INKS};
 use crate::picture::shape::{outline, Rect, CLASSES};
 use crate::picture::sheet::NAMED;
-use crate::picture::text::{escaped, grouped, plain, LONGEST};
+use crate::picture::text::{escaped, grouped, plain, titled, LONGEST};
 use crate::picture::*;
 
 /// How far the greys of two colours are apart, of 255.
@@ -62,7 +62,7 @@ fn growers_have_fills_of_their_own_and_only_the_network_is_white() {
     fills.dedup();
     assert_eq!(fills.len(), FILLS);
     assert_eq!(paint(growers.fill(0)), "#ffffff");
-    assert!((1..100).all(|place| growers.fill(place * 650) != 0));
+    assert!((1..100).all(|place| (1..FILLS).contains(&growers.fill(place * 650))));
 }
 
 #[test]
@@ -82,6 +82,7 @@ fn words_are_escaped_cut_and_without_control_characters() {
     assert_eq!(plain("a\u{0}\u{7f}\u{202e}b\n\t c\u{ffff}"), "ab c");
     assert_eq!(plain(&"é".repeat(1_000)).chars().count(), LONGEST + 1);
     assert_eq!(plain(&"é".repeat(LONGEST)).chars().count(), LONGEST);
+    assert_eq!([titled("\u{0} \u{200b}"), titled("a")], ["job sheet", "a"]);
     assert_eq!(quoted("a\\\"&lt;"), "a\\\\\\\"&amp;lt;");
     assert_eq!([1, 999, 1_000, 1_234_567].map(grouped), ["1", "999", "1,000", "1,234,567"]);
 }

@@ -5,7 +5,7 @@ use crate::picture::arcs::Ways;
 use crate::picture::boxes::Boxes;
 use crate::picture::grid::{arcs, fit, Grid};
 use crate::picture::layout::{Arc, Layout};
-use crate::picture::shape::Rect;
+use crate::picture::shape::{Rect, END};
 use crate::picture::sheet::NAMED;
 use crate::picture::*;
 
@@ -64,7 +64,7 @@ fn no_arc_passes_behind_a_box() {
         for arc in &layout.arcs {
             let (from, to) = (layout.boxes[arc.from], layout.boxes[arc.to]);
             assert_eq!(arc.start, (from.middle(), from.bottom()));
-            assert!(arc.end.1 == to.y && to.x < arc.end.0 && arc.end.0 < to.right());
+            assert!(arc.end.1 == to.y && to.x + END <= arc.end.0 && arc.end.0 <= to.right() - END);
             for point in points(arc) {
                 assert!(layout.boxes.iter().all(|at| !inside(at, point)), "{} to {}", arc.from, arc.to);
             }
@@ -72,20 +72,36 @@ fn no_arc_passes_behind_a_box() {
     }
 }
 
-#[test]
-fn arcs_of_different_jobs_share_no_lane_at_the_same_height() {
-    let mut pairs = 0;
-    for seed in 1..=SEEDS {
-        let layout = laid_out(&sheet(seed, 60));
-        let lanes: Vec<_> = layout.arcs.iter().filter_map(|arc| arc.lane.map(|lane| (arc.from, lane))).collect();
-        for (place, &(from, (x, top, bottom))) in lanes.iter().enumerate() {
-            for &(other, (other_x, other_top, other_bottom)) in &lanes[..place] {
-                pairs += 1;
-                assert!(from == other || x != other_x || bottom < other_top || other_bottom < top);
-            }
+/// How many pairs of lanes there are; a whole row lies between two in one place, else one would seem to go on as the
+/// other.
+fn lanes_apart(layout: &Layout) -> usize {
+    let lanes: Vec<_> = layout.arcs.iter().filter_map(|arc| arc.lane.map(|lane| (arc.from, lane))).collect();
+    let row_between = |from: i64, to: i64| layout.boxes.iter().any(|at| from <= at.y && at.bottom() <= to);
+    for (place, &(from, (x, top, bottom))) in lanes.iter().enumerate() {
+        for &(other, (_, other_top, other_bottom)) in lanes[..place].iter().filter(|lane| lane.1 .0 == x) {
+            let apart = row_between(bottom, other_top) || row_between(other_bottom, top);
+            assert!(from == other || apart, "{} and {}", from, other);
         }
     }
+    lanes.len() * lanes.len().saturating_sub(1) / 2
+}
+
+#[test]
+fn arcs_of_different_jobs_share_no_lane_at_the_same_height() {
+    let pairs: usize = (1..=SEEDS).map(|seed| lanes_apart(&laid_out(&sheet(seed, 60)))).sum();
     assert!(pairs > 1_000);
+    let mut chain = Vec::new();
+    for place in 0..40usize {
+        let needs = [1, 3].iter().filter_map(|&back| place.checked_sub(back)).collect();
+        add(&mut chain, 0, 0, needs);
+    }
+    assert!(lanes_apart(&Layout::of(&chain, 60, 0)) > 100);
+}
+
+#[test]
+fn arcs_are_those_between_jobs_that_there_are_each_once() {
+    let node = |needs| Node { name: 1, class: 0, grower: 0, depth: 1, needs };
+    assert_eq!(arcs(&[node(vec![]), node(vec![0, 0, 1, 2]), node(vec![1, 0, 1])]), [(0, 1), (2, 1), (0, 2), (1, 2)]);
 }
 
 #[test]

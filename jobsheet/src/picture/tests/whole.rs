@@ -2,12 +2,15 @@
 
 use super::given::{assert_sound, hostile, refusal, sheet, SEEDS};
 use crate::picture::bars::{cut, Bar, BARS};
+use crate::picture::boxes::Boxes;
 use crate::picture::day::cells;
+use crate::picture::layout::Layout;
 use crate::picture::sheet::NAMED;
 use crate::picture::*;
 
 #[test]
 fn every_name_is_drawn_once_and_every_arc() {
+    let mut arcs = 0;
     for seed in 1..=SEEDS {
         let drawn = sheet(seed, NAMED);
         let picture = svg(&drawn);
@@ -21,7 +24,9 @@ fn every_name_is_drawn_once_and_every_arc() {
         }
         assert_eq!(picture.matches(" needs 1").count(), wanted.len());
         assert!(wanted.iter().all(|words| picture.contains(&format!("<title>{}</title>", words))));
+        arcs += wanted.len();
     }
+    assert!(arcs > 1_000);
 }
 
 #[test]
@@ -37,6 +42,28 @@ fn refused_entries_are_marked_and_their_number_is_bounded() {
     assert!(dot(&drawn).contains("and 99,960 more refused") && dot(&drawn).len() < 10_000);
     drawn.refused = vec![Refused { entry: 12, name: None, why: "no name".to_string() }];
     assert!(svg(&drawn).contains("entry 12 refused: no name"));
+}
+
+/// The number that follows the words for the first time.
+fn number_after(picture: &str, words: &str) -> i64 {
+    let rest = &picture[picture.find(words).expect(words) + words.len()..];
+    rest.chars().take_while(char::is_ascii_digit).collect::<String>().parse().expect(words)
+}
+
+#[test]
+fn layers_are_within_the_picture_and_above_what_is_refused() {
+    for seed in 1..=SEEDS {
+        let mut drawn = sheet(seed, NAMED);
+        drawn.refused = vec![refusal(0, "why")];
+        let picture = svg(&drawn);
+        let layout = Layout::of(&drawn.nodes, Boxes::of(&drawn).width, 0);
+        let bottom = layout.bands.iter().map(|band| band.at.bottom()).max().unwrap_or(0);
+        let end = number_after(&picture, "translate(0 ") + bottom;
+        let heading = picture.lines().find(|line| line.ends_with("1 entry refused</text>")).expect("a heading");
+        assert!(end < number_after(heading, " y=\""));
+        assert!(number_after(heading, " y=\"") < number_after(&picture, " height=\""));
+        assert!(layout.right() <= number_after(&picture, " width=\""));
+    }
 }
 
 #[test]
@@ -69,10 +96,14 @@ fn a_day_has_each_job_at_its_place_and_idle_places() {
     assert!(picture.contains("3 jobs in 2 rounds by 2 workers, 1 idle place<"));
     assert!(picture.contains(">a round is one job for each worker, however many minutes it takes<"));
     assert_eq!(picture.matches("stroke-dasharray").count(), 1);
+    assert_eq!(picture.matches(">idle<").count(), 1);
     for node in &drawn.nodes {
         assert_eq!(picture.matches(&format!(">{}</text>", node.name)).count(), 1);
     }
     assert!(day(&drawn, &rounds[..1].to_vec(), 2).contains("1 job of the sheet in none of the rounds"));
+    let long = vec![vec![(0, 0)]; 300];
+    assert_eq!(cells(&drawn, &long, 2).len(), 256);
+    assert!(day(&drawn, &long, 2).contains(">44 more rounds not drawn<"));
 }
 
 #[test]
@@ -98,11 +129,16 @@ fn the_same_sheet_gives_the_same_picture() {
 
 #[test]
 fn dot_has_every_job_and_arc() {
-    let drawn = sheet(4, 4_096);
-    let graph = dot(&drawn);
-    let needs: usize = drawn.nodes.iter().map(|node| node.needs.len()).sum();
-    assert_eq!(graph.matches(" -> ").count(), needs);
-    assert_eq!(graph.matches("fillcolor").count(), drawn.nodes.len());
-    let deepest = drawn.nodes.iter().map(|node| node.depth).max().unwrap_or(0);
-    assert_eq!(graph.matches("rank=same").count(), deepest);
+    let mut arcs = 0;
+    for seed in 1..=SEEDS {
+        let drawn = sheet(seed, 400);
+        let graph = dot(&drawn);
+        let needs: usize = drawn.nodes.iter().map(|node| node.needs.len()).sum();
+        assert_eq!(graph.matches(" -> ").count(), needs);
+        assert_eq!(graph.matches("fillcolor").count(), drawn.nodes.len());
+        let deepest = drawn.nodes.iter().map(|node| node.depth).max().unwrap_or(0);
+        assert_eq!(graph.matches("rank=same").count(), deepest);
+        arcs += needs;
+    }
+    assert!(arcs > 1_000);
 }
