@@ -6,6 +6,8 @@ mod draw;
 mod pack;
 mod show;
 
+use std::collections::HashMap;
+
 use taskgraph::Sizes;
 
 use crate::{
@@ -77,12 +79,15 @@ fn cannot(source: &Source, mut faults: Vec<Fault>, done: &str) -> Verdict {
     Verdict::Fault
 }
 
-/// What is drawn of a judged sheet.
+/// What is drawn of a judged sheet. Of an entry that is refused, the first of its faults is told.
 fn drawn(source: &Source, judged: Judged) -> Drawn {
+    let mut whys: HashMap<usize, &Fault> = HashMap::new();
+    for (fault, entry) in judged.faults.iter().filter_map(|fault| Some((fault, fault.entry?))) {
+        whys.entry(entry).or_insert(fault);
+    }
     let entries = source.sheet.entries.iter().zip(&judged.answers).enumerate();
     let refused = entries.filter(|(_, (_, answer))| **answer != Some(Ok(()))).map(|(number, (entry, _))| {
-        let why = judged.faults.iter().find(|fault| fault.entry == Some(number));
-        let why = why.map_or_else(String::new, |fault| fault.kind.what());
+        let why = whys.get(&number).map_or_else(String::new, |fault| fault.kind.what());
         Refused { entry: number, name: entry.name, why }
     });
     let refused = refused.collect();

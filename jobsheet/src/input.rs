@@ -50,6 +50,7 @@ pub fn take(file: &Option<OsString>, from: Option<Form>, progress: &Progress) ->
         _ => {
             if Stream::Input.is_terminal() {
                 tell("jobsheet: the sheet is read from here; Ctrl-D ends it");
+                progress.begin(Stage::Typing);
             }
             let name = "standard input".to_string();
             let content = contents(io::stdin().lock(), &name, progress)?;
@@ -77,19 +78,20 @@ fn cannot(name: &str, error: &io::Error) -> Stop {
     Stop(format!("{name} cannot be read: {error}"))
 }
 
-/// All of a file, if it is not too long. Of one that is, no more than that is read.
+/// All of a file, if it is not too long. Of one that is, little more than that is read. The first read that gives
+/// nothing ends it: a terminal would wait for another.
 fn contents(mut from: impl Read, name: &str, progress: &Progress) -> Result<Vec<u8>, Stop> {
-    let mut content = Vec::new();
+    let (mut content, mut part) = (Vec::new(), vec![0; PART]);
     loop {
-        let before = content.len();
-        let part = from.by_ref().take(PART as u64).read_to_end(&mut content);
-        part.map_err(|error| cannot(name, &error))?;
+        match from.read(&mut part) {
+            Ok(0) => return Ok(content),
+            Ok(length) => content.extend_from_slice(&part[..length]),
+            Err(error) if error.kind() == ErrorKind::Interrupted => {}
+            Err(error) => return Err(cannot(name, &error)),
+        }
         progress.at(content.len());
         if content.len() > MOST_BYTES {
             return Err(too_long(name));
-        }
-        if content.len() == before {
-            return Ok(content);
         }
     }
 }

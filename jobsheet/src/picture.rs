@@ -61,16 +61,3 @@ pub struct Drawn {
 
 /// A day of rounds: in each round, which worker works on which of the nodes, workers rising.
 pub type Rounds = Vec<Vec<(u32, usize)>>;
-
-/// Placeholder until the picture module lands.
-pub fn svg(_: &Drawn) -> String {
-    String::new()
-}
-/// Placeholder.
-pub fn dot(_: &Drawn) -> String {
-    String::new()
-}
-/// Placeholder.
-pub fn day(_: &Drawn, _: &Rounds, _: u32) -> String {
-    String::new()
-}

@@ -86,19 +86,21 @@ struct State {
     ended: AtomicBool,
 }
 
-/// What is counted, in the order of the work.
-const STAGES: [&str; 3] = ["bytes read", "entries judged", "jobs drawn"];
-
 /// A part of the work.
 #[derive(Clone, Copy, Debug, PartialEq, Eq)]
 pub enum Stage {
+    /// A person types a sheet, and is not to be disturbed.
+    Typing = 0,
     /// A file is read.
-    Reading = 0,
+    Reading = 1,
     /// Its entries are added to a graph.
-    Judging = 1,
+    Judging = 2,
     /// A picture is made.
-    Drawing = 2,
+    Drawing = 3,
 }
+
+/// What is counted in each part of the work.
+const COUNTED: [&str; 4] = ["", "bytes read", "entries judged", "jobs drawn"];
 
 impl Progress {
     /// Progress that nobody sees.
@@ -144,9 +146,11 @@ fn show(state: &State) {
     thread::park_timeout(SILENCE);
     let mut written = false;
     while !state.ended.load(Relaxed) {
-        let stage = STAGES[state.stage.load(Relaxed)];
-        say(&format!("\r\x1b[Kjobsheet: {} {stage}", grouped(state.done.load(Relaxed) as u64)));
-        written = true;
+        let counted = COUNTED[state.stage.load(Relaxed)];
+        if !counted.is_empty() {
+            say(&format!("\r\x1b[Kjobsheet: {} {counted}", grouped(state.done.load(Relaxed) as u64)));
+            written = true;
+        }
         thread::park_timeout(AGAIN);
     }
     if written {

@@ -19,7 +19,7 @@ use crate::{
     number::{counted, grouped},
     output::Output,
     picture::{self, Rounds},
-    terminal::{painted, Paint, Progress, Stage, Stream},
+    terminal::{painted, tell, Paint, Progress, Stage, Stream},
 };
 
 /// The sizes of the day list's graph; the adds are one worker's.
@@ -38,7 +38,9 @@ pub(super) fn run(arguments: &Arguments, source: Source, progress: Progress) -> 
     };
     if sheet.len() > MAX_DAY_SHEET {
         let [has, most] = [sheet.len(), MAX_DAY_SHEET].map(|bytes| grouped(bytes as u64));
-        return Err(Stop(format!("{} has {has} bytes when packed; the day list takes {most}", source.name)));
+        drop(progress);
+        tell(&format!("jobsheet: {} has {has} bytes when packed; the day list takes {most}", source.name));
+        return Ok(Verdict::Fault);
     }
     let day = Day::of(&sheet, arguments.sizes.workers);
     let picture = match arguments.to {
