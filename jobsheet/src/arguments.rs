@@ -49,9 +49,9 @@ impl Command {
         match self {
             Command::Pack => &[],
             Command::Show => &["--csv", "--json"],
-            Command::Check => &["--json", "--jobs", "--arcs"],
-            Command::Draw => &["--dot"],
-            Command::Run => &["--json", "--svg", "--workers"],
+            Command::Check => &["--json", "--after", "--jobs", "--arcs"],
+            Command::Draw => &["--dot", "--after"],
+            Command::Run => &["--json", "--svg", "--after", "--workers"],
         }
     }
 }
@@ -74,6 +74,8 @@ pub enum To {
 pub struct Arguments {
     /// The file, or standard input.
     pub file: Option<OsString>,
+    /// Sheets whose jobs are there before.
+    pub after: Vec<OsString>,
     /// The form of the file, where it is said.
     pub from: Option<Form>,
     /// The form of the answer, where it is not the command's own.
@@ -122,7 +124,8 @@ pub fn parse(words: impl IntoIterator<Item = OsString>) -> Result<Asked, Stop> {
 }
 
 fn nothing_said() -> Arguments {
-    Arguments { file: None, from: None, to: None, out: None, sizes: Sizes { workers: WORKERS, ..LARGEST } }
+    let sizes = Sizes { workers: WORKERS, ..LARGEST };
+    Arguments { file: None, after: Vec::new(), from: None, to: None, out: None, sizes }
 }
 
 struct Reader {
@@ -199,6 +202,7 @@ impl Reader {
                 Some(form) => self.arguments.from = Some(form),
                 None => return self.wrong(format!("--from takes bytes, text or csv, and not {}", shown_name(&value))),
             },
+            "--after" => self.arguments.after.push(value),
             "--workers" => self.arguments.sizes.workers = self.number(name, &value, 1, MAX_WORKERS)?,
             "--jobs" => self.arguments.sizes.jobs = self.number(name, &value, 1, MAX_JOBS)?,
             "--arcs" => self.arguments.sizes.arcs = self.number(name, &value, 0, MAX_ARCS)?,

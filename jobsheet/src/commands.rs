@@ -8,7 +8,7 @@ mod show;
 
 use std::collections::HashMap;
 
-use taskgraph::Sizes;
+use taskgraph::{Job, Sizes};
 
 use crate::{
     arguments::{Arguments, Command},
@@ -46,20 +46,32 @@ impl Verdict {
 /// Where there is no answer.
 pub fn run(command: Command, arguments: &Arguments) -> Result<Verdict, Stop> {
     let progress = Progress::shown();
+    let before = before(arguments, &progress)?;
     let source = input::take(&arguments.file, arguments.from, &progress)?;
     match command {
         Command::Pack => pack::run(arguments, source, progress),
         Command::Show => show::run(arguments, source, progress),
-        Command::Check => check::run(arguments, source, progress),
-        Command::Draw => draw::run(arguments, source, progress),
-        Command::Run => day::run(arguments, source, progress),
+        Command::Check => check::run(arguments, source, &before, progress),
+        Command::Draw => draw::run(arguments, source, &before, progress),
+        Command::Run => day::run(arguments, source, &before, progress),
     }
 }
 
+/// The jobs that are there before, of sheets that must be readable.
+fn before(arguments: &Arguments, progress: &Progress) -> Result<Vec<Job>, Stop> {
+    let mut jobs = Vec::new();
+    for file in &arguments.after {
+        let Source { name, sheet } = input::take(&Some(file.clone()), None, progress)?;
+        let more = sheet.packed().and_then(|_| sheet.jobs());
+        jobs.extend(more.ok_or_else(|| Stop(format!("{name} is broken; jobsheet check says where")))?);
+    }
+    Ok(jobs)
+}
+
 /// The sheet judged by a graph of these sizes; the command line has seen to it that they are within their limits.
-fn judged(sheet: &Sheet, sizes: Sizes, progress: &Progress) -> Result<Judged, Stop> {
+fn judged(sheet: &Sheet, before: &[Job], sizes: Sizes, progress: &Progress) -> Result<Judged, Stop> {
     progress.begin(Stage::Judging);
-    judge(sheet, sizes, progress).map_err(|refusal| Stop(format!("no graph can be made: {refusal}")))
+    judge(sheet, before, sizes, progress).map_err(|refusal| Stop(format!("no graph can be made: {refusal}")))
 }
 
 /// Tells faults beside an answer that is something else.

@@ -14,7 +14,7 @@ pub struct Worked {
 /// A day.
 #[derive(Clone, Debug, Default, PartialEq, Eq)]
 pub struct Day {
-    /// The entries that are refused, and by which numbers.
+    /// The entries that are refused, and by which numbers; those of jobs that are there before are not told.
     pub refused: Vec<(usize, u32)>,
     /// The jobs that entered.
     pub jobs: usize,
@@ -27,17 +27,20 @@ pub struct Day {
 }
 
 impl Day {
-    /// The day of a packed sheet that can be read, with 1 to 16 workers.
+    /// The day of a packed sheet that can be read, with 1 to 16 workers. Its first entries, so many, are of jobs that are
+    /// there before, and are not counted among its own.
     ///
     /// # Panics
     /// Where there are more or fewer; and where the day list is not as `docs/RULES.md` has it ("The board and the day
     /// list"), which is proved.
-    pub fn of(sheet: &[u8], workers: u32) -> Day {
+    pub fn of(sheet: &[u8], before: usize, workers: u32) -> Day {
         let list = day_list(sheet, workers).expect("there are 1 to 16 workers");
         let mut day = Day::default();
         for line in list.lines() {
             day.take(line).expect("a line of the day list");
         }
+        day.refused.retain(|(entry, _)| *entry >= before);
+        day.refused.iter_mut().for_each(|(entry, _)| *entry -= before);
         day
     }
 

@@ -146,8 +146,8 @@ pub enum Kind {
     NameTwice(u32),
     /// The job's name, and a name in its list that no job has (6).
     UnknownName(u32, u32, Elsewhere),
-    /// The name has a job already, of this entry (7).
-    NamePresent(u32, Other),
+    /// The name has a job already, of this entry, or one that was there before (7).
+    NamePresent(u32, Option<Other>),
     /// As many jobs as the graph takes are there (8).
     NoRoomForJob(u32),
     /// So many arcs are needed, so many left, of so many (8).
@@ -216,7 +216,10 @@ impl Kind {
             Kind::OwnName => "it needs itself.".into(),
             Kind::NameTwice(name) => format!("it lists job {name} twice."),
             Kind::UnknownName(_, name, place) => unknown_name(*name, *place),
-            Kind::NamePresent(name, other) => format!("the name {name} is taken by {other}."),
+            Kind::NamePresent(name, Some(other)) => format!("the name {name} is taken by {other}."),
+            Kind::NamePresent(name, None) => {
+                format!("the name {name} is taken by a job that is there before this sheet.")
+            }
             Kind::NoRoomForJob(jobs) => {
                 format!("there is no room for it: the graph takes {}.", counted(*jobs as usize, "job"))
             }
@@ -290,9 +293,10 @@ fn unknown_name(name: u32, place: Elsewhere) -> String {
 
 fn find_name(own: u32, name: u32, place: Elsewhere) -> String {
     match place {
-        Elsewhere::Nowhere => {
-            format!("No entry has that name: write one for job {name} before job {own}, or remove it from the list.")
-        }
+        Elsewhere::Nowhere => format!(
+            "No entry has that name: write one for job {name} before job {own}, name a sheet that has it with --after, or \
+             remove it from the list."
+        ),
         Elsewhere::Later(other) => format!(
             "Entries are added in order: put job {name}, {other}, before job {own}, or remove it from the list."
         ),

@@ -15,7 +15,7 @@ use crate::{
     Form, Sheet,
 };
 
-/// The longest file that is read, in bytes: twice the longest that says all that a graph can take, in any form.
+/// The longest file that is read, in bytes: twice the longest plain text of which the largest graph takes every entry.
 pub const MOST_BYTES: usize = 1 << 20;
 
 /// How much is read at a time.

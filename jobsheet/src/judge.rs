@@ -1,10 +1,10 @@
-//! A sheet judged: its jobs added to a fresh graph of the library, and the words for what that refuses.
+//! A sheet judged: its jobs added to a graph of the library, and the words for what that refuses.
 
 use std::collections::{HashMap, HashSet};
 
 use taskgraph::{
     raw::{MAX_ARCS, MAX_BITS, MAX_ENTRIES, MAX_JOBS, MAX_NAMES},
-    Graph, Job, Refusal, Sizes, TaskGraph, Totals,
+    Graph, Job, Refusal, Sizes, Sum, TaskGraph,
 };
 
 use crate::{
@@ -20,17 +20,19 @@ use crate::{
 /// The sizes of the largest graph, with one worker.
 pub const LARGEST: Sizes = Sizes { jobs: MAX_JOBS, arcs: MAX_ARCS, bits: MAX_BITS, workers: 1 };
 
-/// What a fresh graph makes of a sheet.
+/// What a graph makes of a sheet.
 #[derive(Clone, Debug)]
 pub struct Judged {
     /// How the add of each entry ended; nothing of entries that cannot be read.
     pub answers: Vec<Option<Result<(), Refusal>>>,
-    /// The jobs that entered, in order.
+    /// The jobs that entered, in order: those that were there before, and then the sheet's.
     pub nodes: Vec<Node>,
+    /// How many of them were there before.
+    pub before: usize,
     /// All that is wrong, in the order of the file.
     pub faults: Vec<Fault>,
-    /// The board over the graph.
-    pub totals: Totals,
+    /// The sheet's jobs that entered, and their minutes, as the board counts them.
+    pub sum: Sum,
 }
 
 impl Judged {
@@ -38,26 +40,40 @@ impl Judged {
     pub fn refused(&self) -> usize {
         self.answers.iter().filter(|answer| **answer != Some(Ok(()))).count()
     }
+
+    /// The sheet's own jobs that entered.
+    pub fn own(&self) -> &[Node] {
+        &self.nodes[self.before..]
+    }
 }
 
-/// Adds the jobs of a sheet to a fresh graph.
+/// Adds the jobs of a sheet to a graph that has been given the jobs of `before`, and nothing else.
 ///
 /// # Errors
 /// [`Refusal::Size`] where a size is off its limits.
-pub fn judge(sheet: &Sheet, sizes: Sizes, progress: &Progress) -> Result<Judged, Refusal> {
+pub fn judge(sheet: &Sheet, before: &[Job], sizes: Sizes, progress: &Progress) -> Result<Judged, Refusal> {
     let mut graph = Graph::create(sizes)?;
+    let mut book = Book::new(sheet, sizes);
+    for (job, answer) in before.iter().zip(graph.add_all(0, before)?) {
+        if answer.is_ok() {
+            book.enter(None, job);
+        }
+    }
+    let first = graph.totals()?.unexecuted;
+    let before = book.nodes.len();
     let answers = add_all(&mut graph, sheet, progress)?;
     let mut faults = sheet.faults.clone();
-    let mut book = Book::new(sheet, sizes);
     for (number, (entry, answer)) in sheet.entries.iter().zip(&answers).enumerate() {
         match (&entry.job, answer) {
-            (Some(job), Some(Ok(()))) => book.enter(number, job),
+            (Some(job), Some(Ok(()))) => book.enter(Some(number), job),
             (Some(job), Some(Err(refusal))) => faults.extend(book.explain(number, entry, job, *refusal)),
             _ => {}
         }
     }
     faults.sort_by_key(|fault| fault.at);
-    Ok(Judged { answers, nodes: book.nodes, faults, totals: graph.totals()? })
+    let last = graph.totals()?.unexecuted;
+    let sum = Sum { jobs: last.jobs - first.jobs, minutes: last.minutes - first.minutes };
+    Ok(Judged { answers, nodes: book.nodes, before, faults, sum })
 }
 
 /// How the add of each entry ended; those that cannot be read are passed over.
@@ -78,8 +94,8 @@ struct Book<'a> {
     sizes: Sizes,
     nodes: Vec<Node>,
     arcs: usize,
-    /// The node of each name that has entered, and its entry.
-    entered: HashMap<u32, (usize, usize)>,
+    /// The node of each name that has entered, and its entry, if it was not there before.
+    entered: HashMap<u32, (usize, Option<usize>)>,
     /// The last entry of each name, whether or not it enters.
     written: HashMap<u32, usize>,
     /// The circle of each entry.
@@ -94,7 +110,7 @@ impl<'a> Book<'a> {
         Book { sheet, sizes, nodes: Vec::new(), arcs: 0, entered: HashMap::new(), written, circle }
     }
 
-    fn enter(&mut self, number: usize, job: &Job) {
+    fn enter(&mut self, number: Option<usize>, job: &Job) {
         let needs: Vec<usize> = job.prerequisites.iter().filter_map(|name| Some(self.entered.get(name)?.0)).collect();
         let depth = needs.iter().map(|node| self.nodes[*node].depth).max().unwrap_or(0) + 1;
         self.entered.insert(job.name, (self.nodes.len(), number));
@@ -142,7 +158,8 @@ impl<'a> Book<'a> {
             }
         }
         if let Some((_, first)) = self.entered.get(&job.name) {
-            wrong.push((entry.at.name, Kind::NamePresent(job.name, self.other(*first))));
+            let first = first.map(|entry| self.other(entry));
+            wrong.push((entry.at.name, Kind::NamePresent(job.name, first)));
         }
     }
 

@@ -38,18 +38,18 @@ pub struct Summary {
 }
 
 impl Summary {
-    /// What the accepted jobs come to.
+    /// What the sheet's accepted jobs come to. A chain, and what is waited for, may lead to jobs that were there before.
     pub fn of(judged: &Judged) -> Summary {
-        let nodes = &judged.nodes;
-        let chain = longest_chain(nodes);
+        let (nodes, own) = (&judged.nodes, judged.own());
+        let chain = longest_chain(judged);
         Summary {
-            jobs: judged.totals.unexecuted.jobs,
-            arcs: nodes.iter().map(|node| node.needs.len()).sum(),
-            classes: classes(nodes),
-            minutes: judged.totals.unexecuted.minutes,
+            jobs: judged.sum.jobs,
+            arcs: own.iter().map(|node| node.needs.len()).sum(),
+            classes: classes(own),
+            minutes: judged.sum.minutes,
             chain_minutes: chain.iter().map(|place| minutes(nodes[*place].class)).sum(),
             chain: chain.into_iter().map(|place| nodes[place].name).collect(),
-            waits: waits(nodes),
+            waits: waits(judged),
         }
     }
 }
@@ -66,10 +66,11 @@ fn classes(nodes: &[Node]) -> BTreeMap<u32, OfClass> {
 
 /// The places of a longest chain, prerequisites first: that of the first job of the greatest depth, back along the first
 /// in each list that is a level less deep.
-fn longest_chain(nodes: &[Node]) -> Vec<usize> {
-    let deepest = nodes.iter().map(|node| node.depth).max().unwrap_or(0);
+fn longest_chain(judged: &Judged) -> Vec<usize> {
+    let (nodes, own) = (&judged.nodes, judged.own());
+    let deepest = own.iter().map(|node| node.depth).max().unwrap_or(0);
     let mut chain = Vec::new();
-    let mut next = nodes.iter().position(|node| node.depth == deepest);
+    let mut next = own.iter().position(|node| node.depth == deepest).map(|place| judged.before + place);
     while let Some(place) = next {
         chain.push(place);
         let node = &nodes[place];
@@ -79,11 +80,11 @@ fn longest_chain(nodes: &[Node]) -> Vec<usize> {
     chain
 }
 
-fn waits(nodes: &[Node]) -> BTreeMap<(u32, u32), Waits> {
+fn waits(judged: &Judged) -> BTreeMap<(u32, u32), Waits> {
     let mut waits: BTreeMap<(u32, u32), Waits> = BTreeMap::new();
-    for node in nodes {
+    for node in judged.own() {
         let mut needed: BTreeMap<u32, Vec<u32>> = BTreeMap::new();
-        for other in node.needs.iter().map(|place| &nodes[*place]) {
+        for other in node.needs.iter().map(|place| &judged.nodes[*place]) {
             needed.entry(other.grower).or_default().push(other.name);
         }
         for (grower, names) in needed {

@@ -220,8 +220,12 @@ fn plain_spellings(jobs: &[Job]) {
     assert!(tidy, "{text:?}");
 }
 
+fn judged_after(before: &[Job], sheet: &Sheet, sizes: Sizes) -> Judged {
+    judge(sheet, before, sizes, &Progress::silent()).expect("the sizes are within their limits")
+}
+
 fn judged(sheet: &Sheet, sizes: Sizes) -> Judged {
-    judge(sheet, sizes, &Progress::silent()).expect("the sizes are within their limits")
+    judged_after(&[], sheet, sizes)
 }
 
 /// The faults of an entry.
@@ -239,20 +243,22 @@ fn what_is_accepted_is_what_the_graph_accepts() {
             0 => Sizes { jobs: 1 + random.below(40) as u32, arcs: random.below(60) as u32, ..LARGEST },
             _ => LARGEST,
         };
+        let (before, own) = jobs.split_at(if random.once_in(3) { random.below(count) } else { 0 });
         let mut graph = Graph::create(sizes).expect("the sizes are within their limits");
-        let answers = graph.add_all(0, &jobs).expect("the worker is idle");
-        let text = any_text(random, &jobs);
+        let [all, answers] = [before, own].map(|part| graph.add_all(0, part).expect("the worker is idle"));
+        let text = any_text(random, own);
         let sheet = text::read(text.as_bytes());
-        assert_eq!(jobs_of(&sheet, &text), jobs);
-        let judged = judged(&sheet, sizes);
+        assert_eq!(jobs_of(&sheet, &text), own);
+        let judged = judged_after(before, &sheet, sizes);
         assert_eq!(judged.answers, answers.iter().copied().map(Some).collect::<Vec<_>>());
-        assert_eq!(judged.totals, graph.totals().expect("the graph is not damaged"));
         for (entry, answer) in answers.iter().enumerate() {
             let faults = faults_of(&judged, entry);
             told_as_answered(&faults, answer, &sheet, entry);
             met[answer.map_or_else(Refusal::number, |()| 0) as usize] += 1;
         }
-        sums_are_right(&jobs, &answers, &judged);
+        let board = graph.totals().expect("the graph is not damaged").unexecuted;
+        assert_eq!(judged.nodes.len(), board.jobs as usize);
+        sums_are_right(&jobs, &[all, answers].concat(), &judged);
         drawn_without_a_panic(&judged);
     });
     println!("answers met: {met:?}");
@@ -277,10 +283,11 @@ fn told_as_answered(faults: &[&Fault], answer: &Result<(), Refusal>, sheet: &She
     }
 }
 
-/// Depths, arcs, chain and waits, counted anew from the jobs that were accepted.
+/// Depths, arcs, chain and waits, counted anew from the jobs that were accepted, those that were there before first.
 fn sums_are_right(jobs: &[Job], answers: &[Result<(), Refusal>], judged: &Judged) {
-    let accepted: Vec<&Job> =
-        jobs.iter().zip(answers).filter(|(_, answer)| answer.is_ok()).map(|(job, _)| job).collect();
+    let accepted = jobs.iter().zip(answers).filter(|(_, answer)| answer.is_ok()).map(|(job, _)| job);
+    let accepted: Vec<&Job> = accepted.collect();
+    let own = &accepted[judged.before..];
     let summary = Summary::of(judged);
     let find = |name: u32| accepted.iter().position(|job| job.name == name).expect("a prerequisite has entered");
     let mut depths: Vec<usize> = Vec::new();
@@ -289,20 +296,19 @@ fn sums_are_right(jobs: &[Job], answers: &[Result<(), Refusal>], judged: &Judged
     }
     assert_eq!(judged.nodes.iter().map(|node| node.depth).collect::<Vec<_>>(), depths);
     assert_eq!(judged.nodes.iter().map(|node| node.name).collect::<Vec<_>>(), names(&accepted));
-    assert_eq!(summary.jobs as usize, accepted.len());
-    assert_eq!(summary.arcs, accepted.iter().map(|job| job.prerequisites.len()).sum::<usize>());
-    let of_classes = (0..16).map(|class| (class, accepted.iter().filter(|job| job.class == class).count()));
-    let by_class: u32 = of_classes.map(|(class, jobs)| taskgraph::minutes(class) * jobs as u32).sum();
+    assert_eq!(summary.jobs as usize, own.len());
+    assert_eq!(summary.arcs, own.iter().map(|job| job.prerequisites.len()).sum::<usize>());
+    let by_class: u32 = own.iter().map(|job| taskgraph::minutes(job.class)).sum();
     assert_eq!(summary.minutes, by_class);
     assert_eq!(summary.classes.values().map(|class| class.minutes).sum::<u32>(), by_class);
-    assert_eq!(summary.chain.len(), depths.iter().copied().max().unwrap_or(0));
+    assert_eq!(summary.chain.len(), depths[judged.before..].iter().copied().max().unwrap_or(0));
     for pair in summary.chain.windows(2) {
         assert!(accepted[find(pair[1])].prerequisites.contains(&pair[0]));
     }
     let mut arcs = 0;
     for ((grower, other), waits) in &summary.waits {
         for (name, needed) in waits {
-            assert_eq!(accepted[find(*name)].grower, *grower);
+            assert!(own.iter().any(|job| job.name == *name && job.grower == *grower));
             assert!(needed.iter().all(|name| accepted[find(*name)].grower == *other));
             arcs += needed.len();
         }
@@ -360,7 +366,7 @@ fn days_are_those_of_the_day_list() {
         jobs.retain(|job| job.class < 16 && job.grower < 65_536 && job.prerequisites.len() <= 32);
         let workers = 1 + random.below(16) as u32;
         let sheet = write_sheet(&jobs).expect("the values are on their limits");
-        let day = Day::of(&sheet, workers);
+        let day = Day::of(&sheet, 0, workers);
         assert_eq!(taskgraph::day_list(&sheet, workers).expect("1 to 16 workers"), told(&day));
         let judged = judged(&bytes::read(&sheet), day_sizes);
         let numbers = judged.answers.iter().map(|answer| answer.expect("it can be read")).enumerate();

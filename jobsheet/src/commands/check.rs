@@ -2,7 +2,7 @@
 
 use std::io::{self, Write};
 
-use taskgraph::{Refusal, Sizes};
+use taskgraph::{Job, Refusal, Sizes};
 
 use super::{judged, Verdict};
 use crate::{
@@ -20,9 +20,9 @@ use crate::{
 /// How many are shown at each end of a long list.
 const SHOWN: usize = 6;
 
-pub(super) fn run(arguments: &Arguments, source: Source, progress: Progress) -> Result<Verdict, Stop> {
+pub(super) fn run(arguments: &Arguments, source: Source, before: &[Job], progress: Progress) -> Result<Verdict, Stop> {
     let sizes = Sizes { workers: 1, ..arguments.sizes };
-    let judged = judged(&source.sheet, sizes, &progress)?;
+    let judged = judged(&source.sheet, before, sizes, &progress)?;
     drop(progress);
     let packs = source.sheet.packed().is_some();
     let answer = Answer { summary: Summary::of(&judged), packs, source, judged };
@@ -63,7 +63,7 @@ impl Answer {
             return format!("{start}, all accepted");
         }
         let end = match sheet.form {
-            _ if self.packs && self.judged.nodes.is_empty() => "a host adds nothing of it",
+            _ if self.packs && self.judged.own().is_empty() => "a host adds nothing of it",
             _ if self.packs => "a host adds the others",
             Form::Bytes => "it is broken, and a host adds nothing of it",
             Form::Text | Form::Csv => "it cannot be packed",

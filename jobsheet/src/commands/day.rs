@@ -7,7 +7,7 @@ use std::{
 
 use taskgraph::{
     raw::{DAY_ARCS, DAY_BITS, DAY_JOBS, MAX_DAY_SHEET},
-    Sizes,
+    write_sheet, Job, Sizes,
 };
 
 use super::{cannot, drawn, judged, tell_faults, Verdict};
@@ -18,39 +18,28 @@ use crate::{
     json::{Document, Json},
     number::{counted, grouped},
     output::Output,
-    picture::{self, Rounds},
+    picture::{self, Drawn, Rounds},
     terminal::{painted, tell, Paint, Progress, Stage, Stream},
 };
 
 /// The sizes of the day list's graph; the adds are one worker's.
 const SIZES: Sizes = Sizes { jobs: DAY_JOBS as u32, arcs: DAY_ARCS, bits: DAY_BITS, workers: 1 };
 
-pub(super) fn run(arguments: &Arguments, source: Source, progress: Progress) -> Result<Verdict, Stop> {
-    let judged = judged(&source.sheet, SIZES, &progress)?;
+pub(super) fn run(arguments: &Arguments, source: Source, before: &[Job], progress: Progress) -> Result<Verdict, Stop> {
+    let judged = judged(&source.sheet, before, SIZES, &progress)?;
     progress.begin(Stage::Drawing);
     let faults = judged.faults.clone();
-    let sheet = match source.sheet.packed() {
+    let sheet = match packed(&source, before) {
         Some(sheet) => sheet,
-        None => {
-            drop(progress);
-            return Ok(cannot(&source, faults, "run"));
-        }
+        None => return Ok(cannot(&source, faults, "run")),
     };
     if sheet.len() > MAX_DAY_SHEET {
         let [has, most] = [sheet.len(), MAX_DAY_SHEET].map(|bytes| grouped(bytes as u64));
-        drop(progress);
         tell(&format!("jobsheet: {} has {has} bytes when packed; the day list takes {most}", source.name));
         return Ok(Verdict::Fault);
     }
-    let day = Day::of(&sheet, arguments.sizes.workers);
-    let picture = match arguments.to {
-        Some(To::Svg) => {
-            let drawn = drawn(&source, judged);
-            let places = drawn.nodes.iter().enumerate().map(|(place, node)| (node.name, place)).collect();
-            Some(picture::day(&drawn, &rounds_of(&day, &places), day.workers))
-        }
-        _ => None,
-    };
+    let day = Day::of(&sheet, before.len(), arguments.sizes.workers);
+    let picture = (arguments.to == Some(To::Svg)).then(|| picture_of(&day, drawn(&source, judged)));
     drop(progress);
     let colours = arguments.out.is_none() && Stream::Output.has_colours();
     Output::open(&arguments.out)?.write_by(|out| match picture {
@@ -60,6 +49,18 @@ pub(super) fn run(arguments: &Arguments, source: Source, progress: Progress) -> 
     })?;
     tell_faults(&source, &faults);
     Ok(Verdict::of(&faults))
+}
+
+/// The sheet's bytes, with those of the jobs that are there before it in front.
+fn packed(source: &Source, before: &[Job]) -> Option<Vec<u8>> {
+    let mut sheet = write_sheet(before).ok()?;
+    sheet.extend(source.sheet.packed()?);
+    Some(sheet)
+}
+
+fn picture_of(day: &Day, drawn: Drawn) -> String {
+    let places = drawn.nodes.iter().enumerate().map(|(place, node)| (node.name, place)).collect();
+    picture::day(&drawn, &rounds_of(day, &places), day.workers)
 }
 
 /// The rounds by the places of the jobs among those that entered.

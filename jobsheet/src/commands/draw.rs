@@ -1,5 +1,7 @@
 //! `jobsheet draw`: a picture of a sheet.
 
+use taskgraph::Job;
+
 use super::{drawn, judged, tell_faults, Verdict};
 use crate::{
     arguments::{Arguments, To},
@@ -10,8 +12,8 @@ use crate::{
     terminal::{Progress, Stage},
 };
 
-pub(super) fn run(arguments: &Arguments, source: Source, progress: Progress) -> Result<Verdict, Stop> {
-    let judged = judged(&source.sheet, LARGEST, &progress)?;
+pub(super) fn run(arguments: &Arguments, source: Source, before: &[Job], progress: Progress) -> Result<Verdict, Stop> {
+    let judged = judged(&source.sheet, before, LARGEST, &progress)?;
     progress.begin(Stage::Drawing);
     let faults = judged.faults.clone();
     let drawn = drawn(&source, judged);

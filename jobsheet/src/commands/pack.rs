@@ -16,7 +16,7 @@ pub(super) fn run(arguments: &Arguments, source: Source, progress: Progress) -> 
     if arguments.out.is_none() && Stream::Output.is_terminal() {
         return Err(Stop("a packed sheet is not for a terminal; say -o FILE, or send it on".into()));
     }
-    let judged = judged(&source.sheet, LARGEST, &progress)?;
+    let judged = judged(&source.sheet, &[], LARGEST, &progress)?;
     drop(progress);
     let sheet = match source.sheet.packed() {
         Some(sheet) => sheet,
