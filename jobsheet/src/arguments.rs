@@ -214,7 +214,9 @@ impl Reader {
     fn number(&self, name: &str, value: &OsStr, least: u32, most: u32) -> Result<u32, Stop> {
         match number(value.to_string_lossy().as_bytes()) {
             Ok(number) if (least..=most).contains(&number) => Ok(number),
-            _ => self.wrong(format!("{name} takes {least} to {}, and not {}", grouped(most), shown_name(value))),
+            _ => {
+                self.wrong(format!("{name} takes {least} to {}, and not {}", grouped(most as usize), shown_name(value)))
+            }
         }
     }
 }

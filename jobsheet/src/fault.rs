@@ -190,11 +190,11 @@ impl Kind {
     /// What is wrong, as a sentence.
     pub fn what(&self) -> String {
         match self {
-            Kind::LongLine(most) => format!("the line has more than {} bytes.", grouped(*most as u64)),
+            Kind::LongLine(most) => format!("the line has more than {} bytes.", grouped(*most)),
             Kind::NoText(byte) => format!("the line has the byte {byte:#04x}, which no text has."),
             Kind::NotANumber(part, word) => format!("{word} is no number, and cannot be a {part}."),
             Kind::Marks(word) => format!("{word} is not one number."),
-            Kind::Above(part, word) => format!("{part} {word} is above {}.", grouped(part.most())),
+            Kind::Above(part, word) => format!("{part} {word} is above {}.", grouped(part.most() as usize)),
             Kind::UnknownWord(word) => format!("{word} is no word of a sheet."),
             Kind::Order(word) => format!("the word {word} stands twice, or too late."),
             Kind::Nothing(word) => format!("nothing stands after the word {word}."),
@@ -226,8 +226,8 @@ impl Kind {
             Kind::NoRoomForArcs(needed, left, arcs) => format!(
                 "there is no room for its list: it needs {}, and {} of {} are left.",
                 counted(*needed, "arc"),
-                grouped(*left as u64),
-                grouped(*arcs)
+                grouped(*left),
+                grouped(*arcs as usize)
             ),
             Kind::Other(refusal) => format!("{refusal}."),
         }
@@ -245,7 +245,7 @@ impl Kind {
             Kind::Marks(_) => "Put spaces between numbers, and no other marks in them; a table begins with the line \
                 name,needs,class,grower."
                 .into(),
-            Kind::Above(part, _) => format!("Choose one from 0 to {}.", grouped(part.most())),
+            Kind::Above(part, _) => format!("Choose one from 0 to {}.", grouped(part.most() as usize)),
             Kind::UnknownWord(_) | Kind::Order(_) => {
                 "The words after a name are needs, class and grower, each at most once, in that order.".into()
             }
@@ -281,7 +281,7 @@ fn wrong_value(field: Field, value: u32) -> String {
         Field::Class => ("class", Part::Class.most()),
         Field::Grower => ("grower", Part::Grower.most()),
     };
-    format!("the {what} is written as {value}; what is written there is 1 to {}.", grouped(most))
+    format!("the {what} is written as {value}; what is written there is 1 to {}.", grouped(most as usize))
 }
 
 fn unknown_name(name: u32, place: Elsewhere) -> String {

@@ -101,7 +101,7 @@ fn contents(mut from: impl Read, name: &str, progress: &Progress) -> Result<Vec<
 const LONGEST_ACCEPTED: u32 = 9 * MAX_JOBS + 4 * MAX_ARCS;
 
 fn too_long(name: &str) -> Stop {
-    let [most, longest] = [MOST_BYTES as u32, LONGEST_ACCEPTED].map(grouped);
+    let [most, longest] = [MOST_BYTES, LONGEST_ACCEPTED as usize].map(grouped);
     Stop(format!(
         "{name} has more than {most} bytes, and is not read; the largest graph takes a packed sheet of at most {longest}"
     ))

@@ -57,8 +57,8 @@ pub fn number(word: &[u8]) -> Result<u32, NoNumber> {
 }
 
 /// A number with a comma before each three digits, as limits and sums are shown. Names are shown without.
-pub fn grouped(value: impl Into<u64>) -> String {
-    let digits = value.into().to_string();
+pub fn grouped(value: usize) -> String {
+    let digits = value.to_string();
     let mut shown = String::new();
     for (place, digit) in digits.chars().enumerate() {
         if place > 0 && (digits.len() - place) % 3 == 0 {
@@ -75,7 +75,7 @@ pub fn counted(value: usize, thing: &str) -> String {
         Some(stem) => format!("{stem}ies"),
         None => format!("{thing}s"),
     };
-    format!("{} {}", grouped(value as u64), if value == 1 { thing } else { &plural })
+    format!("{} {}", grouped(value), if value == 1 { thing } else { &plural })
 }
 
 /// The longest part of a stranger's word that is shown.
@@ -128,7 +128,7 @@ mod tests {
 
     #[test]
     fn numbers_are_shown_for_people() {
-        assert_eq!([0u32, 999, 1000, 4096, 4294967295].map(grouped), ["0", "999", "1,000", "4,096", "4,294,967,295"]);
+        assert_eq!([0, 999, 1000, 4096, 4294967295].map(grouped), ["0", "999", "1,000", "4,096", "4,294,967,295"]);
         assert_eq!([counted(1, "entry"), counted(0, "job")], ["1 entry", "0 jobs"]);
         assert_eq!(counted(1024, "entry"), "1,024 entries");
     }

@@ -148,7 +148,7 @@ fn show(state: &State) {
     while !state.ended.load(Relaxed) {
         let counted = COUNTED[state.stage.load(Relaxed)];
         if !counted.is_empty() {
-            say(&format!("\r\x1b[Kjobsheet: {} {counted}", grouped(state.done.load(Relaxed) as u64)));
+            say(&format!("\r\x1b[Kjobsheet: {} {counted}", grouped(state.done.load(Relaxed))));
             written = true;
         }
         thread::park_timeout(AGAIN);

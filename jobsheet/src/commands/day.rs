@@ -34,7 +34,7 @@ pub(super) fn run(arguments: &Arguments, source: Source, before: &[Job], progres
         None => return Ok(cannot(&source, faults, "run")),
     };
     if sheet.len() > MAX_DAY_SHEET {
-        let [has, most] = [sheet.len(), MAX_DAY_SHEET].map(|bytes| grouped(bytes as u64));
+        let [has, most] = [sheet.len(), MAX_DAY_SHEET].map(grouped);
         tell(&format!("jobsheet: {} has {has} bytes when packed; the day list takes {most}", source.name));
         return Ok(Verdict::Fault);
     }

@@ -6,8 +6,9 @@ use super::heading::{classes, heading, samples};
 use super::refused::band;
 use super::shape::{Rect, CLASSES};
 use super::sheet::summary;
-use super::text::{grouped, titled};
+use super::text::titled;
 use super::{Drawn, Node};
+use crate::number::grouped;
 
 /// At most this many bars. With more layers a bar stands for several, since no fill can be seen in a thinner one.
 pub(super) const BARS: usize = 64;

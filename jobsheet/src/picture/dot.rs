@@ -4,8 +4,9 @@ use super::fill::{colour, Growers};
 use super::grid::{arcs, layers};
 use super::refused::{name, why, SHOWN};
 use super::sheet::{summary, ARROW};
-use super::text::{grouped, titled};
+use super::text::titled;
 use super::{Drawn, Node};
+use crate::number::grouped;
 use std::fmt::Write;
 
 /// The shape of each class.

@@ -3,8 +3,9 @@
 use super::canvas::{Anchor, Canvas, LARGE, MARGIN, NORMAL, SMALL};
 use super::fill::Growers;
 use super::shape::{Rect, CLASSES, END};
-use super::text::{counted, grouped, titled, width};
+use super::text::{counted, titled, width};
 use super::Node;
+use crate::number::grouped;
 use std::collections::BTreeMap;
 
 /// At most this many growers are in a legend; how many more there are is said.

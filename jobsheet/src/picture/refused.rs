@@ -2,8 +2,9 @@
 
 use super::canvas::{Anchor, Canvas, LARGE, MARGIN, NORMAL};
 use super::shape::Rect;
-use super::text::{counted, grouped, plain};
+use super::text::{counted, plain};
 use super::Refused;
+use crate::number::grouped;
 
 /// At most this many are drawn; how many more there are is said.
 pub(super) const SHOWN: usize = 40;

@@ -25,7 +25,7 @@ impl Rect {
 pub(super) const END: i64 = 9;
 
 /// How many classes there are; a greater number, which no sheet has, is drawn as its remainder.
-pub(super) const CLASSES: u32 = 16;
+pub(super) const CLASSES: u32 = taskgraph::CLASSES as u32;
 
 /// The styles of an end.
 const ENDS: u32 = 4;

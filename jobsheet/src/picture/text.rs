@@ -1,5 +1,7 @@
 //! Words as they are drawn: without what is not seen, cut, escaped, and about how wide.
 
+use crate::number::grouped;
+
 /// A title or a reason is cut to this many characters.
 pub(super) const LONGEST: usize = 80;
 
@@ -51,19 +53,6 @@ pub(super) fn escaped(words: &str) -> String {
         }
     }
     safe
-}
-
-/// A number with commas, as in 4,096.
-pub(super) fn grouped(number: usize) -> String {
-    let digits = number.to_string();
-    let mut words = String::new();
-    for (place, digit) in digits.chars().enumerate() {
-        if place > 0 && (digits.len() - place) % 3 == 0 {
-            words.push(',');
-        }
-        words.push(digit);
-    }
-    words
 }
 
 /// `1 job`, `2 jobs`, `no jobs`; `things` is the plural, where an `s` at the end does not do.

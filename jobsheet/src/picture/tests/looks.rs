@@ -1,11 +1,12 @@
 //! Outlines, fills and words.
 
 use super::given::{sheet, SEEDS};
+use crate::number::grouped;
 use crate::picture::dot::{quoted, SHAPES};
 use crate::picture::fill::{drawn_over, paint, Growers, COLOURS, FILLS, INKS};
 use crate::picture::shape::{outline, Rect, CLASSES};
 use crate::picture::sheet::NAMED;
-use crate::picture::text::{escaped, grouped, plain, titled, LONGEST};
+use crate::picture::text::{escaped, plain, titled, LONGEST};
 use crate::picture::*;
 
 /// How far the greys of two colours are apart, of 255.
