@@ -147,6 +147,11 @@ impl Reader {
                 self.option(&word, &mut words)?;
             }
         }
+        let Arguments { file, after, .. } = &self.arguments;
+        let from_input = after.iter().chain(file).filter(|file| *file == "-").count() + usize::from(file.is_none());
+        if from_input > 1 {
+            return self.wrong("standard input is one sheet".into());
+        }
         Ok(Asked::Do(self.command, self.arguments))
     }
 
