@@ -86,6 +86,19 @@ pub struct Arguments {
     pub sizes: Sizes,
 }
 
+impl Arguments {
+    /// Whether standard input is read.
+    pub fn reads_input(&self) -> bool {
+        self.inputs() > 0
+    }
+
+    /// How many sheets are to come from standard input.
+    fn inputs(&self) -> usize {
+        let named = self.after.iter().chain(&self.file).filter(|file| *file == "-").count();
+        named + usize::from(self.file.is_none())
+    }
+}
+
 /// The workers of a day, if it is not said.
 const WORKERS: u32 = 2;
 
@@ -143,13 +156,13 @@ impl Reader {
                 self.files_only = true;
             } else if word == "-h" || word == "--help" {
                 return Ok(Asked::Help(Some(self.command)));
+            } else if word == "-V" || word == "--version" {
+                return Ok(Asked::Version);
             } else {
                 self.option(&word, &mut words)?;
             }
         }
-        let Arguments { file, after, .. } = &self.arguments;
-        let from_input = after.iter().chain(file).filter(|file| *file == "-").count() + usize::from(file.is_none());
-        if from_input > 1 {
+        if self.arguments.inputs() > 1 {
             return self.wrong("standard input is one sheet".into());
         }
         Ok(Asked::Do(self.command, self.arguments))

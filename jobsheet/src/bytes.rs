@@ -26,12 +26,13 @@ pub fn read(content: &[u8]) -> Sheet {
     while let Some(at) = next {
         let reading = raw::read_entry(content, at);
         let walk = Walk::of(content, at);
-        let entry = Entry { line: None, at: walk.at, name: walk.name, job: None };
+        let rest = walk.name.map(|name| Job::new(name, &walk.names));
+        let entry = Entry { line: None, at: walk.at, name: walk.name, job: None, rest };
         next = if reading.number != 0 {
             sheet.push(entry, first_by(&reading, walk.wrong));
             walk.past
         } else if reading.found != 0 {
-            sheet.push(Entry { job: Some(job_of(&reading.entry)), ..entry }, []);
+            sheet.push(Entry { job: Some(job_of(&reading.entry)), rest: None, ..entry }, []);
             Some(reading.at)
         } else {
             None
@@ -54,6 +55,10 @@ fn first_by(reading: &Reading, mut wrong: Vec<Wrong>) -> Vec<Wrong> {
     wrong
 }
 
+fn least_first(bytes: &[u8]) -> u32 {
+    bytes.iter().rev().fold(0, |value, byte| value << 8 | u32::from(*byte))
+}
+
 fn job_of(row: &Row) -> Job {
     let Row { name, count, class, grower, names } = *row;
     Job { name, prerequisites: names[..count as usize].to_vec(), class, grower }
@@ -64,6 +69,8 @@ fn job_of(row: &Row) -> Job {
 struct Walk {
     at: Offsets,
     name: Option<u32>,
+    /// The names of its list, if that can be read.
+    names: Vec<u32>,
     wrong: Vec<Wrong>,
     /// Where the entry ends, if that can be told.
     past: Option<usize>,
@@ -95,7 +102,10 @@ impl Walk {
                 self.wrong.push((at, Kind::Cut(Field::List)));
                 return None;
             }
-            self.at.needs = (at + 1..past).step_by(4).collect();
+            if (1..=MAX_NAMES as u32).contains(&count) {
+                self.at.needs = (at + 1..past).step_by(4).collect();
+                self.names = content[at + 1..past].chunks(4).map(least_first).collect();
+            }
             at = past;
         }
         self.at.class = at;
@@ -116,7 +126,7 @@ impl Walk {
     /// The number of so many bytes, least first, or a cut.
     fn value(&mut self, content: &[u8], at: usize, width: usize, field: Field) -> Option<u32> {
         match content.get(at..at + width) {
-            Some(bytes) => Some(bytes.iter().rev().fold(0, |value, byte| value << 8 | u32::from(*byte))),
+            Some(bytes) => Some(least_first(bytes)),
             None => {
                 self.wrong.push((at, Kind::Cut(field)));
                 None

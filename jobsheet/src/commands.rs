@@ -13,10 +13,11 @@ use taskgraph::{Job, Sizes};
 use crate::{
     arguments::{Arguments, Command},
     fault::Fault,
-    input::{self, Source, Stop},
+    input::{self, shown_name, Source, Stop},
     judge,
     number::counted,
-    picture::{Drawn, Refused},
+    output::is_same_file,
+    picture::{Drawn, Refused, REFUSED},
     terminal::{painted, tell, Paint, Progress, Stage, Stream},
     Judged, Sheet,
 };
@@ -45,6 +46,12 @@ impl Verdict {
 /// # Errors
 /// Where there is no answer.
 pub fn run(command: Command, arguments: &Arguments) -> Result<Verdict, Stop> {
+    let Arguments { file, out, .. } = arguments;
+    if let (Some(file), Some(out)) = (file, out) {
+        if is_same_file(file, out) {
+            return Err(Stop(format!("the answer would take the place of the sheet {}", shown_name(file))));
+        }
+    }
     let progress = Progress::shown();
     let before = before(arguments, &progress)?;
     let source = input::take(&arguments.file, arguments.from, &progress)?;
@@ -69,7 +76,7 @@ fn before(arguments: &Arguments, progress: &Progress) -> Result<Vec<Job>, Stop> 
 }
 
 /// The sheet judged by a graph of these sizes; the command line has seen to it that they are within their limits.
-fn judged(sheet: &Sheet, before: &[Job], sizes: Sizes, progress: &Progress) -> Result<Judged, Stop> {
+fn judged(sheet: &mut Sheet, before: &[Job], sizes: Sizes, progress: &Progress) -> Result<Judged, Stop> {
     progress.begin(Stage::Judging);
     judge(sheet, before, sizes, progress).map_err(|refusal| Stop(format!("no graph can be made: {refusal}")))
 }
@@ -84,24 +91,25 @@ fn tell_faults(source: &Source, faults: &[Fault]) {
 }
 
 /// Tells what hinders the packing of a sheet, without which something cannot be done.
-fn cannot(source: &Source, mut faults: Vec<Fault>, done: &str) -> Verdict {
-    faults.retain(|fault| fault.kind.hinders_packing());
-    tell_faults(source, &faults);
-    tell(&format!("jobsheet: {} cannot be {done}: {}", source.name, counted(faults.len(), "fault")));
+fn cannot(source: &Source, mut judged: Judged, done: &str) -> Verdict {
+    judged.faults.retain(|fault| fault.kind.hinders_packing());
+    tell_faults(source, &judged.faults);
+    tell(&format!("jobsheet: {} cannot be {done}: {}", source.name, counted(judged.faults.len(), "fault")));
     Verdict::Fault
 }
 
-/// What is drawn of a judged sheet. Of an entry that is refused, the first of its faults is told.
-fn drawn(source: &Source, judged: Judged) -> Drawn {
-    let mut whys: HashMap<usize, &Fault> = HashMap::new();
-    for (fault, entry) in judged.faults.iter().filter_map(|fault| Some((fault, fault.entry?))) {
-        whys.entry(entry).or_insert(fault);
-    }
+/// What is drawn of a judged sheet. Of the refused entries that are drawn, the first fault is told.
+fn drawn(source: &Source, judged: &Judged) -> Drawn {
     let entries = source.sheet.entries.iter().zip(&judged.answers).enumerate();
-    let refused = entries.filter(|(_, (_, answer))| **answer != Some(Ok(()))).map(|(number, (entry, _))| {
-        let why = whys.get(&number).map_or_else(String::new, |fault| fault.kind.what());
-        Refused { entry: number, name: entry.name, why }
-    });
-    let refused = refused.collect();
-    Drawn { title: source.name.clone(), nodes: judged.nodes, refused }
+    let refused = entries.filter(|(_, (_, answer))| **answer != Some(Ok(())));
+    let refused = refused.map(|(number, (entry, _))| Refused { entry: number, name: entry.name, why: String::new() });
+    let mut refused: Vec<Refused> = refused.collect();
+    let told: HashMap<usize, usize> =
+        refused.iter().take(REFUSED).enumerate().map(|(place, it)| (it.entry, place)).collect();
+    for fault in judged.faults.iter().rev() {
+        if let Some(place) = fault.entry.and_then(|entry| told.get(&entry)) {
+            refused[*place].why = fault.kind.what();
+        }
+    }
+    Drawn { title: source.name.clone(), nodes: judged.nodes.clone(), refused }
 }

@@ -26,7 +26,11 @@ pub(crate) fn is_header(line: &[u8]) -> bool {
 
 /// Whether a line has nothing but a comment, or cells that are empty.
 pub(crate) fn is_blank(line: &[u8]) -> bool {
-    line.starts_with(b"#") || line.iter().all(|byte| *byte == b' ' || SEPARATORS.contains(byte))
+    says_nothing(&Cells::of((0, line), separator(line)).cells)
+}
+
+fn says_nothing(cells: &[Cell<'_>]) -> bool {
+    cells[0].1.starts_with(b"#") || filled(cells) == 0
 }
 
 fn separator(header: &[u8]) -> u8 {
@@ -51,14 +55,12 @@ impl<'a> Cells<'a> {
         let mut read = Cells { cells: Vec::new(), wrong: Vec::new() };
         let mut start = 0;
         loop {
-            let blank = |byte: &u8| *byte == b' ' || *byte == b'\t' && separator != b'\t';
-            start += line[start..].iter().take_while(|byte| blank(byte)).count();
+            start += line[start..].iter().take_while(|byte| blank(byte) && **byte != separator).count();
             let past = match line.get(start) {
                 Some(b'"') => read.quoted((at, line), start, separator),
                 _ => {
                     let past = find(line, start, separator);
-                    let kept = line[start..past].iter().rposition(|byte| !blank(byte)).map_or(0, |last| last + 1);
-                    read.cells.push((at + start, Cow::Borrowed(&line[start..start + kept])));
+                    read.cells.push((at + start, Cow::Borrowed(&line[start..start + kept(&line[start..past])])));
                     past
                 }
             };
@@ -85,14 +87,25 @@ impl<'a> Cells<'a> {
             cell.push(line[place]);
             place += 1;
         }
-        self.cells.push((at + start + 1, Cow::Owned(cell)));
+        let blanks = cell.iter().take_while(|byte| blank(byte)).count();
+        cell.truncate(kept(&cell).max(blanks));
+        self.cells.push((at + start + 1 + blanks, Cow::Owned(cell.split_off(blanks))));
         let place = (place + 1).min(line.len());
         let past = find(line, place, separator);
-        if let Some(more) = line[place..past].iter().position(|byte| !matches!(byte, b' ' | b'\t')) {
+        if let Some(more) = line[place..past].iter().position(|byte| !blank(byte)) {
             self.wrong.push((at + place + more, Kind::AfterQuote));
         }
         past
     }
+}
+
+fn blank(byte: &u8) -> bool {
+    matches!(byte, b' ' | b'\t')
+}
+
+/// The length without blanks at the end.
+fn kept(piece: &[u8]) -> usize {
+    piece.iter().rposition(|byte| !blank(byte)).map_or(0, |last| last + 1)
 }
 
 /// Where the next separator stands, or the line's end.
@@ -132,18 +145,19 @@ pub fn read(content: &[u8]) -> Sheet {
     let mut known: Option<(Vec<usize>, u8)> = None;
     for (line, piece) in lines(content) {
         if let Some(fault) = no_text(piece) {
-            sheet.faults.push(Fault::of_line(line, fault));
-        } else if is_blank(piece.1) {
-            continue;
+            sheet.note(Fault::of_line(line, fault));
         } else if let Some((columns, separator)) = &known {
-            let (entry, wrong) = row(Cells::of(piece, *separator), columns, line).end();
-            sheet.push(entry, wrong);
-        } else {
+            let cells = Cells::of(piece, *separator);
+            if !says_nothing(&cells.cells) || !cells.wrong.is_empty() {
+                let (entry, wrong) = row(cells, columns, line).end();
+                sheet.push(entry, wrong);
+            }
+        } else if !is_blank(piece.1) {
             let separator = separator(piece.1);
             match header(piece, separator) {
                 Ok(columns) => known = Some((columns, separator)),
                 Err(wrong) => {
-                    sheet.faults.extend(wrong.into_iter().map(|fault| Fault::of_line(line, fault)));
+                    wrong.into_iter().for_each(|fault| sheet.note(Fault::of_line(line, fault)));
                     return sheet;
                 }
             }
@@ -155,6 +169,7 @@ pub fn read(content: &[u8]) -> Sheet {
 /// The row as an entry.
 fn row(Cells { cells, wrong }: Cells<'_>, columns: &[usize], line: usize) -> Draft {
     let mut draft = Draft::new(line, cells[0].0);
+    let quotes_right = wrong.is_empty();
     draft.wrong = wrong;
     if filled(&cells) > columns.len() {
         draft.wrong.push((cells[columns.len()].0, Kind::ManyCells(filled(&cells), columns.len())));
@@ -163,7 +178,7 @@ fn row(Cells { cells, wrong }: Cells<'_>, columns: &[usize], line: usize) -> Dra
         let cell = cells.get(place).map_or((cells[0].0, &[][..]), |(at, cell)| (*at, &cell[..]));
         match COLUMNS[*known] {
             "needs" => words(cell).for_each(|word| draft.listed(word)),
-            "name" if cell.1.is_empty() => draft.wrong.push((cell.0, Kind::NoName)),
+            "name" if cell.1.is_empty() && quotes_right => draft.wrong.push((cell.0, Kind::NoName)),
             _ if cell.1.is_empty() => {}
             "name" => draft.name(cell),
             "class" => draft.class(cell),

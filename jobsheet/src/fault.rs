@@ -89,8 +89,8 @@ impl fmt::Display for Other {
 pub enum Elsewhere {
     /// No entry has its name.
     Nowhere,
-    /// This entry has it, which comes later.
-    Later(Other),
+    /// This entry has it, which comes later; and whether all that it needs itself is there.
+    Later(Other, bool),
     /// This entry has it, and is refused.
     Refused(Other),
     /// This entry has it, and needs the one that is wrong in turn.
@@ -144,8 +144,8 @@ pub enum Kind {
     OwnName,
     /// A name for the second time in the list (5).
     NameTwice(u32),
-    /// The job's name, and a name in its list that no job has (6).
-    UnknownName(u32, u32, Elsewhere),
+    /// The job's name, if it can be read, and a name in its list that no job has (6).
+    UnknownName(Option<u32>, u32, Elsewhere),
     /// The name has a job already, of this entry, or one that was there before (7).
     NamePresent(u32, Option<Other>),
     /// As many jobs as the graph takes are there (8).
@@ -191,6 +191,7 @@ impl Kind {
     pub fn what(&self) -> String {
         match self {
             Kind::LongLine(most) => format!("the line has more than {} bytes.", grouped(*most)),
+            Kind::NoText(b'\r') => "the line has a carriage return that does not end it.".into(),
             Kind::NoText(byte) => format!("the line has the byte {byte:#04x}, which no text has."),
             Kind::NotANumber(part, word) => format!("{word} is no number, and cannot be a {part}."),
             Kind::Marks(word) => format!("{word} is not one number."),
@@ -221,10 +222,10 @@ impl Kind {
                 format!("the name {name} is taken by a job that is there before this sheet.")
             }
             Kind::NoRoomForJob(jobs) => {
-                format!("there is no room for it: the graph takes {}.", counted(*jobs as usize, "job"))
+                format!("there is no room for it beside {}.", counted(*jobs as usize, "job"))
             }
             Kind::NoRoomForArcs(needed, left, arcs) => format!(
-                "there is no room for its list: it needs {}, and {} of {} are left.",
+                "there is no room for its list: it needs {} (left: {} of {}).",
                 counted(*needed, "arc"),
                 grouped(*left),
                 grouped(*arcs as usize)
@@ -237,14 +238,17 @@ impl Kind {
     pub fn advice(&self) -> String {
         match self {
             Kind::LongLine(_) => "Write one job a line, and long comments on several lines.".into(),
+            Kind::NoText(b'\r') => "Save the sheet with lines that end as on Linux or Windows.".into(),
             Kind::NoText(_) => "Save the sheet as plain text (UTF-8); a packed sheet is read with --from bytes.".into(),
             Kind::NotANumber(Part::Name, _) => {
                 "A job's name is written in decimal digits alone; a comment begins with #.".into()
             }
             Kind::NotANumber(..) => "Write decimal digits alone.".into(),
-            Kind::Marks(_) => "Put spaces between numbers, and no other marks in them; a table begins with the line \
-                name,needs,class,grower."
-                .into(),
+            Kind::Marks(_) => {
+                "Write each number in digits alone, with spaces between numbers; a table begins with the \
+                line name,needs,class,grower."
+                    .into()
+            }
             Kind::Above(part, _) => format!("Choose one from 0 to {}.", grouped(part.most() as usize)),
             Kind::UnknownWord(_) | Kind::Order(_) => {
                 "The words after a name are needs, class and grower, each at most once, in that order.".into()
@@ -256,7 +260,9 @@ impl Kind {
             Kind::NoNameColumn | Kind::UnknownColumn(_) | Kind::SecondColumn(_) => {
                 "The columns are name, needs, class and grower.".into()
             }
-            Kind::ManyCells(..) => "Put spaces, and no commas, between the names that it needs.".into(),
+            Kind::ManyCells(..) => "The names that it needs stand in one cell, with spaces between them; remove cells \
+                beyond the last column."
+                .into(),
             Kind::NoName => "Write the job's name, a number.".into(),
             Kind::OpenQuote => "Close it on the same line; a quote inside is written twice.".into(),
             Kind::AfterQuote => "Quote all of the cell, or nothing of it; a quote inside is written twice.".into(),
@@ -291,18 +297,20 @@ fn unknown_name(name: u32, place: Elsewhere) -> String {
     }
 }
 
-fn find_name(own: u32, name: u32, place: Elsewhere) -> String {
+fn find_name(own: Option<u32>, name: u32, place: Elsewhere) -> String {
+    let own = own.map_or_else(|| "this one".into(), |own| format!("job {own}"));
     match place {
         Elsewhere::Nowhere => format!(
-            "No entry has that name: write one for job {name} before job {own}, name a sheet that has it with --after, or \
+            "No entry has that name: write one for job {name} before {own}, name a sheet that has it with --after, or \
              remove it from the list."
         ),
-        Elsewhere::Later(other) => format!(
-            "Entries are added in order: put job {name}, {other}, before job {own}, or remove it from the list."
+        Elsewhere::Later(other, alone) => format!(
+            "Entries are added in order: put job {name}, {other}, {}before {own}, or remove it from the list.",
+            if alone { "" } else { "and what it needs " }
         ),
         Elsewhere::Refused(other) => format!("Mend {other} first, or remove job {name} from the list."),
         Elsewhere::Circle(other) => format!(
-            "Job {name}, {other}, needs job {own} in turn, itself or through others: no order helps. Remove a name \
+            "Job {name}, {other}, needs {own} in turn, itself or through others: no order helps. Remove a name \
              from one of their lists."
         ),
     }

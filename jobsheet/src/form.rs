@@ -4,9 +4,6 @@ use taskgraph::raw;
 
 use crate::{bytes, csv, text, Sheet};
 
-/// What editors put before a text: marks of UTF-8, and of UTF-16, which cannot be read and is said to be no text.
-const MARKS: [&[u8]; 3] = [b"\xef\xbb\xbf", b"\xff\xfe", b"\xfe\xff"];
-
 /// A form of a sheet.
 #[derive(Clone, Copy, Debug, PartialEq, Eq)]
 pub enum Form {
@@ -35,14 +32,13 @@ impl Form {
 
     /// The form of a file, or nothing where it could be bytes as well as text.
     ///
-    /// An entry of a packed sheet begins with a byte below 16, and a text with one that is printed. Only tab and
-    /// carriage return are both: there the whole file must tell.
+    /// An entry of a packed sheet begins with a byte below 16, and a text with one that is printed or a line feed. Only
+    /// tab and carriage return can be both: there the whole file must tell.
     pub fn of(content: &[u8]) -> Option<Form> {
         match content.first() {
             Some(b'\t' | b'\r') => by_all(content),
-            Some(b'\n' | b' '..=b'~') | None => Some(text_or_csv(content)),
-            Some(_) if MARKS.iter().any(|mark| content.starts_with(mark)) => Some(text_or_csv(content)),
-            Some(_) => Some(Form::Bytes),
+            Some(byte) if byte.is_ascii_control() && *byte != b'\n' => Some(Form::Bytes),
+            _ => Some(text_or_csv(content)),
         }
     }
 }
@@ -63,7 +59,8 @@ fn by_all(content: &[u8]) -> Option<Form> {
 
 /// A table has a header as its first line that says anything.
 fn text_or_csv(content: &[u8]) -> Form {
-    let first = text::lines(content).map(|(_, (_, line))| line).find(|line| !csv::is_blank(line));
+    let lines = text::lines(content).map(|(_, (_, line))| text::without_comment(line));
+    let first = lines.into_iter().find(|line| !csv::is_blank(line));
     match first {
         Some(line) if csv::is_header(line) => Form::Csv,
         _ => Form::Text,

@@ -35,7 +35,10 @@ pub struct Source {
 
 /// A file's name as it may be shown: a stranger may have chosen it.
 pub fn shown_name(file: &OsStr) -> String {
-    plain(file.to_string_lossy().as_bytes(), 200)
+    match plain(file.to_string_lossy().as_bytes(), 200) {
+        name if name.is_empty() => "''".into(),
+        name => name,
+    }
 }
 
 /// Reads a file, or standard input, in a form that is said or that its content shows.
@@ -97,8 +100,8 @@ fn contents(mut from: impl Read, name: &str, progress: &Progress) -> Result<Vec<
 }
 
 /// The longest packed sheet of which every entry can be accepted: each job with a map byte, a name, a count, a class and
-/// a grower, and the names of all lists.
-const LONGEST_ACCEPTED: u32 = 9 * MAX_JOBS + 4 * MAX_ARCS;
+/// a grower, and the names of all lists; but the first job can need nothing, and has no count.
+const LONGEST_ACCEPTED: u32 = 9 * MAX_JOBS + 4 * MAX_ARCS - 1;
 
 fn too_long(name: &str) -> Stop {
     let [most, longest] = [MOST_BYTES, LONGEST_ACCEPTED as usize].map(grouped);

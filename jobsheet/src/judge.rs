@@ -8,10 +8,10 @@ use taskgraph::{
 };
 
 use crate::{
-    circles::circles,
     fault::{Elsewhere, Fault, Kind, Other},
     number::Part,
     picture::Node,
+    remedies::{Remedies, Remedy},
     sheet::Entry,
     terminal::Progress,
     Sheet,
@@ -47,33 +47,32 @@ impl Judged {
     }
 }
 
-/// Adds the jobs of a sheet to a graph that has been given the jobs of `before`, and nothing else.
+/// Adds the jobs of a sheet to a graph that has been given the jobs of `before`, and nothing else. The sheet's faults move
+/// to the answer.
 ///
 /// # Errors
 /// [`Refusal::Size`] where a size is off its limits.
-pub fn judge(sheet: &Sheet, before: &[Job], sizes: Sizes, progress: &Progress) -> Result<Judged, Refusal> {
+pub fn judge(sheet: &mut Sheet, before: &[Job], sizes: Sizes, progress: &Progress) -> Result<Judged, Refusal> {
     let mut graph = Graph::create(sizes)?;
-    let mut book = Book::new(sheet, sizes);
-    for (job, answer) in before.iter().zip(graph.add_all(0, before)?) {
-        if answer.is_ok() {
-            book.enter(None, job);
-        }
-    }
+    let entered = graph.add_all(0, before)?;
     let first = graph.totals()?.unexecuted;
-    let before = book.nodes.len();
     let answers = add_all(&mut graph, sheet, progress)?;
-    let mut faults = sheet.faults.clone();
+    let last = graph.totals()?.unexecuted;
+    let mut faults = std::mem::take(&mut sheet.faults);
+    let there: Vec<&Job> =
+        before.iter().zip(entered).filter(|(_, answer)| answer.is_ok()).map(|(job, _)| job).collect();
+    let mut book = Book::new(sheet, &there, &answers, sizes);
     for (number, (entry, answer)) in sheet.entries.iter().zip(&answers).enumerate() {
-        match (&entry.job, answer) {
-            (Some(job), Some(Ok(()))) => book.enter(Some(number), job),
-            (Some(job), Some(Err(refusal))) => faults.extend(book.explain(number, entry, job, *refusal)),
+        match (&entry.job, &entry.rest, answer) {
+            (Some(job), _, Some(Ok(()))) => book.enter(Some(number), job),
+            (Some(job), _, Some(Err(refusal))) => faults.extend(book.explain(number, entry, job, Some(*refusal))),
+            (_, Some(rest), _) => faults.extend(book.explain(number, entry, rest, None)),
             _ => {}
         }
     }
     faults.sort_by_key(|fault| fault.at);
-    let last = graph.totals()?.unexecuted;
     let sum = Sum { jobs: last.jobs - first.jobs, minutes: last.minutes - first.minutes };
-    Ok(Judged { answers, nodes: book.nodes, before, faults, sum })
+    Ok(Judged { answers, nodes: book.nodes, before: there.len(), faults, sum })
 }
 
 /// How the add of each entry ended; those that cannot be read are passed over.
@@ -96,18 +95,23 @@ struct Book<'a> {
     arcs: usize,
     /// The node of each name that has entered, and its entry, if it was not there before.
     entered: HashMap<u32, (usize, Option<usize>)>,
-    /// The last entry of each name, whether or not it enters.
-    written: HashMap<u32, usize>,
-    /// The circle of each entry.
-    circle: Vec<usize>,
+    remedies: Remedies,
 }
 
+/// What is wrong, and its offset.
+type Wrong = (usize, Kind);
+
 impl<'a> Book<'a> {
-    fn new(sheet: &'a Sheet, sizes: Sizes) -> Book<'a> {
-        let named = sheet.entries.iter().enumerate().filter_map(|(number, entry)| Some((entry.name?, number)));
-        let written = named.collect();
-        let circle = circles(sheet, &written);
-        Book { sheet, sizes, nodes: Vec::new(), arcs: 0, entered: HashMap::new(), written, circle }
+    fn new(sheet: &'a Sheet, before: &[&Job], answers: &[Option<Result<(), Refusal>>], sizes: Sizes) -> Book<'a> {
+        let accepted: Vec<bool> = answers.iter().map(|answer| *answer == Some(Ok(()))).collect();
+        let remedies = if accepted.iter().all(|accepted| *accepted) {
+            Remedies::default()
+        } else {
+            Remedies::new(sheet, before.iter().map(|job| job.name).collect(), accepted)
+        };
+        let mut book = Book { sheet, sizes, nodes: Vec::new(), arcs: 0, entered: HashMap::new(), remedies };
+        before.iter().for_each(|job| book.enter(None, job));
+        book
     }
 
     fn enter(&mut self, number: Option<usize>, job: &Job) {
@@ -118,21 +122,24 @@ impl<'a> Book<'a> {
         self.nodes.push(Node { name: job.name, class: job.class, grower: job.grower, depth, needs });
     }
 
-    /// All that is wrong with an entry that was refused. If the refusal's own number is not among it, that comes first.
-    fn explain(&self, number: usize, entry: &Entry, job: &Job, refusal: Refusal) -> Vec<Fault> {
+    /// All that is wrong with an entry that was refused, or with what can be read of one. If a refusal's own number is not
+    /// among it, that comes first.
+    fn explain(&self, number: usize, entry: &Entry, job: &Job, refusal: Option<Refusal>) -> Vec<Fault> {
         let mut wrong = Vec::new();
         self.arguments(entry, job, &mut wrong);
         self.names(number, entry, job, &mut wrong);
-        self.room(entry, job, &mut wrong);
-        if !wrong.iter().any(|(_, kind)| kind.number() == Some(refusal.number())) {
-            wrong.insert(0, (entry.at.entry, Kind::Other(refusal)));
+        if let Some(refusal) = refusal {
+            self.room(entry, job, &mut wrong);
+            if !wrong.iter().any(|(_, kind)| kind.number() == Some(refusal.number())) {
+                wrong.insert(0, (entry.at.entry, Kind::Other(refusal)));
+            }
         }
         let fault = |(at, kind)| Fault { entry: Some(number), line: entry.line, at, job: entry.name, kind };
         wrong.into_iter().map(fault).collect()
     }
 
     /// Number 5, by the sizes of the arguments.
-    fn arguments(&self, entry: &Entry, job: &Job, wrong: &mut Vec<(usize, Kind)>) {
+    fn arguments(&self, entry: &Entry, job: &Job, wrong: &mut Vec<Wrong>) {
         let list = &job.prerequisites;
         if list.len() > MAX_NAMES {
             wrong.push((entry.at.needs[MAX_NAMES], Kind::LongList(list.len())));
@@ -146,29 +153,33 @@ impl<'a> Book<'a> {
     }
 
     /// Numbers 5 to 7, by the names.
-    fn names(&self, number: usize, entry: &Entry, job: &Job, wrong: &mut Vec<(usize, Kind)>) {
+    fn names(&self, number: usize, entry: &Entry, job: &Job, wrong: &mut Vec<Wrong>) {
         let mut met = HashSet::new();
         for (name, at) in job.prerequisites.iter().zip(&entry.at.needs) {
-            if *name == job.name {
+            if Some(*name) == entry.name {
                 wrong.push((*at, Kind::OwnName));
             } else if !met.insert(*name) {
                 wrong.push((*at, Kind::NameTwice(*name)));
             } else if !self.entered.contains_key(name) {
-                wrong.push((*at, Kind::UnknownName(job.name, *name, self.elsewhere(number, *name))));
+                wrong.push((*at, Kind::UnknownName(entry.name, *name, self.elsewhere(number, *name))));
             }
         }
-        if let Some((_, first)) = self.entered.get(&job.name) {
-            let first = first.map(|entry| self.other(entry));
-            wrong.push((entry.at.name, Kind::NamePresent(job.name, first)));
+        if let Some((name, (_, first))) = entry.name.and_then(|name| Some((name, self.entered.get(&name)?))) {
+            wrong.push((entry.at.name, Kind::NamePresent(name, first.map(|entry| self.other(entry)))));
         }
     }
 
+    /// Where a name could be had; of an entry that comes later, whether it needs others that come later too.
     fn elsewhere(&self, number: usize, name: u32) -> Elsewhere {
-        match self.written.get(&name) {
-            Some(entry) if self.circle[*entry] == self.circle[number] => Elsewhere::Circle(self.other(*entry)),
-            Some(entry) if *entry > number => Elsewhere::Later(self.other(*entry)),
-            Some(entry) => Elsewhere::Refused(self.other(*entry)),
-            None => Elsewhere::Nowhere,
+        match self.remedies.of(number, name) {
+            Remedy::Nowhere => Elsewhere::Nowhere,
+            Remedy::Refused(entry) => Elsewhere::Refused(self.other(entry)),
+            Remedy::Circle(entry) => Elsewhere::Circle(self.other(entry)),
+            Remedy::Later(entry) => {
+                let needs = self.sheet.entries[entry].needs();
+                let alone = needs.iter().all(|name| self.entered.contains_key(name));
+                Elsewhere::Later(self.other(entry), alone)
+            }
         }
     }
 
@@ -177,7 +188,7 @@ impl<'a> Book<'a> {
     }
 
     /// Number 8.
-    fn room(&self, entry: &Entry, job: &Job, wrong: &mut Vec<(usize, Kind)>) {
+    fn room(&self, entry: &Entry, job: &Job, wrong: &mut Vec<Wrong>) {
         let left = self.sizes.arcs as usize - self.arcs;
         if self.nodes.len() == self.sizes.jobs as usize {
             wrong.push((entry.at.entry, Kind::NoRoomForJob(self.sizes.jobs)));

@@ -8,7 +8,6 @@
 
 pub mod arguments;
 pub mod bytes;
-mod circles;
 pub mod commands;
 pub mod csv;
 pub mod day;
@@ -22,6 +21,7 @@ pub mod judge;
 pub mod number;
 pub mod output;
 pub mod picture;
+mod remedies;
 pub mod sheet;
 pub mod summary;
 pub mod terminal;

@@ -91,23 +91,28 @@ pub fn quoted(word: &[u8]) -> String {
     format!("'{}'", shown(word))
 }
 
-/// A stranger's text, at most so many characters of it, without what a terminal might obey.
+/// A stranger's text, at most so many characters of it. What a terminal might obey, or nobody sees, is told by its number.
 pub fn plain(word: &[u8], most: usize) -> String {
     let start = &word[..word.len().min(4 * most + 4)];
-    let text = String::from_utf8_lossy(start);
-    let mut shown: String = text.chars().take(most).map(harmless).collect();
-    if text.chars().nth(most).is_some() {
-        shown.push_str("...");
+    let (mut shown, mut rest, mut count) = (String::new(), start, 0);
+    while let Some(byte) = rest.first() {
+        if count == most {
+            return shown + "...";
+        }
+        count += 1;
+        let length = (1..=rest.len().min(4)).find(|length| std::str::from_utf8(&rest[..*length]).is_ok());
+        match length.and_then(|length| std::str::from_utf8(&rest[..length]).ok()?.chars().next()) {
+            Some(letter) if is_harmless(letter) => shown.push(letter),
+            Some(letter) => shown += &letter.escape_unicode().to_string(),
+            None => shown += &format!("\\x{byte:02x}"),
+        }
+        rest = &rest[length.unwrap_or(1)..];
     }
     shown
 }
 
-fn harmless(letter: char) -> char {
-    if letter.is_alphanumeric() || letter.is_ascii_graphic() || letter == ' ' {
-        letter
-    } else {
-        '?'
-    }
+fn is_harmless(letter: char) -> bool {
+    letter.is_alphanumeric() || letter.is_ascii_graphic() || letter == ' '
 }
 
 #[cfg(test)]
@@ -136,9 +141,9 @@ mod tests {
     #[test]
     fn words_are_shown_without_harm() {
         assert_eq!(quoted(b"Needs"), "'Needs'");
-        assert_eq!(quoted(b"\x1b[31mred\x07"), "'?[31mred?'");
+        assert_eq!(quoted(b"\x1b[31mred\x07"), "'\\u{1b}[31mred\\u{7}'");
         assert_eq!(quoted(&[b'x'; 25]), format!("'{}...'", "x".repeat(24)));
-        assert_eq!(quoted("ben\u{f6}tigt\u{202e}".as_bytes()), "'ben\u{f6}tigt?'");
-        assert_eq!(quoted(b"\xff\x00"), "'??'");
+        assert_eq!(quoted("ben\u{f6}tigt\u{202e}1\u{a0}".as_bytes()), "'ben\u{f6}tigt\\u{202e}1\\u{a0}'");
+        assert_eq!(quoted(b"\xff\x00\xc3"), "'\\xff\\u{0}\\xc3'");
     }
 }

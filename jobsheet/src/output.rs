@@ -1,14 +1,17 @@
-//! Answers, written to standard output or to a file that is whole or not there.
+//! Answers, written to standard output or to a file that is whole or as it was.
 
 use std::{
     ffi::{OsStr, OsString},
     fs::{self, File},
-    io::{self, BufWriter, Write},
+    io::{self, BufWriter, ErrorKind, Write},
     path::{Path, PathBuf},
     process,
 };
 
-use crate::input::{shown_name, Stop};
+use crate::{
+    input::{shown_name, Stop},
+    terminal::{Progress, Stage, Stream},
+};
 
 /// Where an answer goes.
 pub struct Output {
@@ -18,6 +21,9 @@ pub struct Output {
     kept: Option<(PathBuf, PathBuf)>,
 }
 
+/// How often another name is tried for the file that is written first.
+const TRIES: u32 = 100;
+
 impl Output {
     /// Standard output, or a file. A file that is there stays as it is until the new one is whole.
     pub fn open(file: &Option<OsString>) -> Result<Output, Stop> {
@@ -26,19 +32,35 @@ impl Output {
             _ => return Ok(Output::over(Box::new(io::stdout()), "standard output".into(), None)),
         };
         let name = shown_name(file);
-        let failed = |error: io::Error| cannot(&name, &error);
-        // A device or a pipe is written to, and not put in the place of. A link keeps leading where it leads.
-        let path = fs::canonicalize(file).unwrap_or_else(|_| file.into());
-        let found = fs::metadata(&path).ok();
-        if found.as_ref().map_or(false, |found| !found.is_file()) {
-            let opened = File::options().write(true).open(&path).map_err(failed)?;
-            return Ok(Output::over(Box::new(opened), name, None));
+        Output::of_file(Path::new(file), &name).map_err(|error| cannot(&name, &error))
+    }
+
+    fn of_file(file: &Path, name: &str) -> io::Result<Output> {
+        let over = |to: Box<dyn Write>, kept| Ok(Output::over(to, name.into(), kept));
+        match file.to_str() {
+            // Streams that are open already are gone on with.
+            Some("/dev/stdout" | "/dev/fd/1" | "/proc/self/fd/1") => return over(Box::new(io::stdout()), None),
+            Some("/dev/stderr" | "/dev/fd/2" | "/proc/self/fd/2") => return over(Box::new(io::stderr()), None),
+            _ => {}
         }
-        let beside = beside(&path);
-        let opened = File::create(&beside).map_err(failed)?;
-        let output = Output::over(Box::new(opened), name.clone(), Some((beside.clone(), path)));
+        // A link keeps leading where it leads; one that leads nowhere is an error.
+        let path = match fs::symlink_metadata(file) {
+            Ok(_) => fs::canonicalize(file)?,
+            Err(_) => file.into(),
+        };
+        let found = fs::metadata(&path).ok();
+        let stream = ["/dev/fd", "/proc"].iter().any(|folder| file.starts_with(folder));
+        if stream || found.as_ref().map_or(false, |found| !found.is_file()) {
+            return over(Box::new(File::options().append(true).open(&path)?), None);
+        }
+        if found.is_some() {
+            // What may not be written is not replaced either.
+            File::options().write(true).open(&path)?;
+        }
+        let (opened, beside) = create_beside(&path)?;
+        let output = over(Box::new(opened), Some((beside.clone(), path)))?;
         if let Some(found) = found {
-            fs::set_permissions(&beside, found.permissions()).map_err(failed)?;
+            fs::set_permissions(&beside, found.permissions())?;
         }
         Ok(output)
     }
@@ -48,7 +70,7 @@ impl Output {
     }
 
     /// The answer is whole.
-    pub fn finish(mut self) -> Result<(), Stop> {
+    fn finish(mut self) -> Result<(), Stop> {
         let mut done = self.to.flush();
         if let (Ok(()), Some((beside, path))) = (&done, &self.kept) {
             done = fs::rename(beside, path);
@@ -56,9 +78,22 @@ impl Output {
         done.map(|()| self.kept = None).map_err(|error| cannot(&self.name, &error))
     }
 
-    /// Writes by a function, and ends.
-    pub fn write_by(mut self, write: impl FnOnce(&mut dyn Write) -> io::Result<()>) -> Result<(), Stop> {
-        write(&mut self.to).map_err(|error| cannot(&self.name, &error))?;
+    /// Writes by a function, and ends. A terminal shows the answer itself; otherwise progress tells how much of it there
+    /// is.
+    pub fn write_by(
+        mut self,
+        progress: Progress,
+        write: impl FnOnce(&mut dyn Write) -> io::Result<()>,
+    ) -> Result<(), Stop> {
+        let progress = if self.kept.is_none() && Stream::Output.is_terminal() {
+            drop(progress);
+            Progress::silent()
+        } else {
+            progress
+        };
+        progress.begin(Stage::Writing);
+        let mut counted = Counted { to: &mut self.to, progress: &progress, written: 0 };
+        write(&mut counted).map_err(|error| cannot(&self.name, &error))?;
         self.finish()
     }
 }
@@ -72,14 +107,44 @@ impl Drop for Output {
     }
 }
 
-/// A name in the same folder that nobody else takes.
-fn beside(path: &Path) -> PathBuf {
-    let mut name = OsString::from(".");
-    name.push(path.file_name().unwrap_or_else(|| OsStr::new("jobsheet")));
-    name.push(format!(".{}", process::id()));
-    path.with_file_name(name)
+/// A writer that tells how much was written.
+struct Counted<'a> {
+    to: &'a mut dyn Write,
+    progress: &'a Progress,
+    written: usize,
+}
+
+impl Write for Counted<'_> {
+    fn write(&mut self, part: &[u8]) -> io::Result<usize> {
+        let taken = self.to.write(part)?;
+        self.written += taken;
+        self.progress.at(self.written);
+        Ok(taken)
+    }
+
+    fn flush(&mut self) -> io::Result<()> {
+        self.to.flush()
+    }
+}
+
+/// A new file in the same folder, under a name that nobody has.
+fn create_beside(path: &Path) -> io::Result<(File, PathBuf)> {
+    let mut number = 0;
+    loop {
+        let beside = path.with_file_name(format!(".jobsheet.{}.{number}", process::id()));
+        match File::options().write(true).create_new(true).open(&beside) {
+            Err(error) if error.kind() == ErrorKind::AlreadyExists && number < TRIES => number += 1,
+            opened => return opened.map(|opened| (opened, beside)),
+        }
+    }
 }
 
 fn cannot(name: &str, error: &io::Error) -> Stop {
     Stop(format!("{name} cannot be written: {error}"))
+}
+
+/// Whether two names are one file.
+pub fn is_same_file(one: &OsStr, other: &OsStr) -> bool {
+    let found = |file: &OsStr| fs::canonicalize(file).ok();
+    found(one).map_or(false, |file| file.is_file() && Some(file) == found(other))
 }

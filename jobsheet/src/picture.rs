@@ -20,6 +20,7 @@ mod tests;
 
 pub use day::day;
 pub use dot::dot;
+pub use refused::SHOWN as REFUSED;
 pub use sheet::svg;
 
 /// A job that the graph accepts, as it is drawn.

@@ -33,6 +33,15 @@ pub struct Entry {
     pub name: Option<u32>,
     /// The job, where all of it can be read.
     pub job: Option<Job>,
+    /// Otherwise what can be read of it.
+    pub rest: Option<Job>,
+}
+
+impl Entry {
+    /// The names that the job needs, as far as they can be read.
+    pub fn needs(&self) -> &[u32] {
+        self.job.as_ref().or(self.rest.as_ref()).map_or(&[], |job| &job.prerequisites)
+    }
 }
 
 /// What was read of a file.
@@ -42,29 +51,37 @@ pub struct Sheet {
     pub form: Form,
     /// Its entries, those that cannot be read too.
     pub entries: Vec<Entry>,
-    /// What cannot be read, in the order of the file.
+    /// What cannot be read, in the order in which it was met.
     pub faults: Vec<Fault>,
+    /// Whether all of it can be read.
+    pub whole: bool,
 }
 
 impl Sheet {
     /// A sheet without entries.
     pub fn new(form: Form) -> Sheet {
-        Sheet { form, entries: Vec::new(), faults: Vec::new() }
+        Sheet { form, entries: Vec::new(), faults: Vec::new(), whole: true }
+    }
+
+    /// Something of it cannot be read.
+    pub fn note(&mut self, fault: Fault) {
+        self.whole = false;
+        self.faults.push(fault);
     }
 
     /// The entry is the next one, and these are its faults with their offsets. With a fault it has no job.
     pub fn push(&mut self, mut entry: Entry, faults: impl IntoIterator<Item = (usize, Kind)>) {
         let number = self.entries.len();
         for (at, kind) in faults {
-            entry.job = None;
-            self.faults.push(Fault { entry: Some(number), line: entry.line, at, job: entry.name, kind });
+            entry.rest = entry.rest.or_else(|| entry.job.take());
+            self.note(Fault { entry: Some(number), line: entry.line, at, job: entry.name, kind });
         }
         self.entries.push(entry);
     }
 
     /// The jobs, where every entry can be read.
     pub fn jobs(&self) -> Option<Vec<Job>> {
-        if !self.faults.is_empty() {
+        if !self.whole {
             return None;
         }
         self.entries.iter().map(|entry| entry.job.clone()).collect()

@@ -18,6 +18,15 @@ pub struct OfClass {
 /// The jobs of a grower that need jobs of another: each with its name and theirs.
 pub type Waits = Vec<(u32, Vec<u32>)>;
 
+/// Jobs of which each needs the one before it.
+#[derive(Clone, Debug, Default, PartialEq, Eq)]
+pub struct Chain {
+    /// Their names.
+    pub jobs: Vec<u32>,
+    /// Their minutes together.
+    pub minutes: u32,
+}
+
 /// What a sheet comes to.
 #[derive(Clone, Debug, PartialEq, Eq)]
 pub struct Summary {
@@ -29,10 +38,10 @@ pub struct Summary {
     pub classes: BTreeMap<u32, OfClass>,
     /// The minutes of all jobs, as the board sums them.
     pub minutes: u32,
-    /// The names along the longest chain: each needs the one before it.
-    pub chain: Vec<u32>,
-    /// The minutes of the jobs of that chain.
-    pub chain_minutes: u32,
+    /// A chain of most jobs, and of those one of most minutes.
+    pub longest: Chain,
+    /// A chain of most minutes.
+    pub slowest: Chain,
     /// Who waits for whom: a grower, and one whose jobs it needs.
     pub waits: BTreeMap<(u32, u32), Waits>,
 }
@@ -40,15 +49,14 @@ pub struct Summary {
 impl Summary {
     /// What the sheet's accepted jobs come to. A chain, and what is waited for, may lead to jobs that were there before.
     pub fn of(judged: &Judged) -> Summary {
-        let (nodes, own) = (&judged.nodes, judged.own());
-        let chain = longest_chain(judged);
+        let own = judged.own();
         Summary {
             jobs: judged.sum.jobs,
             arcs: own.iter().map(|node| node.needs.len()).sum(),
             classes: classes(own),
             minutes: judged.sum.minutes,
-            chain_minutes: chain.iter().map(|place| minutes(nodes[*place].class)).sum(),
-            chain: chain.into_iter().map(|place| nodes[place].name).collect(),
+            longest: chain(judged, |node, minutes| (node.depth, minutes)),
+            slowest: chain(judged, |_, minutes| minutes),
             waits: waits(judged),
         }
     }
@@ -64,20 +72,23 @@ fn classes(nodes: &[Node]) -> BTreeMap<u32, OfClass> {
     classes
 }
 
-/// The places of a longest chain, prerequisites first: that of the first job of the greatest depth, back along the first
-/// in each list that is a level less deep.
-fn longest_chain(judged: &Judged) -> Vec<usize> {
-    let (nodes, own) = (&judged.nodes, judged.own());
-    let deepest = own.iter().map(|node| node.depth).max().unwrap_or(0);
-    let mut chain = Vec::new();
-    let mut next = own.iter().position(|node| node.depth == deepest).map(|place| judged.before + place);
-    while let Some(place) = next {
-        chain.push(place);
-        let node = &nodes[place];
-        next = node.needs.iter().copied().find(|needed| nodes[*needed].depth + 1 == node.depth);
+/// A chain that ends with a job of the sheet and weighs most, where the weight of a chain rises along it and is told by
+/// its last job and its minutes. Of several it is the one that comes first.
+fn chain<W: Ord + Copy>(judged: &Judged, weight: impl Fn(&Node, u32) -> W) -> Chain {
+    // The heaviest chain to each job: its weight, its minutes, and the job before.
+    let mut best: Vec<(W, u32, Option<usize>)> = Vec::with_capacity(judged.nodes.len());
+    for node in &judged.nodes {
+        let before =
+            node.needs.iter().copied().reduce(|one, other| if best[other].0 > best[one].0 { other } else { one });
+        let minutes = minutes(node.class) + before.map_or(0, |place| best[place].1);
+        best.push((weight(node, minutes), minutes, before));
     }
-    chain.reverse();
-    chain
+    let own = judged.before..judged.nodes.len();
+    let last = own.reduce(|one, other| if best[other].0 > best[one].0 { other } else { one });
+    let places = std::iter::successors(last, |place| best[*place].2);
+    let mut jobs: Vec<u32> = places.map(|place| judged.nodes[place].name).collect();
+    jobs.reverse();
+    Chain { jobs, minutes: last.map_or(0, |place| best[place].1) }
 }
 
 fn waits(judged: &Judged) -> BTreeMap<(u32, u32), Waits> {

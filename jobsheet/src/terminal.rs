@@ -36,11 +36,14 @@ impl Stream {
         unsafe { isatty(self as c_int) == 1 }
     }
 
-    /// Whether colours may be used: at a terminal that is not dumb, unless NO_COLOR is set.
+    /// Whether it is a terminal that knows more than lines.
+    fn is_able(self) -> bool {
+        self.is_terminal() && env::var_os("TERM").map_or(false, |name| name != "dumb")
+    }
+
+    /// Whether colours may be used: at a terminal that is not dumb, unless NO_COLOR is set to anything.
     pub fn has_colours(self) -> bool {
-        let dumb = env::var_os("TERM").map_or(true, |name| name == "dumb");
-        let unwanted = env::var_os("NO_COLOR").map_or(false, |value| !value.is_empty());
-        self.is_terminal() && !dumb && !unwanted
+        self.is_able() && env::var_os("NO_COLOR").map_or(true, |value| value.is_empty())
     }
 }
 
@@ -97,10 +100,12 @@ pub enum Stage {
     Judging = 2,
     /// A picture is made.
     Drawing = 3,
+    /// The answer is written.
+    Writing = 4,
 }
 
 /// What is counted in each part of the work.
-const COUNTED: [&str; 4] = ["", "bytes read", "entries judged", "jobs drawn"];
+const COUNTED: [&str; 5] = ["", "bytes read", "entries judged", "jobs drawn", "bytes written"];
 
 impl Progress {
     /// Progress that nobody sees.
@@ -108,10 +113,10 @@ impl Progress {
         Progress { state: Arc::default(), thread: None }
     }
 
-    /// Progress on standard error, if that is a terminal.
+    /// Progress on standard error, if that is a terminal that is not dumb.
     pub fn shown() -> Progress {
         let mut progress = Progress::silent();
-        if Stream::Error.is_terminal() {
+        if Stream::Error.is_able() {
             let state = Arc::clone(&progress.state);
             progress.thread = thread::Builder::new().spawn(move || show(&state)).ok();
         }

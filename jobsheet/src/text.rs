@@ -7,7 +7,7 @@ use taskgraph::Job;
 use crate::{
     draft::{Draft, Piece, Wrong},
     fault::{Fault, Kind},
-    number::{quoted, Part},
+    number::quoted,
     Form, Sheet,
 };
 
@@ -47,16 +47,20 @@ pub(crate) fn words((at, piece): Piece<'_>) -> impl Iterator<Item = Piece<'_>> {
     })
 }
 
+/// A line up to its comment.
+pub(crate) fn without_comment(line: &[u8]) -> &[u8] {
+    &line[..line.iter().position(|byte| *byte == b'#').unwrap_or(line.len())]
+}
+
 /// Reads a text.
 pub fn read(content: &[u8]) -> Sheet {
     let mut sheet = Sheet::new(Form::Text);
     for (line, (at, text)) in lines(content) {
         if let Some(fault) = no_text((at, text)) {
-            sheet.faults.push(Fault::of_line(line, fault));
+            sheet.note(Fault::of_line(line, fault));
             continue;
         }
-        let comment = text.iter().position(|byte| *byte == b'#').unwrap_or(text.len());
-        let mut words = words((at, &text[..comment]));
+        let mut words = words((at, without_comment(text)));
         if let Some(name) = words.next() {
             let (entry, wrong) = read_line(line, name, words).end();
             sheet.push(entry, wrong);
@@ -124,9 +128,11 @@ impl Reader {
             Some("class") if !followed => self.draft.class(word),
             Some("grower") if !followed => self.draft.grower(word),
             after => {
-                if self.draft.number(word, Part::Listed).is_some() {
-                    self.draft.wrong.push((word.0, Kind::Stray(quoted(word.1), after)));
-                }
+                let digits = word.1.iter().all(u8::is_ascii_digit);
+                let shown = quoted(word.1);
+                self.draft
+                    .wrong
+                    .push((word.0, if digits { Kind::Stray(shown, after) } else { Kind::UnknownWord(shown) }));
             }
         }
     }

@@ -149,7 +149,7 @@ fn any_table(random: &mut Random, jobs: &[Job]) -> String {
     let mut table = header.join(separator) + end;
     for job in jobs {
         while random.once_in(5) {
-            table += random.pick(&["", "# a comment", ",,,", "  "]);
+            table += &random.pick(&["", "# a comment", "SSS", "  ", "\"\"S", " # x"]).replace('S', separator);
             table += end;
         }
         let row: Vec<String> = columns.iter().map(|column| any_cell(random, column, job, separator)).collect();
@@ -221,7 +221,7 @@ fn plain_spellings(jobs: &[Job]) {
 }
 
 fn judged_after(before: &[Job], sheet: &Sheet, sizes: Sizes) -> Judged {
-    judge(sheet, before, sizes, &Progress::silent()).expect("the sizes are within their limits")
+    judge(&mut sheet.clone(), before, sizes, &Progress::silent()).expect("the sizes are within their limits")
 }
 
 fn judged(sheet: &Sheet, sizes: Sizes) -> Judged {
@@ -301,9 +301,16 @@ fn sums_are_right(jobs: &[Job], answers: &[Result<(), Refusal>], judged: &Judged
     let by_class: u32 = own.iter().map(|job| taskgraph::minutes(job.class)).sum();
     assert_eq!(summary.minutes, by_class);
     assert_eq!(summary.classes.values().map(|class| class.minutes).sum::<u32>(), by_class);
-    assert_eq!(summary.chain.len(), depths[judged.before..].iter().copied().max().unwrap_or(0));
-    for pair in summary.chain.windows(2) {
-        assert!(accepted[find(pair[1])].prerequisites.contains(&pair[0]));
+    let mut minutes: Vec<u32> = Vec::new();
+    for job in &accepted {
+        let before = job.prerequisites.iter().map(|name| minutes[find(*name)]).max().unwrap_or(0);
+        minutes.push(before + taskgraph::minutes(job.class));
+    }
+    assert_eq!(summary.longest.jobs.len(), depths[judged.before..].iter().copied().max().unwrap_or(0));
+    assert_eq!(summary.slowest.minutes, minutes[judged.before..].iter().copied().max().unwrap_or(0));
+    for chain in [&summary.longest, &summary.slowest] {
+        assert_eq!(chain.minutes, chain.jobs.iter().map(|name| taskgraph::minutes(accepted[find(*name)].class)).sum());
+        assert!(chain.jobs.windows(2).all(|pair| accepted[find(pair[1])].prerequisites.contains(&pair[0])));
     }
     let mut arcs = 0;
     for ((grower, other), waits) in &summary.waits {

@@ -12,7 +12,7 @@ use crate::{
     json::{Document, Json},
     number::counted,
     output::Output,
-    summary::Summary,
+    summary::{Chain, Summary},
     terminal::{painted, Paint, Progress, Stream},
     Form, Judged,
 };
@@ -20,14 +20,18 @@ use crate::{
 /// How many are shown at each end of a long list.
 const SHOWN: usize = 6;
 
-pub(super) fn run(arguments: &Arguments, source: Source, before: &[Job], progress: Progress) -> Result<Verdict, Stop> {
+pub(super) fn run(
+    arguments: &Arguments,
+    mut source: Source,
+    before: &[Job],
+    progress: Progress,
+) -> Result<Verdict, Stop> {
     let sizes = Sizes { workers: 1, ..arguments.sizes };
-    let judged = judged(&source.sheet, before, sizes, &progress)?;
-    drop(progress);
+    let judged = judged(&mut source.sheet, before, sizes, &progress)?;
     let packs = source.sheet.packed().is_some();
     let answer = Answer { summary: Summary::of(&judged), packs, source, judged };
     let colours = arguments.out.is_none() && Stream::Output.has_colours();
-    Output::open(&arguments.out)?.write_by(|out| match arguments.to {
+    Output::open(&arguments.out)?.write_by(progress, |out| match arguments.to {
         Some(To::Json) => answer.json(out),
         _ => answer.text(out, colours),
     })?;
@@ -72,15 +76,20 @@ impl Answer {
     }
 
     fn sums(&self, out: &mut dyn Write) -> io::Result<()> {
-        let Summary { jobs, arcs, classes, minutes, chain, chain_minutes, waits } = &self.summary;
+        let Summary { jobs, arcs, classes, minutes, longest, slowest, waits } = &self.summary;
         let minutes_of = |minutes: u32| counted(minutes as usize, "minute");
+        if !self.packs {
+            writeln!(out, "  what can be read comes to:")?;
+        }
         writeln!(out, "  {}, {}, {}", counted(*jobs as usize, "job"), counted(*arcs, "arc"), minutes_of(*minutes))?;
         for (class, sum) in classes {
             writeln!(out, "  class {class}: {}, {}", counted(sum.jobs, "job"), minutes_of(sum.minutes))?;
         }
-        if !chain.is_empty() {
-            let length = counted(chain.len(), "job");
-            writeln!(out, "  longest chain: {length}, {}: {}", minutes_of(*chain_minutes), listed(chain, ", "))?;
+        let mut chains = vec![("longest chain", longest), ("chain of most minutes", slowest)];
+        chains.dedup_by_key(|(_, chain)| *chain);
+        for (name, Chain { jobs, minutes }) in chains.into_iter().filter(|(_, chain)| !chain.jobs.is_empty()) {
+            let length = counted(jobs.len(), "job");
+            writeln!(out, "  {name}: {length}, {}: {}", minutes_of(*minutes), listed(jobs, ", "))?;
         }
         for ((grower, other), jobs) in waits {
             let [who, whom] = [grower, other].map(|number| grower_name(*number));
@@ -92,7 +101,7 @@ impl Answer {
     }
 
     fn json(&self, out: &mut dyn Write) -> io::Result<()> {
-        let Summary { jobs, arcs, classes, minutes, chain, chain_minutes, waits } = &self.summary;
+        let Summary { jobs, arcs, classes, minutes, longest, slowest, waits } = &self.summary;
         let Source { name, sheet } = &self.source;
         let mut document = Document::new(out);
         document.member("file", name.as_str())?;
@@ -113,8 +122,10 @@ impl Answer {
                 Json::Object(sum.into())
             }),
         )?;
-        let names = chain.iter().copied().collect();
-        document.member("chain", Json::Object(vec![("jobs", names), ("minutes", (*chain_minutes).into())]))?;
+        for (name, Chain { jobs, minutes }) in [("longest", longest), ("slowest", slowest)] {
+            let chain = [("jobs", jobs.iter().copied().collect()), ("minutes", (*minutes).into())];
+            document.member(name, Json::Object(chain.into()))?;
+        }
         document.rows(
             "waits",
             waits.iter().map(|((grower, other), jobs)| {

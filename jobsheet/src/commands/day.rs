@@ -25,30 +25,37 @@ use crate::{
 /// The sizes of the day list's graph; the adds are one worker's.
 const SIZES: Sizes = Sizes { jobs: DAY_JOBS as u32, arcs: DAY_ARCS, bits: DAY_BITS, workers: 1 };
 
-pub(super) fn run(arguments: &Arguments, source: Source, before: &[Job], progress: Progress) -> Result<Verdict, Stop> {
-    let judged = judged(&source.sheet, before, SIZES, &progress)?;
+pub(super) fn run(
+    arguments: &Arguments,
+    mut source: Source,
+    before: &[Job],
+    progress: Progress,
+) -> Result<Verdict, Stop> {
+    let judged = judged(&mut source.sheet, before, SIZES, &progress)?;
     progress.begin(Stage::Drawing);
-    let faults = judged.faults.clone();
     let sheet = match packed(&source, before) {
         Some(sheet) => sheet,
-        None => return Ok(cannot(&source, faults, "run")),
+        None => {
+            drop(progress);
+            return Ok(cannot(&source, judged, "run"));
+        }
     };
     if sheet.len() > MAX_DAY_SHEET {
+        drop(progress);
         let [has, most] = [sheet.len(), MAX_DAY_SHEET].map(grouped);
         tell(&format!("jobsheet: {} has {has} bytes when packed; the day list takes {most}", source.name));
         return Ok(Verdict::Fault);
     }
     let day = Day::of(&sheet, before.len(), arguments.sizes.workers);
-    let picture = (arguments.to == Some(To::Svg)).then(|| picture_of(&day, drawn(&source, judged)));
-    drop(progress);
+    let picture = (arguments.to == Some(To::Svg)).then(|| picture_of(&day, drawn(&source, &judged)));
     let colours = arguments.out.is_none() && Stream::Output.has_colours();
-    Output::open(&arguments.out)?.write_by(|out| match picture {
+    Output::open(&arguments.out)?.write_by(progress, |out| match picture {
         Some(picture) => out.write_all(picture.as_bytes()),
         None if arguments.to == Some(To::Json) => json(out, &source.name, &day),
         None => table(out, &day, colours),
     })?;
-    tell_faults(&source, &faults);
-    Ok(Verdict::of(&faults))
+    tell_faults(&source, &judged.faults);
+    Ok(Verdict::of(&judged.faults))
 }
 
 /// The sheet's bytes, with those of the jobs that are there before it in front.
@@ -72,7 +79,11 @@ fn rounds_of(day: &Day, places: &HashMap<u32, usize>) -> Rounds {
 fn table(out: &mut dyn Write, day: &Day, colours: bool) -> io::Result<()> {
     let counts = [(day.jobs, "job"), (day.workers as usize, "worker"), (day.rounds.len(), "round")];
     let counts = counts.map(|(count, thing)| counted(count, thing)).join(", ");
-    writeln!(out, "{counts}, {} left", day.left)?;
+    let refused = match day.refused.len() {
+        0 => String::new(),
+        refused => format!("; {} refused", counted(refused, "entry")),
+    };
+    writeln!(out, "{counts}, {} left{refused}", day.left)?;
     let heads: Vec<String> = (0..day.workers).map(|worker| format!("worker {worker}")).collect();
     let longest = day.rounds.iter().flatten().map(|worked| worked.name.to_string().len()).max().unwrap_or(0);
     let width = heads.iter().map(String::len).max().unwrap_or(0).max(longest);

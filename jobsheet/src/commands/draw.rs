@@ -12,17 +12,20 @@ use crate::{
     terminal::{Progress, Stage},
 };
 
-pub(super) fn run(arguments: &Arguments, source: Source, before: &[Job], progress: Progress) -> Result<Verdict, Stop> {
-    let judged = judged(&source.sheet, before, LARGEST, &progress)?;
+pub(super) fn run(
+    arguments: &Arguments,
+    mut source: Source,
+    before: &[Job],
+    progress: Progress,
+) -> Result<Verdict, Stop> {
+    let judged = judged(&mut source.sheet, before, LARGEST, &progress)?;
     progress.begin(Stage::Drawing);
-    let faults = judged.faults.clone();
-    let drawn = drawn(&source, judged);
+    let drawn = drawn(&source, &judged);
     let picture = match arguments.to {
         Some(To::Dot) => picture::dot(&drawn),
         _ => picture::svg(&drawn),
     };
-    drop(progress);
-    Output::open(&arguments.out)?.write_by(|out| out.write_all(picture.as_bytes()))?;
-    tell_faults(&source, &faults);
-    Ok(Verdict::of(&faults))
+    Output::open(&arguments.out)?.write_by(progress, |out| out.write_all(picture.as_bytes()))?;
+    tell_faults(&source, &judged.faults);
+    Ok(Verdict::of(&judged.faults))
 }

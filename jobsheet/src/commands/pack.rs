@@ -12,17 +12,19 @@ use crate::{
 
 /// Writes the packed sheet, if every entry can be written. What a fresh graph would refuse of it is no hindrance, as
 /// the jobs that it needs may be another sheet's; but it is said.
-pub(super) fn run(arguments: &Arguments, source: Source, progress: Progress) -> Result<Verdict, Stop> {
+pub(super) fn run(arguments: &Arguments, mut source: Source, progress: Progress) -> Result<Verdict, Stop> {
     if arguments.out.is_none() && Stream::Output.is_terminal() {
         return Err(Stop("a packed sheet is not for a terminal; say -o FILE, or send it on".into()));
     }
-    let judged = judged(&source.sheet, &[], LARGEST, &progress)?;
-    drop(progress);
+    let judged = judged(&mut source.sheet, &[], LARGEST, &progress)?;
     let sheet = match source.sheet.packed() {
         Some(sheet) => sheet,
-        None => return Ok(cannot(&source, judged.faults, "packed")),
+        None => {
+            drop(progress);
+            return Ok(cannot(&source, judged, "packed"));
+        }
     };
-    Output::open(&arguments.out)?.write_by(|out| out.write_all(&sheet))?;
+    Output::open(&arguments.out)?.write_by(progress, |out| out.write_all(&sheet))?;
     if judged.refused() > 0 {
         let refused = counted(judged.refused(), "entry");
         tell(&format!("jobsheet: packed, but a fresh graph would refuse {refused}; jobsheet check says why"));

@@ -4,28 +4,29 @@ use std::io::{self, Write};
 
 use taskgraph::Job;
 
-use super::{tell_faults, Verdict};
+use super::{cannot, judged, Verdict};
 use crate::{
     arguments::{Arguments, To},
     csv,
     input::{Source, Stop},
     json::{Document, Json},
+    judge::LARGEST,
     output::Output,
     terminal::Progress,
     text,
 };
 
-/// Writes the jobs, if every entry can be read.
-pub(super) fn run(arguments: &Arguments, source: Source, progress: Progress) -> Result<Verdict, Stop> {
-    drop(progress);
-    let jobs = match source.sheet.jobs() {
+/// Writes the jobs, if every entry can be read and packed.
+pub(super) fn run(arguments: &Arguments, mut source: Source, progress: Progress) -> Result<Verdict, Stop> {
+    let judged = judged(&mut source.sheet, &[], LARGEST, &progress)?;
+    let jobs = match source.sheet.packed().and_then(|_| source.sheet.jobs()) {
         Some(jobs) => jobs,
         None => {
-            tell_faults(&source, &source.sheet.faults);
-            return Ok(Verdict::Fault);
+            drop(progress);
+            return Ok(cannot(&source, judged, "shown"));
         }
     };
-    Output::open(&arguments.out)?.write_by(|out| match arguments.to {
+    Output::open(&arguments.out)?.write_by(progress, |out| match arguments.to {
         Some(To::Csv) => out.write_all(csv::write(&jobs).as_bytes()),
         Some(To::Json) => json(out, &jobs),
         _ => out.write_all(text::write(&jobs).as_bytes()),

@@ -6,8 +6,8 @@ use super::text::{counted, plain};
 use super::Refused;
 use crate::number::grouped;
 
-/// At most this many are drawn; how many more there are is said.
-pub(super) const SHOWN: usize = 40;
+/// At most this many refused entries are drawn; how many more there are is said.
+pub const SHOWN: usize = 40;
 
 /// The marks of a refused entry beside the word: a dashed outline and a cross.
 const OUTLINE: &str = "fill=\"#fff\" stroke=\"#a00000\" stroke-width=\"1.6\" stroke-dasharray=\"6 4\"";
