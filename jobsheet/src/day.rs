@@ -27,8 +27,8 @@ pub struct Day {
 }
 
 impl Day {
-    /// The day of a packed sheet that can be read, with 1 to 16 workers. Its first entries, so many, are of jobs that are
-    /// there before, and are not counted among its own.
+    /// The day of a packed sheet that can be read, with 1 to 16 workers. Its first entries, so many, are of jobs that
+    /// are there before, and are not counted among its own.
     ///
     /// # Panics
     /// Where there are more or fewer; and where the day list is not as `docs/RULES.md` has it ("The board and the day

@@ -99,13 +99,14 @@ fn contents(mut from: impl Read, name: &str, progress: &Progress) -> Result<Vec<
     }
 }
 
-/// The longest packed sheet of which every entry can be accepted: each job with a map byte, a name, a count, a class and
-/// a grower, and the names of all lists; but the first job can need nothing, and has no count.
+/// The longest packed sheet of which every entry can be accepted: each job with a map byte, a name, a count, a class
+/// and a grower, and the names of all lists; but the first job can need nothing, and has no count.
 const LONGEST_ACCEPTED: u32 = 9 * MAX_JOBS + 4 * MAX_ARCS - 1;
 
 fn too_long(name: &str) -> Stop {
     let [most, longest] = [MOST_BYTES, LONGEST_ACCEPTED as usize].map(grouped);
     Stop(format!(
-        "{name} has more than {most} bytes, and is not read; the largest graph takes a packed sheet of at most {longest}"
+        "{name} has more than {most} bytes, and is not read; the largest graph takes a packed sheet of at most \
+         {longest}"
     ))
 }

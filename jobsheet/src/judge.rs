@@ -47,8 +47,8 @@ impl Judged {
     }
 }
 
-/// Adds the jobs of a sheet to a graph that has been given the jobs of `before`, and nothing else. The sheet's faults move
-/// to the answer.
+/// Adds the jobs of a sheet to a graph that has been given the jobs of `before`, and nothing else. The sheet's faults
+/// move to the answer.
 ///
 /// # Errors
 /// [`Refusal::Size`] where a size is off its limits.
@@ -122,8 +122,8 @@ impl<'a> Book<'a> {
         self.nodes.push(Node { name: job.name, class: job.class, grower: job.grower, depth, needs });
     }
 
-    /// All that is wrong with an entry that was refused, or with what can be read of one. If a refusal's own number is not
-    /// among it, that comes first.
+    /// All that is wrong with an entry that was refused, or with what can be read of one. If a refusal's own number is
+    /// not among it, that comes first.
     fn explain(&self, number: usize, entry: &Entry, job: &Job, refusal: Option<Refusal>) -> Vec<Fault> {
         let mut wrong = Vec::new();
         self.arguments(entry, job, &mut wrong);

@@ -1,7 +1,7 @@
 //! The program `jobsheet`: job sheets as text and tables, checked, drawn and tried.
 //!
-//! A sheet is read by [`read`] from bytes, text or CSV, and [`judge`]d by adding its jobs to a fresh graph of the proved
-//! library. The library alone decides what is accepted; what stands here finds the words for its answers
+//! A sheet is read by [`read`] from bytes, text or CSV, and [`judge`]d by adding its jobs to a fresh graph of the
+//! proved library. The library alone decides what is accepted; what stands here finds the words for its answers
 //! (`docs/SHEETS.md`, "As text", "As a table" and "The program jobsheet").
 
 #![warn(missing_docs)]
@@ -26,6 +26,7 @@ pub mod sheet;
 pub mod summary;
 pub mod terminal;
 pub mod text;
+mod words;
 
 pub use form::{read, Form};
 pub use judge::{judge, Judged};

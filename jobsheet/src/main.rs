@@ -68,8 +68,8 @@ fn is_open(stream: Stream, name: &str) -> Result<(), Stop> {
     Ok(())
 }
 
-/// The streams that were closed when the program was started, a bit for each. Before `main` Rust puts an empty device in
-/// their places, where an answer would be lost; so this is looked at earlier.
+/// The streams that were closed when the program was started, a bit for each. Before `main` Rust puts an empty device
+/// in their places, where an answer would be lost; so this is looked at earlier.
 static CLOSED: AtomicU8 = AtomicU8::new(0);
 
 #[used]

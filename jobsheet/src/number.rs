@@ -91,7 +91,8 @@ pub fn quoted(word: &[u8]) -> String {
     format!("'{}'", shown(word))
 }
 
-/// A stranger's text, at most so many characters of it. What a terminal might obey, or nobody sees, is told by its number.
+/// A stranger's text, at most so many characters of it. What a terminal might obey, or nobody sees, is told by its
+/// number.
 pub fn plain(word: &[u8], most: usize) -> String {
     let start = &word[..word.len().min(4 * most + 4)];
     let (mut shown, mut rest, mut count) = (String::new(), start, 0);

@@ -78,8 +78,8 @@ impl Output {
         done.map(|()| self.kept = None).map_err(|error| cannot(&self.name, &error))
     }
 
-    /// Writes by a function, and ends. A terminal shows the answer itself; otherwise progress tells how much of it there
-    /// is.
+    /// Writes by a function, and ends. A terminal shows the answer itself; otherwise progress tells how much of it
+    /// there is.
     pub fn write_by(
         mut self,
         progress: Progress,

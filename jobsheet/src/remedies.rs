@@ -95,8 +95,8 @@ fn needs_in_vain(sheet: &Sheet, named: &HashMap<u32, Vec<usize>>, possible: &[bo
     sheet.entries.iter().map(|entry| entry.needs().iter().flat_map(of_name).collect()).collect()
 }
 
-/// The circle of each entry, by Kosaraju's algorithm: an entry is in the circle of the last to be left, on the way along
-/// all arrows, that reaches it against them.
+/// The circle of each entry, by Kosaraju's algorithm: an entry is in the circle of the last to be left, on the way
+/// along all arrows, that reaches it against them.
 fn circles(needs: &[Vec<usize>]) -> Vec<usize> {
     let mut needed_by = vec![Vec::new(); needs.len()];
     for (entry, list) in needs.iter().enumerate() {

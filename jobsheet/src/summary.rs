@@ -47,7 +47,8 @@ pub struct Summary {
 }
 
 impl Summary {
-    /// What the sheet's accepted jobs come to. A chain, and what is waited for, may lead to jobs that were there before.
+    /// What the sheet's accepted jobs come to. A chain, and what is waited for, may lead to jobs that were there
+    /// before.
     pub fn of(judged: &Judged) -> Summary {
         let own = judged.own();
         Summary {
