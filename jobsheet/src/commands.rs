@@ -46,11 +46,10 @@ impl Verdict {
 /// # Errors
 /// Where there is no answer.
 pub fn run(command: Command, arguments: &Arguments) -> Result<Verdict, Stop> {
-    let Arguments { file, out, .. } = arguments;
-    if let (Some(file), Some(out)) = (file, out) {
-        if is_same_file(file, out) {
-            return Err(Stop(format!("the answer would take the place of the sheet {}", shown_name(file))));
-        }
+    let Arguments { file, after, out, .. } = arguments;
+    let replaced = out.iter().find_map(|out| after.iter().chain(file).find(|file| is_same_file(file, out)));
+    if let Some(file) = replaced {
+        return Err(Stop(format!("the answer would take the place of the sheet {}", shown_name(file))));
     }
     let progress = Progress::shown();
     let before = before(arguments, &progress)?;

@@ -26,11 +26,7 @@ pub(crate) fn is_header(line: &[u8]) -> bool {
 
 /// Whether a line has nothing but a comment, or cells that are empty.
 pub(crate) fn is_blank(line: &[u8]) -> bool {
-    says_nothing(&Cells::of((0, line), separator(line)).cells)
-}
-
-fn says_nothing(cells: &[Cell<'_>]) -> bool {
-    cells[0].1.starts_with(b"#") || filled(cells) == 0
+    Cells::of((0, line), separator(line)).say_nothing()
 }
 
 fn separator(header: &[u8]) -> u8 {
@@ -51,6 +47,10 @@ struct Cells<'a> {
 }
 
 impl<'a> Cells<'a> {
+    fn say_nothing(&self) -> bool {
+        self.cells[0].1.starts_with(b"#") || filled(&self.cells) == 0 && self.wrong.is_empty()
+    }
+
     fn of((at, line): Piece<'a>, separator: u8) -> Cells<'a> {
         let mut read = Cells { cells: Vec::new(), wrong: Vec::new() };
         let mut start = 0;
@@ -148,7 +148,7 @@ pub fn read(content: &[u8]) -> Sheet {
             sheet.note(Fault::of_line(line, fault));
         } else if let Some((columns, separator)) = &known {
             let cells = Cells::of(piece, *separator);
-            if !says_nothing(&cells.cells) || !cells.wrong.is_empty() {
+            if !cells.say_nothing() {
                 let (entry, wrong) = row(cells, columns, line).end();
                 sheet.push(entry, wrong);
             }

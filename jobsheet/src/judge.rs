@@ -8,6 +8,7 @@ use taskgraph::{
 };
 
 use crate::{
+    draft::Wrong,
     fault::{Elsewhere, Fault, Kind, Other},
     number::Part,
     picture::Node,
@@ -97,9 +98,6 @@ struct Book<'a> {
     entered: HashMap<u32, (usize, Option<usize>)>,
     remedies: Remedies,
 }
-
-/// What is wrong, and its offset.
-type Wrong = (usize, Kind);
 
 impl<'a> Book<'a> {
     fn new(sheet: &'a Sheet, before: &[&Job], answers: &[Option<Result<(), Refusal>>], sizes: Sizes) -> Book<'a> {
