@@ -6,18 +6,18 @@ mod draw;
 mod pack;
 mod show;
 
-use std::collections::HashMap;
+use std::{collections::HashMap, path::Path};
 
 use taskgraph::{Job, Sizes};
 
 use crate::{
     arguments::{Arguments, Command},
     fault::Fault,
-    input::{self, shown_name, Source, Stop},
+    input::{self, Source, Stop},
     judge,
     number::counted,
-    output::is_same_file,
     picture::{Drawn, Refused, REFUSED},
+    streams::{identity, identity_of_input},
     terminal::{painted, tell, Paint, Progress, Stage, Stream},
     Judged, Sheet,
 };
@@ -46,14 +46,16 @@ impl Verdict {
 /// # Errors
 /// Where there is no answer.
 pub fn run(command: Command, arguments: &Arguments) -> Result<Verdict, Stop> {
-    let Arguments { file, after, out, .. } = arguments;
-    let replaced = out.iter().find_map(|out| after.iter().chain(file).find(|file| is_same_file(file, out)));
-    if let Some(file) = replaced {
-        return Err(Stop(format!("the answer would take the place of the sheet {}", shown_name(file))));
+    if takes_a_sheets_place(arguments) {
+        return Err(Stop("the answer would take the place of a sheet that is read".into()));
+    }
+    if command == Command::Pack && arguments.out.is_none() && Stream::Output.is_terminal() {
+        return Err(Stop("a packed sheet is not for a terminal; say -o FILE, or send it on".into()));
     }
     let progress = Progress::shown();
     let before = before(arguments, &progress)?;
-    let source = input::take(&arguments.file, arguments.from, &progress)?;
+    let say = "say --from bytes or --from text";
+    let source = input::take(&arguments.file, arguments.from, say, &progress)?;
     match command {
         Command::Pack => pack::run(arguments, source, progress),
         Command::Show => show::run(arguments, source, progress),
@@ -63,11 +65,19 @@ pub fn run(command: Command, arguments: &Arguments) -> Result<Verdict, Stop> {
     }
 }
 
-/// The jobs that are there before, of sheets that must be readable.
+/// Whether the file for the answer is one of those that are read.
+fn takes_a_sheets_place(arguments: &Arguments) -> bool {
+    let replaced = arguments.out.as_ref().and_then(|out| identity(Path::new(out)));
+    let read = arguments.after.iter().chain(&arguments.file).map(|file| identity(Path::new(file)));
+    let input = arguments.reads_input().then(identity_of_input);
+    replaced.is_some() && read.chain(input).any(|file| file == replaced)
+}
+
+/// The jobs that are there before, of sheets that can be packed.
 fn before(arguments: &Arguments, progress: &Progress) -> Result<Vec<Job>, Stop> {
     let mut jobs = Vec::new();
     for file in &arguments.after {
-        let Source { name, sheet } = input::take(&Some(file.clone()), None, progress)?;
+        let Source { name, sheet } = input::take(&Some(file.clone()), None, "pack it first", progress)?;
         let more = sheet.packed().and_then(|_| sheet.jobs());
         jobs.extend(more.ok_or_else(|| Stop(format!("{name} is broken; jobsheet check says where")))?);
     }

@@ -26,7 +26,11 @@ pub(crate) fn is_header(line: &[u8]) -> bool {
 
 /// Whether a line has nothing but a comment, or cells that are empty.
 pub(crate) fn is_blank(line: &[u8]) -> bool {
-    Cells::of((0, line), separator(line)).say_nothing()
+    is_comment(line) || Cells::of((0, line), separator(line)).say_nothing()
+}
+
+fn is_comment(line: &[u8]) -> bool {
+    line.iter().find(|byte| !blank(byte)) == Some(&b'#')
 }
 
 fn separator(header: &[u8]) -> u8 {
@@ -48,7 +52,7 @@ struct Cells<'a> {
 
 impl<'a> Cells<'a> {
     fn say_nothing(&self) -> bool {
-        self.cells[0].1.starts_with(b"#") || filled(&self.cells) == 0 && self.wrong.is_empty()
+        filled(&self.cells) == 0 && self.wrong.is_empty()
     }
 
     fn of((at, line): Piece<'a>, separator: u8) -> Cells<'a> {
@@ -148,7 +152,7 @@ pub fn read(content: &[u8]) -> Sheet {
             sheet.note(Fault::of_line(line, fault));
         } else if let Some((columns, separator)) = &known {
             let cells = Cells::of(piece, *separator);
-            if !cells.say_nothing() {
+            if !is_comment(piece.1) && !cells.say_nothing() {
                 let (entry, wrong) = row(cells, columns, line).end();
                 sheet.push(entry, wrong);
             }

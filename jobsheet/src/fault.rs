@@ -89,9 +89,11 @@ impl fmt::Display for Other {
 pub enum Elsewhere {
     /// No entry has its name.
     Nowhere,
+    /// A sheet that comes before has it, and it is refused there.
+    Lost,
     /// This entry has it, which comes later; and whether all that it needs itself is there.
     Later(Other, bool),
-    /// This entry has it, and is refused.
+    /// This entry has it, and is refused or cannot be read.
     Refused(Other),
     /// This entry has it, and needs the one that is wrong in turn.
     Circle(Other),

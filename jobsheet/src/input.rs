@@ -4,6 +4,7 @@ use std::{
     ffi::{OsStr, OsString},
     fs::File,
     io::{self, ErrorKind, Read},
+    path::Path,
 };
 
 use taskgraph::raw::{MAX_ARCS, MAX_JOBS};
@@ -11,6 +12,7 @@ use taskgraph::raw::{MAX_ARCS, MAX_JOBS};
 use crate::{
     number::{grouped, plain},
     read,
+    streams::{descriptor, is_usable},
     terminal::{tell, Progress, Stage, Stream},
     Form, Sheet,
 };
@@ -41,8 +43,9 @@ pub fn shown_name(file: &OsStr) -> String {
     }
 }
 
-/// Reads a file, or standard input, in a form that is said or that its content shows.
-pub fn take(file: &Option<OsString>, from: Option<Form>, progress: &Progress) -> Result<Source, Stop> {
+/// Reads a file, or standard input, in a form that is said or that its content shows. Where it shows two, `otherwise`
+/// is what helps.
+pub fn take(file: &Option<OsString>, from: Option<Form>, otherwise: &str, progress: &Progress) -> Result<Source, Stop> {
     progress.begin(Stage::Reading);
     let (name, content) = match file {
         Some(file) if file != "-" => {
@@ -51,6 +54,9 @@ pub fn take(file: &Option<OsString>, from: Option<Form>, progress: &Progress) ->
             (name, content)
         }
         _ => {
+            if !is_usable(0) {
+                return Err(Stop("standard input is not open for reading".into()));
+            }
             if Stream::Input.is_terminal() {
                 tell("jobsheet: the sheet is read from here; Ctrl-D ends it");
                 progress.begin(Stage::Typing);
@@ -60,12 +66,15 @@ pub fn take(file: &Option<OsString>, from: Option<Form>, progress: &Progress) ->
             (name, content)
         }
     };
-    let both = || Stop(format!("{name} can be read as bytes and as text; say --from bytes or --from text"));
+    let both = || Stop(format!("{name} can be read as bytes and as text; {otherwise}"));
     let form = from.or_else(|| Form::of(&content)).ok_or_else(both)?;
     Ok(Source { name, sheet: read(&content, form) })
 }
 
 fn open(file: &OsStr, name: &str) -> Result<File, Stop> {
+    if descriptor(Path::new(file)).map_or(false, |stream| stream == 0 && !is_usable(stream)) {
+        return Err(Stop(format!("{name} is not open for reading")));
+    }
     let opened = File::open(file).map_err(|error| match error.kind() {
         ErrorKind::NotFound => Stop(format!("there is no file {name}")),
         ErrorKind::PermissionDenied => Stop(format!("{name} may not be read")),

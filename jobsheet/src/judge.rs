@@ -12,7 +12,7 @@ use crate::{
     fault::{Elsewhere, Fault, Kind, Other},
     number::Part,
     picture::Node,
-    remedies::{Remedies, Remedy},
+    remedies::{Came, Remedies, Remedy},
     sheet::Entry,
     terminal::Progress,
     Sheet,
@@ -60,9 +60,10 @@ pub fn judge(sheet: &mut Sheet, before: &[Job], sizes: Sizes, progress: &Progres
     let answers = add_all(&mut graph, sheet, progress)?;
     let last = graph.totals()?.unexecuted;
     let mut faults = std::mem::take(&mut sheet.faults);
-    let there: Vec<&Job> =
-        before.iter().zip(entered).filter(|(_, answer)| answer.is_ok()).map(|(job, _)| job).collect();
+    let (there, lost): (Vec<_>, Vec<_>) = before.iter().zip(entered).partition(|(_, answer)| answer.is_ok());
+    let there: Vec<&Job> = there.into_iter().map(|(job, _)| job).collect();
     let mut book = Book::new(sheet, &there, &answers, sizes);
+    book.lost.extend(lost.into_iter().map(|(job, _)| job.name));
     for (number, (entry, answer)) in sheet.entries.iter().zip(&answers).enumerate() {
         match (&entry.job, &entry.rest, answer) {
             (Some(job), _, Some(Ok(()))) => book.enter(Some(number), job),
@@ -96,18 +97,30 @@ struct Book<'a> {
     arcs: usize,
     /// The node of each name that has entered, and its entry, if it was not there before.
     entered: HashMap<u32, (usize, Option<usize>)>,
+    /// The names of jobs that should have been there before and were refused.
+    lost: HashSet<u32>,
     remedies: Remedies,
+}
+
+/// What came of an entry: number 5 is for its own faults.
+fn came(answer: &Option<Result<(), Refusal>>) -> Came {
+    match answer {
+        Some(Ok(())) => Came::Accepted,
+        Some(Err(Refusal::Arguments)) | None => Came::Faulty,
+        Some(Err(_)) => Came::Refused,
+    }
 }
 
 impl<'a> Book<'a> {
     fn new(sheet: &'a Sheet, before: &[&Job], answers: &[Option<Result<(), Refusal>>], sizes: Sizes) -> Book<'a> {
-        let accepted: Vec<bool> = answers.iter().map(|answer| *answer == Some(Ok(()))).collect();
-        let remedies = if accepted.iter().all(|accepted| *accepted) {
+        let came: Vec<Came> = answers.iter().map(came).collect();
+        let remedies = if came.iter().all(|came| *came == Came::Accepted) {
             Remedies::default()
         } else {
-            Remedies::new(sheet, before.iter().map(|job| job.name).collect(), accepted)
+            Remedies::new(sheet, before.iter().map(|job| job.name).collect(), &came)
         };
-        let mut book = Book { sheet, sizes, nodes: Vec::new(), arcs: 0, entered: HashMap::new(), remedies };
+        let (nodes, entered, lost) = (Vec::new(), HashMap::new(), HashSet::new());
+        let mut book = Book { sheet, sizes, nodes, arcs: 0, entered, lost, remedies };
         before.iter().for_each(|job| book.enter(None, job));
         book
     }
@@ -126,8 +139,8 @@ impl<'a> Book<'a> {
         let mut wrong = Vec::new();
         self.arguments(entry, job, &mut wrong);
         self.names(number, entry, job, &mut wrong);
+        self.room(entry, job, &mut wrong);
         if let Some(refusal) = refusal {
-            self.room(entry, job, &mut wrong);
             if !wrong.iter().any(|(_, kind)| kind.number() == Some(refusal.number())) {
                 wrong.insert(0, (entry.at.entry, Kind::Other(refusal)));
             }
@@ -170,6 +183,7 @@ impl<'a> Book<'a> {
     /// Where a name could be had; of an entry that comes later, whether it needs others that come later too.
     fn elsewhere(&self, number: usize, name: u32) -> Elsewhere {
         match self.remedies.of(number, name) {
+            Remedy::Nowhere if self.lost.contains(&name) => Elsewhere::Lost,
             Remedy::Nowhere => Elsewhere::Nowhere,
             Remedy::Refused(entry) => Elsewhere::Refused(self.other(entry)),
             Remedy::Circle(entry) => Elsewhere::Circle(self.other(entry)),

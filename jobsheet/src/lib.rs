@@ -23,6 +23,7 @@ pub mod output;
 pub mod picture;
 mod remedies;
 pub mod sheet;
+pub mod streams;
 pub mod summary;
 pub mod terminal;
 pub mod text;

@@ -1,15 +1,17 @@
 //! Answers, written to standard output or to a file that is whole or as it was.
 
 use std::{
-    ffi::{OsStr, OsString},
+    ffi::OsString,
     fs::{self, File},
     io::{self, BufWriter, ErrorKind, Write},
+    os::unix::io::RawFd,
     path::{Path, PathBuf},
     process,
 };
 
 use crate::{
     input::{shown_name, Stop},
+    streams::{descriptor, duplicate, is_usable, is_writable},
     terminal::{Progress, Stage, Stream},
 };
 
@@ -27,31 +29,37 @@ const TRIES: u32 = 100;
 impl Output {
     /// Standard output, or a file. A file that is there stays as it is until the new one is whole.
     pub fn open(file: &Option<OsString>) -> Result<Output, Stop> {
-        let file = match file {
-            Some(file) if file != "-" => file,
-            _ => return Ok(Output::over(Box::new(io::stdout()), "standard output".into(), None)),
-        };
-        let name = shown_name(file);
-        Output::of_file(Path::new(file), &name).map_err(|error| cannot(&name, &error))
+        match file {
+            Some(file) if file != "-" => {
+                let name = shown_name(file);
+                Output::of_file(Path::new(file), &name).map_err(|error| cannot(&name, &error))
+            }
+            _ => Output::of_stream(1, "standard output").map_err(|error| cannot("standard output", &error)),
+        }
+    }
+
+    /// A stream that is open already, which is gone on with.
+    fn of_stream(descriptor: RawFd, name: &str) -> io::Result<Output> {
+        let to = duplicate(descriptor)?;
+        if !is_writable(&to) || descriptor < 3 && !is_usable(descriptor) {
+            return Err(io::Error::new(ErrorKind::Other, "it is not open for that"));
+        }
+        Ok(Output::over(Box::new(to), name.into(), None))
     }
 
     fn of_file(file: &Path, name: &str) -> io::Result<Output> {
-        let over = |to: Box<dyn Write>, kept| Ok(Output::over(to, name.into(), kept));
-        match file.to_str() {
-            // Streams that are open already are gone on with.
-            Some("/dev/stdout" | "/dev/fd/1" | "/proc/self/fd/1") => return over(Box::new(io::stdout()), None),
-            Some("/dev/stderr" | "/dev/fd/2" | "/proc/self/fd/2") => return over(Box::new(io::stderr()), None),
-            _ => {}
+        if let Some(descriptor) = descriptor(file) {
+            return Output::of_stream(descriptor, name);
         }
+        let over = |to: Box<dyn Write>, kept| Ok(Output::over(to, name.into(), kept));
         // A link keeps leading where it leads; one that leads nowhere is an error.
         let path = match fs::symlink_metadata(file) {
             Ok(_) => fs::canonicalize(file)?,
             Err(_) => file.into(),
         };
         let found = fs::metadata(&path).ok();
-        let stream = ["/dev/fd", "/proc"].iter().any(|folder| file.starts_with(folder));
-        if stream || found.as_ref().map_or(false, |found| !found.is_file()) {
-            return over(Box::new(File::options().append(true).open(&path)?), None);
+        if found.as_ref().map_or(false, |found| !found.is_file()) {
+            return over(Box::new(File::options().write(true).open(&path)?), None);
         }
         if found.is_some() {
             // What may not be written is not replaced either.
@@ -141,10 +149,4 @@ fn create_beside(path: &Path) -> io::Result<(File, PathBuf)> {
 
 fn cannot(name: &str, error: &io::Error) -> Stop {
     Stop(format!("{name} cannot be written: {error}"))
-}
-
-/// Whether two names are one file.
-pub fn is_same_file(one: &OsStr, other: &OsStr) -> bool {
-    let found = |file: &OsStr| fs::canonicalize(file).ok();
-    found(one).map_or(false, |file| file.is_file() && Some(file) == found(other))
 }

@@ -1,21 +1,27 @@
 //! What helps an entry that needs a job which is not there.
 
-use std::collections::{HashMap, HashSet};
+use std::collections::{HashMap, HashSet, VecDeque};
 
 use crate::Sheet;
 
-/// What is known of the entries of a sheet once all were tried.
+/// What is known of the names of a sheet once all its entries were tried.
 #[derive(Default)]
 pub(crate) struct Remedies {
-    /// The entries of each name, rising.
-    named: HashMap<u32, Vec<usize>>,
-    /// The entries that were accepted.
-    accepted: Vec<bool>,
-    /// The entries that could be accepted in some order, if nothing else is wrong with them or with what they need.
-    possible: Vec<bool>,
-    /// The circle of each entry: two that are not possible have the same number exactly if each needs the other, itself
-    /// or through others.
+    named: HashMap<u32, Named>,
+    /// The circle of each entry. An entry and a name have the same number exactly if the entry needs the name in vain,
+    /// itself or through others, and one that has the name needs the entry so.
     circle: Vec<usize>,
+}
+
+/// What is known of a name.
+struct Named {
+    /// All that have it, rising.
+    entries: Vec<usize>,
+    /// The one that was accepted, or else the one that some order would bring, which needs no other that has the name.
+    best: Option<usize>,
+    circle: usize,
+    /// One that has the name and is in its circle.
+    circled: Option<usize>,
 }
 
 /// Another entry that has a name, and what helps.
@@ -23,92 +29,122 @@ pub(crate) struct Remedies {
 pub(crate) enum Remedy {
     /// No other entry has the name.
     Nowhere,
-    /// It comes later.
+    /// It comes later, and some order brings it before.
     Later(usize),
-    /// It is refused, whatever the order.
+    /// It is refused, or cannot be read, whatever the order.
     Refused(usize),
     /// It is in a circle with the entry that needs it.
     Circle(usize),
 }
 
+/// What came of an entry.
+#[derive(Clone, Copy, Debug, PartialEq, Eq)]
+pub(crate) enum Came {
+    /// It was accepted.
+    Accepted,
+    /// It was refused for names or for room, which another order may mend.
+    Refused,
+    /// It is refused in any order.
+    Faulty,
+}
+
 impl Remedies {
-    /// Of a sheet, the names that are there before it, and which of its entries were accepted.
-    pub fn new(sheet: &Sheet, before: HashSet<u32>, accepted: Vec<bool>) -> Remedies {
-        let mut named: HashMap<u32, Vec<usize>> = HashMap::new();
+    /// Of a sheet, the names that are there before it, and what came of its entries.
+    pub fn new(sheet: &Sheet, before: HashSet<u32>, came: &[Came]) -> Remedies {
+        let mut entries: HashMap<u32, Vec<usize>> = HashMap::new();
         for (number, entry) in sheet.entries.iter().enumerate() {
             if let Some(name) = entry.name {
-                named.entry(name).or_default().push(number);
+                entries.entry(name).or_default().push(number);
             }
         }
-        let possible = possible(sheet, before);
-        let circle = circles(&needs_in_vain(sheet, &named, &possible));
-        Remedies { named, accepted, possible, circle }
+        let mut best = brought(sheet, before, came);
+        let accepted = came.iter().enumerate().filter(|(_, came)| **came == Came::Accepted);
+        best.extend(accepted.filter_map(|(number, _)| Some((sheet.entries[number].name?, number))));
+        // A place for each entry, and after them one for each name.
+        let names: HashMap<u32, usize> = entries.keys().copied().zip(came.len()..).collect();
+        let circle = circles(&arrows(sheet, &names, &best));
+        let named = entries.into_iter().map(|(name, entries)| {
+            let circle_of_name = circle[names[&name]];
+            let circled = entries.iter().copied().find(|entry| circle[*entry] == circle_of_name);
+            (name, Named { best: best.get(&name).copied(), circle: circle_of_name, circled, entries })
+        });
+        Remedies { named: named.collect(), circle }
     }
 
     /// What helps an entry that needs a name.
     pub fn of(&self, number: usize, name: u32) -> Remedy {
-        let others = || self.named.get(&name).into_iter().flatten().copied().filter(|other| *other != number);
-        let later = |known: &[bool]| others().find(|other| *other > number && known[*other]);
-        if let Some(other) = later(&self.accepted).or_else(|| later(&self.possible)) {
-            return Remedy::Later(other);
+        let named = match self.named.get(&name) {
+            Some(named) => named,
+            None => return Remedy::Nowhere,
+        };
+        if let Some(best) = named.best {
+            return if best > number { Remedy::Later(best) } else { Remedy::Refused(best) };
         }
-        if let Some(other) = others().find(|other| !self.possible[*other] && self.circle[*other] == self.circle[number])
-        {
-            return Remedy::Circle(other);
-        }
-        others().next().map_or(Remedy::Nowhere, Remedy::Refused)
-    }
-}
-
-/// The entries all of whose names some order brings before them.
-fn possible(sheet: &Sheet, before: HashSet<u32>) -> Vec<bool> {
-    let mut there = before;
-    let mut missing = vec![0; sheet.entries.len()];
-    let mut waiting: HashMap<u32, Vec<usize>> = HashMap::new();
-    for (number, entry) in sheet.entries.iter().enumerate() {
-        let needed: HashSet<u32> = entry.needs().iter().copied().filter(|name| !there.contains(name)).collect();
-        missing[number] = needed.len();
-        needed.into_iter().for_each(|name| waiting.entry(name).or_default().push(number));
-    }
-    let mut next: Vec<usize> = (0..missing.len()).filter(|number| missing[*number] == 0).collect();
-    let mut possible = vec![false; missing.len()];
-    while let Some(number) = next.pop() {
-        possible[number] = true;
-        let name = sheet.entries[number].name.filter(|name| there.insert(*name));
-        for freed in name.and_then(|name| waiting.remove(&name)).into_iter().flatten() {
-            missing[freed] -= 1;
-            if missing[freed] == 0 {
-                next.push(freed);
+        match named.circled {
+            Some(other) if named.circle == self.circle[number] => Remedy::Circle(other),
+            _ => {
+                named.entries.iter().find(|other| **other != number).map_or(Remedy::Nowhere, |it| Remedy::Refused(*it))
             }
         }
     }
-    possible
 }
 
-/// For each entry those that it needs in vain: of the names that no possible entry has.
-fn needs_in_vain(sheet: &Sheet, named: &HashMap<u32, Vec<usize>>, possible: &[bool]) -> Vec<Vec<usize>> {
-    let of_name = |name: &u32| {
-        let entries = named.get(name).map_or(&[][..], |entries| entries);
-        let in_vain = !entries.iter().any(|entry| possible[*entry]);
-        entries.iter().copied().filter(move |_| in_vain)
-    };
-    sheet.entries.iter().map(|entry| entry.needs().iter().flat_map(of_name).collect()).collect()
+/// For each name the entry that brings it first, where entries are taken as soon as all their names are there.
+fn brought(sheet: &Sheet, before: HashSet<u32>, came: &[Came]) -> HashMap<u32, usize> {
+    let mut missing = vec![0; came.len()];
+    let mut waiting: HashMap<u32, Vec<usize>> = HashMap::new();
+    let mut next = VecDeque::new();
+    for (number, entry) in sheet.entries.iter().enumerate().filter(|(number, _)| came[*number] != Came::Faulty) {
+        let needed: HashSet<u32> = entry.needs().iter().copied().filter(|name| !before.contains(name)).collect();
+        missing[number] = needed.len();
+        if needed.is_empty() {
+            next.push_back(number);
+        }
+        needed.into_iter().for_each(|name| waiting.entry(name).or_default().push(number));
+    }
+    let mut brought = HashMap::new();
+    while let Some(number) = next.pop_front() {
+        let name = sheet.entries[number].name.filter(|name| !before.contains(name) && !brought.contains_key(name));
+        if let Some(name) = name {
+            brought.insert(name, number);
+            for freed in waiting.remove(&name).into_iter().flatten() {
+                missing[freed] -= 1;
+                if missing[freed] == 0 {
+                    next.push_back(freed);
+                }
+            }
+        }
+    }
+    brought
 }
 
-/// The circle of each entry, by Kosaraju's algorithm: an entry is in the circle of the last to be left, on the way
-/// along all arrows, that reaches it against them.
-fn circles(needs: &[Vec<usize>]) -> Vec<usize> {
-    let mut needed_by = vec![Vec::new(); needs.len()];
-    for (entry, list) in needs.iter().enumerate() {
-        list.iter().for_each(|needed| needed_by[*needed].push(entry));
+/// From each entry to the names that it needs and no order brings, and from each name to the entries that have it.
+fn arrows(sheet: &Sheet, names: &HashMap<u32, usize>, best: &HashMap<u32, usize>) -> Vec<Vec<usize>> {
+    let mut arrows = vec![Vec::new(); sheet.entries.len() + names.len()];
+    for (number, entry) in sheet.entries.iter().enumerate() {
+        let in_vain = entry.needs().iter().filter(|name| !best.contains_key(name));
+        arrows[number] = in_vain.filter_map(|name| names.get(name).copied()).collect();
+        if let Some(place) = entry.name.and_then(|name| names.get(&name)) {
+            arrows[*place].push(number);
+        }
+    }
+    arrows
+}
+
+/// The circle of each place, by Kosaraju's algorithm: a place is in the circle of the last to be left, on the way along
+/// all arrows, that reaches it against them.
+fn circles(arrows: &[Vec<usize>]) -> Vec<usize> {
+    let mut against = vec![Vec::new(); arrows.len()];
+    for (place, leads_to) in arrows.iter().enumerate() {
+        leads_to.iter().for_each(|other| against[*other].push(place));
     }
     let mut left = Vec::new();
-    let mut met = vec![false; needs.len()];
-    (0..needs.len()).for_each(|entry| walk(entry, needs, &mut met, |past| left.push(past)));
-    let mut circle = vec![0; needs.len()];
-    let mut met = vec![false; needs.len()];
-    for entry in left.into_iter().rev() {
-        walk(entry, &needed_by, &mut met, |member| circle[member] = entry);
+    let mut met = vec![false; arrows.len()];
+    (0..arrows.len()).for_each(|place| walk(place, arrows, &mut met, |past| left.push(past)));
+    let mut circle = vec![0; arrows.len()];
+    let mut met = vec![false; arrows.len()];
+    for place in left.into_iter().rev() {
+        walk(place, &against, &mut met, |member| circle[member] = place);
     }
     circle
 }
@@ -134,39 +170,45 @@ fn walk(start: usize, arrows: &[Vec<usize>], met: &mut [bool], mut leave: impl F
 
 #[cfg(test)]
 mod tests {
-    use super::*;
+    use super::{
+        Remedy::{Circle, Later, Nowhere, Refused},
+        *,
+    };
     use crate::text;
 
-    /// The remedy of each name that each entry needs, where none was accepted.
-    fn remedies(sheet: &[u8]) -> Vec<Vec<Remedy>> {
+    /// The remedy of each name that each entry needs, where none was accepted and these are faulty.
+    fn remedies(sheet: &[u8], faulty: &[usize]) -> Vec<Vec<Remedy>> {
         let sheet = text::read(sheet);
-        let remedies = Remedies::new(&sheet, HashSet::new(), vec![false; sheet.entries.len()]);
+        let came = |number| if faulty.contains(&number) { Came::Faulty } else { Came::Refused };
+        let came: Vec<Came> = (0..sheet.entries.len()).map(came).collect();
+        let remedies = Remedies::new(&sheet, HashSet::new(), &came);
         let of = |(number, names): (usize, &[u32])| names.iter().map(|name| remedies.of(number, *name)).collect();
         sheet.entries.iter().map(|entry| entry.needs()).enumerate().map(of).collect()
     }
 
     #[test]
     fn circles_are_found_and_no_more() {
-        use Remedy::{Circle, Later, Refused};
         // 1 and 2 need each other; 3 needs them; 4, 5 and 6 are a circle, and need 3 too; 8 is possible.
         let sheet = b"1 needs 2\n2 needs 1\n3 needs 1\n4 needs 5\n5 needs 6 3\n6 needs 4\n7 needs 8\n8\n";
-        let expected: [&[Remedy]; 8] = [
-            &[Circle(1)],
-            &[Circle(0)],
-            &[Refused(0)],
-            &[Circle(4)],
-            &[Circle(5), Refused(2)],
-            &[Circle(3)],
-            &[Later(7)],
-            &[],
-        ];
-        assert_eq!(remedies(sheet), expected);
+        let circles = [vec![Circle(1)], vec![Circle(0)], vec![Refused(0)], vec![Circle(4)]];
+        let others = [vec![Circle(5), Refused(2)], vec![Circle(3)], vec![Later(7)], vec![]];
+        assert_eq!(remedies(sheet, &[]), [circles, others].concat());
     }
 
     #[test]
-    fn a_name_that_stands_twice_is_no_circle_if_either_is_possible() {
-        use Remedy::{Later, Nowhere};
-        assert_eq!(remedies(b"2 needs 1\n1 needs 2\n1\n"), [vec![Later(1)], vec![Remedy::Refused(0)], vec![]]);
-        assert_eq!(remedies(b"2 needs 1 9\n1\n"), [vec![Later(1), Nowhere], vec![]]);
+    fn of_a_name_that_stands_twice_the_entry_that_some_order_brings_is_told() {
+        assert_eq!(remedies(b"2 needs 1\n1 needs 2\n1\n", &[]), [vec![Later(2)], vec![Refused(0)], vec![]]);
+        assert_eq!(remedies(b"2 needs 1 9\n1\n", &[]), [vec![Later(1), Nowhere], vec![]]);
+        let first = [vec![Later(3)], vec![Refused(0)], vec![Refused(1)], vec![]];
+        assert_eq!(remedies(b"2 needs 3\n1 needs 2\n2 needs 1\n3\n", &[]), first);
+        let second = [vec![Later(2)], vec![Later(3)], vec![Later(3)], vec![]];
+        assert_eq!(remedies(b"1 needs 2\n2 needs 3\n2 needs 3\n3\n", &[1]), second);
+        assert_eq!(remedies(b"1 needs 2\n2\n", &[1]), [vec![Refused(1)], vec![]]);
+    }
+
+    #[test]
+    fn many_of_one_name_take_little() {
+        let sheet = "1 needs 1\n".repeat(20_000);
+        assert_eq!(remedies(sheet.as_bytes(), &[])[7], [Circle(0)]);
     }
 }

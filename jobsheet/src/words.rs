@@ -113,7 +113,8 @@ fn wrong_value(field: Field, value: u32) -> String {
 
 fn unknown_name(name: u32, place: Elsewhere) -> String {
     match place {
-        Elsewhere::Refused(other) => format!("it needs job {name}, which {other} does not add, as it is refused."),
+        Elsewhere::Refused(other) => format!("it needs job {name}, which {other} does not add, as that has a fault."),
+        Elsewhere::Lost => format!("it needs job {name}, which is refused in a sheet before this one."),
         _ => format!("it needs job {name}, which no earlier entry adds."),
     }
 }
@@ -125,6 +126,7 @@ fn find_name(own: Option<u32>, name: u32, place: Elsewhere) -> String {
             "No entry has that name: write one for job {name} before {own}, name a sheet that has it with --after, or \
              remove it from the list."
         ),
+        Elsewhere::Lost => "jobsheet check says why, of that sheet.".into(),
         Elsewhere::Later(other, alone) => format!(
             "Entries are added in order: put job {name}, {other}, {}before {own}, or remove it from the list.",
             if alone { "" } else { "and what it needs " }

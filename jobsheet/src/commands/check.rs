@@ -10,7 +10,7 @@ use crate::{
     fault::Fault,
     input::{Source, Stop},
     json::{Document, Json},
-    number::counted,
+    number::{counted, grouped},
     output::Output,
     summary::{Chain, Summary},
     terminal::{painted, Paint, Progress, Stream},
@@ -72,7 +72,7 @@ impl Answer {
             Form::Bytes => "it is broken, and a host adds nothing of it",
             Form::Text | Form::Csv => "it cannot be packed",
         };
-        format!("{start}, {} refused; {faults}; {end}", self.judged.refused())
+        format!("{start}, {} refused; {faults}; {end}", grouped(self.judged.refused()))
     }
 
     fn sums(&self, out: &mut dyn Write) -> io::Result<()> {

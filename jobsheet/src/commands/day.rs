@@ -43,7 +43,8 @@ pub(super) fn run(
     if sheet.len() > MAX_DAY_SHEET {
         drop(progress);
         let [has, most] = [sheet.len(), MAX_DAY_SHEET].map(grouped);
-        tell(&format!("jobsheet: {} has {has} bytes when packed; the day list takes {most}", source.name));
+        let with = if before.is_empty() { "" } else { ", with the sheets before it," };
+        tell(&format!("jobsheet: {}{with} has {has} bytes when packed; the day list takes {most}", source.name));
         return Ok(Verdict::Fault);
     }
     let day = Day::of(&sheet, before.len(), arguments.sizes.workers);

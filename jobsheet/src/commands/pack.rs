@@ -7,15 +7,12 @@ use crate::{
     judge::LARGEST,
     number::counted,
     output::Output,
-    terminal::{tell, Progress, Stream},
+    terminal::{tell, Progress},
 };
 
 /// Writes the packed sheet, if every entry can be written. What a fresh graph would refuse of it is no hindrance, as
 /// the jobs that it needs may be another sheet's; but it is said.
 pub(super) fn run(arguments: &Arguments, mut source: Source, progress: Progress) -> Result<Verdict, Stop> {
-    if arguments.out.is_none() && Stream::Output.is_terminal() {
-        return Err(Stop("a packed sheet is not for a terminal; say -o FILE, or send it on".into()));
-    }
     let judged = judged(&mut source.sheet, &[], LARGEST, &progress)?;
     let sheet = match source.sheet.packed() {
         Some(sheet) => sheet,
