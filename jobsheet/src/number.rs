@@ -69,10 +69,11 @@ pub fn grouped(value: usize) -> String {
     shown
 }
 
-/// So many of something: `1 job`, `4,096 jobs`.
+/// So many of something: `1 job`, `4,096 entries`, `2 classes`.
 pub fn counted(value: usize, thing: &str) -> String {
     let plural = match thing.strip_suffix('y') {
         Some(stem) => format!("{stem}ies"),
+        None if thing.ends_with('s') => format!("{thing}es"),
         None => format!("{thing}s"),
     };
     format!("{} {}", grouped(value), if value == 1 { thing } else { &plural })
@@ -136,7 +137,7 @@ mod tests {
     fn numbers_are_shown_for_people() {
         assert_eq!([0, 999, 1000, 4096, 4294967295].map(grouped), ["0", "999", "1,000", "4,096", "4,294,967,295"]);
         assert_eq!([counted(1, "entry"), counted(0, "job")], ["1 entry", "0 jobs"]);
-        assert_eq!(counted(1024, "entry"), "1,024 entries");
+        assert_eq!([counted(1024, "entry"), counted(2, "class")], ["1,024 entries", "2 classes"]);
     }
 
     #[test]

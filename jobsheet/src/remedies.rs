@@ -57,12 +57,13 @@ impl Remedies {
                 entries.entry(name).or_default().push(number);
             }
         }
-        let mut best = brought(sheet, before, came);
+        let hoped = brought(sheet, &before, |_| true);
+        let mut best = brought(sheet, &before, |number| came[number] != Came::Faulty);
         let accepted = came.iter().enumerate().filter(|(_, came)| **came == Came::Accepted);
         best.extend(accepted.filter_map(|(number, _)| Some((sheet.entries[number].name?, number))));
         // A place for each entry, and after them one for each name.
         let names: HashMap<u32, usize> = entries.keys().copied().zip(came.len()..).collect();
-        let circle = circles(&arrows(sheet, &names, &best));
+        let circle = circles(&arrows(sheet, &names, &hoped));
         let named = entries.into_iter().map(|(name, entries)| {
             let circle_of_name = circle[names[&name]];
             let circled = entries.iter().copied().find(|entry| circle[*entry] == circle_of_name);
@@ -89,12 +90,13 @@ impl Remedies {
     }
 }
 
-/// For each name the entry that brings it first, where entries are taken as soon as all their names are there.
-fn brought(sheet: &Sheet, before: HashSet<u32>, came: &[Came]) -> HashMap<u32, usize> {
-    let mut missing = vec![0; came.len()];
+/// For each name the entry that brings it first, where those entries that count are taken as soon as all their names are
+/// there.
+fn brought(sheet: &Sheet, before: &HashSet<u32>, counts: impl Fn(usize) -> bool) -> HashMap<u32, usize> {
+    let mut missing = vec![0; sheet.entries.len()];
     let mut waiting: HashMap<u32, Vec<usize>> = HashMap::new();
     let mut next = VecDeque::new();
-    for (number, entry) in sheet.entries.iter().enumerate().filter(|(number, _)| came[*number] != Came::Faulty) {
+    for (number, entry) in sheet.entries.iter().enumerate().filter(|(number, _)| counts(*number)) {
         let needed: HashSet<u32> = entry.needs().iter().copied().filter(|name| !before.contains(name)).collect();
         missing[number] = needed.len();
         if needed.is_empty() {
@@ -118,11 +120,12 @@ fn brought(sheet: &Sheet, before: HashSet<u32>, came: &[Came]) -> HashMap<u32, u
     brought
 }
 
-/// From each entry to the names that it needs and no order brings, and from each name to the entries that have it.
-fn arrows(sheet: &Sheet, names: &HashMap<u32, usize>, best: &HashMap<u32, usize>) -> Vec<Vec<usize>> {
+/// From each entry to the names that it needs and no order brings, whatever else is mended, and from each name to the
+/// entries that have it.
+fn arrows(sheet: &Sheet, names: &HashMap<u32, usize>, hoped: &HashMap<u32, usize>) -> Vec<Vec<usize>> {
     let mut arrows = vec![Vec::new(); sheet.entries.len() + names.len()];
     for (number, entry) in sheet.entries.iter().enumerate() {
-        let in_vain = entry.needs().iter().filter(|name| !best.contains_key(name));
+        let in_vain = entry.needs().iter().filter(|name| !hoped.contains_key(name));
         arrows[number] = in_vain.filter_map(|name| names.get(name).copied()).collect();
         if let Some(place) = entry.name.and_then(|name| names.get(&name)) {
             arrows[*place].push(number);
@@ -204,6 +207,8 @@ mod tests {
         let second = [vec![Later(2)], vec![Later(3)], vec![Later(3)], vec![]];
         assert_eq!(remedies(b"1 needs 2\n2 needs 3\n2 needs 3\n3\n", &[1]), second);
         assert_eq!(remedies(b"1 needs 2\n2\n", &[1]), [vec![Refused(1)], vec![]]);
+        let mended = [vec![Refused(1)], vec![Refused(0)], vec![]];
+        assert_eq!(remedies(b"2 needs 3\n3 needs 2\n2\n", &[1, 2]), mended);
     }
 
     #[test]

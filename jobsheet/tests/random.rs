@@ -8,7 +8,7 @@ use jobsheet::{
     arguments::{parse, Asked},
     bytes, csv,
     day::Day,
-    fault::{Fault, Kind},
+    fault::{Elsewhere, Fault, Kind},
     judge,
     judge::LARGEST,
     picture::{self, Drawn},
@@ -479,4 +479,56 @@ fn command_lines_are_answered() {
             Err(stop) => assert!(stop.0.contains("jobsheet"), "{words:?}: {stop:?}"),
         }
     });
+}
+
+/// Whether some order of the jobs, without one of them, brings a job of the name: by the library, in every order.
+fn some_order_brings(jobs: &[Job], without: usize, name: u32) -> bool {
+    fn try_orders(graph: &Graph, rest: &[&Job], name: u32) -> bool {
+        (0..rest.len()).any(|place| {
+            let (mut graph, mut rest) = (graph.clone(), rest.to_vec());
+            let job = rest.remove(place);
+            let entered = graph.add(0, job).is_ok();
+            entered && job.name == name || try_orders(&graph, &rest, name)
+        })
+    }
+    let sizes = Sizes { jobs: 8, arcs: 64, bits: 1, workers: 1 };
+    let others = jobs.iter().enumerate().filter(|(place, _)| *place != without).map(|(_, job)| job);
+    try_orders(&Graph::create(sizes).expect("the sizes are within their limits"), &others.collect::<Vec<_>>(), name)
+}
+
+#[test]
+fn advice_helps() {
+    let mut met = [0; 4];
+    each("advice", SHEETS / 4, |random| {
+        let any = |random: &mut Random| {
+            let names: Vec<u32> = (0..random.below(3)).map(|_| 1 + random.below(5) as u32).collect();
+            let class = if random.once_in(12) { 16 } else { 0 };
+            Job { class, ..Job::new(1 + random.below(4) as u32, &names) }
+        };
+        let count = 2 + random.below(4);
+        let jobs: Vec<Job> = (0..count).map(|_| any(random)).collect();
+        let judged = judged(&text::read(text::write(&jobs).as_bytes()), LARGEST);
+        for fault in &judged.faults {
+            let (name, place) = match fault.kind {
+                Kind::UnknownName(_, name, place) => (name, place),
+                _ => continue,
+            };
+            let number = fault.entry.expect("a fault of an entry");
+            let has_it = |other: usize| other != number && jobs[other].name == name;
+            let (kind, true_of_it) = match place {
+                Elsewhere::Nowhere => (0, !(0..count).any(has_it)),
+                Elsewhere::Later(other, _) => {
+                    let later = has_it(other.entry) && other.entry > number;
+                    (1, later && some_order_brings(&jobs, number, name))
+                }
+                Elsewhere::Refused(other) => (2, has_it(other.entry) && judged.answers[other.entry] != Some(Ok(()))),
+                Elsewhere::Circle(other) => (3, has_it(other.entry) && !some_order_brings(&jobs, number, name)),
+                Elsewhere::Lost => panic!("no sheet comes before"),
+            };
+            assert!(true_of_it, "{fault}\n{}", text::write(&jobs));
+            met[kind] += 1;
+        }
+    });
+    println!("nowhere, later, refused, in a circle: {met:?}");
+    assert!(met.iter().all(|met| *met > 0));
 }

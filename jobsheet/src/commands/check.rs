@@ -81,7 +81,8 @@ impl Answer {
         if !self.packs {
             writeln!(out, "  what can be read comes to:")?;
         }
-        writeln!(out, "  {}, {}, {}", counted(*jobs as usize, "job"), counted(*arcs, "arc"), minutes_of(*minutes))?;
+        let sums = [(*jobs as usize, "job"), (*arcs, "arc"), (classes.len(), "class"), (*minutes as usize, "minute")];
+        writeln!(out, "  {}", sums.map(|(sum, thing)| counted(sum, thing)).join(", "))?;
         for (class, sum) in classes {
             writeln!(out, "  class {class}: {}, {}", counted(sum.jobs, "job"), minutes_of(sum.minutes))?;
         }
