@@ -90,8 +90,8 @@ impl Remedies {
     }
 }
 
-/// For each name the entry that brings it first, where those entries that count are taken as soon as all their names are
-/// there.
+/// For each name the entry that brings it first, where those entries that count are taken as soon as all their names
+/// are there.
 fn brought(sheet: &Sheet, before: &HashSet<u32>, counts: impl Fn(usize) -> bool) -> HashMap<u32, usize> {
     let mut missing = vec![0; sheet.entries.len()];
     let mut waiting: HashMap<u32, Vec<usize>> = HashMap::new();
