@@ -17,10 +17,10 @@
 extern "C" {
 #endif
 
-#define TG_VERSION_MAJOR 4
+#define TG_VERSION_MAJOR 5
 #define TG_VERSION_MINOR 0
 #define TG_VERSION_PATCH 0
-#define TG_VERSION "4.0.0"
+#define TG_VERSION "5.0.0"
 
 /* The numbers of the refusals (docs/RULES.md, "Turned-away calls"), as they stand in a `number`. docs/NUMBERS.md
  * says what a host does about each. */
@@ -174,10 +174,12 @@ typedef struct {
     uint32_t minutes[3];
 } tg_totals;
 
-/* The totals of records given as words, by the fixed minutes: label, class, label, class and so on. */
+/* The totals of records given as words, by the fixed minutes, whatever was loaded: label, class, label, class and so on. */
 tg_totals tg_totals_of_words(const uint32_t *words, size_t words_len);
 
-/* The totals of a row of records, by the fixed minutes. */
+/* The totals of a row of records, by the fixed minutes, whatever was loaded. Of a graph with a district's minutes a host
+ * that keeps a row of its own calls tg_totals_by_minutes with the minutes of tg_minutes_of_graph: for the graph's own row
+ * these are the totals of tg_totals_of_graph. */
 tg_totals tg_totals_of_records(const tg_job_record *records, size_t records_len);
 
 /* The totals of a row of records, by a district's minutes: TG_CLASSES of them, class 0 first, which rise strictly from
@@ -202,7 +204,8 @@ enum {
     TG_ENDED = 4,
     TG_NONE_READY = 5,
     TG_HANDED_OUT = 6,  /* `job` and `name`, and in `spoiled` 1 where a prerequisite of the job failed, else 0 */
-    TG_LOADED = 7
+    TG_LOADED = 7,
+    TG_STOPPED = 8      /* of tg_add and tg_finish: damaged words stopped the call half done; `number` is 9 */
 };
 
 /* The kind of an answer, and the fields that belong to it; all others are 0. */
@@ -266,22 +269,26 @@ tg_answer tg_step(tg_sizes sizes, TG_TABLES, uint32_t worker);
 tg_answer tg_get(tg_sizes sizes, TG_TABLES, uint32_t worker);
 
 /* An add run whole: posted, and stepped to its end with no other call between. Ended, or refused with 1, 2, 9,
- * 3, 5, 6, 7 or 8. Only damaged tables give 9 in its middle: then the steps before it stay made, and the call is
+ * 3, 5, 6, 7 or 8, or stopped. A refusal with 9 changed nothing. Only damaged tables give TG_STOPPED, number 9 in its
+ * middle: then the steps before it stay made, so the tables have changed, and the worker, idle before, has the call
  * half done, which tg_held tells where no damaged word refuses that too. */
 tg_answer tg_add(tg_sizes sizes, TG_TABLES, uint32_t worker, tg_entry entry);
 
 /* A finish run whole, with its outcome as for tg_post_finish: ended, or refused with 1, 2, 9, 3, 11 or 19. Only
- * damaged tables give 9 in its middle, as with tg_add, or, where a list of arcs runs in a circle, going on after
+ * damaged tables give TG_STOPPED, as with tg_add, or, where a list of arcs runs in a circle, going on after
  * arcs + 1 steps; tg_step goes on with it. */
 tg_answer tg_finish(tg_sizes sizes, TG_TABLES, uint32_t worker, uint32_t name, uint32_t outcome);
 
 /* number 0: `numbers` and `places` have for each entry what tg_add would answer: 0 and 0 where it was accepted, else
- * its number, and for number 6 the place in the list. Past the last entry they are 0.
- * number 1, 2, 9, 3 or 16: the sheet was turned away before any entry, nothing was changed, and `numbers` and
- * `places`, which are 0, say nothing. */
+ * its number, and for number 6 the place in the list. Past the last entry they are 0. `stopped` is 1 more than the
+ * number, from 0, of the entry for which tg_add would answer TG_STOPPED, or 0 where there is none: damaged words stopped
+ * its add half done, its number is 9, and each later entry has 3. Any other entry with 9 changed nothing.
+ * number 1, 2, 9, 3 or 16: the sheet was turned away before any entry, nothing was changed, and `numbers`, `places` and
+ * `stopped`, which are 0, say nothing. */
 typedef struct {
     uint32_t number;
     uint32_t numbers[TG_MAX_ENTRIES], places[TG_MAX_ENTRIES];
+    uint32_t stopped;
 } tg_sheet_added;
 
 /* Adds the entries of all rows, each run whole, in order, as so many calls of tg_add would; a refused entry does

@@ -4,7 +4,7 @@
 
 static const char *const texts[] = {
     [TG_ACCEPTED] = "accepted",
-    [TG_SIZE] = "a size off its limits or not the one laid out, or a table too short",
+    [TG_SIZE] = "a size out of range or not the one laid out, or a table too short",
     [TG_WORKER] = "no such worker",
     [TG_HALF_DONE] = "the worker's call is half done",
     [TG_IDLE] = "the worker has no call to step",
@@ -17,10 +17,10 @@ static const char *const texts[] = {
     [TG_NOT_HELD] = "the worker holds no job of that name",
     [TG_CUT] = "the sheet ends inside an entry",
     [TG_MAP] = "wrong map byte",
-    [TG_VALUE] = "a field's value is off its limits",
+    [TG_VALUE] = "a field's value is out of range",
     [TG_NO_ROOM] = "the output lacks room",
     [TG_ENTRIES] = "more entries than one call takes",
-    [TG_MINUTES] = "minutes that do not rise or leave their limits",
+    [TG_MINUTES] = "minutes that do not rise or are out of range",
     [TG_ENTERED] = "a job has entered",
     [TG_GOOD_FOR_SPOILED] = "a job that rests on a failed one cannot end as good",
 };

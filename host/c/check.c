@@ -41,9 +41,10 @@ _Static_assert(sizeof(tg_graph_minutes) == 4 * (1 + TG_CLASSES), "tg_graph_minut
 _Static_assert(offsetof(tg_graph_minutes, minutes) == 4, "tg_graph_minutes.minutes");
 _Static_assert(TG_CLASSES == TG_MAX_CLASS + 1, "a minute value for each class");
 _Static_assert(sizeof(tg_need) == 48, "tg_need");
-_Static_assert(sizeof(tg_sheet_added) == 4 * (1 + 2 * TG_MAX_ENTRIES), "tg_sheet_added");
+_Static_assert(sizeof(tg_sheet_added) == 4 * (2 + 2 * TG_MAX_ENTRIES), "tg_sheet_added");
 _Static_assert(offsetof(tg_sheet_added, numbers) == 4, "tg_sheet_added.numbers");
 _Static_assert(offsetof(tg_sheet_added, places) == 4 + 4 * TG_MAX_ENTRIES, "tg_sheet_added.places");
+_Static_assert(offsetof(tg_sheet_added, stopped) == 4 + 8 * TG_MAX_ENTRIES, "tg_sheet_added.stopped");
 _Static_assert(TG_MAX_ENTRIES == 64, "64 entries in one call");
 _Static_assert(sizeof(tg_holding) == 28, "tg_holding");
 _Static_assert(offsetof(tg_holding, holds) == 4, "tg_holding.holds");
@@ -350,7 +351,8 @@ static void answers(const char *what, tg_answer answer, tg_answer wanted)
 }
 
 static const tg_answer laid_out = {.kind = TG_LAID_OUT}, posted = {.kind = TG_POSTED}, going_on = {.kind = TG_GOING_ON},
-                       ended = {.kind = TG_ENDED}, none_ready = {.kind = TG_NONE_READY}, loaded = {.kind = TG_LOADED};
+                       ended = {.kind = TG_ENDED}, none_ready = {.kind = TG_NONE_READY}, loaded = {.kind = TG_LOADED},
+                       stopped = {.kind = TG_STOPPED, .number = TG_DAMAGED};
 
 static tg_answer refused(uint32_t number, uint32_t place)
 {
@@ -586,7 +588,7 @@ static void check_index_damaged(void)
         get_is_damaged("tg_get, a job of class 16", of_job(slot, CLASS), 16);
     }
     *of_place(1, SLOT) = 7;
-    answers("tg_add, a wrong slot on its way", tg_add(sizes, LENT, 0, (tg_entry){.name = 5}), refused(TG_DAMAGED, 0));
+    answers("tg_add, a wrong slot on its way", tg_add(sizes, LENT, 0, (tg_entry){.name = 5}), stopped);
     *of_place(1, SLOT) = 1, *of_place(1, POSITION) = 0;
     answers("tg_step, a wrong position on its way", tg_step(sizes, LENT, 0), refused(TG_DAMAGED, 0));
     *of_place(1, POSITION) = 1, *of_place(2, SLOT) = 7;
@@ -660,14 +662,15 @@ static void check_whole_refusals(void)
     answers("tg_step, after these", tg_step(sizes, LENT, 1), ended);
 }
 
-/* Damage in the middle: an add stays half done, and a finish whose only arc is followed by itself uses up its steps. */
+/* Damage in the middle: an add stays half done and is told as stopped, and a finish whose only arc is followed by itself
+ * uses up its steps. */
 static void check_whole_damaged(void)
 {
     answers("tg_lay_out", tg_lay_out(sizes, LENT), laid_out);
     answers("tg_add", tg_add(sizes, LENT, 0, (tg_entry){.name = 1}), ended);
     *of_job(0, LABEL) = 3;
     const tg_entry second = {.name = 2, .count = 1, .names = {1}};
-    answers("tg_add, label 3 in its middle", tg_add(sizes, LENT, 0, second), refused(TG_DAMAGED, 0));
+    answers("tg_add, label 3 in its middle", tg_add(sizes, LENT, 0, second), stopped);
     answers("tg_add, after it", tg_add(sizes, LENT, 0, second), refused(TG_HALF_DONE, 0));
     *of_job(0, LABEL) = 0;
     answers("tg_step, put right", run_whole("a link and settling", 0, 2), ended);
@@ -676,7 +679,7 @@ static void check_whole_damaged(void)
     *of_job(1, COUNT) = 32;
     answers("tg_get", tg_get(sizes, LENT, 0), handed_out(0, 1));
     *of_job(0, LABEL) = 0;
-    answers("tg_finish, failed, label 0", tg_finish(sizes, LENT, 0, 1, TG_FAILED), refused(TG_DAMAGED, 0));
+    answers("tg_finish, failed, label 0", tg_finish(sizes, LENT, 0, 1, TG_FAILED), stopped);
     same("tg_finish, failed, label 0: the note is kept", *of_worker(0, NOTE), 1);
     holds("tg_held, a finish that has not marked", 0,
           (tg_holding){.holds = 1, .job = 0, .name = 1, .call = TG_CALL_FINISH});
@@ -692,13 +695,20 @@ static void check_whole_damaged(void)
     same("tg_step, put right: by the note", *of_job(1, MARK), 1);
 }
 
-/* What a sheet answers: its number, and each entry's number and place; all others are 0. */
-static void adds(const char *what, tg_sheet_added added, uint32_t number, const uint32_t (*wanted)[2], size_t entries)
+/* What a sheet answers: its number, each entry's number and place, and where one was stopped, 1 more than its number; all
+ * others are 0. */
+static void adds_but(const char *what, tg_sheet_added added, uint32_t number, const uint32_t (*wanted)[2],
+                     size_t entries, uint32_t stopped_at)
 {
-    tg_sheet_added all = {.number = number};
+    tg_sheet_added all = {.number = number, .stopped = stopped_at};
     for (size_t i = 0; i < entries; i++)
         all.numbers[i] = wanted[i][0], all.places[i] = wanted[i][1];
     same_bytes(what, &added, &all, sizeof all);
+}
+
+static void adds(const char *what, tg_sheet_added added, uint32_t number, const uint32_t (*wanted)[2], size_t entries)
+{
+    adds_but(what, added, number, wanted, entries, 0);
 }
 
 static tg_entry sheet[TG_MAX_ENTRIES + 1];
@@ -768,10 +778,18 @@ static void check_sheet_damaged(void)
         {.name = 2}, {.name = 3, .count = 1, .names = {1}}, {.name = 4}, {.name = 5, .class_ = 16}};
     const uint32_t wanted[4][2] = {{0, 0}, {9, 0}, {3, 0}, {3, 0}};
     memcpy(sheet, four, sizeof four);
-    adds("tg_add_sheet, label 3 in its middle", tg_add_sheet(sizes, LENT, 0, ROWS(4)), 0, wanted, 4);
+    adds_but("tg_add_sheet, label 3 in its middle", tg_add_sheet(sizes, LENT, 0, ROWS(4)), 0, wanted, 4, 2);
     same("tg_add_sheet, label 3 in its middle: made", jobs[4], 3);
     *of_job(0, LABEL) = 0;
     answers("tg_step, put right", run_whole("a link and settling", 0, 2), ended);
+
+    /* More arcs reserved than there are: each add is turned away by 9, and none is stopped. */
+    const uint32_t reserved = arcs[0], turned_away[2][2] = {{9, 0}, {9, 0}};
+    arcs[0] = sizes.arcs + 1;
+    copy_tables(kept);
+    adds("tg_add_sheet, more arcs reserved than there are", tg_add_sheet(sizes, LENT, 0, ROWS(2)), 0, turned_away, 2);
+    unchanged("tg_add_sheet, more arcs reserved than there are: the tables");
+    arcs[0] = reserved;
 }
 
 static tg_answer load(const uint32_t *minutes, size_t len)
@@ -1070,7 +1088,7 @@ static void check_flags_damaged(void)
     for (size_t i = 0; i < LEN(wrong); i++) {
         *of_job(0, OUTCOME) = wrong[i];
         answers("tg_add, a link to a wrong outcome", i ? tg_step(sizes, LENT, 1) : tg_add(sizes, LENT, 1, third),
-                refused(TG_DAMAGED, 0));
+                i ? refused(TG_DAMAGED, 0) : stopped);
         same("tg_add, a link to a wrong outcome: the note", *of_worker(1, NOTE), 0);
     }
     *of_job(0, OUTCOME) = 0;
@@ -1133,7 +1151,7 @@ static void check_texts(void)
     same_text("tg_message, 0", tg_message(TG_ACCEPTED), "accepted");
     same_text("tg_message, 15", tg_message(TG_NO_ROOM), "the output lacks room");
     same_text("tg_message, 16", tg_message(TG_ENTRIES), "more entries than one call takes");
-    same_text("tg_message, 17", tg_message(TG_MINUTES), "minutes that do not rise or leave their limits");
+    same_text("tg_message, 17", tg_message(TG_MINUTES), "minutes that do not rise or are out of range");
     same_text("tg_message, 18", tg_message(TG_ENTERED), "a job has entered");
     same_text("tg_message, 19", tg_message(TG_GOOD_FOR_SPOILED), "a job that rests on a failed one cannot end as good");
     same_text("tg_message, 20", tg_message(TG_GOOD_FOR_SPOILED + 1), "unknown number");

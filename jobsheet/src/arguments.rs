@@ -121,7 +121,7 @@ pub fn parse(words: impl IntoIterator<Item = OsString>) -> Result<Asked, Stop> {
     let mut words = words.into_iter();
     let first = match words.next() {
         Some(word) => word,
-        None => return Err(Stop("which command? jobsheet --help says what there is".into())),
+        None => return Err(Stop("no command given; jobsheet --help lists the commands".into())),
     };
     let is = |names: [&str; 2]| names.iter().any(|name| first == *name);
     if is(["-h", "--help"]) {
@@ -132,7 +132,7 @@ pub fn parse(words: impl IntoIterator<Item = OsString>) -> Result<Asked, Stop> {
     }
     match Command::ALL.into_iter().find(|command| first == command.name()) {
         Some(command) => Reader { command, arguments: nothing_said(), files_only: false }.all(words),
-        None => Err(Stop(format!("there is no command {}; jobsheet --help says what there is", shown_name(&first)))),
+        None => Err(Stop(format!("there is no command {}; jobsheet --help lists the commands", shown_name(&first)))),
     }
 }
 
@@ -163,18 +163,18 @@ impl Reader {
             }
         }
         if self.arguments.inputs() > 1 {
-            return self.wrong("standard input is one sheet".into());
+            return self.wrong("standard input can be only one sheet".into());
         }
         Ok(Asked::Do(self.command, self.arguments))
     }
 
     fn wrong<T>(&self, what: String) -> Result<T, Stop> {
-        Err(Stop(format!("{what}; jobsheet {} --help says how it is used", self.command.name())))
+        Err(Stop(format!("{what}; jobsheet {} --help shows the usage", self.command.name())))
     }
 
     fn file(&mut self, word: OsString) -> Result<(), Stop> {
         if self.arguments.file.is_some() {
-            return self.wrong("one file at a time".into());
+            return self.wrong("give only one file".into());
         }
         self.arguments.file = Some(word);
         Ok(())
@@ -200,7 +200,7 @@ impl Reader {
             _ => {
                 let value = match joined.or_else(|| more.next()) {
                     Some(value) => value,
-                    None => return self.wrong(format!("nothing stands after {name}")),
+                    None => return self.wrong(format!("{name} needs a value")),
                 };
                 return self.value(name, value);
             }
@@ -209,7 +209,7 @@ impl Reader {
             return self.wrong(format!("the option {name} takes no value"));
         }
         if self.arguments.to.replace(to).map_or(false, |before| before != to) {
-            return self.wrong("one form of the answer at a time".into());
+            return self.wrong("choose one form of answer".into());
         }
         Ok(())
     }
@@ -218,7 +218,7 @@ impl Reader {
         match name {
             "--from" => match value.to_str().and_then(Form::named) {
                 Some(form) => self.arguments.from = Some(form),
-                None => return self.wrong(format!("--from takes bytes, text or csv, and not {}", shown_name(&value))),
+                None => return self.wrong(format!("--from takes bytes, text or csv, not {}", shown_name(&value))),
             },
             "--after" => self.arguments.after.push(value),
             "--workers" => self.arguments.sizes.workers = self.number(name, &value, 1, MAX_WORKERS)?,
@@ -232,9 +232,7 @@ impl Reader {
     fn number(&self, name: &str, value: &OsStr, least: u32, most: u32) -> Result<u32, Stop> {
         match number(value.to_string_lossy().as_bytes()) {
             Ok(number) if (least..=most).contains(&number) => Ok(number),
-            _ => {
-                self.wrong(format!("{name} takes {least} to {}, and not {}", grouped(most as usize), shown_name(value)))
-            }
+            _ => self.wrong(format!("{name} takes {least} to {}, not {}", grouped(most as usize), shown_name(value))),
         }
     }
 }

@@ -47,14 +47,14 @@ impl Verdict {
 /// Where there is no answer.
 pub fn run(command: Command, arguments: &Arguments) -> Result<Verdict, Stop> {
     if takes_a_sheets_place(arguments) {
-        return Err(Stop("the answer would take the place of a sheet that is read".into()));
+        return Err(Stop("the answer would overwrite a sheet that is read".into()));
     }
     if command == Command::Pack && arguments.out.is_none() && Stream::Output.is_terminal() {
-        return Err(Stop("a packed sheet is not for a terminal; say -o FILE, or send it on".into()));
+        return Err(Stop("a packed sheet is not for a terminal; use -o FILE or a pipe".into()));
     }
     let progress = Progress::shown();
     let before = before(arguments, &progress)?;
-    let say = "say --from bytes or --from text";
+    let say = "use --from bytes or --from text";
     let source = input::take(&arguments.file, arguments.from, say, &progress)?;
     match command {
         Command::Pack => pack::run(arguments, source, progress),

@@ -58,7 +58,7 @@ pub fn take(file: &Option<OsString>, from: Option<Form>, otherwise: &str, progre
                 return Err(Stop("standard input is not open for reading".into()));
             }
             if Stream::Input.is_terminal() {
-                tell("jobsheet: the sheet is read from here; Ctrl-D ends it");
+                tell("jobsheet: reading the sheet from the terminal; Ctrl-D ends it");
                 progress.begin(Stage::Typing);
             }
             let name = "standard input".to_string();
@@ -115,7 +115,7 @@ const LONGEST_ACCEPTED: u32 = 9 * MAX_JOBS + 4 * MAX_ARCS - 1;
 fn too_long(name: &str) -> Stop {
     let [most, longest] = [MOST_BYTES, LONGEST_ACCEPTED as usize].map(grouped);
     Stop(format!(
-        "{name} has more than {most} bytes, and is not read; the largest graph takes a packed sheet of at most \
+        "{name} has more than {most} bytes, so it is not read; the largest graph takes a packed sheet of at most \
          {longest}"
     ))
 }

@@ -52,7 +52,7 @@ impl Judged {
 /// move to the answer.
 ///
 /// # Errors
-/// [`Refusal::Size`] where a size is off its limits.
+/// [`Refusal::Size`] where a size is out of range.
 pub fn judge(sheet: &mut Sheet, before: &[Job], sizes: Sizes, progress: &Progress) -> Result<Judged, Refusal> {
     let mut graph = Graph::create(sizes)?;
     let entered = graph.add_all(0, before)?;

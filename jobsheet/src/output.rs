@@ -1,4 +1,4 @@
-//! Answers, written to standard output or to a file that is whole or as it was.
+//! Answers, written to standard output, or to a file atomically.
 
 use std::{
     ffi::OsString,
@@ -42,7 +42,7 @@ impl Output {
     fn of_stream(descriptor: RawFd, name: &str) -> io::Result<Output> {
         let to = duplicate(descriptor)?;
         if !is_writable(&to) || descriptor < 3 && !is_usable(descriptor) {
-            return Err(io::Error::new(ErrorKind::Other, "it is not open for that"));
+            return Err(io::Error::new(ErrorKind::Other, "it is not open for writing"));
         }
         Ok(Output::over(Box::new(to), name.into(), None))
     }

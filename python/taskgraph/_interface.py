@@ -10,7 +10,7 @@ from typing import Any
 MAX_NAMES = 32
 MAX_ENTRIES = 64
 CLASSES = 16
-REFUSED, GOING_ON, HANDED_OUT = 0, 3, 6
+REFUSED, GOING_ON, HANDED_OUT, STOPPED = 0, 3, 6, 8
 
 
 def _words(*names: str) -> list[tuple[str, Any]]:
@@ -54,7 +54,12 @@ class tg_graph_minutes(c.Structure):
 
 
 class tg_sheet_added(c.Structure):
-    _fields_ = _words("number") + [("numbers", c.c_uint32 * MAX_ENTRIES), ("places", c.c_uint32 * MAX_ENTRIES)]
+    _fields_ = [
+        *_words("number"),
+        ("numbers", c.c_uint32 * MAX_ENTRIES),
+        ("places", c.c_uint32 * MAX_ENTRIES),
+        *_words("stopped"),
+    ]
 
 
 class tg_need(c.Structure):

@@ -7,7 +7,7 @@ import os
 from . import _interface
 
 VARIABLE = "TASKGRAPH_LIBRARY"
-INSTALLED = ("libtaskgraph.so.4", "libtaskgraph.so")
+INSTALLED = ("libtaskgraph.so.5", "libtaskgraph.so")
 HOW = f"""\
 Build one in the repository of the task graph:
     bash scripts/install PREFIX

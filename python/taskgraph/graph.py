@@ -10,7 +10,7 @@ from dataclasses import astuple, dataclass
 from typing import Any, NamedTuple, NoReturn
 
 from ._arguments import word
-from ._interface import GOING_ON, HANDED_OUT, MAX_ENTRIES, REFUSED, tg_sizes
+from ._interface import GOING_ON, HANDED_OUT, MAX_ENTRIES, REFUSED, STOPPED, tg_sizes
 from ._library import library
 from .board import Totals, told, values
 from .refusal import Refusal
@@ -105,7 +105,7 @@ class Graph:
 
     @staticmethod
     def words(sizes: Sizes) -> Words:
-        """The words that each table needs. Refused by 1 where a size is off its limits."""
+        """The words that each table needs. Refused by 1 where a size is out of range."""
         if not isinstance(sizes, Sizes):
             raise TypeError(f"sizes must be Sizes, not {type(sizes).__name__}")
         need = library().tg_words_needed(tg_sizes(*astuple(sizes)))
@@ -176,7 +176,10 @@ class Graph:
     # ---- whole calls
 
     def add(self, worker: int, entry: Entry) -> None:
-        """An add from its post to its end, in one call. Refused by 1, 2, 9, 3, 5, 6, 7 or 8."""
+        """An add from its post to its end, in one call. Refused by 1, 2, 9, 3, 5, 6, 7 or 8.
+
+        A Refusal by 9 that is `stopped` left the call half done, as with `finish`.
+        """
         self._answer("tg_add", _worker(worker), row(entry))
 
     def finish(self, worker: int, name: int, outcome: Outcome) -> None:
@@ -189,12 +192,17 @@ class Graph:
         # only in damaged tables does a list of arcs run in a circle; the steps come to its end
         goes_on = answer.kind == GOING_ON
         while goes_on:
-            goes_on = self.step(worker)
+            try:
+                goes_on = self.step(worker)
+            except Refusal as refusal:
+                # a 9 there is one in the middle of this call
+                raise Refusal(refusal.number, stopped=refusal.number == 9) from None
 
     def add_sheet(self, worker: int, entries: Iterable[Entry]) -> list[Refusal | None]:
         """Adds at most 64 entries in one call, each as `add` does, in order; a refused one does not stop the next.
 
-        Answers for each entry None, or the refusal of its add. Before any entry, refused by 1, 2, 9, 3 or 16.
+        Answers for each entry None, or the refusal of its add. After one that is `stopped` each has 3. Before any entry,
+        refused by 1, 2, 9, 3 or 16.
         """
         return self._added(_worker(worker), list(entries))
 
@@ -240,6 +248,8 @@ class Graph:
 
     def _answer(self, name: str, *more: object) -> Any:
         answer = self._called(name, *more)
+        if answer.kind == STOPPED:
+            raise Refusal(answer.number, stopped=True)
         if answer.kind == REFUSED:
             raise _refused(answer.number, answer.place)
         return answer
@@ -249,7 +259,10 @@ class Graph:
         added = self._called("tg_add_sheet", worker, *rows(entries))
         if added.number:
             raise Refusal(added.number)
-        return [_refusal(number, place) for number, place, _ in zip(added.numbers, added.places, entries)]
+        answers = [_refusal(number, place) for number, place, _ in zip(added.numbers, added.places, entries)]
+        if added.stopped:
+            answers[added.stopped - 1] = Refusal(added.numbers[added.stopped - 1], stopped=True)
+        return answers
 
     def _read(self, name: str, *more: object) -> Any:
         """One call of a function that changes no word."""

@@ -174,6 +174,8 @@ class WholeSheets(unittest.TestCase):
         entries = [Entry(0), Entry(1, (1000,)), *map(Entry, range(2, 100))]
         answers = graph.add_all(0, entries)
         self.assertEqual(numbers(answers), [None, (9, None), *[(3, None)] * 98])
+        self.assertEqual([answer.stopped for answer in answers[1:3]], [True, False])
+        self.assertEqual(str(answers[1]), "refused by 9: damaged words (the call is half done)")
         put_word(memory, word_place(sizes, "jobs", JOBS_AT + 1), 0)
         self.assertEqual(graph.held(0), Holding(None, Call.ADD, 1))
         self.assertEqual(steps(graph, 0), 2)
@@ -189,8 +191,29 @@ class WholeSheets(unittest.TestCase):
         put_word(memory, word_place(SMALL, "jobs", JOBS_AT + 10 + 2), 32)  # the remaining count of job 1
         with self.assertRaises(Refusal) as caught:
             graph.finish(0, 1, Outcome.GOOD)
-        self.assertEqual(caught.exception.number, 9)
+        self.assertEqual((caught.exception.number, caught.exception.stopped), (9, True))
         self.assertEqual(graph.held(0), Holding(None, Call.FINISH, None))
+
+    def test_damage_before_and_in_the_middle_of_an_add(self):
+        memory = bytearray(Graph.room(SMALL))
+        graph = Graph(SMALL, memory)
+        graph.lay_out()
+        graph.add(0, Entry(1))
+        place = word_place(SMALL, "arcs", 0)
+        put_word(memory, place, SMALL.arcs + 1)  # more arcs reserved than there are
+        before = bytes(memory)
+        for answer in graph.add_sheet(0, [Entry(2), Entry(3)]):
+            self.assertEqual((answer.number, answer.stopped), (9, False))
+        with self.assertRaises(Refusal) as caught:
+            graph.add(0, Entry(2))
+        self.assertEqual((caught.exception.number, caught.exception.stopped), (9, False))
+        self.assertEqual(bytes(memory), before)
+        put_word(memory, place, 0)
+        put_word(memory, word_place(SMALL, "jobs", JOBS_AT + 1), 3)  # the label of job 0
+        with self.assertRaises(Refusal) as caught:
+            graph.add(0, Entry(2, (1,)))
+        self.assertEqual((caught.exception.number, caught.exception.stopped), (9, True))
+        self.assertNotEqual(bytes(memory), before)
 
 
 class Outcomes(unittest.TestCase):

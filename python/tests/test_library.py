@@ -47,7 +47,7 @@ class Finding(unittest.TestCase):
         self.assertEqual(run(self.library, TASKGRAPH_LIBRARY="/nowhere").stdout, "3\n")
 
     def test_installed(self):
-        for name in ("libtaskgraph.so.4", "libtaskgraph.so"):
+        for name in ("libtaskgraph.so.5", "libtaskgraph.so"):
             with tempfile.TemporaryDirectory() as folder:
                 shutil.copy(self.library, pathlib.Path(folder, name))
                 self.assertEqual(run(LD_LIBRARY_PATH=folder).stdout, "3\n", name)
@@ -79,9 +79,9 @@ class Missing(unittest.TestCase):
         self.assertIn("it has no function tg_", self.refused(_ctypes.__file__))
 
     def test_nothing_installed(self):
-        with mock.patch.object(_library, "INSTALLED", ("libtaskgraph-nowhere.so.4", "libtaskgraph-nowhere.so")):
+        with mock.patch.object(_library, "INSTALLED", ("libtaskgraph-nowhere.so.5", "libtaskgraph-nowhere.so")):
             text = self.refused(TASKGRAPH_LIBRARY="")
-        self.assertIn("libtaskgraph-nowhere.so.4: ", text)
+        self.assertIn("libtaskgraph-nowhere.so.5: ", text)
         self.assertIn("libtaskgraph-nowhere.so: ", text)
 
     def test_wrong_type(self):

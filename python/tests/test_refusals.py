@@ -182,7 +182,8 @@ class Refusals(unittest.TestCase):
 
     def test_goes_between_processes(self):
         sent = pickle.loads(pickle.dumps(Refusal(14, offset=5, entry=1)))
-        self.assertEqual(sent.args, (14, None, 5, 1))
+        self.assertEqual(sent.args, (14, None, 5, 1, False))
+        self.assertTrue(pickle.loads(pickle.dumps(Refusal(9, stopped=True))).stopped)
         self.assertEqual((sent.number, sent.offset, sent.entry, sent.message), (14, 5, 1, message(14)))
 
 

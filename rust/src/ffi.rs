@@ -144,7 +144,7 @@ pub struct Sizes {
 pub struct Answer {
     /// One of [`kind`](crate::raw::kind).
     pub kind: u32,
-    /// The number of a refusal.
+    /// The number of a refusal, or 9 of a call that was stopped.
     pub number: u32,
     /// For number 6, the place in the list.
     pub place: u32,
@@ -194,11 +194,13 @@ pub struct SheetAdded {
     pub numbers: [u32; MAX_ENTRIES],
     /// For each entry refused by 6 the place in its list, else 0.
     pub places: [u32; MAX_ENTRIES],
+    /// 1 more than the number of the entry whose add damaged words stopped half done, or 0.
+    pub stopped: u32,
 }
 
 impl Default for SheetAdded {
     fn default() -> SheetAdded {
-        SheetAdded { number: 0, numbers: [0; MAX_ENTRIES], places: [0; MAX_ENTRIES] }
+        SheetAdded { number: 0, numbers: [0; MAX_ENTRIES], places: [0; MAX_ENTRIES], stopped: 0 }
     }
 }
 
@@ -253,7 +255,7 @@ const _: () = assert!(size_of::<Sizes>() == 16);
 const _: () = assert!(size_of::<Answer>() == 24);
 const _: () = assert!(size_of::<GraphMinutes>() == 4 * (1 + CLASSES));
 const _: () = assert!(size_of::<Need>() == 48);
-const _: () = assert!(size_of::<SheetAdded>() == 4 + 8 * MAX_ENTRIES);
+const _: () = assert!(size_of::<SheetAdded>() == 8 + 8 * MAX_ENTRIES);
 const _: () = assert!(size_of::<Holding>() == 28);
 const _: () = assert!(size_of::<DrainedAnswer>() == 8);
 const _: () = assert!(size_of::<Day>() == 16);

@@ -82,7 +82,8 @@ pub enum Progress {
 /// it is locked.
 ///
 /// A call by a worker numbered `sizes().workers` or more is [`Refusal::Worker`], and one over damaged words
-/// [`Refusal::Damaged`], which never comes where only these calls write them.
+/// [`Refusal::Damaged`], with nothing changed; a call run whole that they stop half done is [`Refusal::Stopped`]. Neither
+/// comes where only these calls write them.
 pub trait TaskGraph {
     /// The sizes that it was laid out with.
     fn sizes(&self) -> Sizes;
@@ -156,13 +157,15 @@ pub trait TaskGraph {
         let answer = accepted(raw::finish(self.sizes(), &mut self.tables(), worker, name, outcome.number()))?;
         // Only in damaged words does a list of arcs run in a circle; the steps come to its end.
         if answer.kind == kind::GOING_ON {
-            return self.run(worker);
+            // A 9 there is one in the middle of this call.
+            let in_the_middle = |refusal| if refusal == Refusal::Damaged { Refusal::Stopped } else { refusal };
+            return self.run(worker).map_err(in_the_middle);
         }
         Ok(())
     }
 
     /// Adds at most [`MAX_ENTRIES`] jobs in one call, each run whole, in order, and answers how the add of each ended. A
-    /// refused one does not stop the next, so a job may list those before it.
+    /// refused one does not stop the next, so a job may list those before it. After [`Refusal::Stopped`] each later one is 3.
     ///
     /// # Errors
     /// Before any job, and with nothing changed: 16 for more jobs than one call takes, which
@@ -278,7 +281,13 @@ pub trait TaskGraph {
 fn each_of(added: SheetAdded, jobs: usize) -> Result<Vec<Result<(), Refusal>>, Refusal> {
     Refusal::unless_accepted(added.number, 0)?;
     let answers = added.numbers.iter().zip(&added.places).take(jobs);
-    Ok(answers.map(|(number, place)| Refusal::unless_accepted(*number, *place as usize)).collect())
+    let mut answers: Vec<_> =
+        answers.map(|(number, place)| Refusal::unless_accepted(*number, *place as usize)).collect();
+    // 1 more than the number of the entry that damage stopped half done, or 0
+    if let Some(stopped) = (added.stopped as usize).checked_sub(1).and_then(|entry| answers.get_mut(entry)) {
+        *stopped = Err(Refusal::Stopped);
+    }
+    Ok(answers)
 }
 
 /// Adds parts of at most [`MAX_ENTRIES`] jobs; the first is also taken where there are no jobs.
@@ -313,6 +322,9 @@ impl TurnedAway for Refusal {
 }
 
 fn accepted(answer: Answer) -> Result<Answer, Refusal> {
+    if answer.kind == kind::STOPPED {
+        return Err(Refusal::Stopped);
+    }
     Refusal::unless_accepted(answer.number, answer.place as usize).map(|()| answer)
 }
 
@@ -339,7 +351,7 @@ impl Graph {
     /// A fresh graph.
     ///
     /// # Errors
-    /// [`Refusal::Size`] where a size is off its limits.
+    /// [`Refusal::Size`] where a size is out of range.
     pub fn create(sizes: Sizes) -> Result<Graph, Refusal> {
         let words = words_needed(sizes)?.map(|need| vec![0; need]);
         let mut graph = Graph { sizes, words };

@@ -4,7 +4,7 @@ use crate::raw::{Entry, MAX_NAMES};
 
 /// A job: an entry of a sheet, and what an add brings.
 ///
-/// Any values may stand here; what is off its limits is refused where the job is added (5) or written (14).
+/// Any values may stand here; what is out of range is refused where the job is added (5) or written (14).
 #[derive(Clone, Debug, Default, PartialEq, Eq, Hash)]
 pub struct Job {
     /// Its name, any number.

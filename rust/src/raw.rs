@@ -30,6 +30,8 @@ pub mod kind {
     pub const HANDED_OUT: u32 = 6;
     /// Minutes were loaded.
     pub const LOADED: u32 = 7;
+    /// Damaged words stopped a call run whole half done; `number` is 9.
+    pub const STOPPED: u32 = 8;
 }
 
 /// A finish as good.

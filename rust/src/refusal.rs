@@ -6,12 +6,12 @@ use crate::raw;
 
 /// A number of the list of turned-away calls, with the place or offset where the list has one.
 ///
-/// A refused call changes nothing, save that after 6, 7 and 8 the worker is idle again. After a 9 in the middle of a call
-/// run whole, which only damaged words give, that call is half done.
+/// A refused call changes nothing, save that after 6, 7 and 8 the worker is idle again. [`Refusal::Stopped`] alone, which
+/// only damaged words give, leaves the tables changed and the worker's call half done.
 #[derive(Clone, Copy, Debug, PartialEq, Eq, Hash)]
 #[non_exhaustive]
 pub enum Refusal {
-    /// 1: a size off its limits or not the one laid out, a table too short, or too many records.
+    /// 1: a size out of range or not the one laid out, a table too short, or too many records.
     Size,
     /// 2: no such worker.
     Worker,
@@ -30,8 +30,10 @@ pub enum Refusal {
     NamePresent,
     /// 8: no room for the job or for its arcs.
     Full,
-    /// 9: damaged words.
+    /// 9: damaged words; nothing changed.
     Damaged,
+    /// 9 in the middle of a call run whole: damaged words stopped it half done. The tables have changed.
+    Stopped,
     /// 10: a get while the worker holds a job.
     Holding,
     /// 11: a finish of a name that the worker does not hold.
@@ -46,7 +48,7 @@ pub enum Refusal {
         /// Its offset, in bytes from the sheet's start.
         at: usize,
     },
-    /// 14: a field's value off its limits.
+    /// 14: a field's value out of range.
     Value {
         /// The offset of the field in bytes: on reading from the sheet's start, on writing from the entry's.
         at: usize,
@@ -112,7 +114,7 @@ impl Refusal {
             Refusal::UnknownName { .. } => 6,
             Refusal::NamePresent => 7,
             Refusal::Full => 8,
-            Refusal::Damaged => 9,
+            Refusal::Damaged | Refusal::Stopped => 9,
             Refusal::Holding => 10,
             Refusal::NotHeld => 11,
             Refusal::Cut { .. } => 12,
@@ -132,6 +134,7 @@ impl fmt::Display for Refusal {
         f.write_str(raw::message(self.number()))?;
         match self {
             Refusal::UnknownName { place } => write!(f, " (place {place} of the list)"),
+            Refusal::Stopped => f.write_str(" (the call is half done)"),
             Refusal::Cut { at } | Refusal::Map { at } | Refusal::Value { at } => write!(f, " (byte {at})"),
             _ => Ok(()),
         }
@@ -151,14 +154,16 @@ mod tests {
         }
         assert_eq!(Refusal::unless_accepted(0, 7), Ok(()));
         assert_eq!(Refusal::unless_accepted(13, 7), Err(Refusal::Map { at: 7 }));
+        assert_eq!(Refusal::Stopped.number(), 9);
     }
 
     #[test]
     fn texts_are_the_librarys_with_places() {
         assert_eq!(Refusal::of(2, 0).to_string(), "no such worker");
         assert_eq!(Refusal::of(6, 3).to_string(), "a listed name has no job (place 3 of the list)");
+        assert_eq!(Refusal::Stopped.to_string(), "damaged words (the call is half done)");
         assert_eq!(Refusal::of(12, 20).to_string(), "the sheet ends inside an entry (byte 20)");
-        assert_eq!(Refusal::of(17, 0).to_string(), "minutes that do not rise or leave their limits");
+        assert_eq!(Refusal::of(17, 0).to_string(), "minutes that do not rise or are out of range");
         assert_eq!(Refusal::of(18, 0).to_string(), "a job has entered");
         assert_eq!(Refusal::of(19, 0).to_string(), "a job that rests on a failed one cannot end as good");
     }

@@ -57,7 +57,7 @@ impl SharedGraph {
     /// Makes the file of a fresh graph. Other processes find it under its name only when it is whole.
     ///
     /// # Errors
-    /// [`Refusal::Size`] where a size is off its limits, or what the system says, for instance that there is such a
+    /// [`Refusal::Size`] where a size is out of range, or what the system says, for instance that there is such a
     /// file already.
     pub fn create(path: impl AsRef<Path>, sizes: Sizes) -> Result<SharedGraph, SharedError> {
         SharedFile::create(path.as_ref(), sizes).map(|file| SharedGraph { file })

@@ -35,7 +35,7 @@ pub fn read_sheet(sheet: &[u8]) -> Result<Vec<Job>, Refusal> {
 /// The sheet of jobs. One list of jobs has one sheet, and reading gives the jobs back.
 ///
 /// # Errors
-/// [`Refusal::Value`] for the first job with a value off its limits.
+/// [`Refusal::Value`] for the first job with a value out of range.
 pub fn write_sheet(jobs: &[Job]) -> Result<Vec<u8>, WriteRefusal> {
     let mut sheet = Vec::new();
     for (entry, job) in jobs.iter().enumerate() {

@@ -223,11 +223,25 @@ fn damage_in_the_middle_of_many_jobs() {
     let mut all = jobs(0..100);
     all[1].prerequisites.push(1_000);
     let answers = graph.add_all(0, &all).expect("the first call is not turned away");
-    assert_eq!(answers[..2], [Ok(()), Err(Refusal::Damaged)]);
+    assert_eq!(answers[..2], [Ok(()), Err(Refusal::Stopped)]);
     assert_eq!(answers[2..], vec![Err(Refusal::HalfDone); 98]);
     graph.tables().jobs[LABEL] = 0;
     assert_eq!(graph.run(0), Ok(()));
     assert_eq!(graph.add_all(0, &all[2..]), Ok(vec![Ok(()); 98]));
+}
+
+/// A 9 that changed nothing is no stop: an add, and each entry of a sheet, with more arcs reserved than there are.
+#[test]
+fn damage_before_the_first_step() {
+    let mut graph = fresh();
+    let reserved = graph.tables().arcs[0];
+    graph.tables().arcs[0] = graph.sizes().arcs + 1;
+    let before = graph.words().map(<[u32]>::to_vec);
+    assert_eq!(graph.add(0, &Job::new(1, &[])), Err(Refusal::Damaged));
+    assert_eq!(graph.add_sheet(0, &jobs(1..3)), Ok(vec![Err(Refusal::Damaged); 2]));
+    assert_eq!(graph.words().map(<[u32]>::to_vec), before);
+    graph.tables().arcs[0] = reserved;
+    assert_eq!(graph.add_sheet(0, &jobs(1..3)), Ok(vec![Ok(()); 2]));
 }
 
 /// An arc that is followed by itself: a finish ends with 9, as its steps do, once the dependent's count is 0.
@@ -239,7 +253,7 @@ fn a_finish_whose_arcs_run_in_a_circle() {
     graph.tables().arcs[2] = 0;
     // The remaining count of job 1.
     graph.tables().jobs[COUNT + JOB_WORDS] = 32;
-    assert_eq!(graph.finish(0, 1, Outcome::Good), Err(Refusal::Damaged));
+    assert_eq!(graph.finish(0, 1, Outcome::Good), Err(Refusal::Stopped));
     assert_eq!(graph.held(0), Ok(Holding { job: None, call: Some(HalfDone::Finish) }));
 }
 
@@ -365,7 +379,7 @@ fn damaged_outcomes_marks_and_notes() {
     graph.tables().jobs[MARK] = 0;
     assert_eq!(graph.finish(0, 1, Outcome::Good), Ok(()));
     graph.tables().jobs[OUTCOME] = 2;
-    assert_eq!(graph.add(0, &Job::new(3, &[1])), Err(Refusal::Damaged), "a link reads it");
+    assert_eq!(graph.add(0, &Job::new(3, &[1])), Err(Refusal::Stopped), "a link reads it");
     graph.tables().jobs[OUTCOME] = 1;
     assert_eq!(graph.run(0), Ok(()));
     graph.tables().workers[NOTE] = 2;

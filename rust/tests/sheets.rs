@@ -43,7 +43,7 @@ fn jobs_that_cannot_be_written() {
     assert_eq!(write_sheet(&[Job::new(1, &[]), Job::new(2, &long)]), refused(1, 5));
     assert_eq!(write_sheet(&[Job { class: 16, ..Job::new(1, &[2]) }]), refused(0, 10));
     let text = write_sheet(&[Job { grower: 65_536, ..Job::new(1, &[]) }]).map_err(|error| error.to_string());
-    assert_eq!(text, Err("entry 0: a field's value is off its limits (byte 5)".into()));
+    assert_eq!(text, Err("entry 0: a field's value is out of range (byte 5)".into()));
 }
 
 #[test]

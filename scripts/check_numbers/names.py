@@ -52,6 +52,7 @@ CALLED = [
     ("TG_NONE_READY", "^taskgraph", "NONE_READY"),
     ("TG_HANDED_OUT", "^taskgraph", "HANDED_OUT"),
     ("TG_LOADED", "^taskgraph", "LOADED"),
+    ("TG_STOPPED", "^taskgraph", "STOPPED"),
     ("TG_CALL_NONE", "", "NO_CALL"),
     ("TG_CALL_ADD", "", "AN_ADD"),
     ("TG_CALL_FINISH", "", "A_FINISH"),

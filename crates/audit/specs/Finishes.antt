@@ -2,7 +2,7 @@
 -- ("The plain book", by the rules). Assumes nothing.
 use mathlib.Core.Path.{_≡_, refl, sym, ap, _∙_}
 use mathlib.Core.Logic.{_≢_}
-use mathlib.Core.Bool.{Bool, true, false, _||_}
+use mathlib.Core.Bool.{Bool, true, false, _||_, true≢false}
 use mathlib.Core.List.{List, [], _∷_}
 use Prim.Native.Nat.{ℕ, _+_, _≤_, _<_}
 use native.Mathlib.Omega.{arith}
@@ -116,3 +116,14 @@ pub occurs-there : (x : ℕ) (l : List ℕ) → 0 < occurrences x l → contains
 unfolding occurrences contains
 occurs-there x [] = λ h. absurd (omega arith)
 occurs-there x (y ∷ l) = occurs-later (eqb x y) x l (occurs-there x l)
+
+-- and what is there occurs
+there-later : (b : Bool) (x : ℕ) (l : List ℕ) → (contains x l ≡ true → 0 < occurrences x l) → b || contains x l ≡ true
+    → 0 < pick b 1 0 + occurrences x l
+there-later true x l rest h = omega arith
+there-later false x l rest h = omega (arith, rest h)
+
+pub there-occurs : (x : ℕ) (l : List ℕ) → contains x l ≡ true → 0 < occurrences x l
+unfolding occurrences contains
+there-occurs x [] = λ h. absurd (true≢false (sym h))
+there-occurs x (y ∷ l) = there-later (eqb x y) x l (there-occurs x l)

@@ -13,3 +13,4 @@ pub mod Carried
 pub mod Marks
 pub mod Chained
 pub mod Stays
+pub mod Forgotten

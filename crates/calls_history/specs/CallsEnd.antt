@@ -53,16 +53,16 @@ made-finish (by.finishPosted p e n y) = taken
 module _ (s : Sizes) (t : Tables) (laid : layOut s t .answer ≡ Laid) where
   module _ {x : Tables} {r : Reading} (N : Now s t laid x r) where
     -- the words answer as the rules do, whose worker is idle where the reading's is
-    abbrev g : Graph
+    abbrev pub g : Graph
     g = after (rules.perform s) empty (N .items)
 
-    says : (i : Item) → perform x i .answer ≡ rules.perform s g i .answer
+    pub says : (i : Item) → perform x i .answer ≡ rules.perform s g i .answer
     says i =
         let R = after-items s t laid (N .items) in
         rw (N .here)
         (item s (after perform (layOut s t .state) (N .items)) g (R .ghost) (R .stands) (R .sound) i .answer)
 
-    rests : (w : ℕ) → r .pending w ≡ idle → g .workers w .call ≡ rules.idle
+    pub rests : (w : ℕ) → r .pending w ≡ idle → g .workers w .call ≡ rules.idle
     rests w = rw (N .read, same-events s t laid (N .items))
         (worker-idle g (reading (events (rules.perform s) empty (N .items)))
         (paced soundly (onward s start (N .items))) w)

@@ -14,7 +14,8 @@ use Rattle.words.specs.Words.{perform, layOut}
 use Rattle.words.specs.Observed.{seen}
 use Rattle.rules_cases.specs.Own.{own-sizes}
 use Rattle.linearization.specs.Calls.{idle, Reading}
-use Rattle.host_calls.specs.HostCalls.{HostCall, wholeAdd, wholeFinish, sheet, one, each, replyWorth, sheetReply}
+use Rattle.host_calls.specs.HostCalls.{HostCall, wholeAdd, wholeFinish, sheet, one, each, addsAnswer, replyWorth}
+use Rattle.host_calls.specs.HostCalls.{sheetReply}
 use Rattle.host_calls.specs.CallsDemand.{read, at-end}
 use Rattle.whole_words.specs.CallEnds.{AddAnswer, FinishAnswer, AddAnswers}
 use Rattle.calls_history.specs.WordsCalls.{turnedWords, answerWords}
@@ -47,11 +48,16 @@ module _ (s : Sizes) (t : Tables) (laid : layOut s t .answer ≡ Laid) (calls : 
         sheet-turned s t laid (at-calls s t laid calls) s w l
         ∙ rw (own-sizes s, lt-ltb w (s .workers) h, free, le-leb (length l) mostEntries few)
 
+    pub sheet-replies : (l : List Arguments) → length l ≤ mostEntries
+        → answerWords now (sheet s w l) .reply ≡ each 0 (addsAnswer perform s w l now)
+    unfolding replyWorth
+    sheet-replies l few =
+        replies-worth now (sheet s w l) ∙ ap (λ n. sheetReply perform n s w l now) (served l few)
+
     pub sheet-is-whole : (l : List Arguments) → length l ≤ mostEntries
         → (xs : List Answer) × (answerWords now (sheet s w l) .reply ≡ each 0 xs) × AddAnswers l xs
-    unfolding replyWorth
     sheet-is-whole l few = (
       _,
-      replies-worth now (sheet s w l) ∙ ap (λ n. sheetReply perform n s w l now) (served l few),
+      sheet-replies l few,
       adds-end s t laid l (at-calls s t laid calls) w h free,
     )

@@ -24,27 +24,27 @@ use Rattle.calls_history.specs.Entered.{call-enters}
 use Rattle.calls_history.specs.Turned.{sheet-turned}
 
 -- a call leaves what the items that it is worth leave, and replies what they make it reply
-leaves-worth : (x : Tables) (c : HostCall) → answerWords x c .state ≡ after perform x (worth perform turnedWords x c)
+pub leaves-worth : (x : Tables) (c : HostCall) → answerWords x c .state ≡ after perform x (worth perform turnedWords x c)
 leaves-worth x c = ap (λ (o : Replied Tables). o .state) (whole-is-worth x c)
 
 pub replies-worth : (x : Tables) (c : HostCall) → answerWords x c .reply ≡ replyWorth perform turnedWords x c
 replies-worth x c = ap (λ (o : Replied Tables). o .reply) (whole-is-worth x c)
 
 module _ (s : Sizes) (t : Tables) (laid : layOut s t .answer ≡ Laid) where
-  abbrev T : Tables
+  abbrev pub T : Tables
   T = layOut s t .state
 
-  abbrev made : Tables → List HostCall → List Item
+  abbrev pub made : Tables → List HostCall → List Item
   made x cs = allWorth perform turnedWords answerWords seen s T x cs
 
   -- ---- a list of calls, from tables that some items reached
-  all-leave : (cs : List HostCall) (x : Tables) → afterCalls answerWords x cs ≡ after perform x (made x cs)
+  pub all-leave : (cs : List HostCall) (x : Tables) → afterCalls answerWords x cs ≡ after perform x (made x cs)
   unfolding afterCalls allWorth after
   all-leave [] x = refl
   all-leave (c ∷ cs) x = rw (after-joined, ← (leaves-worth x c)) (all-leave cs (answerWords x c .state))
 
   all-read : (cs : List HostCall) {x : Tables} {r : Reading} → Now s t laid x r
-      → readCalls perform turnedWords answerWords seen s T r x cs ≡ readOn r (events perform x (made x cs))
+      → readCalls answerWords r x cs ≡ readOn r (events perform x (made x cs))
   unfolding readCalls allWorth events readOn
   all-read [] N = refl
   all-read (c ∷ cs) {x} {r} N =
@@ -53,7 +53,7 @@ module _ (s : Sizes) (t : Tables) (laid : layOut s t .answer ≡ Laid) where
       (all-read cs (on s t laid N is))
 
   all-minutes : (cs : List HostCall) (m : List ℕ) (x : Tables)
-      → readMinutes perform turnedWords answerWords seen s T m x cs ≡ minutesOn m (events perform x (made x cs))
+      → readMinutes answerWords m x cs ≡ minutesOn m (events perform x (made x cs))
   unfolding readMinutes allWorth events minutesOn
   all-minutes [] m x = refl
   all-minutes (c ∷ cs) m x =
@@ -61,7 +61,7 @@ module _ (s : Sizes) (t : Tables) (laid : layOut s t .answer ≡ Laid) where
       rw (replies-worth x c, call-minutes perform turnedWords m x c, minutes-joined perform m is, ← (leaves-worth x c))
       (all-minutes cs (minutesOn m (events perform x is)) (answerWords x c .state))
 
-  all-enter : (cs : List HostCall) {x : Tables} {r : Reading} → Now s t laid x r → (j : ℕ)
+  pub all-enter : (cs : List HostCall) {x : Tables} {r : Reading} → Now s t laid x r → (j : ℕ)
       → callEntries answerWords waiting x cs j ≡ entries perform waiting x (made x cs) j
   unfolding callEntries allWorth entries
   all-enter [] N j = refl
@@ -77,7 +77,7 @@ module _ (s : Sizes) (t : Tables) (laid : layOut s t .answer ≡ Laid) where
   -- ---- the claim
   module _ (calls : List HostCall) where
     pub at-calls : Now s t laid (afterCalls answerWords T calls)
-        (readCalls perform turnedWords answerWords seen s T unread T calls)
+        (readCalls answerWords unread T calls)
     at-calls =
         rw (all-leave calls T, all-read calls (at-start s t laid)) (on s t laid (at-start s t laid) (made T calls))
 

@@ -8,9 +8,9 @@ use lib.Dec.{eqb}
 use lib.ListN.{length, replicate}
 use Rattle.basics.specs.Base.{pick}
 use Rattle.terms.specs.Terms.{Arguments, finishOf, mostWorkers}
+use Rattle.terms.specs.Cases.{ifHanded, ifRefused}
 use Rattle.terms.specs.declared.Sizes.{Sizes}
 use Rattle.terms.specs.declared.Answer.{Answer}
-use Rattle.terms.specs.declared.Answer.the-variants.{Laid, Loaded, Posted, Going, Ended, NoneReady, Handed, Refused}
 use Rattle.words.specs.Layout.{Tables, tables, need, jobShape, arcShape, bucketShape, queueShape, workerShape}
 use Rattle.words.specs.Words.{getWords, layOut}
 use Rattle.sheet_format.specs.Job.{Job}
@@ -47,14 +47,7 @@ pub record Refusal : Type 0 where
   pub number : ℕ
 
 abbrev pub refusal : ℕ → Answer → List Refusal
-refusal i (Refused n p) = record { entry = i; number = n } ∷ []
-refusal i Laid = []
-refusal i Loaded = []
-refusal i Posted = []
-refusal i Going = []
-refusal i Ended = []
-refusal i NoneReady = []
-refusal i (Handed h) = []
+refusal i x = ifRefused x (λ n p. record { entry = i; number = n } ∷ []) []
 
 pub record Added : Type 0 where
   pub state : Tables
@@ -81,14 +74,7 @@ abbrev pub holder : ℕ → ℕ → Holder
 holder w n = record { worker = w; name = n }
 
 abbrev pub handOut : ℕ → Answer → List Holder
-handOut w (Handed h) = holder w (h .name) ∷ []
-handOut w Laid = []
-handOut w Loaded = []
-handOut w Posted = []
-handOut w Going = []
-handOut w Ended = []
-handOut w NoneReady = []
-handOut w (Refused n p) = []
+handOut w x = ifHanded x (λ h. holder w (h .name) ∷ []) []
 
 pub record Gets : Type 0 where
   pub state : Tables

@@ -52,7 +52,7 @@ servedIfIdle zero s t w l = addEachIfIdle s w l t
 servedIfIdle (suc n) s t w l = sheetOutcome (suc n) [] t
 
 -- a sheet that is not turned away has an admitted worker
-judged-admitted : (s : Sizes) (t : Tables) (w n : ℕ) → admitted s t w refusal n ≡ 0 → Admitted s t w
+pub judged-admitted : (s : Sizes) (t : Tables) (w n : ℕ) → admitted s t w refusal n ≡ 0 → Admitted s t w
 unfolding admitted
 judged-admitted s t w n e = go (sizesFit s t) refl (ltb w (s .workers)) refl (ownOk s (view t) w) refl e
   where

@@ -1,15 +1,19 @@
 -- The seats of the definitions, by what the code reads and finds on the way. Assumes nothing.
-use mathlib.Core.Path.{_≡_, refl}
+use mathlib.Core.Path.{_≡_, refl, sym}
 use mathlib.Core.Bool.{Bool, true, false, _&&_}
 use Prim.Native.Nat.{ℕ, _-_}
 use lib.Dec.{ltb, leb}
+use lib.ListN.{length}
 use Rattle.basics.specs.Limits.{mostClass}
 use Rattle.basics.specs.Base.{pick}
+use Rattle.heap.specs.Compared.{pairsDown}
 use Rattle.heap.specs.Sift.{siftUp, siftDown}
 use Rattle.heap.specs.declared.Sifted.{Sifted}
 use Rattle.terms.specs.declared.Sizes.{Sizes}
 use Rattle.words.specs.Layout.{CLASS, View}
 use Rattle.words.specs.Index.{rank, rankOf, waits, placeIn, seated, seatFor, firstSeat, firstSeatBy, levels}
+use Rattle.words.specs.Index.{comparedPlaces}
+use Rattle.words.specs.declared.Seating.{Seating}
 use Rattle.words.specs.declared.Seating.the-variants.{Unseated}
 use Rattle.graph_index.specs.Met.{looked}
 use Rattle.graph_index.specs.declared.Looked.{Looked}
@@ -52,19 +56,29 @@ module _ (v : View) (i : ℕ) where
 
 module _ (v : View) {put taken filled slot : ℕ} (p : put ≡ v .put) (t : taken ≡ v .taken) (f : filled ≡ put - taken)
     (m : slot ≡ filled - 1) where
-  pub first-none : Damaged ≡ look v 0 → Unseated ≡ firstSeat v
-  unfolding firstSeatBy
-  first-none h = rw (damage-seen v 0 h)
+  -- the seat, and how many pairs are compared
+  abbrev Finds : Seating → ℕ → Type 0
+  Finds e n = (e ≡ firstSeat v) × (n ≡ length (comparedPlaces v))
 
-  pub last-none : {k by : ℕ} → Ranked k by ≡ look v 0 → Damaged ≡ look v slot → Unseated ≡ firstSeat v
+  pub first-none : Damaged ≡ look v 0 → Finds Unseated 0
   unfolding firstSeatBy
-  last-none g h = let d = rw (m, f, t, p) at (damage-seen v slot h) in rw (sound-seen v 0 g, d)
+  first-none h = (rw (damage-seen v 0 h), rw (damage-seen v 0 h))
 
-  pub first-found : {i j a by place : ℕ} {k : Sifted} → Ranked i a ≡ look v 0 → Ranked j by ≡ look v slot
+  pub last-none : {k by : ℕ} → Ranked k by ≡ look v 0 → Damaged ≡ look v slot → Finds Unseated 0
+  unfolding firstSeatBy
+  last-none g h =
+      let d = rw (m, f, t, p) at (damage-seen v slot h) in (rw (sound-seen v 0 g, d), rw (sound-seen v 0 g, d))
+
+  pub first-found : {i j a by place n : ℕ} {k : Sifted} → Ranked i a ≡ look v 0 → Ranked j by ≡ look v slot
       → k ≡ siftDown (rankOf v) (waits v) (placeIn v) levels slot by 0
+      → ((moved : ℕ) → rankOf v moved ≡ by
+      → n ≡ length (pairsDown (rankOf v) (waits v) (placeIn v) levels slot moved 0))
       → place ≡ placeIn v 0
-      → seated k place slot ≡ firstSeat v
+      → Finds (seated k place slot) n
   unfolding firstSeatBy
-  first-found g h k q =
+  first-found g h k pairs q =
       let d = rw (m, f, t, p) at (sound-seen v slot h) in
-      rw (k, rank-seen v slot h, q, m, f, t, p, sound-seen v 0 g, d)
+      let last = pairs (placeIn v slot) (sym (rank-seen v slot h)) in (
+        rw (k, rank-seen v slot h, q, m, f, t, p, sound-seen v 0 g, d),
+        rw (last, m, f, t, p, sound-seen v 0 g, d),
+      )

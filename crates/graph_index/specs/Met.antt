@@ -1,4 +1,5 @@
--- What a way through a heap meets in the slots, as the code looks. Assumes nothing.
+-- What a way through a heap meets in the slots, as the code looks, and how many pairs of ranks it compares there.
+-- Assumes nothing.
 use mathlib.Core.Bool.{Bool}
 use Prim.Native.Nat.{ℕ}
 use lib.Dec.{ltb, leb}
@@ -6,17 +7,22 @@ use Rattle.basics.specs.Base.{pick}
 use Rattle.heap.specs.Sift.{left, right}
 use Rattle.graph_index.specs.declared.Looked.{Looked}
 use Rattle.graph_index.specs.declared.Looked.the-variants.{Ranked, Damaged}
+use Rattle.graph_index.specs.declared.Met.{Met}
+
+abbrev pub meets : Looked → ℕ → Met
+meets x n = record { looked = x; compared = n }
 
 -- of two slots the one whose number has the lower rank
-abbrev pub earlier : Looked → Looked → Looked
-earlier (Ranked i a) (Ranked k b) = pick (ltb b a) (Ranked k b) (Ranked i a)
-earlier (Ranked i a) Damaged = Damaged
-earlier Damaged x = Damaged
+abbrev pub earlier : Looked → Looked → Met
+earlier (Ranked i a) (Ranked k b) = meets (pick (ltb b a) (Ranked k b) (Ranked i a)) 1
+earlier (Ranked i a) Damaged = meets Damaged 0
+earlier Damaged x = meets Damaged 0
 
 module _ (rank : ℕ → ℕ) (sound : ℕ → Bool) (slot : ℕ → ℕ) where
   abbrev pub looked : ℕ → Looked
   looked i = pick (sound i) (Ranked i (rank (slot i))) Damaged
 
   -- in the slots below i, of which the left one is filled; m slots are filled
-  abbrev pub met : ℕ → ℕ → Looked
-  met m i = pick (leb m (right i)) (looked (left i)) (earlier (looked (left i)) (looked (right i)))
+  abbrev pub met : ℕ → ℕ → Met
+  met m i =
+      pick (leb m (right i)) (meets (looked (left i)) 0) (earlier (looked (left i)) (looked (right i)))

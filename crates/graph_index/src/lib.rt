@@ -1,12 +1,14 @@
-// The index beside the queue, read: where a place comes to rest in it. Follows docs/RULES.md, "Tables and their
-// measures". Assumes nothing: each definition holds of all tables, and where a table is not read the contract holds
-// with any.
+// The index beside the queue, read: where a place comes to rest in it, and how many pairs of ranks a get compares for
+// that. Follows docs/RULES.md, "Tables and their measures". Assumes nothing: each definition holds of all tables, and
+// where a table is not read the contract holds with any.
 ghost use mathlib.Core.Path.{_≡_};
 ghost use mathlib.Core.List.{List};
-ghost use Prim.Native.Nat.{ℕ, _<_};
+ghost use Prim.Native.Nat.{ℕ, _≤_, _<_};
+ghost use lib.ListN.{length};
+ghost use Rattle.heap.specs.Compared.{pairsDown};
 ghost use Rattle.heap.specs.Sift.{left, siftUp, siftDown};
 ghost use Rattle.words.specs.Layout.{tables, view};
-ghost use Rattle.words.specs.Index.{rank, rankOf, waits, placeIn, seated, seatFor, firstSeat, levels};
+ghost use Rattle.words.specs.Index.{rank, rankOf, waits, placeIn, seated, seatFor, firstSeat, comparedPlaces, levels};
 ghost use Rattle.graph_index.specs.Met.{looked, earlier, met};
 use graph_words::header;
 use graph_words::job_word;
@@ -23,6 +25,24 @@ use words::Seating;
 enum Looked {
     Ranked { slot: u32, rank: u64 },
     Damaged,
+}
+
+// What is met in the slots below a slot, and how many pairs of ranks were compared there: one, or none.
+struct Met {
+    looked: Looked,
+    compared: u32,
+}
+
+// How a way down ended, and how many pairs of ranks were compared on it.
+struct Moved {
+    sifted: Sifted,
+    compared: u32,
+}
+
+// The seat of the job that is handed out next, and how many pairs of ranks were compared to find it.
+pub struct FirstSeat {
+    pub seating: Seating,
+    pub compared: u32,
 }
 
 // The order of hand-outs, as one number of a class and a place: the lower first.
@@ -98,8 +118,8 @@ fn sift_up(jobs: &[u32], queue: &[u32], rank: u64, slot: u32) -> Sifted
 }
 
 // Of two slots the one whose place is handed out earlier.
-fn earlier(left: Looked, right: Looked) -> Looked
-    ensures { λ r. ⌜ r ≡ earlier left right ⌝ }
+fn earlier(left: Looked, right: Looked) -> Met
+    ensures { λ r. ⌜ (r ≡ earlier left right) × (r .compared ≤ 1) ⌝ }
 {
     match left {
         Looked::Ranked {
@@ -111,70 +131,106 @@ fn earlier(left: Looked, right: Looked) -> Looked
                 rank: right_rank,
             } => {
                 let lower = right_rank < left_rank;
+                let compared = 1;
                 if lower {
-                    Looked::Ranked {
-                        slot: right_slot,
-                        rank: right_rank,
+                    Met {
+                        looked: Looked::Ranked {
+                            slot: right_slot,
+                            rank: right_rank,
+                        },
+                        compared,
                     }
                 } else {
-                    Looked::Ranked {
-                        slot: left_slot,
-                        rank: left_rank,
+                    Met {
+                        looked: Looked::Ranked {
+                            slot: left_slot,
+                            rank: left_rank,
+                        },
+                        compared,
                     }
                 }
             }
-            Looked::Damaged => Looked::Damaged,
+            Looked::Damaged => Met {
+                looked: Looked::Damaged,
+                compared: 0,
+            },
         },
-        Looked::Damaged => Looked::Damaged,
+        Looked::Damaged => Met {
+            looked: Looked::Damaged,
+            compared: 0,
+        },
     }
 }
 
 // Of the slots below slot `at`, of which the left one is filled.
-fn lesser(jobs: &[u32], queue: &[u32], filled: u32, at: u32) -> Looked
+fn lesser(jobs: &[u32], queue: &[u32], filled: u32, at: u32) -> Met
     requires { ⌜ left at < filled ⌝ }
     ensures { λ r. ⌜ ((arcs buckets workers : List ℕ)
         → let v = view (tables (now (jobs .entry)) arcs buckets (now (queue .entry)) workers) in
-        r ≡ met (rankOf v) (waits v) (placeIn v) filled at) ⌝ }
+        r ≡ met (rankOf v) (waits v) (placeIn v) filled at)
+        × (r .compared ≤ 1) ⌝ }
 {
     let left = look(jobs, queue, 2 * at + 1);
     let alone = filled <= 2 * at + 2;
     if alone {
-        return left;
+        return Met {
+            looked: left,
+            compared: 0,
+        };
     }
     let right = look(jobs, queue, 2 * at + 2);
     earlier(left, right)
 }
 
-// Down from the first slot, past each place of a lower rank.
-fn sift_down(jobs: &[u32], queue: &[u32], filled: u32, rank: u64) -> Sifted
+// Down from the first slot, past each place of a lower rank. The pairs compared are those of any place that has the
+// rank.
+fn sift_down(jobs: &[u32], queue: &[u32], filled: u32, rank: u64) -> Moved
     ensures { λ r. ⌜ ((arcs buckets workers : List ℕ)
         → let v = view (tables (now (jobs .entry)) arcs buckets (now (queue .entry)) workers) in
-        r ≡ siftDown (rankOf v) (waits v) (placeIn v) levels filled rank 0) ⌝ }
+        (r .sifted ≡ siftDown (rankOf v) (waits v) (placeIn v) levels filled rank 0)
+        × ((moved : ℕ) → rankOf v moved ≡ rank
+        → r .compared ≡ length (pairsDown (rankOf v) (waits v) (placeIn v) levels filled moved 0))) ⌝ }
 {
     let mut at = 0;
+    let mut compared = 0;
     let mut levels = LEVELS;
     while levels > 0 {
         let more = 2 * (at as u64) + 1 < (filled as u64);
         if more {} else {
-            return Sifted::Rests { slot: at };
+            return Moved {
+                sifted: Sifted::Rests { slot: at },
+                compared,
+            };
         }
-        let below = lesser(jobs, queue, filled, at);
+        let met = lesser(jobs, queue, filled, at);
+        compared += met.compared;
+        let below = met.looked;
         match below {
             Looked::Ranked { slot, rank: by } => {
+                compared += 1;
                 let passes = by < rank;
                 if passes {
                     at = slot;
                 } else {
-                    return Sifted::Rests { slot: at };
+                    return Moved {
+                        sifted: Sifted::Rests { slot: at },
+                        compared,
+                    };
                 }
             }
             Looked::Damaged => {
-                return Sifted::Astray;
+                return Moved {
+                    sifted: Sifted::Astray,
+                    compared,
+                };
             }
         }
         levels -= 1;
     }
-    Sifted::Rests { slot: at }
+    Moved {
+        sifted: Sifted::Rests { slot: at },
+        compared,
+    }
 }
 
 fn seated(sifted: Sifted, place: u32, last: u32) -> Seating
@@ -207,10 +263,12 @@ pub fn seat_for(sizes: Sizes, jobs: &[u32], queue: &[u32], job: u32) -> Seating
     }
 }
 
-// The seat of the job that is handed out next.
-pub fn first_seat(jobs: &[u32], queue: &[u32]) -> Seating
+// The seat of the job that is handed out next. Each comparison of two ranks is counted: "a get compares at most 64
+// pairs of jobs".
+pub fn first_seat_counted(jobs: &[u32], queue: &[u32]) -> FirstSeat
     ensures { λ r. ⌜ ((arcs buckets workers : List ℕ)
-        → r ≡ firstSeat (view (tables (now (jobs .entry)) arcs buckets (now (queue .entry)) workers))) ⌝ }
+        → let v = view (tables (now (jobs .entry)) arcs buckets (now (queue .entry)) workers) in
+        (r .seating ≡ firstSeat v) × (r .compared ≡ length (comparedPlaces v))) ⌝ }
 {
     let put = header(queue, PUT);
     let taken = header(queue, TAKEN);
@@ -222,13 +280,33 @@ pub fn first_seat(jobs: &[u32], queue: &[u32]) -> Seating
             let last = look(jobs, queue, slot);
             match last {
                 Looked::Ranked { rank: by, .. } => {
-                    let sifted = sift_down(jobs, queue, slot, by);
+                    let moved = sift_down(jobs, queue, slot, by);
                     let place = queue_word(queue, 0, SLOT);
-                    seated(sifted, place, slot)
+                    let sifted = moved.sifted;
+                    let seating = seated(sifted, place, slot);
+                    FirstSeat {
+                        seating,
+                        compared: moved.compared,
+                    }
                 }
-                Looked::Damaged => Seating::Unseated,
+                Looked::Damaged => FirstSeat {
+                    seating: Seating::Unseated,
+                    compared: 0,
+                },
             }
         }
-        Looked::Damaged => Seating::Unseated,
+        Looked::Damaged => FirstSeat {
+            seating: Seating::Unseated,
+            compared: 0,
+        },
     }
+}
+
+// The same without the count, which the compiler then leaves out of a get.
+pub fn first_seat(jobs: &[u32], queue: &[u32]) -> Seating
+    ensures { λ r. ⌜ ((arcs buckets workers : List ℕ)
+        → r ≡ firstSeat (view (tables (now (jobs .entry)) arcs buckets (now (queue .entry)) workers))) ⌝ }
+{
+    let found = first_seat_counted(jobs, queue);
+    found.seating
 }

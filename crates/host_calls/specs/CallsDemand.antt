@@ -12,12 +12,12 @@ use Rattle.terms.specs.Terms.{Arguments, Finish, sameSizes, mostEntries, wrongS
 use Rattle.terms.specs.Terms.{tooManyEntries}
 use Rattle.terms.specs.Runs.{Item, Outcome, after, events, entries}
 use Rattle.terms.specs.Seen.{Seen}
+use Rattle.terms.specs.Cases.{ifEnded, ifRefused}
 use Rattle.terms.specs.declared.Sizes.{Sizes}
 use Rattle.terms.specs.declared.Answer.{Answer}
-use Rattle.terms.specs.declared.Answer.the-variants.{Laid, Loaded, Posted, Going, Ended, NoneReady, Handed, Refused}
 use Rattle.sequential_model.specs.Book.{Call, add, finish, accepted, refused}
 use Rattle.sequential_model.specs.Book as book
-use Rattle.linearization.specs.Calls.{Reading, unread, note, noteMinutes, minutesLoaded, endsCall, reading}
+use Rattle.linearization.specs.Calls.{Reading, readingBy, unread, note, noteMinutes, minutesLoaded, endsCall, reading}
 use Rattle.linearizability.specs.Demand.{Demand, isIdle}
 use Rattle.host_calls.specs.HostCalls.{HostCall, single, wholeAdd, wholeFinish, sheet, Reply, one, each, Replied}
 use Rattle.host_calls.specs.HostCalls.{replied, worth, replyWorth, afterCalls, callEntries}
@@ -25,43 +25,21 @@ use Rattle.host_calls.specs.HostCalls.{replied, worth, replyWorth, after
 -- ---- what is read off calls and replies alone
 -- a whole call that an answer ended, as the book is fed it: accepted, or by its number; 1 to 4 and 9 end no call
 abbrev pub endedBy : Call → Answer → List book.Ended
-endedBy c Ended = record { call = c; end = accepted } ∷ []
-endedBy c (Refused n i) = pick (endsCall n) (record { call = c; end = refused n i } ∷ []) []
-endedBy c Laid = []
-endedBy c Loaded = []
-endedBy c Posted = []
-endedBy c Going = []
-endedBy c NoneReady = []
-endedBy c (Handed h) = []
+endedBy c x =
+    ifEnded x (record { call = c; end = accepted } ∷ [])
+    (ifRefused x (λ n i. pick (endsCall n) (record { call = c; end = refused n i } ∷ []) []) [])
 
 -- the name, where the call was accepted
 abbrev pub nameIfEnded : ℕ → Answer → List ℕ
-nameIfEnded name Ended = name ∷ []
-nameIfEnded name (Refused n i) = []
-nameIfEnded name Laid = []
-nameIfEnded name Loaded = []
-nameIfEnded name Posted = []
-nameIfEnded name Going = []
-nameIfEnded name NoneReady = []
-nameIfEnded name (Handed h) = []
+nameIfEnded name x = ifEnded x (name ∷ []) []
 
 abbrev pub noteWholeAdd : Reading → ℕ → Arguments → Answer → Reading
 noteWholeAdd r w a x =
-    record {
-      pending = r .pending;
-      calls = r .calls ++ endedBy (add w a) x;
-      added = r .added ++ nameIfEnded (a .name) x;
-      finished = r .finished;
-    }
+    readingBy (r .pending) (r .calls ++ endedBy (add w a) x) (r .added ++ nameIfEnded (a .name) x) (r .finished)
 
 abbrev pub noteWholeFinish : Reading → ℕ → Finish → Answer → Reading
 noteWholeFinish r w f x =
-    record {
-      pending = r .pending;
-      calls = r .calls ++ endedBy (finish w f) x;
-      added = r .added;
-      finished = r .finished ++ nameIfEnded (f .name) x;
-    }
+    readingBy (r .pending) (r .calls ++ endedBy (finish w f) x) (r .added) (r .finished ++ nameIfEnded (f .name) x)
 
 -- "it counts as its separate adds"
 unfoldable pub noteAdds : Reading → ℕ → List Arguments → List Answer → Reading
@@ -103,6 +81,16 @@ turningSheet laid r s w l =
     noSuchWorker)
     wrongSizes
 
+-- ---- what a list of calls is read as, each given the state as the last left it
+module _ {S : Type 0} (answer : S → HostCall → Replied S) where
+  unfoldable pub readCalls : Reading → S → List HostCall → Reading
+  readCalls r x [] = r
+  readCalls r x (c ∷ cs) = readCalls (noteCall r c (answer x c .reply)) (answer x c .state) cs
+
+  unfoldable pub readMinutes : List ℕ → S → List HostCall → List ℕ
+  readMinutes m x [] = m
+  readMinutes m x (c ∷ cs) = readMinutes (noteLoad m c (answer x c .reply)) (answer x c .state) cs
+
 -- ---- the claim, of a machine that answers items and calls, the sizes laid out, the state that laying out left, and a
 -- list of calls
 module _ {S : Type 0} (perform : S → Item → Outcome S) (turned : S → Sizes → ℕ → List Arguments → ℕ)
@@ -112,20 +100,12 @@ module _ {S : Type 0} (perform : S → Item → Outcome S) (turned : S → Sizes
   allWorth x [] = []
   allWorth x (c ∷ cs) = worth perform turned x c ++ allWorth (answer x c .state) cs
 
-  unfoldable pub readCalls : Reading → S → List HostCall → Reading
-  readCalls r x [] = r
-  readCalls r x (c ∷ cs) = readCalls (noteCall r c (answer x c .reply)) (answer x c .state) cs
-
-  unfoldable pub readMinutes : List ℕ → S → List HostCall → List ℕ
-  readMinutes m x [] = m
-  readMinutes m x (c ∷ cs) = readMinutes (noteLoad m c (answer x c .reply)) (answer x c .state) cs
-
   module _ (calls : List HostCall) where
     abbrev pub items : List Item
     items = allWorth t calls
 
     abbrev pub read : Reading
-    read = readCalls unread t calls
+    read = readCalls answer unread t calls
 
     abbrev pub at-end : S
     at-end = afterCalls answer t calls
@@ -150,7 +130,7 @@ module _ {S : Type 0} (perform : S → Item → Outcome S) (turned : S → Sizes
 
     -- the minutes that were loaded too,
     abbrev pub ReadsMinutes : Type 0
-    ReadsMinutes = readMinutes fixedMinutes t calls ≡ minutesLoaded (events perform t items)
+    ReadsMinutes = readMinutes answer fixedMinutes t calls ≡ minutesLoaded (events perform t items)
 
     abbrev pub Enters : Type 0
     Enters =

@@ -6,9 +6,10 @@ use Prim.Native.Nat.{ℕ, zero, suc, _+_, _-_, _*_}
 use Rattle.basics.specs.Base.{occurrences}
 use Rattle.terms.specs.Terms.{Arguments, Finish}
 use Rattle.terms.specs.Runs.{Item, postAdd, postFinish, step, Outcome, Event, after, events}
+use Rattle.terms.specs.Cases.{ifPosted, ifGoing}
 use Rattle.terms.specs.declared.Sizes.{Sizes}
 use Rattle.terms.specs.declared.Answer.{Answer}
-use Rattle.terms.specs.declared.Answer.the-variants.{Laid, Loaded, Posted, Going, Ended, NoneReady, Handed, Refused}
+use Rattle.terms.specs.declared.Answer.the-variants.{Laid}
 
 -- a call of a host: an item, an add run whole, a finish run whole, or a sheet, whose adds are run whole in order
 pub data HostCall : Type 0 where
@@ -32,14 +33,7 @@ replied r x = record { reply = r; state = x }
 
 -- what follows where a post or a step goes on
 abbrev pub whereGoing : {A : Type 0} → Answer → List A → List A
-whereGoing Posted l = l
-whereGoing Going l = l
-whereGoing Laid l = []
-whereGoing Loaded l = []
-whereGoing Ended l = []
-whereGoing NoneReady l = []
-whereGoing (Handed h) l = []
-whereGoing (Refused n i) l = []
+whereGoing x l = ifPosted x l (ifGoing x l [])
 
 -- how a list of events ended: the last answer, after an answer x
 unfoldable pub lastAnswer : Answer → List Event → Answer

@@ -1,8 +1,13 @@
 pub mod HostCalls
 pub mod CallsDemand
+pub mod Audit
+pub mod Served
+pub mod InTurn
 pub mod MinutesRead
 pub mod Joined
 pub mod WrongCalls
+pub mod WrongAudit
+pub mod WrongRefusals
 pub mod WrongSheets
 pub mod WrongTurned
 pub mod WrongWhole

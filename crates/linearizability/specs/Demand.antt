@@ -16,10 +16,11 @@ use Rattle.terms.specs.Terms.{Finish, noSuchWorker, halfDone, nothingToStep, wr
 use Rattle.terms.specs.Runs.{Item, postAdd, postFinish, step, get, load, Event, Outcome, after, events}
 use Rattle.terms.specs.Runs.{entries, sizesOf, workerOf, isLoad}
 use Rattle.terms.specs.Seen.{Seen, Same}
+use Rattle.terms.specs.Cases.{ifHanded, ifRefused}
 use Rattle.terms.specs.declared.Sizes.{Sizes}
 use Rattle.terms.specs.declared.HandOut.{HandOut}
 use Rattle.terms.specs.declared.Answer.{Answer}
-use Rattle.terms.specs.declared.Answer.the-variants.{Laid, Loaded, Posted, Going, Ended, NoneReady, Handed, Refused}
+use Rattle.terms.specs.declared.Answer.the-variants.{Loaded, Posted, NoneReady, Handed, Refused}
 use Rattle.rules.specs.Rules.{empty}
 use Rattle.rules.specs.Rules as rules
 use Rattle.rules.specs.Observed as rules-seen
@@ -141,14 +142,7 @@ turningAway s r i =
 
 -- the number by which an answer turned an item away, or 0
 abbrev pub turnedAwayBy : Answer → ℕ
-turnedAwayBy (Refused n i) = pick (leb n nothingToStep) n 0
-turnedAwayBy Laid = 0
-turnedAwayBy Loaded = 0
-turnedAwayBy Posted = 0
-turnedAwayBy Going = 0
-turnedAwayBy Ended = 0
-turnedAwayBy NoneReady = 0
-turnedAwayBy (Handed h) = 0
+turnedAwayBy x = ifRefused x (λ n i. pick (leb n nothingToStep) n 0) 0
 
 -- ---- what the post of a call answers that ends so: a refusal of the post comes at once
 abbrev pub postEnd : book.End → Answer
@@ -294,14 +288,7 @@ module _ {S : Type 0} (perform : S → Item → Outcome S) (see : S → Seen) (s
 -- ---- what else is claimed of every history
 -- an answer by a number
 abbrev pub isNumber : ℕ → Answer → Bool
-isNumber n (Refused m i) = eqb m n
-isNumber n Laid = false
-isNumber n Loaded = false
-isNumber n Posted = false
-isNumber n Going = false
-isNumber n Ended = false
-isNumber n NoneReady = false
-isNumber n (Handed h) = false
+isNumber n x = ifRefused x (λ m i. eqb m n) false
 
 unfoldable pub gives : ℕ → List Event → Bool
 gives n [] = false
@@ -309,14 +296,7 @@ gives n (e ∷ es) = isNumber n (e .answer) || gives n es
 
 -- the jobs handed out, in order
 abbrev pub orHanded : Answer → List ℕ → List ℕ
-orHanded (Handed h) l = h .job ∷ l
-orHanded Laid l = l
-orHanded Loaded l = l
-orHanded Posted l = l
-orHanded Going l = l
-orHanded Ended l = l
-orHanded NoneReady l = l
-orHanded (Refused n i) l = l
+orHanded x l = ifHanded x (λ h. h .job ∷ l) l
 
 unfoldable pub handedOut : List Event → List ℕ
 handedOut [] = []

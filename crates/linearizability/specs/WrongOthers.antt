@@ -87,6 +87,22 @@ loses-class b f kept =
     apart (λ n. n) refl
     (by-fed (λ b. 0 < length (b .jobs) → 0 ≡ entry b 0 .class) f (λ h. kept .jobs 0 h .class) (omega arith))
 
+-- ---- an add whose job loses its grower, so that it counts as the network's
+abbrev pub losesGrower : System
+losesGrower = system
+    (λ g w a. posts g w (record { name = a .name; count = a .count; names = a .names; class = a .class; grower = 0 }))
+    looks links labels notifies takes
+
+abbrev pub ofGrowerSeven : List Item
+ofGrowerSeven = postAdd S 0 (record { name = 1; count = 0; names = []; class = 0; grower = 7 }) ∷ steps 2 S 0
+
+-- `keeps`: the book has the job as grower 7's
+pub loses-grower : Lacks losesGrower ofGrowerSeven keeps
+unfolding booking fed
+loses-grower b f kept =
+    apart (λ n. n) refl
+    (by-fed (λ b. 0 < length (b .jobs) → 0 ≡ entry b 0 .grower) f (λ h. kept .jobs 0 h .grower) (omega arith))
+
 -- ---- a settling that goes on for ever
 abbrev pub neverSettles : System
 neverSettles = system posts looks

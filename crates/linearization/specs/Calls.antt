@@ -9,9 +9,9 @@ use Rattle.basics.specs.Base.{pick, update}
 use Rattle.minutes.specs.Minutes.{fixedMinutes}
 use Rattle.terms.specs.Terms.{Arguments, Finish, damaged}
 use Rattle.terms.specs.Runs.{Item, postAdd, postFinish, step, get, load, Event}
+use Rattle.terms.specs.Cases.{ifLoaded, ifPosted, ifGoing, ifEnded, ifNoneReady, ifHanded, ifRefused}
 use Rattle.terms.specs.declared.Answer.{Answer}
-use Rattle.terms.specs.declared.Answer.the-variants.{Laid, Loaded, Posted, Going, Ended, NoneReady, Handed, Refused}
-use Rattle.sequential_model.specs.Book.{Call, add, finish, End, accepted, noneReady, handed, refused}
+use Rattle.sequential_model.specs.Book.{Call, add, finish, End, accepted, noneReady, handed, refused, ifAccepted}
 use Rattle.sequential_model.specs.Book as book
 
 -- a worker's call half done, with the steps answered so far: an add with its arguments, a finish with what it brings
@@ -28,37 +28,29 @@ pub record Reading : Type 0 where
   pub added : List ℕ
   pub finished : List ℕ
 
+abbrev pub readingBy : (ℕ → Pending) → List book.Ended → List ℕ → List ℕ → Reading
+readingBy pending calls added finished =
+    record { pending = pending; calls = calls; added = added; finished = finished }
+
 unfoldable pub unread : Reading
-unread = record { pending = λ w. idle; calls = []; added = []; finished = [] }
+unread = readingBy (λ w. idle) [] [] []
 
 -- ---- what is noted
 abbrev pub becomes : Reading → ℕ → Pending → Reading
-becomes r w p = record { pending = update (r .pending) w p; calls = r .calls; added = r .added; finished = r .finished }
+becomes r w p = readingBy (update (r .pending) w p) (r .calls) (r .added) (r .finished)
 
 abbrev pub decided : Reading → Call → End → Reading
-decided r c e =
-    record {
-      pending = r .pending;
-      calls = r .calls ++ (record { call = c; end = e } ∷ []);
-      added = r .added;
-      finished = r .finished;
-    }
+decided r c e = readingBy (r .pending) (r .calls ++ (record { call = c; end = e } ∷ [])) (r .added) (r .finished)
 
 abbrev pub decidedIf : Bool → Reading → Call → End → Reading
 decidedIf true r c e = decided r c e
 decidedIf false r c e = r
 
 abbrev pub addEnded : Reading → ℕ → Reading
-addEnded r name = record {
-  pending = r .pending;
-  calls = r .calls;
-  added = r .added ++ (name ∷ []);
-  finished = r .finished;
-}
+addEnded r name = readingBy (r .pending) (r .calls) (r .added ++ (name ∷ [])) (r .finished)
 
 abbrev pub finishEnded : Reading → ℕ → Reading
-finishEnded r name =
-    record { pending = r .pending; calls = r .calls; added = r .added; finished = r .finished ++ (name ∷ []) }
+finishEnded r name = readingBy (r .pending) (r .calls) (r .added) (r .finished ++ (name ∷ []))
 
 -- "for a refused call the step or post that refuses": a call that a number ends was not accepted, even where an earlier
 -- step had decided it so. What that step noted is withdrawn: the last add or finish of the worker.
@@ -76,8 +68,7 @@ withoutLast w [] = []
 withoutLast w (x ∷ l) = pick (isCallOf w (x .call) && not (anyCallOf w l)) l (x ∷ withoutLast w l)
 
 abbrev pub withdrawnIf : Bool → Reading → ℕ → Reading
-withdrawnIf true r w =
-    record { pending = r .pending; calls = withoutLast w (r .calls); added = r .added; finished = r .finished }
+withdrawnIf true r w = readingBy (r .pending) (withoutLast w (r .calls)) (r .added) (r .finished)
 withdrawnIf false r w = r
 
 -- "refused by 1 to 4 … end no call", and neither does 9, which leaves the call half done
@@ -88,60 +79,35 @@ endsCall n = ltb 4 n && not (eqb n damaged)
 -- step that ends it where that comes earlier; "the mark for an accepted finish", which is step 1; "and for a refused
 -- call the step that refuses"
 unfoldable pub noteStep : Reading → ℕ → Pending → Answer → Reading
-noteStep r w (adding a k) Going = becomes (decidedIf (eqb k (a .count)) r (add w a) accepted) w (adding a (suc k))
-noteStep r w (adding a k) Ended =
-    becomes (addEnded (decidedIf (leb k (a .count)) r (add w a) accepted) (a .name)) w idle
-noteStep r w (adding a k) (Refused n i) =
-    pick (endsCall n) (becomes (decided (withdrawnIf (ltb (a .count) k) r w) (add w a) (refused n i)) w idle) r
-noteStep r w (finishing f k) Going =
-    becomes (decidedIf (eqb k 0) r (finish w f) accepted) w (finishing f (suc k))
-noteStep r w (finishing f k) Ended =
-    becomes (finishEnded (decidedIf (eqb k 0) r (finish w f) accepted) (f .name)) w idle
-noteStep r w (finishing f k) (Refused n i) =
-    pick (endsCall n) (becomes (decided (withdrawnIf (ltb 0 k) r w) (finish w f) (refused n i)) w idle) r
+noteStep r w (adding a k) x =
+    ifGoing x (becomes (decidedIf (eqb k (a .count)) r (add w a) accepted) w (adding a (suc k)))
+    (ifEnded x (becomes (addEnded (decidedIf (leb k (a .count)) r (add w a) accepted) (a .name)) w idle)
+    (ifRefused x (λ n i.
+    pick (endsCall n) (becomes (decided (withdrawnIf (ltb (a .count) k) r w) (add w a) (refused n i)) w idle) r) r))
+noteStep r w (finishing f k) x =
+    ifGoing x (becomes (decidedIf (eqb k 0) r (finish w f) accepted) w (finishing f (suc k)))
+    (ifEnded x (becomes (finishEnded (decidedIf (eqb k 0) r (finish w f) accepted) (f .name)) w idle)
+    (ifRefused x (λ n i.
+    pick (endsCall n) (becomes (decided (withdrawnIf (ltb 0 k) r w) (finish w f) (refused n i)) w idle) r) r))
 noteStep r w idle x = r
-noteStep r w (adding a k) Laid = r
-noteStep r w (adding a k) Loaded = r
-noteStep r w (adding a k) Posted = r
-noteStep r w (adding a k) NoneReady = r
-noteStep r w (adding a k) (Handed h) = r
-noteStep r w (finishing f k) Laid = r
-noteStep r w (finishing f k) Loaded = r
-noteStep r w (finishing f k) Posted = r
-noteStep r w (finishing f k) NoneReady = r
-noteStep r w (finishing f k) (Handed h) = r
 
 -- ---- posts and gets: a post that is taken makes the call half done, one that refuses decides it; a get is decided as
 -- it is made
 unfoldable pub noteAdd : Reading → ℕ → Arguments → Answer → Reading
-noteAdd r w a Posted = becomes r w (adding a 0)
-noteAdd r w a (Refused n i) = decidedIf (endsCall n) r (add w a) (refused n i)
-noteAdd r w a Laid = r
-noteAdd r w a Loaded = r
-noteAdd r w a Going = r
-noteAdd r w a Ended = r
-noteAdd r w a NoneReady = r
-noteAdd r w a (Handed h) = r
+noteAdd r w a x =
+    ifPosted x (becomes r w (adding a 0))
+    (ifRefused x (λ n i. decidedIf (endsCall n) r (add w a) (refused n i)) r)
 
 unfoldable pub noteFinish : Reading → ℕ → Finish → Answer → Reading
-noteFinish r w f Posted = becomes r w (finishing f 0)
-noteFinish r w f (Refused n i) = decidedIf (endsCall n) r (finish w f) (refused n i)
-noteFinish r w f Laid = r
-noteFinish r w f Loaded = r
-noteFinish r w f Going = r
-noteFinish r w f Ended = r
-noteFinish r w f NoneReady = r
-noteFinish r w f (Handed h) = r
+noteFinish r w f x =
+    ifPosted x (becomes r w (finishing f 0))
+    (ifRefused x (λ n i. decidedIf (endsCall n) r (finish w f) (refused n i)) r)
 
 unfoldable pub noteGet : Reading → ℕ → Answer → Reading
-noteGet r w (Handed h) = decided r (Call.get w) (handed h)
-noteGet r w NoneReady = decided r (Call.get w) noneReady
-noteGet r w (Refused n i) = decidedIf (endsCall n) r (Call.get w) (refused n i)
-noteGet r w Laid = r
-noteGet r w Loaded = r
-noteGet r w Posted = r
-noteGet r w Going = r
-noteGet r w Ended = r
+noteGet r w x =
+    ifHanded x (λ h. decided r (Call.get w) (handed h))
+    (ifNoneReady x (decided r (Call.get w) noneReady)
+    (ifRefused x (λ n i. decidedIf (endsCall n) r (Call.get w) (refused n i)) r))
 
 unfoldable pub note : Reading → Item → Answer → Reading
 note r (postAdd s w a) x = noteAdd r w a x
@@ -152,18 +118,8 @@ note r (load s m) x = r
 
 -- ---- "Loads may stand in demand 3's list, and the book is not fed them": what is read of them is the minutes, which
 -- are those of the last load that was accepted, and the fixed ones before any
-abbrev pub orLoaded : List ℕ → Answer → List ℕ → List ℕ
-orLoaded m Loaded before = m
-orLoaded m Laid before = before
-orLoaded m Posted before = before
-orLoaded m Going before = before
-orLoaded m Ended before = before
-orLoaded m NoneReady before = before
-orLoaded m (Handed h) before = before
-orLoaded m (Refused n i) before = before
-
 abbrev pub noteMinutes : List ℕ → Item → Answer → List ℕ
-noteMinutes before (load s m) x = orLoaded m x before
+noteMinutes before (load s m) x = ifLoaded x m before
 noteMinutes before (postAdd s w a) x = before
 noteMinutes before (postFinish s w f) x = before
 noteMinutes before (step s w) x = before
@@ -189,33 +145,21 @@ abbrev pub Quiet : Reading → Type 0
 Quiet r = (w : ℕ) → r .pending w ≡ idle
 
 -- the adds accepted so far: "Jobs are numbered in the order they enter", so the j-th is that of job j
-abbrev pub orMore : End → Arguments → List Arguments → List Arguments
-orMore accepted a l = a ∷ l
-orMore noneReady a l = l
-orMore (handed h) a l = l
-orMore (refused n i) a l = l
-
 unfoldable pub acceptedAdds : List book.Ended → List Arguments
 acceptedAdds [] = []
 acceptedAdds (x ∷ l) = more (x .call) (x .end) (acceptedAdds l)
   where
     more : Call → End → List Arguments → List Arguments
-    more (add w a) e rest = orMore e a rest
+    more (add w a) e rest = ifAccepted e (a ∷ rest) rest
     more (Call.get w) e rest = rest
     more (finish w f) e rest = rest
 
 -- the names of the accepted finishes so far
-abbrev pub orFinished : End → ℕ → List ℕ → List ℕ
-orFinished accepted name l = name ∷ l
-orFinished noneReady name l = l
-orFinished (handed h) name l = l
-orFinished (refused n i) name l = l
-
 unfoldable pub acceptedFinishes : List book.Ended → List ℕ
 acceptedFinishes [] = []
 acceptedFinishes (x ∷ l) = more (x .call) (x .end) (acceptedFinishes l)
   where
     more : Call → End → List ℕ → List ℕ
-    more (finish w f) e rest = orFinished e (f .name) rest
+    more (finish w f) e rest = ifAccepted e (f .name ∷ rest) rest
     more (add w a) e rest = rest
     more (Call.get w) e rest = rest

@@ -23,14 +23,14 @@ use Rattle.words.specs.Columns.{place, columns, header, put, sep}
 use Rattle.words.specs.Layout.{jobShape, JOBS, ARCS, BITS, WORKERS, MADE, NAME, LABEL, CLASS, MARK, CELL, POSITION}
 use Rattle.words.specs.Layout.{Tables, tables, View, view, longEnough, sizesKept}
 use Rattle.words.specs.Index.{levels, rankOf, placeIn, waits, seated, firstPlace, lastSlot, lastPlace, firstSeatBy}
-use Rattle.words.specs.Index.{firstSeat}
+use Rattle.words.specs.Index.{firstSeat, comparedPlaces}
 use Rattle.words.specs.Words.{ownOk, admitted, nextJob, takeFrom, planGetOf, answerGet, appliedGet, getWords}
 use Rattle.words.specs.declared.Seating.{Seating}
 use Rattle.words.specs.declared.Seating.the-variants.{Seated, Unseated}
 use Rattle.words.specs.declared.GetPlan.{GetPlan}
 use Rattle.words.specs.declared.GetPlan.the-variants.{RefuseGet, Wait, Take}
 use Rattle.locality.specs.Parts.{test}
-use Rattle.locality.specs.Compared.{Reach, early, empty, index, reach, planAt, placesByGet, comparedPlaces}
+use Rattle.locality.specs.Compared.{Reach, early, empty, index, reach, planAt, placesByGet}
 use Rattle.locality.specs.Compared.{atIndex}
 use Rattle.locality.specs.IndexFirst.{planned}
 use Rattle.locality.specs.Looked.{lookedByGet}

@@ -1,6 +1,7 @@
 -- "a get compares at most 64 pairs of jobs": which pairs a get compares, and that they are few (that no others decide:
 -- Classes). For all tables, damaged ones too. Follows docs/RULES.md, "Steps". Assumes nothing.
 use mathlib.Core.Path.{_≡_, refl}
+use mathlib.Core.Logic.{_≢_}
 use mathlib.Core.Bool.{Bool, true, false, _&&_}
 use mathlib.Core.List.{List, [], map}
 use Prim.Native.Nat.{ℕ, _≤_}
@@ -9,11 +10,11 @@ use lib.Dec.{ltb, leb, eqb}
 use lib.ListN.{length, length-map}
 use Rattle.basics.specs.Base.{pick}
 use Rattle.basics.specs.Laws.{pick-by}
-use Rattle.heap.specs.Compared.{pairsDown, few-down}
+use Rattle.heap.specs.Compared.{few-down}
 use Rattle.terms.specs.Terms.{wrongSizes, noSuchWorker, halfDone, damaged, alreadyHolding}
 use Rattle.terms.specs.declared.Sizes.{Sizes}
 use Rattle.words.specs.Layout.{none, CELL, PHASE, HELD, IDLE, Tables, View, view, sizesFit}
-use Rattle.words.specs.Index.{levels, rankOf, placeIn, waits, lastSlot, lastPlace, firstSeat}
+use Rattle.words.specs.Index.{levels, rankOf, placeIn, waits, lastSlot, lastPlace, firstSeat, comparedPlaces}
 use Rattle.words.specs.Words.{countersOk, ownOk, admitted, takeFrom, planTake, planQueue, planGet, planGetOf}
 use Rattle.words.specs.declared.GetPlan.{GetPlan}
 use Rattle.words.specs.declared.GetPlan.the-variants.{RefuseGet, Wait}
@@ -86,13 +87,7 @@ plan-by-reach s t w =
     go true true true true true true true = refl
 
 -- ---- the pairs that are compared
--- of places, once the get comes to the index: the place in the last slot moves down from the first
-abbrev pub comparedPlaces : View → List (ℕ × ℕ)
-comparedPlaces v =
-    pick (waits v 0 && waits v (lastSlot v))
-    (pairsDown (rankOf v) (waits v) (placeIn v) levels (lastSlot v) (lastPlace v) 0)
-    []
-
+-- of places, once the get comes to the index
 abbrev pub atIndex : Reach → List (ℕ × ℕ) → List (ℕ × ℕ)
 atIndex (early n) l = []
 atIndex empty l = []
@@ -129,3 +124,19 @@ few-compared s t w =
       length-map (placesByGet s t w) (jobsAt (view t)),
       at-index (reach s t w) (comparedPlaces (view t)) 24 (few-places (view t)),
     )
+
+-- a get that comes to the index compares as many pairs as there are places compared, which graph_index's
+-- `first_seat_counted` counts; any other compares none
+pub counted-at-index : (s : Sizes) (t : Tables) (w : ℕ) → reach s t w ≡ index
+    → length (comparedByGet s t w) ≡ length (comparedPlaces (view t))
+unfolding placesByGet
+counted-at-index s t w e = rw (length-map, e)
+
+pub none-before-index : (s : Sizes) (t : Tables) (w : ℕ) → reach s t w ≢ index → comparedByGet s t w ≡ []
+unfolding placesByGet
+none-before-index s t w n = go (reach s t w) n
+  where
+    go : (r : Reach) → r ≢ index → map (jobsAt (view t)) (atIndex r (comparedPlaces (view t))) ≡ []
+    go (early k) n = refl
+    go empty n = refl
+    go index n = absurd (n refl)

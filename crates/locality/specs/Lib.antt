@@ -1,4 +1,5 @@
 pub mod Parts
+pub mod Need
 pub mod Seats
 pub mod Plans
 pub mod Stores
@@ -13,10 +14,14 @@ pub mod OutcomeWords
 pub mod OutcomeSteps
 pub mod NoteSteps
 pub mod OutcomeItems
+pub mod Buckets
 pub mod LinkSteps
+pub mod LookUpSteps
+pub mod EnterSteps
 pub mod MarkSteps
 pub mod WrongOutcomes
 pub mod WrongSteps
+pub mod WrongLookUps
 pub mod WrongLoads
 pub mod WrongLaying
 pub mod Numbers

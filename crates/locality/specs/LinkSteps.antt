@@ -1,18 +1,20 @@
 -- For ALL tables: what a link step does, and exactly when, of any machine over the tables, by the words of
--- docs/TABLES.md. A name that is not found and a word off its range are 9, with nothing changed, and nothing else is.
--- Follows docs/RULES.md, "Steps": "A finished prerequisite adds 1 to the worker's tally, and one that failed is noted
--- beside it; any other gets the arc reserved for that list place appended to its list". (MarkSteps.antt: the mark of a
--- finish. WrongSteps.antt: machines that do otherwise.) Assumes nothing.
-use mathlib.Core.Path.{_≡_, ap, _∙_}
+-- docs/TABLES.md. A name that is not found, a damaged walk and a word off its range are 9, with nothing changed, and
+-- nothing else is. Follows docs/RULES.md, "Steps": "A finished prerequisite adds 1 to the worker's tally, and one that
+-- failed is noted beside it; any other gets the arc reserved for that list place appended to its list". (Buckets.antt:
+-- what a walk finds. MarkSteps.antt: the mark of a finish. WrongSteps.antt: machines that do otherwise.) Assumes
+-- nothing.
+use mathlib.Core.Path.{_≡_, sym, ap, _∙_}
 use mathlib.Core.Logic.{_≢_}
 use mathlib.Core.Bool.{Bool, true, _&&_}
 use mathlib.Core.List.{List}
 use Prim.Native.Nat.{ℕ, _+_, _*_, _<_}
 use native.Mathlib.Omega.{arith}
+use native.Mathlib.Decide.{ℕ-discrete, decLt}
 use lib.Dec.{ltb}
 use lib.ListN.{getD, set}
 use borrow.Author.Tests.{ltb-true, lt-ltb, lt-leb, le-leb, ne-eqb}
-use Rattle.basics.specs.Laws.{fails}
+use Rattle.basics.specs.Laws.{never, fails}
 use Rattle.terms.specs.Runs.{step, Outcome, outcome}
 use Rattle.terms.specs.declared.Sizes.{Sizes}
 use Rattle.terms.specs.declared.Answer.the-variants.{Going, Refused}
@@ -24,10 +26,11 @@ use Rattle.words.specs.Words.{applied, stepWords, perform}
 use Rattle.words.specs.declared.Found.{Found}
 use Rattle.words.specs.declared.Found.the-variants.{At, Missing, Damaged}
 use Rattle.words.specs.declared.Plan.the-variants.{Refuse}
-use Rattle.locality.specs.Parts.{parts}
+use Rattle.locality.specs.Parts.{test, parts}
 use Rattle.locality.specs.Judged.{NoneOrUsed, place-means, Counters, counters-mean, Admitted, admits}
 use Rattle.locality.specs.Outcomes.{ownWord, jobWord, own-by-word, job-by-word, Counted}
 use Rattle.locality.specs.Queued.{did}
+use Rattle.locality.specs.Buckets.{LooksFor, look-up-means, one-end}
 
 -- a step, of any machine over the tables
 abbrev pub Stepper : Type 0
@@ -51,13 +54,17 @@ pub record ComesToLink (s : Sizes) (t : Tables) (w : ℕ) : Type 0 where
   pub linking : ownWord t w 0 ≡ 2
   pub more : ownWord t w 7 < ownWord t w 3
 
--- the look-up of the listed name at that place
-abbrev pub looked : Sizes → Tables → ℕ → Found
-looked s t w = findOf s (view t) (nameAt (view t) w)
+-- the listed name at that place
+abbrev pub listedName : Tables → ℕ → ℕ
+listedName t w = ownWord t w (11 + ownWord t w 7)
+
+-- whose walk ends so
+abbrev pub Listed : Sizes → Tables → ℕ → Found → Type 0
+Listed s t w r = LooksFor s t (listedName t w) r
 
 -- and that finds the job p
 abbrev pub LinksTo : Sizes → Tables → ℕ → ℕ → Type 0
-LinksTo s t w p = ComesToLink s t w × (looked s t w ≡ At p)
+LinksTo s t w p = ComesToLink s t w × Listed s t w (At p)
 
 -- ---- what a link leaves
 -- to a finished job: place and tally are one more, and the note is n; every other word is as it was
@@ -92,11 +99,12 @@ pub record Appends (s : Sizes) (t : Tables) (w p : ℕ) : Type 0 where
   pub arc : ownArc t w < getD (t .arcs) 0 0
   pub last : NoneOrUsed (jobWord t p 6) (getD (t .arcs) 0 0) (s .arcs)
 
--- ---- the statement, by what is found, its label and its outcome: 9 for a name that is not found, a label above 2, an
--- outcome of a finished job above 1 or an arc that cannot be appended, and the link is made in every other case
+-- ---- the statement, by where the walk ends, the job's label and its outcome: 9 for a name that is not found or a
+-- damaged walk, a label above 2, an outcome of a finished job above 1 or an arc that cannot be appended, and the link
+-- is made in every other case
 pub record LinksExactly (make : Stepper) (s : Sizes) (t : Tables) (w : ℕ) : Type 0 where
-  pub missing-by-9 : ComesToLink s t w → looked s t w ≡ Missing → make s t w ≡ outcome (Refused 9 0) t
-  pub damaged-by-9 : ComesToLink s t w → looked s t w ≡ Damaged → make s t w ≡ outcome (Refused 9 0) t
+  pub missing-by-9 : ComesToLink s t w → Listed s t w Missing → make s t w ≡ outcome (Refused 9 0) t
+  pub damaged-by-9 : ComesToLink s t w → Listed s t w Damaged → make s t w ≡ outcome (Refused 9 0) t
   pub label-by-9 : (p : ℕ) → LinksTo s t w p → 2 < jobWord t p 1 → make s t w ≡ outcome (Refused 9 0) t
   pub outcome-by-9 : (p : ℕ) → LinksTo s t w p → jobWord t p 1 ≡ 2 → 1 < jobWord t p 8
       → make s t w ≡ outcome (Refused 9 0) t
@@ -110,6 +118,56 @@ pub record LinksExactly (make : Stepper) (s : Sizes) (t : Tables) (w : ℕ) : Ty
       → make s t w ≡ outcome Going (linkedFirst t w p)
   pub next-arc : (p : ℕ) → LinksTo s t w p → jobWord t p 1 < 2 → Appends s t w p → jobWord t p 6 ≢ none
       → make s t w ≡ outcome Going (linkedAfter t w p)
+
+-- it settles the step: two machines of which it holds do the same
+appends-or-not : {A : Type 0} (s : Sizes) (t : Tables) (w p : ℕ) → (Appends s t w p → A) → ((Appends s t w p → ⊥) → A)
+    → A
+appends-or-not s t w p f g = elim (decLt (ownWord t w 8) (getD (t .jobs) 4 0)) [
+  | no a ↦ g (λ x. a (x .job))
+  | yes a ↦ elim (decLt (ownArc t w) (getD (t .arcs) 0 0)) [
+    | no b ↦ g (λ x. b (x .arc))
+    | yes b ↦
+        let sound = place-means (jobWord t p 6) (getD (t .arcs) 0 0) (s .arcs) in
+        test (placeOk (jobWord t p 6) (getD (t .arcs) 0 0) (s .arcs))
+        (λ e. f (record { job = a; arc = b; last = sound .0 e }))
+        (λ e. g (λ x. let z = sound .1 (x .last) in never cc))
+  ]
+]
+
+pub one-link : (make other : Stepper) (s : Sizes) (t : Tables) (w : ℕ)
+    → LinksExactly make s t w → LinksExactly other s t w
+    → ComesToLink s t w
+    → make s t w ≡ other s t w
+one-link make other s t w d e c =
+    let o = one-end s t (listedName t w) in
+    go (o .end) (o .along)
+  where
+    to-found : (p : ℕ) → LinksTo s t w p → make s t w ≡ other s t w
+    to-found p l = elim (decLt 2 (jobWord t p 1)) [
+      | yes h ↦ d .label-by-9 p l h ∙ sym (e .label-by-9 p l h)
+      | no h ↦ elim (ℕ-discrete (jobWord t p 1) 2) [
+        | yes f ↦ elim (decLt 1 (jobWord t p 8)) [
+          | yes k ↦ d .outcome-by-9 p l f k ∙ sym (e .outcome-by-9 p l f k)
+          | no k ↦ elim (ℕ-discrete (jobWord t p 8) 0) [
+            | yes z ↦ d .good p l f z ∙ sym (e .good p l f z)
+            | no z ↦ let u : jobWord t p 8 ≡ 1 = omega arith in d .failed p l f u ∙ sym (e .failed p l f u)
+          ]
+        ]
+        | no f ↦
+            let k : jobWord t p 1 < 2 = omega arith in
+            appends-or-not s t w p
+            (λ a. elim (ℕ-discrete (jobWord t p 6) none) [
+              | yes z ↦ d .first-arc p l k a z ∙ sym (e .first-arc p l k a z)
+              | no z ↦ d .next-arc p l k a z ∙ sym (e .next-arc p l k a z)
+            ])
+            (λ a. d .arc-by-9 p l k a ∙ sym (e .arc-by-9 p l k a))
+      ]
+    ]
+
+    go : (r : Found) → Listed s t w r → make s t w ≡ other s t w
+    go (At p) l = to-found p (c, l)
+    go Missing l = d .missing-by-9 c l ∙ sym (e .missing-by-9 c l)
+    go Damaged l = d .damaged-by-9 c l ∙ sym (e .damaged-by-9 c l)
 
 -- ---- the words' step
 -- the counters, by their words
@@ -127,6 +185,19 @@ pub own-puts : (l : List ℕ) (w k x q y i z : ℕ)
     → put workerShape (put workerShape (put workerShape l w k x) w q y) w i z
     ≡ ownPut (ownPut (ownPut l w k x) w q y) w i z
 own-puts l w k x q y i z = rw (own-put l w k x, own-put (ownPut l w k x) w q y) (own-put _ w i z)
+
+-- the listed name, by its word, and where its walk ends
+pub listed-by-word : (s : Sizes) (t : Tables) (w : ℕ) → Admitted s t w → ownWord t w 7 < ownWord t w 3
+    → nameAt (view t) w ≡ listedName t w
+listed-by-word s t w a h =
+    let place : view t .worker PLACE w ≡ ownWord t w 7 = own-by-word t w 7 (omega arith) in
+    let count : view t .worker LIST-COUNT w ≡ ownWord t w 3 = own-by-word t w 3 (omega arith) in
+    rw place (own-by-word t w (11 + ownWord t w 7) (omega (arith, a .own .count)))
+
+pub listed-found : (s : Sizes) (t : Tables) (w : ℕ) (r : Found) → Admitted s t w → ownWord t w 7 < ownWord t w 3
+    → Listed s t w r
+    → findOf s (view t) (nameAt (view t) w) ≡ r
+listed-found s t w r a h l = rw (listed-by-word s t w a h) (look-up-means s t (listedName t w) r .0 l)
 
 module _ (s : Sizes) (t : Tables) (w : ℕ) where
   place-word : view t .worker PLACE w ≡ ownWord t w 7
@@ -147,23 +218,24 @@ module _ (s : Sizes) (t : Tables) (w : ℕ) where
   note-word : view t .worker NOTE w ≡ ownWord t w 10
   note-word = own-by-word t w 10 (omega arith)
 
-  link-here : ComesToLink s t w
-      → stepWords s t w ≡ did (planLink s (view t) (ownArc t w) (ownWord t w 8) (looked s t w)) t w
+  link-here : (r : Found) → ComesToLink s t w → Listed s t w r
+      → stepWords s t w ≡ did (planLink s (view t) (ownArc t w) (ownWord t w 8) r) t w
   unfolding stepWords applied planPhase planCall planLinks
-  link-here c =
+  link-here r c l =
       let more : view t .worker PLACE w < view t .worker LIST-COUNT w = rw (place-word, count-word) (c .more) in
       rw (
         admits s t w Refuse _ (c .admitted),
         own-by-word t w 0 (omega arith) ∙ c .linking,
         counters-mean s (view t) .1 (counters-by-word s t (c .counted)),
         lt-ltb (view t .worker PLACE w) (view t .worker LIST-COUNT w) more,
+        listed-found s t w r (c .admitted) (c .more) l,
       )
       (rw (← place-word, ← job-word, ← arc-word))
 
   -- the step that finds p
   module _ (p : ℕ) (c : LinksTo s t w p) where
     found : stepWords s t w ≡ did (planLink s (view t) (ownArc t w) (ownWord t w 8) (At p)) t w
-    found = link-here (c .0) ∙ ap (λ f. did (planLink s (view t) (ownArc t w) (ownWord t w 8) f) t w) (c .1)
+    found = link-here (At p) (c .0) (c .1)
 
     label-word : view t .job 1 p ≡ jobWord t p 1
     label-word = job-by-word t p 1 (omega arith)
@@ -254,8 +326,8 @@ module _ (s : Sizes) (t : Tables) (w : ℕ) where
   pub links-exactly : LinksExactly stepWords s t w
   unfolding planLink applied
   links-exactly = record {
-    missing-by-9 = λ c e. link-here c ∙ rw e;
-    damaged-by-9 = λ c e. link-here c ∙ rw e;
+    missing-by-9 = link-here Missing;
+    damaged-by-9 = link-here Damaged;
     label-by-9 = label-refused;
     outcome-by-9 = outcome-refused;
     good = good-tallied;

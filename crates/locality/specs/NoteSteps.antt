@@ -15,7 +15,9 @@ use Rattle.terms.specs.declared.Sizes.{Sizes}
 use Rattle.words.specs.Columns.{place, rows-put}
 use Rattle.words.specs.Layout.{none, workerShape, PHASE, HELD, TALLY, PLACE, OWN-JOB, OWN-ARC, NOTE, IDLE, Tables, View}
 use Rattle.words.specs.Layout.{view, bareWorker}
-use Rattle.words.specs.Words.{goingUnless, putWorker, putField, nextPlace, noted, arcsFrom, applied}
+use Rattle.words.specs.Words.{goingUnless, nameAt, putWorker, putField, nextPlace, noted, arcsFrom, applied}
+use Rattle.words.specs.declared.Found.the-variants.{At}
+use Rattle.locality.specs.Buckets.{look-up-means}
 use Rattle.words.specs.declared.Plan.{Plan}
 use Rattle.words.specs.declared.Plan.the-variants.{Refuse, Quit, Pass, Enter, Tally, LinkFirst, LinkAfter, Settle}
 use Rattle.words.specs.declared.Plan.the-variants.{SettleQueue, Mark, Notify, NotifyQueue}
@@ -108,7 +110,7 @@ module _ (s : Sizes) (t : Tables) (w : ℕ) (h : Long s t) (known : ltb w (s .wo
       by-outcome true g z =
           linked (f .job) (own PHASE (omega arith) ∙ f .linking)
           (rw (own-by-word t w 7 (omega arith), own-by-word t w 3 (omega arith)) at (f .more))
-          (f .found)
+          (look-up-means s t (nameAt v w) (At (f .job)) .1 (f .found))
           (sym (job-by-word t (f .job) 1 (omega arith)) ∙ f .finished)
           (sym (job-by-word t (f .job) 8 (omega arith)) ∙ f .outcome ∙ eqb-true o 1 g)
           z

@@ -38,6 +38,7 @@ use Rattle.locality.specs.Outcomes.{ownWord, jobWord, own-by-word, job-b
 use Rattle.locality.specs.OutcomeWords.{MarkAfter, OutcomeAfter, NoteAfter, same, posted-add, posted-finish}
 use Rattle.locality.specs.OutcomeWords.{Served, WritesOutcomes}
 use Rattle.locality.specs.Origins.{From, plan-from}
+use Rattle.locality.specs.Buckets.{LooksFor, look-up-means}
 use Rattle.locality.specs.OutcomeSteps.{mark-after, outcome-after, spoils-own, spoils-dependent, keeps-outcome}
 use Rattle.locality.specs.OutcomeSteps.{arc-word, made-word, clears}
 use Rattle.locality.specs.NoteSteps.{apart, mine-at, mine-off, at-note, note-after}
@@ -243,14 +244,18 @@ item-notes t (step s w) x = step-notes s t w x
 item-notes t (get s w) x = same (get-notes s t w x (planGetOf s t w))
 item-notes t (load s m) x = same (ap (λ l. getD l (43 * x + 10) 0) (load-workers s t (judgedLoad s t m) m))
 
+found : (s : Sizes) (t : Tables) (w p : ℕ) → LooksFor s t (nameAt (view t) w) (At p)
+    → findOf s (view t) (nameAt (view t) w) ≡ At p
+found s t w p = look-up-means s t (nameAt (view t) w) (At p) .0
+
 pub writes-outcomes : WritesOutcomes perform
 writes-outcomes = record {
   marks = item-marks;
   outcomes = item-outcomes;
   notes = item-notes;
   entering-clears = entering;
-  link-notes = link-notes;
-  outcome-by-9 = λ s t w p d e m g a b. outcome-by-9 s t w p e m g a d b;
+  link-notes = λ s t w p e m g. link-notes s t w p e m (found s t w p g);
+  outcome-by-9 = λ s t w p d e m g a b. outcome-by-9 s t w p e m (found s t w p g) a d b;
   settling-spoils = settling;
   arc-spoils = arc;
   mark-keeps = mark;

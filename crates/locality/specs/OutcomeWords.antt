@@ -12,11 +12,12 @@ use Rattle.terms.specs.declared.Sizes.{Sizes}
 use Rattle.terms.specs.declared.Answer.{Answer}
 use Rattle.terms.specs.declared.Answer.the-variants.{Laid, Loaded, Posted, Going, Ended, NoneReady, Handed, Refused}
 use Rattle.words.specs.Layout.{Tables, view}
-use Rattle.words.specs.Words.{findOf, nameAt}
+use Rattle.words.specs.Words.{nameAt}
 use Rattle.words.specs.declared.Found.the-variants.{At}
 use Rattle.locality.specs.Refusals.{ends}
 use Rattle.locality.specs.Judged.{Admitted}
 use Rattle.locality.specs.Outcomes.{ownWord, jobWord}
+use Rattle.locality.specs.Buckets.{LooksFor}
 
 -- of the mark of job j, from the tables t to the tables u: it is as it was; or j has just been entered, and it is 0; or
 -- it is 1, of the job that a settling step of a worker with the note 1 settles, or of the dependent of the arc of such
@@ -46,7 +47,7 @@ pub data NoteAfter (t : Tables) (o : Outcome Tables) (v : ℕ) : Item → Type 0
   posted-finish : {s : Sizes} {f : Finish} → ownWord (o .state) v 10 ≡ bit (f .failed)
       → NoteAfter t o v (postFinish s v f)
   linked : {s : Sizes} (p : ℕ) → ownWord t v 0 ≡ 2 → ownWord t v 7 < ownWord t v 3
-      → findOf s (view t) (nameAt (view t) v) ≡ At p → jobWord t p 1 ≡ 2 → jobWord t p 8 ≡ 1
+      → LooksFor s t (nameAt (view t) v) (At p) → jobWord t p 1 ≡ 2 → jobWord t p 8 ≡ 1
       → ownWord (o .state) v 10 ≡ 1 → NoteAfter t o v (step s v)
   ended : {s : Sizes} → ends (o .answer) ≡ true → ownWord (o .state) v 0 ≡ 0 → ownWord (o .state) v 10 ≡ 0
       → NoteAfter t o v (step s v)
@@ -74,12 +75,12 @@ pub record WritesOutcomes (perform : Tables → Item → Outcome Tables) : Type 
       → (jobWord (perform t (step s w) .state) (getD (t .jobs) 4 0) 8 ≡ 0)
       × (jobWord (perform t (step s w) .state) (getD (t .jobs) 4 0) 9 ≡ 0)
   pub link-notes : (s : Sizes) (t : Tables) (w p : ℕ) → ownWord t w 0 ≡ 2 → ownWord t w 7 < ownWord t w 3
-      → findOf s (view t) (nameAt (view t) w) ≡ At p → jobWord t p 1 ≡ 2 → jobWord t p 8 ≡ 1
+      → LooksFor s t (nameAt (view t) w) (At p) → jobWord t p 1 ≡ 2 → jobWord t p 8 ≡ 1
       → Served (perform t (step s w) .answer)
       → ownWord (perform t (step s w) .state) w 10 ≡ 1
   pub outcome-by-9 : (s : Sizes) (t : Tables) (w p : ℕ) → Admitted s t w → ownWord t w 0 ≡ 2
       → ownWord t w 7 < ownWord t w 3
-      → findOf s (view t) (nameAt (view t) w) ≡ At p → jobWord t p 1 ≡ 2 → 1 < jobWord t p 8
+      → LooksFor s t (nameAt (view t) w) (At p) → jobWord t p 1 ≡ 2 → 1 < jobWord t p 8
       → perform t (step s w) ≡ outcome (Refused 9 0) t
   pub settling-spoils : (s : Sizes) (t : Tables) (w : ℕ) → ownWord t w 0 ≡ 2
       → perform t (step s w) .answer ≡ Ended → ownWord t w 10 ≡ 1

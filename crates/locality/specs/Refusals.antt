@@ -14,6 +14,7 @@ use Rattle.basics.specs.Laws.{pick-by}
 use Rattle.minutes.specs.Rising.{isRising}
 use Rattle.terms.specs.Terms.{bit}
 use Rattle.terms.specs.Runs.{Item, postAdd, postFinish, step, get, load, Outcome, outcome, workerOf}
+use Rattle.terms.specs.Cases.{ifEnded, ifRefused}
 use Rattle.terms.specs.declared.Sizes.{Sizes}
 use Rattle.terms.specs.declared.Answer.{Answer}
 use Rattle.terms.specs.declared.Answer.the-variants.{Laid, Loaded, Posted, Going, Ended, NoneReady, Handed, Refused}
@@ -38,14 +39,7 @@ idled t w = tables (t .jobs) (t .arcs) (t .buckets) (t .queue) (idleWorker (view
 
 -- an answer that ends an add or a finish: accepted, or 6, 7 or 8
 abbrev pub ends : Answer → Bool
-ends Laid = false
-ends Loaded = false
-ends Posted = false
-ends Going = false
-ends Ended = true
-ends NoneReady = false
-ends (Handed h) = false
-ends (Refused n p) = quitsBy n
+ends x = ifEnded x true (ifRefused x (λ n p. quitsBy n) false)
 
 -- a worker's 43 words
 abbrev pub record-of : ℕ → List ℕ → List ℕ

@@ -27,6 +27,7 @@ use Rattle.words.specs.declared.Plan.{Plan}
 use Rattle.words.specs.declared.Plan.the-variants.{Refuse}
 use Rattle.words.specs.declared.GetPlan.{GetPlan}
 use Rattle.words.specs.declared.GetPlan.the-variants.{RefuseGet}
+use Rattle.locality.specs.Need.{KeepsToNeed}
 use Rattle.locality.specs.Parts.{test, needed, rest, joined, lengths, laidOut, parts, long, clip, clip-joined}
 use Rattle.locality.specs.Parts.{header-joined}
 use Rattle.locality.specs.Parts.{whole, needed-again, long-needed, kept-needed, long-joined, kept-joined}
@@ -198,6 +199,10 @@ not-read t u i e =
 pub not-changed : (t : Tables) (i : Item)
     → (rest (sizesOf i) (perform t i .state) ≡ rest (sizesOf i) t) × (lengths (perform t i .state) ≡ lengths t)
 not-changed t i = (afterwards (sizesOf i) t i (within t i) .1, item-kept t i .lengths)
+
+pub keeps-to-need : (t : Tables) (i : Item) → KeepsToNeed perform t i
+keeps-to-need t i =
+    record { reads = λ u. not-read t u i; changes = not-changed t i .0; lengths = not-changed t i .1 }
 
 -- ---- a whole list of items, whatever sizes they bring: with the sizes that the tables keep
 -- an item that brings other sizes is refused with and without the rest

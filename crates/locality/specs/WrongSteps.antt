@@ -33,6 +33,7 @@ use Rattle.locality.specs.OutcomeWords.{OutcomeAfter, NoteAfter, same, e
 use Rattle.locality.specs.OutcomeWords.{WritesOutcomes}
 use Rattle.locality.specs.Refusals.{ends, idled}
 use Rattle.locality.specs.Queued.{did}
+use Rattle.locality.specs.Buckets.{hit, look-up-means}
 use Rattle.locality.specs.LinkSteps.{Stepper, LinksTo, LinksExactly}
 use Rattle.locality.specs.MarkSteps.{Marks, MarksExactly}
 use Rattle.locality.specs.WrongOutcomes.{apart, number}
@@ -77,11 +78,11 @@ adding d =
     (LOOKING ∷ none ∷ 8 ∷ d ∷ 0 ∷ 0 ∷ 0 ∷ 0 ∷ none ∷ none ∷ 0 ∷ 7 ∷ replicate 31 0)
 
 -- ---- what is computed of them
-admits : (t : Tables) → sizesFit two t ≡ true → ownOk two (view t) 0 ≡ true → Admitted two t 0
+pub admits : (t : Tables) → sizesFit two t ≡ true → ownOk two (view t) 0 ≡ true → Admitted two t 0
 admits t z e = record { sizes = sized-means two t .0 z; known = lit< tt; own = own-means two (view t) 0 .0 e }
 
 to-link : (outcome : ℕ) → LinksTo two (linking outcome) 0 0
-unfolding withinLimits longEnough sizesKept ownOk findOf walk productOf bucketOf header columns
+unfolding withinLimits longEnough sizesKept ownOk header columns
 to-link outcome = (
   record {
     admitted = admits (linking outcome) refl refl;
@@ -89,7 +90,7 @@ to-link outcome = (
     linking = refl;
     more = lit< tt;
   },
-  refl,
+  hit (record { some = apart refl; made = lit< tt }) (lit< tt) refl,
 )
 
 to-mark : (mark note : ℕ) → ownOk two (view (marking mark note)) 0 ≡ true → Marks two (marking mark note) 0
@@ -188,12 +189,16 @@ unfolding applied planPhase planCall planLinks planLink admitted withinLimits lo
     productOf bucketOf header columns put
 serves-seven-too d =
     apart refl (ap (λ (o : Outcome Tables). number (o .answer))
-    (d .outcome-by-9 two (linking 7) 0 0 (to-link 7 .0 .admitted) refl (lit< tt) refl refl (lit< tt)))
+    (d .outcome-by-9 two (linking 7) 0 0 (to-link 7 .0 .admitted) refl (lit< tt)
+    (look-up-means two (linking 7) (nameAt (view (linking 7)) 0) (At 0) .1 refl)
+    refl (lit< tt)))
 
 pub forgets-the-note-too : WritesOutcomes (stepping forgets) → ⊥
 unfolding applied planPhase planCall planLinks planLink admitted withinLimits longEnough sizesKept ownOk findOf walk
     productOf bucketOf header columns put
-forgets-the-note-too d = apart refl (d .link-notes two (linking 1) 0 0 refl (lit< tt) refl refl refl tt)
+forgets-the-note-too d =
+    apart refl (d .link-notes two (linking 1) 0 0 refl (lit< tt)
+    (look-up-means two (linking 1) (nameAt (view (linking 1)) 0) (At 0) .1 refl) refl refl tt)
 
 -- ---- a step in a phase that leaves word k of the job that it writes as it was
 abbrev pub leaves : ℕ → (View → ℕ → ℕ) → ℕ → Stepper

@@ -1,2 +1,3 @@
 pub mod Promises
-pub mod WholeCallPromises
+pub mod Details
+pub mod WholeCallDetails

@@ -55,18 +55,22 @@ pub record Graph : Type 0 where
   pub workers : ℕ → Worker
   pub minutes : List ℕ
 
-abbrev pub noJob : Job
-noJob = record {
-  name = 0;
-  label = unexecuted;
-  count = 0;
-  class = 0;
-  grower = 0;
-  list = [];
-  dependents = [];
-  failed = false;
-  spoiled = false;
+-- a job by its parts, in their order above
+abbrev pub jobBy : ℕ → Label → ℕ → ℕ → ℕ → List ℕ → List ℕ → Bool → Bool → Job
+jobBy name label count class grower list dependents failed spoiled = record {
+  name = name;
+  label = label;
+  count = count;
+  class = class;
+  grower = grower;
+  list = list;
+  dependents = dependents;
+  failed = failed;
+  spoiled = spoiled;
 }
+
+abbrev pub noJob : Job
+noJob = jobBy 0 unexecuted 0 0 0 [] [] false false
 
 abbrev pub job : Graph → ℕ → Job
 job g j = getD (g .jobs) j noJob
@@ -94,123 +98,47 @@ abbrev pub find : Graph → ℕ → Found
 find g name = seek name (g .jobs) 0
 
 -- ---- changes
--- a graph with one part changed
+-- a graph by its parts, and one with one part changed
+abbrev pub graphBy : List Job → ℕ → List ℕ → (ℕ → Worker) → List ℕ → Graph
+graphBy jobs reserved queue workers minutes =
+    record { jobs = jobs; reserved = reserved; queue = queue; workers = workers; minutes = minutes }
+
 abbrev pub withJobs : Graph → List Job → Graph
-withJobs g l = record {
-  jobs = l;
-  reserved = g .reserved;
-  queue = g .queue;
-  workers = g .workers;
-  minutes = g .minutes;
-}
+withJobs g l = graphBy l (g .reserved) (g .queue) (g .workers) (g .minutes)
 
 abbrev pub withReserved : Graph → ℕ → Graph
-withReserved g n = record {
-  jobs = g .jobs;
-  reserved = n;
-  queue = g .queue;
-  workers = g .workers;
-  minutes = g .minutes;
-}
+withReserved g n = graphBy (g .jobs) n (g .queue) (g .workers) (g .minutes)
 
 abbrev pub withQueue : Graph → List ℕ → Graph
-withQueue g q = record {
-  jobs = g .jobs;
-  reserved = g .reserved;
-  queue = q;
-  workers = g .workers;
-  minutes = g .minutes;
-}
+withQueue g q = graphBy (g .jobs) (g .reserved) q (g .workers) (g .minutes)
 
 abbrev pub withWorkers : Graph → (ℕ → Worker) → Graph
-withWorkers g f = record {
-  jobs = g .jobs;
-  reserved = g .reserved;
-  queue = g .queue;
-  workers = f;
-  minutes = g .minutes;
-}
+withWorkers g f = graphBy (g .jobs) (g .reserved) (g .queue) f (g .minutes)
 
 abbrev pub withMinutes : Graph → List ℕ → Graph
-withMinutes g m = record {
-  jobs = g .jobs;
-  reserved = g .reserved;
-  queue = g .queue;
-  workers = g .workers;
-  minutes = m;
-}
+withMinutes g m = graphBy (g .jobs) (g .reserved) (g .queue) (g .workers) m
+
+-- a job with another label, count, dependents, outcome and mark
+abbrev pub jobWith : Job → Label → ℕ → List ℕ → Bool → Bool → Job
+jobWith x label count dependents failed spoiled =
+    jobBy (x .name) label count (x .class) (x .grower) (x .list) dependents failed spoiled
 
 abbrev pub withLabel : Job → Label → Job
-withLabel x l =
-    record {
-      name = x .name;
-      label = l;
-      count = x .count;
-      class = x .class;
-      grower = x .grower;
-      list = x .list;
-      dependents = x .dependents;
-      failed = x .failed;
-      spoiled = x .spoiled;
-    }
+withLabel x l = jobWith x l (x .count) (x .dependents) (x .failed) (x .spoiled)
 
 -- a job that is finished, with its outcome
 abbrev pub ended : Job → Bool → Job
-ended x failed =
-    record {
-      name = x .name;
-      label = finished;
-      count = x .count;
-      class = x .class;
-      grower = x .grower;
-      list = x .list;
-      dependents = x .dependents;
-      failed = failed;
-      spoiled = x .spoiled;
-    }
+ended x failed = jobWith x finished (x .count) (x .dependents) failed (x .spoiled)
 
 -- a job whose count becomes c, and which is spoiled if the test holds; a spoiled job stays so
 abbrev pub lowered : Job → ℕ → Bool → Job
-lowered x c spoils =
-    record {
-      name = x .name;
-      label = x .label;
-      count = c;
-      class = x .class;
-      grower = x .grower;
-      list = x .list;
-      dependents = x .dependents;
-      failed = x .failed;
-      spoiled = x .spoiled || spoils;
-    }
+lowered x c spoils = jobWith x (x .label) c (x .dependents) (x .failed) (x .spoiled || spoils)
 
 abbrev pub withDependent : Job → ℕ → Job
-withDependent x j =
-    record {
-      name = x .name;
-      label = x .label;
-      count = x .count;
-      class = x .class;
-      grower = x .grower;
-      list = x .list;
-      dependents = x .dependents ++ (j ∷ []);
-      failed = x .failed;
-      spoiled = x .spoiled;
-    }
+withDependent x j = jobWith x (x .label) (x .count) (x .dependents ++ (j ∷ [])) (x .failed) (x .spoiled)
 
 abbrev pub newJob : Arguments → Job
-newJob a =
-    record {
-      name = a .name;
-      label = unexecuted;
-      count = a .count;
-      class = a .class;
-      grower = a .grower;
-      list = listed a;
-      dependents = [];
-      failed = false;
-      spoiled = false;
-    }
+newJob a = jobBy (a .name) unexecuted (a .count) (a .class) (a .grower) (listed a) [] false false
 
 -- a worker's call becomes c, and its hold stays
 abbrev pub turn : Graph → ℕ → Call → ℕ → Worker

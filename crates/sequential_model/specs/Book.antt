@@ -32,8 +32,12 @@ pub record Book : Type 0 where
 unfoldable pub blank : Book
 blank = record { jobs = []; held = λ w. none }
 
+abbrev pub entryBy : ℕ → List ℕ → ℕ → ℕ → Label → Bool → Entry
+entryBy name list class grower label failed =
+    record { name = name; list = list; class = class; grower = grower; label = label; failed = failed }
+
 abbrev pub noEntry : Entry
-noEntry = record { name = 0; list = []; class = 0; grower = 0; label = unexecuted; failed = false }
+noEntry = entryBy 0 [] 0 0 unexecuted false
 
 abbrev pub entry : Book → ℕ → Entry
 entry b j = getD (b .jobs) j noEntry
@@ -93,6 +97,13 @@ pub data End : Type 0 where
   handed : HandOut → End
   refused : ℕ → ℕ → End
 
+-- what holds of a call that was accepted, and what of any other
+abbrev pub ifAccepted : {A : Type 0} → End → A → A → A
+ifAccepted accepted a e = a
+ifAccepted noneReady a e = e
+ifAccepted (handed h) a e = e
+ifAccepted (refused n p) a e = e
+
 -- the first place whose name no job has
 pub data Place : Type 0 where
   nowhere : Place
@@ -150,43 +161,28 @@ Ends s b (finish w f) e = e ≡ finishEnd b f (b .held w)
 -- a job's label becomes l and its outcome f
 abbrev pub labelled : Book → ℕ → Label → Bool → List Entry
 labelled b j l f =
-    let x = entry b j in
-    set (b .jobs) j
-    (record { name = x .name; list = x .list; class = x .class; grower = x .grower; label = l; failed = f })
+    let x = entry b j in set (b .jobs) j (entryBy (x .name) (x .list) (x .class) (x .grower) l f)
 
 -- "Otherwise that job becomes finished and the hold ends", with the outcome f
 unfoldable pub finishedBy : Book → ℕ → Bool → Option ℕ → Book
 finishedBy b w f none = b
 finishedBy b w f (some j) = record { jobs = labelled b j finished f; held = update (b .held) w none }
 
+-- the job of an add enters
+abbrev pub newEntry : Arguments → Entry
+newEntry a = entryBy (a .name) (listed a) (a .class) (a .grower) unexecuted false
+
 unfoldable pub next : Book → Call → End → Book
-next b (add w a) accepted =
-    record {
-      jobs = b .jobs ++ (record {
-        name = a .name;
-        list = listed a;
-        class = a .class;
-        grower = a .grower;
-        label = unexecuted;
-        failed = false;
-      } ∷ []);
-      held = b .held;
-    }
+next b (add w a) e = ifAccepted e (record { jobs = b .jobs ++ (newEntry a ∷ []); held = b .held }) b
+next b (finish w f) e = ifAccepted e (finishedBy b w (f .failed) (b .held w)) b
 next b (get w) (handed h) =
     record {
       jobs = labelled b (h .job) executing (entry b (h .job) .failed);
       held = update (b .held) w (some (h .job));
     }
-next b (finish w f) accepted = finishedBy b w (f .failed) (b .held w)
-next b (add w a) noneReady = b
-next b (add w a) (handed h) = b
-next b (add w a) (refused n p) = b
 next b (get w) accepted = b
 next b (get w) noneReady = b
 next b (get w) (refused n p) = b
-next b (finish w f) noneReady = b
-next b (finish w f) (handed h) = b
-next b (finish w f) (refused n p) = b
 
 -- a whole call with how it ended
 pub record Ended : Type 0 where

@@ -1,12 +1,12 @@
 -- A sheet that is turned away, and one that is served. Assumes nothing.
 use mathlib.Core.Path.{_≡_, refl, sym, _∙_}
 use mathlib.Core.Bool.{Bool, true, false}
-use mathlib.Core.List.{List, [], map}
+use mathlib.Core.List.{List, [], _∷_, map}
 use Prim.Native.Nat.{ℕ, zero, suc, _<_, _≤_, _%_, _/_}
 use native.Mathlib.Omega.{arith}
 use lib.Dec.{eqb, ltb, leb}
 use lib.ListN.{length}
-use borrow.Author.Tests.{leb-true, ltb-true, ltb-false}
+use borrow.Author.Tests.{leb-true, ltb-true, ltb-false, ne-eqb}
 use Rattle.basics.specs.Base.{pick}
 use Rattle.terms.specs.Terms.{Arguments, mostEntries, wrongSizes}
 use Rattle.terms.specs.declared.Sizes.{Sizes}
@@ -15,10 +15,12 @@ use Rattle.words.specs.Words.{admitted, ownOk}
 use Rattle.sheet_format.specs.Decode.{rowWords}
 use Rattle.sheet_format.specs.Write.{entriesFrom}
 use Rattle.whole_words.specs.Sheet.{sheetOutcome, judgedSheet, sheetWords}
-use Rattle.fused_add_laws.specs.Sheets.{addEachIfIdle, servedIfIdle, whole-sheet}
+use Rattle.whole_stops.specs.StoppedSheet.{rowsStopped}
+use Rattle.fused_add_laws.specs.Sheets.{addEachIfIdle, servedIfIdle, judged-admitted, whole-sheet}
 use Rattle.sheet_rows.specs.Arguments.{argumentsOf}
 use Rattle.sheet_rows.specs.SheetRows.{addsOf, rowsWords, turnedAway, Added}
 use Rattle.sheet_rows.specs.declared.SheetAdded.{SheetAdded}
+use Rattle.sheet_adds.specs.Stops.{stopIfIdle, fused-stop}
 
 -- ---- what is not turned away has few entries
 all-tests : (a b c d e : Bool) → _≡_ {A = ℕ} (pick a (pick b (pick c (pick d (pick e 0 16) 3) 9) 2) 1) 0 → e ≡ true
@@ -53,6 +55,11 @@ pub not-turned : (s : Sizes) (t : Tables) (w : ℕ) (l : List Arguments) (n : �
 unfolding servedIfIdle
 not-turned s t w l n e h = rw (whole-sheet s t w l, ← e, h) refl
 
+none-turned : (s : Sizes) (w : ℕ) (l : List Arguments) (t : Tables) → addEachIfIdle s w l t .number ≡ 0
+unfolding addEachIfIdle
+none-turned s w [] t = refl
+none-turned s w (a ∷ l) t = refl
+
 -- ---- by the rows
 length-entries : (rows : List ℕ) (i n : ℕ) → length (map argumentsOf (entriesFrom rows i n)) ≡ n
 unfolding entriesFrom
@@ -64,22 +71,34 @@ adds-count rows = length-entries rows 0 (length rows / rowWords)
 
 pub no-whole-rows : (s : Sizes) (t : Tables) (w : ℕ) (rows : List ℕ) (r : SheetAdded)
     → eqb (length rows % rowWords) 0 ≡ false → r ≡ turnedAway wrongSizes
-    → Added r t (rowsWords s t w rows)
+    → Added r t (rowsStopped s t w rows) (rowsWords s t w rows)
 unfolding rowsWords
 no-whole-rows s t w rows r e h = rw e (h, refl)
+
+not-zero : (n : ℕ) → ltb 0 n ≡ true → eqb n 0 ≡ false
+not-zero n h = let some = ltb-true 0 n h in ne-eqb n 0 (λ e. omega arith)
 
 pub turned-rows : (s : Sizes) (t : Tables) (w : ℕ) (rows : List ℕ) (n : ℕ) (r : SheetAdded)
     → eqb (length rows % rowWords) 0 ≡ true → n ≡ judgedSheet s t w (length rows / rowWords) → ltb 0 n ≡ true
     → r ≡ turnedAway n
-    → Added r t (rowsWords s t w rows)
+    → Added r t (rowsStopped s t w rows) (rowsWords s t w rows)
 unfolding rowsWords
 turned-rows s t w rows n r e j h k =
-    rw (e, turned s t w (addsOf rows) n (rw (adds-count rows) j) (ltb-true 0 n h)) (k, refl)
+    rw (e, turned s t w (addsOf rows) n (rw (adds-count rows) j) (ltb-true 0 n h), not-zero n h) (k, refl)
 
+-- a sheet that is served has an admitted worker, so its adds in one go are its adds
 pub served-rows : (s : Sizes) (t t' : Tables) (w : ℕ) (rows : List ℕ) (n : ℕ) (r : SheetAdded)
     → eqb (length rows % rowWords) 0 ≡ true → n ≡ judgedSheet s t w (length rows / rowWords) → ltb 0 n ≡ false
-    → Added r t' (addEachIfIdle s w (addsOf rows) t)
-    → Added r t' (rowsWords s t w rows)
+    → Added r t' (stopIfIdle s w 0 (addsOf rows) t) (addEachIfIdle s w (addsOf rows) t)
+    → Added r t' (rowsStopped s t w rows) (rowsWords s t w rows)
 unfolding rowsWords
 served-rows s t t' w rows n r e j h k =
-    rw (e, not-turned s t w (addsOf rows) n (rw (adds-count rows) j) (zero-of n h)) k
+    let A = judged-admitted s t w _ (sym j ∙ zero-of n h) in
+    let none = none-turned s w (addsOf rows) t in
+    rw (
+      e,
+      not-turned s t w (addsOf rows) n (rw (adds-count rows) j) (zero-of n h),
+      none,
+      fused-stop s w 0 (addsOf rows) t A,
+    )
+    (rw none at k)

@@ -5,52 +5,62 @@ use mathlib.Core.List.{List, [], _∷_, map}
 use Prim.Native.Nat.{ℕ, suc, _+_, _-_}
 use native.Mathlib.Omega.{arith}
 use lib.ListN.{set}
+use Rattle.basics.specs.Base.{pick}
 use Rattle.terms.specs.Terms.{Arguments}
 use Rattle.terms.specs.Runs.{Outcome}
 use Rattle.terms.specs.declared.Sizes.{Sizes}
 use Rattle.words.specs.Layout.{Tables}
 use Rattle.sheet_format.specs.Write.{entryAt, entriesFrom}
 use Rattle.whole_words.specs.Sheet.{SheetOutcome}
+use Rattle.whole_stops.specs.Stopped.{stoppedBy}
+use Rattle.whole_stops.specs.StoppedSheet.{firstStop}
 use Rattle.fused_words.specs.FusedAdd.{addIfIdle}
 use Rattle.fused_add_laws.specs.Sheets.{addEachIfIdle}
 use Rattle.sheet_rows.specs.Arguments.{argumentsOf}
 use Rattle.sheet_rows.specs.SheetRows.{numberOf, placeOf, toldFrom, noEntries, Added}
 use Rattle.sheet_rows.specs.declared.SheetAdded.{SheetAdded}
+use Rattle.sheet_adds.specs.Stops.{stopIfIdle, orFirst, first-of, or-none}
 
 -- n rows, from one on
 abbrev pub left : Sizes → ℕ → List ℕ → ℕ → ℕ → Tables → SheetOutcome
 left s w rows row n t = addEachIfIdle s w (map argumentsOf (entriesFrom rows row n)) t
 
--- what is told of these rows, and the tables
+abbrev pub stops : Sizes → ℕ → List ℕ → ℕ → ℕ → Tables → ℕ
+stops s w rows row n t = stopIfIdle s w row (map argumentsOf (entriesFrom rows row n)) t
+
+-- what is told of these rows, with the stop k noted so far, and the tables
 pub record Told : Type 0 where
   pub added : SheetAdded
   pub state : Tables
 
-abbrev pub told : List ℕ → List ℕ → ℕ → SheetOutcome → Told
-told numbers places row o = record { added = toldFrom numbers places row (o .answers); state = o .state }
+abbrev pub told : List ℕ → List ℕ → ℕ → ℕ → SheetOutcome → ℕ → Told
+told numbers places k row o stop =
+    record { added = toldFrom numbers places (orFirst k stop) row (o .answers); state = o .state }
 
 pub row-told : (s : Sizes) (w : ℕ) (rows : List ℕ) (row n m : ℕ) (t : Tables) (o : Outcome Tables)
-    (numbers places : List ℕ)
+    (numbers places : List ℕ) (k : ℕ)
     → m ≡ suc n → o ≡ addIfIdle s t w (argumentsOf (entryAt rows row))
-    → told (set numbers row (numberOf (o .answer))) (set places row (placeOf (o .answer))) (row + 1)
-    (left s w rows (row + 1) n (o .state))
-    ≡ told numbers places row (left s w rows row m t)
-unfolding addEachIfIdle entriesFrom
-row-told s w rows row n m t o numbers places k e =
+    → told (set numbers row (numberOf (o .answer))) (set places row (placeOf (o .answer)))
+    (orFirst k (pick (stoppedBy t w o) (row + 1) 0)) (row + 1)
+    (left s w rows (row + 1) n (o .state)) (stops s w rows (row + 1) n (o .state))
+    ≡ told numbers places k row (left s w rows row m t) (stops s w rows row m t)
+unfolding addEachIfIdle entriesFrom firstStop
+row-told s w rows row n m t o numbers places k z e =
     let one : row + 1 ≡ suc row = omega arith in
-    rw (k, ← e, one) refl
+    rw (z, ← e, one, first-of k row (stops s w rows (suc row) n (o .state)) (stoppedBy t w o)) refl
 
-pub none-left : (s : Sizes) (w : ℕ) (rows : List ℕ) (row n : ℕ) (t : Tables) (numbers places : List ℕ) → n ≡ 0
-    → told numbers places row (left s w rows row n t)
-    ≡ record { added = record { number = 0; numbers = numbers; places = places }; state = t }
-unfolding addEachIfIdle entriesFrom
-none-left s w rows row n t numbers places k = rw k refl
+pub none-left : (s : Sizes) (w : ℕ) (rows : List ℕ) (row n : ℕ) (t : Tables) (numbers places : List ℕ) (k : ℕ) → n ≡ 0
+    → told numbers places k row (left s w rows row n t) (stops s w rows row n t)
+    ≡ record { added = record { number = 0; numbers = numbers; places = places; stopped = k }; state = t }
+unfolding addEachIfIdle entriesFrom firstStop
+none-left s w rows row n t numbers places k z = rw (z, or-none k) refl
 
 pub all-left : (s : Sizes) (w : ℕ) (rows : List ℕ) (n : ℕ) (t : Tables) (numbers places : List ℕ)
-    → told numbers places 0 (left s w rows 0 (n - 0) t) ≡ told numbers places 0 (left s w rows 0 n t)
+    → told numbers places 0 0 (left s w rows 0 (n - 0) t) (stops s w rows 0 (n - 0) t)
+    ≡ told numbers places 0 0 (left s w rows 0 n t) (stops s w rows 0 n t)
 all-left s w rows n t numbers places =
     let all : n - 0 ≡ n = omega arith in
-    ap (λ k. told numbers places 0 (left s w rows 0 k t)) all
+    ap (λ k. told numbers places 0 0 (left s w rows 0 k t) (stops s w rows 0 k t)) all
 
 -- the adds themselves turn no sheet away
 not-turned : (s : Sizes) (w : ℕ) (l : List Arguments) (t : Tables) → addEachIfIdle s w l t .number ≡ 0
@@ -59,7 +69,7 @@ not-turned s w [] t = refl
 not-turned s w (a ∷ l) t = refl
 
 pub added : (s : Sizes) (w : ℕ) (rows : List ℕ) (n : ℕ) (t : Tables) (x : Told)
-    → x ≡ told noEntries noEntries 0 (left s w rows 0 n t)
-    → Added (x .added) (x .state) (left s w rows 0 n t)
+    → x ≡ told noEntries noEntries 0 0 (left s w rows 0 n t) (stops s w rows 0 n t)
+    → Added (x .added) (x .state) (stops s w rows 0 n t) (left s w rows 0 n t)
 added s w rows n t x e =
     rw (e, not-turned s w (map argumentsOf (entriesFrom rows 0 n)) t) (refl, refl)

@@ -1,3 +1,4 @@
 pub mod Copied
+pub mod Stops
 pub mod Left
 pub mod Judged

@@ -1,9 +1,10 @@
 // The entries of a sheet's rows, added one after another by one worker, each whole. Follows docs/RULES.md, "Whole
 // calls". Assumes nothing.
 ghost use mathlib.Core.Path.{_≡_};
-ghost use Prim.Native.Nat.{_+_, _*_, _≤_};
+ghost use Prim.Native.Nat.{_+_, _*_, _≤_, _<_};
 ghost use lib.ListN.{length, take, drop};
 ghost use mathlib.Core.List.{map};
+ghost use Rattle.basics.specs.Base.{pick};
 ghost use Rattle.basics.specs.Limits.{mostNames};
 ghost use Rattle.terms.specs.Terms.{mostEntries};
 ghost use Rattle.terms.specs.Runs.{outcome};
@@ -13,8 +14,12 @@ ghost use Rattle.sheet_format.specs.Write.{entryAt, entriesFrom};
 ghost use Rattle.fused_add_laws.specs.Sheets.{addEachIfIdle};
 ghost use Rattle.sheet_rows.specs.Arguments.{argumentsOf};
 ghost use Rattle.sheet_rows.specs.SheetRows.{Added, rowsWords};
+ghost use Rattle.whole_stops.specs.StoppedSheet.{rowsStopped};
+ghost use Rattle.sheet_adds.specs.Stops.{stopIfIdle, orFirst};
 use fused_add::add_if_idle;
+use graph_words::layout::PHASE;
 use graph_words::numbers::WRONG_SIZES;
+use graph_words::worker_word;
 use sheet_format::Entry;
 use sheet_judge::judge_sheet;
 use sheet_judge::number_of;
@@ -27,6 +32,7 @@ use sheet_limits::NAMES_WORD;
 use sheet_limits::ROW_WORDS;
 use sheet_rows::SheetAdded;
 use terms::Sizes;
+use worker_phase::stopped_as;
 
 // The names of a row, from a word on.
 fn row_names(rows: &[u32], from: usize) -> [u32; 32]
@@ -58,6 +64,19 @@ fn row_entry(rows: &[u32], row: usize) -> Entry
     }
 }
 
+// The row of the first stop, counted from 1: the one noted so far, or this one; 0 is none.
+fn first_stop(noted: u32, stops: bool, row: usize) -> u32
+    requires { ⌜ row < mostEntries ⌝ }
+    ensures { λ r. ⌜ r ≡ orFirst noted (pick stops (row + 1) 0) ⌝ }
+{
+    let first = noted == 0;
+    if first {
+        if stops { (row as u32) + 1 } else { 0 }
+    } else {
+        noted
+    }
+}
+
 // The adds of the first rows, in order, by a worker of which the tests that come first are passed; a refused one does
 // not stop the next.
 fn add_rows(
@@ -73,23 +92,31 @@ fn add_rows(
 ) -> SheetAdded
     requires { ⌜ (count ≤ mostEntries) × (rowWords * count ≤ length (now rows)) ⌝ }
     ensures { λ r. ⌜ Added r (atExit jobs arcs buckets queue workers)
+        (stopIfIdle sizes worker 0 (map argumentsOf (entriesFrom (now (rows .entry)) 0 count))
+        (atEntry jobs arcs buckets queue workers))
         (addEachIfIdle sizes worker (map argumentsOf (entriesFrom (now (rows .entry)) 0 count))
         (atEntry jobs arcs buckets queue workers)) ⌝ }
 {
     let mut numbers: [u32; 64] = [0; 64];
     let mut places: [u32; 64] = [0; 64];
+    let mut stopped: u32 = 0;
     let mut row: usize = 0;
     while row < count {
         let entry = row_entry(rows, row);
+        let before = worker_word(workers, worker, PHASE);
         let answer = add_if_idle(sizes, jobs, arcs, buckets, queue, workers, worker, entry);
-        numbers[row] = number_of(answer);
+        let after = worker_word(workers, worker, PHASE);
+        let number = number_of(answer);
+        numbers[row] = number;
         places[row] = place_of(answer);
+        stopped = first_stop(stopped, stopped_as(number, before, after), row);
         row += 1;
     }
     SheetAdded {
         number: 0,
         numbers,
         places,
+        stopped,
     }
 }
 
@@ -105,6 +132,7 @@ pub fn add_sheet(
     rows: &[u32],
 ) -> SheetAdded
     ensures { λ r. ⌜ Added r (atExit jobs arcs buckets queue workers)
+        (rowsStopped sizes (atEntry jobs arcs buckets queue workers) worker (now (rows .entry)))
         (rowsWords sizes (atEntry jobs arcs buckets queue workers) worker (now (rows .entry))) ⌝ }
 {
     let whole = rows.len() % ROW_WORDS == 0;

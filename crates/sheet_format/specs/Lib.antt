@@ -16,4 +16,10 @@ pub mod SheetPlace
 pub mod WrongPlaces
 pub mod Refusals
 pub mod CodeLaws
+pub mod Reading
+pub mod ReadingLaws
+pub mod SheetReading
+pub mod Writing
+pub mod WritingLaws
+pub mod WrongReaders
 pub mod SheetPromises

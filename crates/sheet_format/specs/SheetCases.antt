@@ -9,7 +9,7 @@ use Rattle.basics.specs.Limits.{mostNames}
 use Rattle.sheet_format.specs.Number.{numberAt}
 use Rattle.sheet_format.specs.Job.{Job}
 use Rattle.sheet_format.specs.Decode.{mapAt, nameAt, limitedAt, listAt, namesAt, decode, Sheet, jobs, broken}
-use Rattle.sheet_format.specs.Decode.{decodeFrom, decodeSheet, cut, wrongMap, offLimits}
+use Rattle.sheet_format.specs.Decode.{decodeFrom, decodeSheet}
 use Rattle.sheet_format.specs.Write.{Fault, faultOf}
 use Rattle.sheet_format.specs.declared.Entry.{Entry}
 
@@ -27,9 +27,9 @@ a-job name list class grower = record { name = name; list = list; class = class;
 -- case 8: "Map byte 02 gives 13; class byte 0 gives 14; a map byte alone of 01 gives 12"
 abbrev pub case-8 : List Case
 case-8 =
-    row (2 ∷ []) (broken wrongMap 0)
-    ∷ row (5 ∷ 1 ∷ 0 ∷ 0 ∷ 0 ∷ 0 ∷ []) (broken offLimits 5)
-    ∷ row (1 ∷ []) (broken cut 1)
+    row (2 ∷ []) (broken 13 0)
+    ∷ row (5 ∷ 1 ∷ 0 ∷ 0 ∷ 0 ∷ 0 ∷ []) (broken 14 5)
+    ∷ row (1 ∷ []) (broken 12 1)
     ∷ []
 
 -- "jobs 1, 2, 3 and 4 needing 1 and 2"; "The empty sheet has no jobs"
@@ -45,13 +45,35 @@ whole-sheets =
 -- before its names are looked for, and a cut is noticed before a wrong value
 abbrev pub rules : List Case
 rules =
-    row (17 ∷ 1 ∷ 0 ∷ 0 ∷ 0 ∷ []) (broken wrongMap 0)
-    ∷ row (3 ∷ 1 ∷ 0 ∷ 0 ∷ 0 ∷ 33 ∷ []) (broken offLimits 5)
-    ∷ row (3 ∷ 1 ∷ 0 ∷ 0 ∷ 0 ∷ 32 ∷ []) (broken cut 5)
+    row (17 ∷ 1 ∷ 0 ∷ 0 ∷ 0 ∷ []) (broken 13 0)
+    ∷ row (3 ∷ 1 ∷ 0 ∷ 0 ∷ 0 ∷ 33 ∷ []) (broken 14 5)
+    ∷ row (3 ∷ 1 ∷ 0 ∷ 0 ∷ 0 ∷ 32 ∷ []) (broken 12 5)
     ∷ row (5 ∷ 1 ∷ 0 ∷ 0 ∷ 0 ∷ 15 ∷ []) (jobs (a-job 1 [] 15 0 ∷ []))
-    ∷ row (5 ∷ 1 ∷ 0 ∷ 0 ∷ 0 ∷ 16 ∷ []) (broken offLimits 5)
+    ∷ row (5 ∷ 1 ∷ 0 ∷ 0 ∷ 0 ∷ 16 ∷ []) (broken 14 5)
     ∷ row (9 ∷ 1 ∷ 0 ∷ 0 ∷ 0 ∷ 1 ∷ 2 ∷ []) (jobs (a-job 1 [] 0 513 ∷ []))
-    ∷ row (9 ∷ 1 ∷ 0 ∷ 0 ∷ 0 ∷ 0 ∷ []) (broken cut 5)
+    ∷ row (9 ∷ 1 ∷ 0 ∷ 0 ∷ 0 ∷ 0 ∷ []) (broken 12 5)
+    ∷ []
+
+-- the fault in the second entry, which starts at byte 5: offsets run from the sheet's start
+abbrev behind-one : List ℕ → ℕ → ℕ → Case
+behind-one bytes number offset = row (1 ∷ 7 ∷ 0 ∷ 0 ∷ 0 ∷ bytes) (broken number offset)
+
+abbrev pub second-entries : List Case
+second-entries =
+    behind-one (14 ∷ 8 ∷ 0 ∷ 0 ∷ 0 ∷ []) 13 5
+    ∷ behind-one (129 ∷ []) 13 5
+    ∷ behind-one (1 ∷ 8 ∷ 0 ∷ 0 ∷ []) 12 6
+    ∷ behind-one (3 ∷ 8 ∷ 0 ∷ 0 ∷ 0 ∷ []) 12 10
+    ∷ behind-one (3 ∷ 8 ∷ 0 ∷ 0 ∷ 0 ∷ 0 ∷ []) 14 10
+    ∷ behind-one (3 ∷ 8 ∷ 0 ∷ 0 ∷ 0 ∷ 33 ∷ []) 14 10
+    ∷ behind-one (3 ∷ 8 ∷ 0 ∷ 0 ∷ 0 ∷ 2 ∷ 1 ∷ 0 ∷ 0 ∷ 0 ∷ 2 ∷ []) 12 10
+    ∷ behind-one (5 ∷ 8 ∷ 0 ∷ 0 ∷ 0 ∷ []) 12 10
+    ∷ behind-one (5 ∷ 8 ∷ 0 ∷ 0 ∷ 0 ∷ 0 ∷ []) 14 10
+    ∷ behind-one (7 ∷ 8 ∷ 0 ∷ 0 ∷ 0 ∷ 1 ∷ 7 ∷ 0 ∷ 0 ∷ 0 ∷ 16 ∷ []) 14 15
+    ∷ behind-one (9 ∷ 8 ∷ 0 ∷ 0 ∷ 0 ∷ 1 ∷ []) 12 10
+    ∷ behind-one (9 ∷ 8 ∷ 0 ∷ 0 ∷ 0 ∷ 0 ∷ 0 ∷ []) 14 10
+    ∷ behind-one (13 ∷ 8 ∷ 0 ∷ 0 ∷ 0 ∷ 9 ∷ 1 ∷ []) 12 11
+    ∷ behind-one (15 ∷ 8 ∷ 0 ∷ 0 ∷ 0 ∷ 1 ∷ 7 ∷ 0 ∷ 0 ∷ 0 ∷ 9 ∷ 0 ∷ 0 ∷ []) 14 16
     ∷ []
 
 -- an entry and its first field off the limits on writing
@@ -85,6 +107,6 @@ Hold rows = map (λ (c : Case). decodeSheet (c .bytes)) rows ≡ map (λ (c : Ca
 abbrev pub FaultsHold : List WriteCase → Type 0
 FaultsHold rows = map (λ (c : WriteCase). faultOf (c .entry)) rows ≡ map (λ (c : WriteCase). c .fault) rows
 
-pub cases-hold : Hold case-8 × Hold whole-sheets × Hold rules × FaultsHold faults
+pub cases-hold : Hold case-8 × Hold whole-sheets × Hold rules × Hold second-entries × FaultsHold faults
 unfolding decodeSheet decodeFrom decode mapAt nameAt limitedAt listAt namesAt numberAt faultOf
-cases-hold = (refl, refl, refl, refl)
+cases-hold = (refl, refl, refl, refl, refl)

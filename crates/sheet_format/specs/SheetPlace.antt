@@ -85,7 +85,7 @@ module _ (rows : List ℕ) where
   -- THE FIRST WRONG ENTRY
 
   -- from row i on: entry k has the fault, and none before it has one
-  record At (i n k place : ℕ) : Type 0 where
+  pub record At (i n k place : ℕ) : Type 0 where
     pub from : i ≤ k
     pub under : k < i + n
     pub fault : faultOf (entryAt rows k) ≡ Fault.at place
@@ -125,7 +125,7 @@ module _ (rows : List ℕ) where
               by-order true q = rw (eqb-true m i q) e
               by-order false q = let other = eqb-false m i q in a .none m (omega arith) high
 
-  at-fault : (i n k place : ℕ) → At i n k place → sheetFault i (entriesFrom rows i n) ≡ SheetFault.at k place
+  pub at-fault : (i n k place : ℕ) → At i n k place → sheetFault i (entriesFrom rows i n) ≡ SheetFault.at k place
   unfolding entriesFrom sheetFault
   at-fault i zero k place a = absurd (omega (arith, a .from, a .under))
   at-fault i (suc n) k place a = by-order (eqb i k) refl (at-fault (i + 1) n k place)

@@ -4,18 +4,21 @@
 -- that the numbers are 32-bit words, and that an entry has 32 names, as every value of the declared types has. Nothing
 -- else is assumed.
 use Prim.Native.Nat.{ℕ, _+_, _*_, _-_, _/_, _%_, _≤_, _<_, _^_}
-use mathlib.Core.Path.{_≡_}
-use mathlib.Core.Logic.{_≢_}
+use mathlib.Core.Path.{_≡_, refl}
+use mathlib.Core.Logic.{_↔_, _≢_}
 use mathlib.Core.List.{List, _++_, map}
 use lib.ListN.{length, take, drop}
 use lib.Seq.{sets}
+use Rattle.basics.specs.Limits.{mostNames, mostClass, mostGrower}
 use Rattle.sheet_format.specs.Number.{spelt}
-use Rattle.sheet_format.specs.Job.{Job, Below, Valid, encode, encodeSheet}
-use Rattle.sheet_format.specs.Decode.{job, decode, Sheet, jobs, decodeSheet, entryOf, readingOf, readSheet}
-use Rattle.sheet_format.specs.Decode.{rowWords, offLimits, noRoom}
-use Rattle.sheet_format.specs.Write.{jobOf, entryAt, entriesOf, written, writeEntry, sheetWritten}
-use Rattle.sheet_format.specs.Write.{cutTable, writeSheet}
-use Rattle.sheet_format.specs.SheetCases.{Hold, FaultsHold, case-8, whole-sheets, rules, faults, cases-hold}
+use Rattle.sheet_format.specs.Job.{Job, Below, Valid, encode, encodeSheet, nameBytes, countBytes, classBytes}
+use Rattle.sheet_format.specs.Job.{growerBytes}
+use Rattle.sheet_format.specs.Decode.{Decoded, job, refused, decode, Sheet, jobs, decodeSheet, entryOf, readingOf}
+use Rattle.sheet_format.specs.Decode.{scanSheet, SheetRows, readSheet, rowWords, cut, wrongMap, offLimits, noRoom}
+use Rattle.sheet_format.specs.Write.{jobOf, entryAt, entriesOf, Written, written, writeEntry, SheetWritten}
+use Rattle.sheet_format.specs.Write.{sheetWritten, cutTable, writeSheet}
+use Rattle.sheet_format.specs.SheetCases.{Hold, FaultsHold, case-8, whole-sheets, rules, second-entries, faults}
+use Rattle.sheet_format.specs.SheetCases.{cases-hold}
 use Rattle.sheet_format.specs.NumberLaws.{Bytes, NumberRead, NumberSpelt, number-there, number-back}
 use Rattle.sheet_format.specs.EntryTrip.{entry-there, entry-back}
 use Rattle.sheet_format.specs.SheetTrip.{Each, sheet-there, sheet-back, one-spelling}
@@ -28,11 +31,125 @@ use Rattle.sheet_format.specs.PlaceLaws.{place-refused, within-written, 
 use Rattle.sheet_format.specs.SheetPlace.{sheetSoFar, sheetBytes, FirstWrong, entry-stands-there, refused-first}
 use Rattle.sheet_format.specs.SheetPlace.{first-refused, cut-refused, sheet-fits, sheet-no-room}
 use Rattle.sheet_format.specs.Refusals.{entry-refused, sheet-refused, rows-refused}
+use Rattle.sheet_format.specs.Reading.{spelling, Fits, ReadsExactly, HandsOutExactly, SheetReadsExactly}
+use Rattle.sheet_format.specs.Reading.{ScansExactly, RowsReadExactly}
+use Rattle.sheet_format.specs.ReadingLaws.{spelt-by-numerals, fits-valid, valid-fits, reads-exactly, one-reader}
+use Rattle.sheet_format.specs.ReadingLaws.{fault-bounds, hands-out-exactly, one-hand, reads-no-further}
+use Rattle.sheet_format.specs.SheetReading.{sheet-reads-exactly, one-sheet-reader, scans-exactly, one-scanner}
+use Rattle.sheet_format.specs.SheetReading.{rows-exactly, one-row-reader}
+use Rattle.sheet_format.specs.Writing.{WritesExactly, WritesSheetExactly}
+use Rattle.sheet_format.specs.WritingLaws.{writes-exactly, one-writer, writes-sheet-exactly, one-sheet-writer}
 use Rattle.sheet_format.specs.declared.Entry.{Entry}
 use Rattle.sheet_format.specs.declared.Read.{Read}
+use Rattle.sheet_format.specs.declared.Reading.{Reading}
 use Rattle.sheet_format.specs.declared.Wrote.{Wrote}
 use Rattle.sheet_format.specs.declared.SheetRead.{SheetRead}
 use Rattle.sheet_format.specs.declared.SheetWrote.{SheetWrote}
+
+-- WHAT THE BYTES MEAN: said of any reader and writer by bytes, bits, places and numbers (Reading.antt, Writing.antt).
+-- Each is met by the definition that the code's contracts cite, and by no other.
+
+-- An entry is its job, the end of the sheet, or its first fault by 12, 13 or 14 with the field's offset from the
+-- sheet's start; each exactly where it is so.
+pub an-entry-is-read-exactly : (s : List ℕ) → Bytes s → (at : ℕ) → ReadsExactly decode s at
+an-entry-is-read-exactly = reads-exactly
+
+pub one-reader-reads-exactly : (read : List ℕ → ℕ → Decoded)
+    → ((s : List ℕ) (at : ℕ) → Bytes s → ReadsExactly read s at)
+    → (s : List ℕ) (at : ℕ) → Bytes s → read s at ≡ decode s at
+one-reader-reads-exactly read exact s at all =
+    one-reader read decode s at (exact s at all) (reads-exactly s all at)
+
+-- The number of a refusal is 12, 13 or 14, and its offset lies in the sheet, at the entry's start or behind it.
+pub a-refusal-is-12-to-14 : (s : List ℕ) → Bytes s → (at number offset : ℕ) → decode s at ≡ refused number offset
+    → (12 ≤ number) × (number ≤ 14) × (at ≤ offset) × (offset ≤ length s)
+a-refusal-is-12-to-14 s all at number offset h =
+    fault-bounds s at number offset (reads-exactly s all at .faulty number offset .0 h)
+
+-- What is handed out with it: the job's words with zeros past the count, and 36 zeros beside a refusal or the end.
+pub an-entry-is-handed-out-exactly : (s : List ℕ) (at : ℕ) → HandsOutExactly (λ t i. readingOf (decode t i)) s at
+an-entry-is-handed-out-exactly = hands-out-exactly
+
+pub one-reader-hands-out-exactly : (read : List ℕ → ℕ → Reading)
+    → ((s : List ℕ) (at : ℕ) → Bytes s → HandsOutExactly read s at)
+    → (s : List ℕ) (at : ℕ) → Bytes s → read s at ≡ readingOf (decode s at)
+one-reader-hands-out-exactly read exact s at all =
+    one-hand read _ s all at (exact s at all) (hands-out-exactly s at)
+
+-- A job that was read is read so whatever follows its last byte.
+pub no-byte-past-an-entry-is-read : (s rest : List ℕ) (at : ℕ) (j : Job) (n : ℕ) → Bytes s → decode s at ≡ job j n
+    → decode (take n s ++ rest) at ≡ job j n
+no-byte-past-an-entry-is-read = reads-no-further
+
+-- A sheet has the jobs that are spelt from its start to its end with nothing between, or is broken by its first fault,
+-- whose offset runs from the sheet's start in every entry.
+pub a-sheet-is-read-exactly : (s : List ℕ) → Bytes s → SheetReadsExactly decodeSheet s
+a-sheet-is-read-exactly = sheet-reads-exactly
+
+pub one-reader-reads-sheets-exactly : (read : List ℕ → Sheet) → ((s : List ℕ) → Bytes s → SheetReadsExactly read s)
+    → (s : List ℕ) → Bytes s → read s ≡ decodeSheet s
+one-reader-reads-sheets-exactly read exact s all =
+    one-sheet-reader read decodeSheet s (exact s all) (sheet-reads-exactly s all)
+
+-- Its entries are counted, or it is refused so.
+pub a-sheet-is-scanned-exactly : (s : List ℕ) → ScansExactly (λ t. scanSheet (decodeSheet t)) s
+a-sheet-is-scanned-exactly = scans-exactly
+
+pub one-scanner-scans-exactly : (scan : List ℕ → SheetRead) → ((s : List ℕ) → Bytes s → ScansExactly scan s)
+    → (s : List ℕ) → Bytes s → scan s ≡ scanSheet (decodeSheet s)
+one-scanner-scans-exactly scan exact s all = one-scanner scan _ s all (exact s all) (scans-exactly s)
+
+-- Read into lent rows: its own refusal first, then 15 with no offset where the rows have fewer than 36 words an entry,
+-- and neither changes a word; else the entries stand in the front, and every word behind them is as it was.
+pub rows-are-read-exactly : (s lent : List ℕ) → RowsReadExactly (λ t rows. readSheet (decodeSheet t) rows) s lent
+rows-are-read-exactly = rows-exactly
+
+pub one-reader-reads-rows-exactly : (read : List ℕ → List ℕ → SheetRows)
+    → ((s lent : List ℕ) → Bytes s → RowsReadExactly read s lent)
+    → (s lent : List ℕ) → Bytes s → read s lent ≡ readSheet (decodeSheet s) lent
+one-reader-reads-rows-exactly read exact s lent all =
+    one-row-reader read _ s lent all (exact s lent all) (rows-exactly s lent)
+
+-- Writing an entry: 14 with the place of its first wrong field from the entry's start, then 15 with no offset, and
+-- neither changes a byte; else its bytes stand there, and those before and behind are as they were.
+pub an-entry-is-written-exactly : (e : Entry) (out : List ℕ) (at : ℕ) → WritesExactly writeEntry e out at
+an-entry-is-written-exactly = writes-exactly
+
+pub one-writer-writes-exactly : (write : Entry → List ℕ → ℕ → Written)
+    → ((e : Entry) (out : List ℕ) (at : ℕ) → WritesExactly write e out at)
+    → (e : Entry) (out : List ℕ) (at : ℕ) → write e out at ≡ writeEntry e out at
+one-writer-writes-exactly write exact e out at =
+    one-writer write writeEntry e out at (exact e out at) (writes-exactly e out at)
+
+-- Writing rows: 1 for words that are no whole rows of 36, then 14 with the number of the first wrong entry and the
+-- place in it, then 15 with neither, and none of them changes a byte; else the entries' bytes stand in the front.
+pub a-sheet-is-written-exactly : (rows out : List ℕ) → WritesSheetExactly writeSheet rows out
+a-sheet-is-written-exactly = writes-sheet-exactly
+
+pub one-writer-writes-sheets-exactly : (write : List ℕ → List ℕ → SheetWritten)
+    → ((rows out : List ℕ) → WritesSheetExactly write rows out)
+    → (rows out : List ℕ) → write rows out ≡ writeSheet rows out
+one-writer-writes-sheets-exactly write exact rows out =
+    one-sheet-writer write writeSheet rows out (exact rows out) (writes-sheet-exactly rows out)
+
+-- The jobs and the spelling that the statements below speak of are those of the numerals.
+pub a-valid-job-is-one-that-fits : (j : Job) → Valid j ↔ Fits j
+a-valid-job-is-one-that-fits j = (valid-fits j, fits-valid j)
+
+pub a-job-is-spelt-by-numerals : (j : Job) → Fits j → encode j ≡ spelling j
+a-job-is-spelt-by-numerals = spelt-by-numerals
+
+-- The refusals, the words of a row, the limits and the bytes of the fields that they name.
+pub the-numbers-are : (cut ≡ 12) × (wrongMap ≡ 13) × (offLimits ≡ 14) × (noRoom ≡ 15) × (cutTable ≡ 1)
+    × (rowWords ≡ 36)
+    × (mostNames ≡ 32)
+    × (mostClass ≡ 15)
+    × (mostGrower ≡ 65535)
+    × (nameBytes ≡ 4)
+    × (countBytes ≡ 1)
+    × (classBytes ≡ 1)
+    × (growerBytes ≡ 2)
+the-numbers-are = (refl, refl, refl, refl, refl, refl, refl, refl, refl, refl, refl, refl, refl)
 
 -- A NUMBER, at every width w
 
@@ -220,6 +337,7 @@ a-refused-reading-changes-nothing = rows-refused
 
 -- CASES
 
--- docs/RULES.md's case 8, its sheet of 29 bytes, and rows for its rules of reading and writing are as it says.
-pub the-cases-hold : Hold case-8 × Hold whole-sheets × Hold rules × FaultsHold faults
+-- docs/RULES.md's case 8, its sheet of 29 bytes, and rows for its rules of reading, with the fault in the first entry
+-- and in the second, and of writing, are as it says.
+pub the-cases-hold : Hold case-8 × Hold whole-sheets × Hold rules × Hold second-entries × FaultsHold faults
 the-cases-hold = cases-hold

@@ -103,5 +103,6 @@ pub fn turned_away(number: u32) -> SheetAdded
         number,
         numbers: [0; 64],
         places: [0; 64],
+        stopped: 0,
     }
 }

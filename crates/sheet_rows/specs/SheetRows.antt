@@ -8,9 +8,9 @@ use lib.ListN.{length, replicate}
 use lib.Seq.{sets}
 use Rattle.basics.specs.Base.{pick}
 use Rattle.terms.specs.Terms.{Arguments, mostEntries, wrongSizes}
+use Rattle.terms.specs.Cases.{ifRefused}
 use Rattle.terms.specs.declared.Sizes.{Sizes}
 use Rattle.terms.specs.declared.Answer.{Answer}
-use Rattle.terms.specs.declared.Answer.the-variants.{Laid, Loaded, Posted, Going, Ended, NoneReady, Handed, Refused}
 use Rattle.words.specs.Layout.{Tables}
 use Rattle.sheet_format.specs.Decode.{rowWords}
 use Rattle.sheet_format.specs.Write.{entriesOf}
@@ -29,46 +29,39 @@ rowsWords s t w rows =
 
 -- an add that is run whole ends, or is refused by a number, of which 6 has a place
 abbrev pub numberOf : Answer → ℕ
-numberOf (Refused n i) = n
-numberOf Laid = 0
-numberOf Loaded = 0
-numberOf Posted = 0
-numberOf Going = 0
-numberOf Ended = 0
-numberOf NoneReady = 0
-numberOf (Handed h) = 0
+numberOf x = ifRefused x (λ n i. n) 0
 
 abbrev pub placeOf : Answer → ℕ
-placeOf (Refused n i) = i
-placeOf Laid = 0
-placeOf Loaded = 0
-placeOf Posted = 0
-placeOf Going = 0
-placeOf Ended = 0
-placeOf NoneReady = 0
-placeOf (Handed h) = 0
+placeOf x = ifRefused x (λ n i. i) 0
 
--- the numbers and the places of the entries from i on, stored in their row
-abbrev pub toldFrom : List ℕ → List ℕ → ℕ → List Answer → SheetAdded
-toldFrom numbers places i xs =
-    record { number = 0; numbers = sets numbers i (map numberOf xs); places = sets places i (map placeOf xs) }
+-- the numbers and the places of the entries from i on, stored in their row, and which entry damage stopped half done
+abbrev pub toldFrom : List ℕ → List ℕ → ℕ → ℕ → List Answer → SheetAdded
+toldFrom numbers places stopped i xs =
+    record {
+      number = 0;
+      numbers = sets numbers i (map numberOf xs);
+      places = sets places i (map placeOf xs);
+      stopped = stopped;
+    }
 
 abbrev pub noEntries : List ℕ
 noEntries = replicate mostEntries 0
 
--- "each entry's number and place"
-abbrev pub sheetAdded : SheetOutcome → SheetAdded
-sheetAdded o =
+-- "each entry's number and place", and which entry damage stopped half done: 1 more than its number, or 0
+abbrev pub sheetAdded : ℕ → SheetOutcome → SheetAdded
+sheetAdded stopped o =
     record {
       number = o .number;
       numbers = sets noEntries 0 (map numberOf (o .answers));
       places = sets noEntries 0 (map placeOf (o .answers));
+      stopped = stopped;
     }
 
 -- a sheet that was turned away
 abbrev pub turnedAway : ℕ → SheetAdded
-turnedAway n = record { number = n; numbers = noEntries; places = noEntries }
+turnedAway n = record { number = n; numbers = noEntries; places = noEntries; stopped = 0 }
 
--- a sheet answers so and leaves these tables: those of a definition's outcome, as C has them
-abbrev pub Added : SheetAdded → Tables → SheetOutcome → Type 0
-Added r t o = (r ≡ sheetAdded o) × (t ≡ o .state)
+-- a sheet answers so and leaves these tables: those of a definition's outcome, as C has them, with the entry that
+-- damage stopped half done
+abbrev pub Added : SheetAdded → Tables → ℕ → SheetOutcome → Type 0
+Added r t stopped o = (r ≡ sheetAdded stopped o) × (t ≡ o .state)

@@ -30,7 +30,7 @@ use Rattle.rules_follow_model.specs.Paced.{paced, read}
 use Rattle.rules_follow_model.specs.Booked.{booked}
 use Rattle.audit.specs.Deeds.{deeds}
 use Rattle.audit.specs.Marks.{entered-is}
-use Rattle.state_history.specs.Told.{handedBy, handedAfter, handedRead}
+use Rattle.linearization.specs.Holds.{handedBy, handedAfter, handedRead}
 use Rattle.state_history.specs.Hold.{held-follows}
 
 -- a call more at the end

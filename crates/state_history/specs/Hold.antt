@@ -12,7 +12,7 @@ use Rattle.terms.specs.declared.Sizes.{Sizes}
 use Rattle.terms.specs.declared.HandOut.{HandOut}
 use Rattle.sequential_model.specs.Book.{Book, Call, add, get, finish, End, accepted, noneReady, handed, refused, Ended}
 use Rattle.sequential_model.specs.Book.{Ends, finishEnd, finishedBy, next, Follows, done, feed}
-use Rattle.state_history.specs.Told.{handedBy, handedAfter, jobOf}
+use Rattle.linearization.specs.Holds.{handedBy, handedAfter, jobOf}
 
 -- the job of a choice
 job-of : (b : Bool) (x y : Option HandOut) → pick b (jobOf x) (jobOf y) ≡ jobOf (pick b x y)

@@ -48,7 +48,8 @@ use Rattle.words_history.specs.Lifted as lifted
 use Rattle.worker_state.specs.Held.{callOf, addsAt, holdingOf, counted, heldWords, holdingJob, holdingNone, refused}
 use Rattle.worker_state.specs.Drained.{every, queueOk, wordsOk, free, isDrained, drainedWords}
 use Rattle.worker_state.specs.declared.Holding.{Holding}
-use Rattle.state_history.specs.Told.{handedRead, jobOf, heldRead, callRead, addsRead, holdingRead}
+use Rattle.linearization.specs.Holds.{handedRead, jobOf, heldRead}
+use Rattle.state_history.specs.Told.{callRead, addsRead, holdingRead}
 use Rattle.state_history.specs.Told.{turnedAway}
 use Rattle.state_history.specs.Told as Told
 use Rattle.state_history.specs.Hold.{held-follows}

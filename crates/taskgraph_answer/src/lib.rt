@@ -1,7 +1,9 @@
 // What a call or a step of the graph answers, as C has it: a struct by value. include/taskgraph.h declares it. Follows
 // docs/RULES.md, "Steps" and "Turned-away calls". Assumes nothing.
 ghost use mathlib.Core.Path.{_≡_};
+ghost use Rattle.basics.specs.Base.{pick};
 ghost use Rattle.taskgraph_answer.specs.Answers.{plain, graphAnswer};
+ghost use Rattle.taskgraph_answer.specs.WholeAnswers.{stoppedAnswer};
 use terms::Answer;
 use terms::bit;
 
@@ -22,8 +24,14 @@ const HANDED_OUT: u32 = 6;
 
 const LOADED: u32 = 7;
 
+const STOPPED: u32 = 8;
+
+// Number 9.
+const DAMAGED: u32 = 9;
+
 // What a call or a step answers. A refusal has its number, 6 also the place in the list; a job handed out has its place
-// and its name, and 1 where it is spoiled. What does not belong to a kind is 0.
+// and its name, and 1 where it is spoiled. A whole call that damage stopped half done has number 9. What does not
+// belong to a kind is 0.
 #[repr(C)]
 pub struct GraphAnswer {
     pub kind: u32,
@@ -75,5 +83,23 @@ pub fn answered(answer: Answer) -> GraphAnswer
             name: 0,
             spoiled: 0,
         },
+    }
+}
+
+// An answer of an add or a finish run whole, or that damage stopped the call half done.
+pub fn whole_answered(answer: GraphAnswer, stopped: bool) -> GraphAnswer
+    ensures { λ r. ⌜ r ≡ pick stopped stoppedAnswer answer ⌝ }
+{
+    if stopped {
+        GraphAnswer {
+            kind: STOPPED,
+            number: DAMAGED,
+            place: 0,
+            job: 0,
+            name: 0,
+            spoiled: 0,
+        }
+    } else {
+        answer
     }
 }

@@ -8,7 +8,7 @@ use taskgraph_answer::GraphAnswer;
 use taskgraph_answer::answered;
 use terms::Sizes;
 
-// Hands the worker the job at the head of the queue.
+// Hands the worker the waiting job with the most minutes, equal minutes by earlier entry into the queue.
 #[no_mangle]
 pub extern "C" fn tg_get(
     sizes: Sizes,

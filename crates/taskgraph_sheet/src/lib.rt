@@ -4,6 +4,7 @@
 // that many elements.
 ghost use Rattle.words.specs.Layout.{atEntry, atExit};
 ghost use Rattle.sheet_rows.specs.SheetRows.{Added, rowsWords};
+ghost use Rattle.whole_stops.specs.StoppedSheet.{rowsStopped};
 use sheet_adds::add_sheet;
 use sheet_rows::SheetAdded;
 use terms::Sizes;
@@ -21,6 +22,7 @@ pub extern "C" fn tg_add_sheet(
     rows: &[u32],
 ) -> SheetAdded
     ensures { λ r. ⌜ Added r (atExit jobs arcs buckets queue workers)
+        (rowsStopped sizes (atEntry jobs arcs buckets queue workers) worker (now (rows .entry)))
         (rowsWords sizes (atEntry jobs arcs buckets queue workers) worker (now (rows .entry))) ⌝ }
 {
     add_sheet(sizes, jobs, arcs, buckets, queue, workers, worker, rows)

@@ -6,14 +6,18 @@ ghost use lib.Dec.{eqb};
 ghost use Rattle.terms.specs.Terms.{finishOf};
 ghost use Rattle.words.specs.Layout.{atEntry, atExit};
 ghost use Rattle.whole_words.specs.Whole.{wholeAdd, wholeFinish};
-ghost use Rattle.taskgraph_answer.specs.Answers.{Gives};
+ghost use Rattle.taskgraph_answer.specs.WholeAnswers.{GivesWhole};
 ghost use Rattle.sheet_rows.specs.Arguments.{argumentsOf};
 use sheet_format::Entry;
 use taskgraph_answer::GraphAnswer;
 use taskgraph_answer::answered;
+use taskgraph_answer::whole_answered;
 use terms::Sizes;
+use whole_add::add_whole;
+use worker_phase::phase_of;
+use worker_phase::stopped_as;
 
-// Adds the entry's job.
+// Adds the entry's job. The phase of the worker, read before and after, tells an add that damage stopped half done.
 #[no_mangle]
 pub extern "C" fn tg_add(
     sizes: Sizes,
@@ -25,13 +29,19 @@ pub extern "C" fn tg_add(
     worker: u32,
     entry: Entry,
 ) -> GraphAnswer
-    ensures { λ r. ⌜ Gives r (atExit jobs arcs buckets queue workers)
+    ensures { λ r. ⌜ GivesWhole r (atExit jobs arcs buckets queue workers)
+        (atEntry jobs arcs buckets queue workers) worker
         (wholeAdd sizes (atEntry jobs arcs buckets queue workers) worker (argumentsOf entry)) ⌝ }
 {
-    answered(whole_add::add_whole(sizes, jobs, arcs, buckets, queue, workers, worker, entry))
+    let before = phase_of(workers, sizes.workers, worker);
+    let made = add_whole(sizes, jobs, arcs, buckets, queue, workers, worker, entry);
+    let answer = answered(made);
+    let after = phase_of(workers, sizes.workers, worker);
+    whole_answered(answer, stopped_as(answer.number, before, after))
 }
 
-// Finishes the held job of a name with its outcome, 0 for good and any other number for failed.
+// Finishes the held job of a name with its outcome, 0 for good and any other number for failed. The phase of the worker
+// tells a finish that damage stopped half done.
 #[no_mangle]
 pub extern "C" fn tg_finish(
     sizes: Sizes,
@@ -44,11 +54,13 @@ pub extern "C" fn tg_finish(
     name: u32,
     outcome: u32,
 ) -> GraphAnswer
-    ensures { λ r. ⌜ Gives r (atExit jobs arcs buckets queue workers)
+    ensures { λ r. ⌜ GivesWhole r (atExit jobs arcs buckets queue workers)
+        (atEntry jobs arcs buckets queue workers) worker
         (wholeFinish sizes (atEntry jobs arcs buckets queue workers) worker
         (finishOf name (not (eqb outcome 0)))) ⌝ }
 {
-    answered(whole_finish::finish_whole(
+    let before = phase_of(workers, sizes.workers, worker);
+    let answer = answered(whole_finish::finish_whole(
         sizes,
         jobs,
         arcs,
@@ -58,5 +70,8 @@ pub extern "C" fn tg_finish(
         worker,
         name,
         outcome != 0,
-    ))
+    ));
+    let after = phase_of(workers, sizes.workers, worker);
+    let stopped = stopped_as(answer.number, before, after);
+    whole_answered(answer, stopped)
 }

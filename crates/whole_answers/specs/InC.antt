@@ -22,21 +22,17 @@ use Rattle.sheet_format.specs.Decode.{rowWords}
 use Rattle.whole_words.specs.Whole.{wholeAdd}
 use Rattle.whole_words.specs.Sheet.{SheetOutcome, sheetOutcome, sheetWords}
 use Rattle.sheet_rows.specs.SheetRows.{addsOf, rowsWords, numberOf, placeOf, sheetAdded}
+use Rattle.sheet_rows.specs.declared.SheetAdded.{SheetAdded}
+use Rattle.whole_stops.specs.StoppedSheet.{rowsStopped, rowsAdded}
 use Rattle.taskgraph_answer.specs.Answers.{graphAnswer}
+use Rattle.taskgraph_answer.specs.WholeAnswers.{number-told}
 use Rattle.whole_answers.specs.Numbers.{add-accepted}
 use Rattle.whole_answers.specs.SheetAdds.{afterAdds}
 use Rattle.whole_answers.specs.Sheets.{sheet-turned-away, sheet-fits, sheet-count, sheet-answer}
 
 -- ---- one answer: the sheet's number and place are those of an add's answer in C
 number-in-c : (x : Answer) → numberOf x ≡ graphAnswer x .number
-number-in-c Laid = refl
-number-in-c Loaded = refl
-number-in-c Posted = refl
-number-in-c Going = refl
-number-in-c Ended = refl
-number-in-c NoneReady = refl
-number-in-c (Handed h) = refl
-number-in-c (Refused n i) = refl
+number-in-c x = sym (number-told x)
 
 place-in-c : (x : Answer) → placeOf x ≡ graphAnswer x .place
 place-in-c Laid = refl
@@ -58,7 +54,7 @@ zero-at n i = elim (decLt i n) [
   | no h ↦ List·getD-eq-default (zeros n) 0 {n = i} (omega (arith, length-replicate {A = ℕ} n 0))
 ]
 
-stored-at : (n : ℕ) (xs : List ℕ) (i : ℕ) → length xs ≤ n → getD (sets (zeros n) 0 xs) i 0 ≡ getD xs i 0
+pub stored-at : (n : ℕ) (xs : List ℕ) (i : ℕ) → length xs ≤ n → getD (sets (zeros n) 0 xs) i 0 ≡ getD xs i 0
 stored-at n xs i h = elim (decLt i (length xs)) [
   | yes z ↦
       rw (sets-eq xs (zeros n) 0 (omega (arith, length-replicate {A = ℕ} n 0)))
@@ -69,12 +65,13 @@ stored-at n xs i h = elim (decLt i (length xs)) [
 ]
 
 -- ---- entry i of a sheet: its answer's number and place, as C has an answer; past the entries 0 and 0
-pub record EntryTold (o : SheetOutcome) (i : ℕ) (x : Answer) : Type 0 where
-  pub number : getD (sheetAdded o .numbers) i 0 ≡ graphAnswer x .number
-  pub place : getD (sheetAdded o .places) i 0 ≡ graphAnswer x .place
+pub record EntryTold (r : SheetAdded) (i : ℕ) (x : Answer) : Type 0 where
+  pub number : getD (r .numbers) i 0 ≡ graphAnswer x .number
+  pub place : getD (r .places) i 0 ≡ graphAnswer x .place
 
-told : (o : SheetOutcome) → length (o .answers) ≤ mostEntries → (i : ℕ) → EntryTold o i (getD (o .answers) i Laid)
-told o h i = record {
+told : (k : ℕ) (o : SheetOutcome) → length (o .answers) ≤ mostEntries → (i : ℕ)
+    → EntryTold (sheetAdded k o) i (getD (o .answers) i Laid)
+told k o h i = record {
   number =
       stored-at mostEntries (map numberOf (o .answers)) i (rw (length-map (o .answers) numberOf) h)
       ∙ List·getD-map numberOf (o .answers) i Laid
@@ -116,31 +113,31 @@ module _ (s : Sizes) (t : Tables) (w : ℕ) (rows : List ℕ) where
       pick-by (λ (o : SheetOutcome). length (o .answers) ≤ mostEntries) (eqb (length rows % rowWords) 0)
       (λ _. few s t w (addsOf rows)) (λ _. omega arith)
 
-  pub rows-told : (i : ℕ) → EntryTold (rowsWords s t w rows) i (getD (rowsWords s t w rows .answers) i Laid)
-  rows-told i = told (rowsWords s t w rows) few-rows i
+  pub rows-told : (i : ℕ) → EntryTold (rowsAdded s t w rows) i (getD (rowsWords s t w rows .answers) i Laid)
+  rows-told i = told (rowsStopped s t w rows) (rowsWords s t w rows) few-rows i
 
   -- past the entries: 0 and 0
   pub rows-past : (i : ℕ) → length (rowsWords s t w rows .answers) ≤ i
-      → (getD (sheetAdded (rowsWords s t w rows) .numbers) i 0 ≡ 0)
-      × (getD (sheetAdded (rowsWords s t w rows) .places) i 0 ≡ 0)
+      → (getD (rowsAdded s t w rows .numbers) i 0 ≡ 0)
+      × (getD (rowsAdded s t w rows .places) i 0 ≡ 0)
   rows-past i h =
       let d = List·getD-eq-default (rowsWords s t w rows .answers) Laid {n = i} h in
-      let e = subst (EntryTold (rowsWords s t w rows) i) d (rows-told i) in
+      let e = subst (EntryTold (rowsAdded s t w rows) i) d (rows-told i) in
       (e .number, e .place)
 
   -- an entry that was served: what the add run whole, after those before it, answers in C
   pub rows-as-adds : rowsWords s t w rows .number ≡ 0 → (i : ℕ) → i < length (addsOf rows)
-      → EntryTold (rowsWords s t w rows) i
+      → EntryTold (rowsAdded s t w rows) i
       (wholeAdd s (afterAdds s w (take i (addsOf rows)) t) w (getD (addsOf rows) i noArguments) .answer)
   rows-as-adds z i h =
       let q = rows-served z .1 in
       let a = sheet-answer s t w (addsOf rows) (rw q at z) i h in
-      subst (EntryTold (rowsWords s t w rows) i) (ap (λ (o : SheetOutcome). getD (o .answers) i Laid) q ∙ a)
+      subst (EntryTold (rowsAdded s t w rows) i) (ap (λ (o : SheetOutcome). getD (o .answers) i Laid) q ∙ a)
       (rows-told i)
 
   -- "0 and 0 where it was accepted": an entry's number is 0 just if its add ended
   pub rows-accepted : rowsWords s t w rows .number ≡ 0 → (i : ℕ) → i < length (addsOf rows)
-      → (getD (sheetAdded (rowsWords s t w rows) .numbers) i 0 ≡ 0)
+      → (getD (rowsAdded s t w rows .numbers) i 0 ≡ 0)
       ↔ (wholeAdd s (afterAdds s w (take i (addsOf rows)) t) w (getD (addsOf rows) i noArguments) .answer ≡ Ended)
   rows-accepted z i h =
       let u = afterAdds s w (take i (addsOf rows)) t in

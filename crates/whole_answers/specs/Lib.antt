@@ -3,9 +3,15 @@ pub mod AddEnds
 pub mod FinishEnds
 pub mod Numbers
 pub mod Left
+pub mod Stopped
 pub mod SheetAdds
 pub mod Sheets
 pub mod InC
+pub mod StoppedSheet
+pub mod SheetHeard
+pub mod WrongStops
+pub mod Heard
+pub mod WrongHeard
 pub mod Requests
 pub mod ReadRows
 pub mod Within

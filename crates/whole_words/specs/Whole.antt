@@ -2,22 +2,16 @@
 use Prim.Native.Nat.{ℕ, zero, suc, _+_, _*_}
 use Rattle.terms.specs.Terms.{Arguments, Finish}
 use Rattle.terms.specs.Runs.{Outcome, outcome}
+use Rattle.terms.specs.Cases.{ifPosted, ifGoing}
 use Rattle.terms.specs.declared.Sizes.{Sizes}
 use Rattle.terms.specs.declared.Answer.{Answer}
-use Rattle.terms.specs.declared.Answer.the-variants.{Laid, Loaded, Posted, Going, Ended, NoneReady, Handed, Refused}
+use Rattle.terms.specs.declared.Answer.the-variants.{Going}
 use Rattle.words.specs.Layout.{Tables}
 use Rattle.words.specs.Words.{stepWords, addWords, finishWords}
 
 -- where a step or a post goes on, what follows; otherwise how it ended
 abbrev pub andThen : Answer → Tables → (Tables → Outcome Tables) → Outcome Tables
-andThen Going t next = next t
-andThen Posted t next = next t
-andThen Laid t next = outcome Laid t
-andThen Loaded t next = outcome Loaded t
-andThen Ended t next = outcome Ended t
-andThen NoneReady t next = outcome NoneReady t
-andThen (Handed h) t next = outcome (Handed h) t
-andThen (Refused n i) t next = outcome (Refused n i) t
+andThen x t next = ifPosted x (next t) (ifGoing x (next t) (outcome x t))
 
 -- at most k steps of worker w
 unfoldable pub stepsOf : ℕ → Sizes → ℕ → Tables → Outcome Tables

@@ -1,11 +1,12 @@
 -- The index beside the queue ("Tables and their measures"): a heap of the places of the jobs that wait, the first to be
 -- handed out in slot 0. Where a place comes to rest in it, for ALL tables, and what is stored. Assumes nothing.
 use mathlib.Core.Bool.{Bool, _&&_}
-use mathlib.Core.List.{List}
+use mathlib.Core.List.{List, []}
 use Prim.Native.Nat.{ℕ, zero, suc, _+_, _*_, _-_}
 use lib.Dec.{ltb, leb, eqb}
 use Rattle.basics.specs.Limits.{mostClass}
 use Rattle.basics.specs.Base.{pick}
+use Rattle.heap.specs.Compared.{pairsDown}
 use Rattle.heap.specs.Sift.{above, siftUp, siftDown}
 use Rattle.heap.specs.declared.Sifted.{Sifted}
 use Rattle.heap.specs.declared.Sifted.the-variants.{Rests, Astray}
@@ -83,6 +84,13 @@ firstSeatBy by v =
 
 abbrev pub firstSeat : View → Seating
 firstSeat v = firstSeatBy (rankOf v) v
+
+-- the pairs of places that are compared to find it: the place in the last slot moves down from the first
+abbrev pub comparedPlaces : View → List (ℕ × ℕ)
+comparedPlaces v =
+    pick (waits v 0 && waits v (lastSlot v))
+    (pairsDown (rankOf v) (waits v) (placeIn v) levels (lastSlot v) (lastPlace v) 0)
+    []
 
 -- ---- what is stored
 abbrev pub slotIn : List ℕ → ℕ → ℕ

@@ -1,16 +1,16 @@
--- The words tell what docs/RULES.md's rows say ("Checked by hand", cases 1 to 6), from tables that just suffice and
--- were laid out over old words. Assumes nothing.
-use mathlib.Core.Path.{_≡_, refl}
-use mathlib.Core.List.{map}
-use Prim.Native.Nat.{_^_}
+-- The words tell what docs/RULES.md's rows say ("Checked by hand", cases 1 to 6), moment by moment, from tables that
+-- just suffice and were laid out over old words. Assumes nothing.
+use mathlib.Core.Path.{refl}
+use mathlib.Core.List.{List}
+use Prim.Native.Nat.{ℕ, _^_}
 use lib.ListN.{replicate}
 use Rattle.basics.specs.Base.{contains, repeats, occurrences, prefix}
 use Rattle.bucket.specs.Bucket.{productOf, bucketOf}
 use Rattle.heap.specs.Sift.{siftUp, siftDown}
 use Rattle.minutes.specs.Minutes.{fixedMinutes}
 use Rattle.terms.specs.Terms.{argumentsWrong, withinLimits}
-use Rattle.terms.specs.Runs.{after, events, entries}
-use Rattle.terms.specs.Starred.{Row, Told, telling, answersOf, steps, before, orders, rowsOf, starred, oneOfTwo}
+use Rattle.terms.specs.Runs.{entries}
+use Rattle.terms.specs.Starred.{Row, Tells, moments, before, orders, starred, oneOfTwo}
 use Rattle.terms.specs.declared.Sizes.{Sizes}
 use Rattle.words.specs.Columns.{columns, header, put, putHeader}
 use Rattle.words.specs.Layout.{Tables, tables, need, jobShape, arcShape, bucketShape, queueShape, workerShape}
@@ -21,7 +21,7 @@ use Rattle.words.specs.Words.{planSettle, planMark, planNotify, planAdd,
 use Rattle.words.specs.Words.{applied, stepWords, planTake, planQueue, planGet, appliedGet, getWords, posted}
 use Rattle.words.specs.Words.{addWords, finishWords, layOut}
 use Rattle.words.specs.Index.{waits, seatFor, firstSeatBy, shiftedDown, shiftedUp, putSeat, takeSeat}
-use Rattle.words.specs.Observed.{jobsIn, waiting}
+use Rattle.words.specs.Observed.{jobsIn, callSeen, seen}
 
 -- a word that is left from before
 abbrev old : Sizes → Tables
@@ -31,23 +31,23 @@ old s =
     (replicate (need queueShape (s .jobs)) 7)
     (replicate (need workerShape (s .workers)) 7)
 
-abbrev pub tells : Row → Told
-tells r = telling perform waiting (layOut (r .sizes) (old (r .sizes)) .state) (r .items)
+abbrev pub WordsTell : List Row → Type 0
+WordsTell = Tells (λ s. perform) seen (λ s. layOut s (old s) .state)
 
-pub starred-rows : map tells starred ≡ map (λ r. r .tells) starred
-unfolding contains repeats occurrences prefix argumentsWrong withinLimits after events entries answersOf steps
-    before orders rowsOf starred fixedMinutes productOf bucketOf columns header put putHeader longEnough sizesKept
+-- what the rows compute with
+unfoldable pub telling : ℕ
+unfolding contains repeats occurrences prefix argumentsWrong withinLimits entries moments before orders starred
+    oneOfTwo fixedMinutes productOf bucketOf columns header put putHeader longEnough sizesKept
     repeated freshTables perform ownOk walk findOf planLookUp planEnter planAppend planTally planLink withSeat
     planSettle planMark planNotify planAdd planLinks planCall planPhase admitted applied stepWords planTake planQueue
-    planGet appliedGet getWords posted addWords finishWords layOut jobsIn siftUp siftDown waits seatFor firstSeatBy
-    shiftedDown shiftedUp putSeat takeSeat
+    planGet appliedGet getWords posted addWords finishWords layOut jobsIn callSeen siftUp siftDown waits seatFor
+    firstSeatBy shiftedDown shiftedUp putSeat takeSeat
+telling = 0
+
+pub starred-rows : WordsTell starred
+unfolding telling
 starred-rows = refl
 
-pub one-of-two-rows : map tells oneOfTwo ≡ map (λ r. r .tells) oneOfTwo
-unfolding contains repeats occurrences prefix argumentsWrong withinLimits after events entries answersOf steps
-    oneOfTwo productOf bucketOf fixedMinutes columns header put putHeader longEnough sizesKept repeated freshTables
-    perform ownOk walk findOf planLookUp planEnter planAppend planTally planLink withSeat planSettle planMark planNotify
-    planAdd planLinks planCall planPhase admitted applied stepWords planTake planQueue planGet appliedGet getWords
-    posted addWords finishWords layOut jobsIn siftUp siftDown waits seatFor firstSeatBy shiftedDown shiftedUp
-    putSeat takeSeat
+pub one-of-two-rows : WordsTell oneOfTwo
+unfolding telling
 one-of-two-rows = refl

@@ -1,6 +1,6 @@
 -- What holds by the rules of every list of items, on the words: how calls end, what the auditor asked, and the words of
 -- workers. Assumes nothing.
-use mathlib.Core.Path.{_≡_, sym, ap, _∙_}
+use mathlib.Core.Path.{_≡_, refl, sym, ap, _∙_}
 use mathlib.Core.Logic.{_↔_, _≢_}
 use mathlib.Core.Bool.{true}
 use mathlib.Core.List.{List, [], _∷_}
@@ -10,6 +10,8 @@ use native.Mathlib.Omega.{arith}
 use lib.ListN.{length, getD, length-append}
 use Rattle.basics.specs.Limits.{mostNames}
 use Rattle.basics.specs.Base.{contains, occurrences}
+use Rattle.basics.specs.Counting.{occurrences-nil}
+use Rattle.basics.specs.Laws.{getD-prefix}
 use Rattle.bucket.specs.Bucket.{bucketOf}
 use Rattle.minutes.specs.Rising.{SixteenRising, rising-means}
 use Rattle.terms.specs.Terms.{Arguments, sameSizes, labelNumber, unexecuted, finished, Finish}
@@ -20,6 +22,7 @@ use Rattle.terms.specs.Order.{First}
 use Rattle.terms.specs.AheadLaws.{is-first}
 use Rattle.terms.specs.declared.Sizes.{Sizes}
 use Rattle.terms.specs.declared.HandOut.{HandOut}
+use Rattle.terms.specs.declared.Answer.{Answer}
 use Rattle.terms.specs.declared.Answer.the-variants.{Laid, NoneReady, Handed}
 use Rattle.words.specs.Layout.{Tables, view, workerShape, NAME, OUTCOME, MARK, HELD, LIST-COUNT, NOTE, NAMES, IDLE}
 use Rattle.words.specs.Layout.{bareWorker, storedMinutes}
@@ -28,8 +31,10 @@ use Rattle.words.specs.Words.{perform, layOut}
 use Rattle.words.specs.Observed.{bucketFrom, newestFirst, seen}
 use Rattle.rules.specs.Rules.{Call, idle, looking, linking, marking, notifying, Graph, empty, job}
 use Rattle.rules.specs.Rules as rules
+use Rattle.rules_cases.specs.Deed as by
+use Rattle.rules_cases.specs.Own.{own-made, own-sizes}
 use Rattle.rules.specs.Observed as rules-seen
-use Rattle.rules.specs.Sound.{Finished}
+use Rattle.rules.specs.Sound.{startedBy, Finished}
 use Rattle.linearization.specs.Calls.{adding, finishing, Reading, reading, Quiet, acceptedAdds}
 use Rattle.linearization.specs.Calls.{acceptedFinishes}
 use Rattle.linearization.specs.Calls as reading
@@ -37,6 +42,8 @@ use Rattle.rules_history.specs.History.{History, start, Paced, Booked}
 use Rattle.rules_history.specs.Onward.{entriesBy, onward}
 use Rattle.linearizability.specs.Demand.{addOf, HandedRightly, JobFinished, handedOut}
 use Rattle.linearizability.specs.Ends.{AddStep, FinishOf}
+use Rattle.host_calls.specs.Audit as audited
+use Rattle.host_calls.specs.Audit.{GetAnswered}
 use Rattle.linearizability.specs.LongFirst.{minutesSeen, longFirst, TakesLongest, ByCount}
 use Rattle.representation.specs.Rep.{CallRep}
 use Rattle.representation_kept.specs.Find.{found-there}
@@ -50,7 +57,8 @@ use Rattle.rules_follow_model.specs.Steps.{add-step, finish-step, pending-there
 use Rattle.rules_invariant.specs.Sound.{sound, soundly}
 use Rattle.audit.specs.Gets.{handed-ready}
 use Rattle.audit.specs.Gets as gets
-use Rattle.audit.specs.Handed.{handed-once}
+use Rattle.audit.specs.Handed.{handed-once, handed-started}
+use Rattle.audit.specs.Forgotten.{started}
 use Rattle.audit.specs.Bits.{bit-within}
 use Rattle.audit.specs.Marks as marks
 use Rattle.audit.specs.Carried.{JobsAlike, failed-carried}
@@ -58,7 +66,8 @@ use Rattle.audit.specs.Finishes.{finishedBy, finishes, occurs-there, finished-o
 use Rattle.audit.specs.Drained as audit
 use Rattle.audit.specs.LongFirst.{seen-idle}
 use Rattle.audit.specs.LongFirst as longest
-use Rattle.words_history.specs.Theorem.{Reached, after-items, marked-finished, same-events, demand}
+use Rattle.words_history.specs.Theorem.{Reached, after-items, marked-finished, same-events, same-entries}
+use Rattle.words_history.specs.Theorem.{demand}
 
 module _ (s : Sizes) (t : Tables) (laid : layOut s t .answer ≡ Laid) (items : List Item) where
   abbrev T : Tables
@@ -228,6 +237,65 @@ module _ (s : Sizes) (t : Tables) (laid : layOut s t .answer ≡ Laid) (items : 
           sym (does .waiting) ∙ f .4,
         )),
   )
+
+  -- ---- what an idle worker's get is answered, by what it holds
+  pub get-answered : (w : ℕ) → w < s .workers → read .pending w ≡ reading.idle
+      → GetAnswered (seen T .held w) (perform T (get s w) .answer)
+  get-answered w h = rw (told, next (get s w), does .held w h) (λ e.
+      of (own-made s g (get s w) (own-sizes s) h refl refl (worker-idle g r pacing w e)))
+    where
+      of : {x : Answer} {after : Graph} → by.Made s g (get s w) x after → GetAnswered (g .workers w .held) x
+      of (by.getHolding j e) = rw e audited.holding
+      of (by.getNone e f) = rw e audited.none-ready
+      of (by.getHanded e j f) = rw e (audited.taken (rules.handOut g j))
+
+  -- ---- with no call half done, over an empty queue, a job has been handed out if each of its prerequisites has an
+  -- accepted finish
+  pub none-forgotten : Quiet read → (q : Sizes) (w : ℕ) → perform T (get q w) .answer ≡ NoneReady
+      → (j : ℕ) → j < length (acceptedAdds (read .calls))
+      → ((i : ℕ) → i < addOf (acceptedAdds (read .calls)) j .count
+      → occurrences (getD (addOf (acceptedAdds (read .calls)) j .names) i 0) (acceptedFinishes (read .calls)) ≡ 1)
+      → 0 < occurrences j (handedOut (events perform (layOut s t .state) items))
+  unfolding empty
+  none-forgotten = rw (told, same-events s t laid items) (λ quiet q w none j h all.
+      let there : j < length (g .jobs) = omega (arith, K .adds) in
+      let same = K .added j there in
+      let a : Arguments = addOf adds j in
+      let n : a .count ≡ length (job g j .list) = sym (listed-length a) ∙ ap length (same .list) in
+      let o = gets.none-ready s q g w .0 (sym (next (get q w)) ∙ none) in
+      let begun : 0 < startedBy (job g j .label) =
+      started history (all-idle g r pacing quiet) (o .4) j there (λ i l.
+      let k : i < a .count = omega (arith, n) in
+      rw (ap (λ m. getD m i 0) (sym (same .list)) ∙ getD-prefix (a .count) (a .names) i k)
+      (omega (arith, all i k))) in
+      omega (arith, handed-started {s = s} start items j))
+
+  -- over an empty queue, whatever calls are half done, a job has been handed out whose add and a finish of each of
+  -- whose prerequisites have ended
+  pub none-held-up : (q : Sizes) (w : ℕ) → perform T (get q w) .answer ≡ NoneReady
+      → (j : ℕ) → j < length (acceptedAdds (read .calls))
+      → 0 < occurrences (addOf (acceptedAdds (read .calls)) j .name) (read .added)
+      → ((i : ℕ) → i < addOf (acceptedAdds (read .calls)) j .count
+      → 0 < occurrences (getD (addOf (acceptedAdds (read .calls)) j .names) i 0) (read .finished))
+      → occurrences j (handedOut (events perform (layOut s t .state) items)) ≡ 1
+  unfolding empty
+  none-held-up q w said j h ended all =
+      let a : Arguments = addOf (acceptedAdds (read .calls)) j in
+      let in-queue : occurrences j (g .queue) ≡ 0 =
+      ap (occurrences j) (gets.none-ready s q g w .0 (sym (next (get q w)) ∙ said) .4) ∙ occurrences-nil j in
+      let entered = demand s t laid items .when-ended j h (occurs-there _ _ ended) (λ i l.
+      rw (getD-prefix (a .count) (a .names) i l) (occurs-there _ _ (all i l))) in
+      let handed : _≡_ (handedOut (events perform (layOut s t .state) items))
+      (handedOut (events (rules.perform s) empty items)) = ap handedOut (same-events s t laid items) in
+      omega (
+        arith,
+        entered,
+        same-entries s t laid items j,
+        marks.entered-is history j,
+        in-queue,
+        handed-started {s = s} start items j,
+        ap (occurrences j) handed,
+      )
 
   -- ---- the words of workers
   pub fresh-call : (w : ℕ) → w < s .workers → read .pending w ≡ reading.idle → (k : ℕ) → k < workerShape .width

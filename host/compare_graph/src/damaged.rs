@@ -102,14 +102,29 @@ impl Lent<'_> {
 
     /// How a whole call differs from single calls over the same words, or the fault of one of these.
     fn whole(&mut self, call: &Call) -> Option<String> {
+        let before = self.tables.clone();
         let mut judged = Judged { lent: self.clone(), call, fault: None };
         let expected = told_by_single_calls(&mut judged, &call.item)?;
         let told = call_library(call.sizes.unwrap_or(self.sizes), &mut self.tables.lent(call.short), &call.item);
+        self.met.note_whole(&call.item, &told);
         let single = judged.fault.map(|fault| format!("a single call of a whole one: {fault}"));
-        single.or_else(|| differ("the answer, beside single calls", told, expected)).or_else(|| {
-            let words = Tables::difference(&judged.lent.tables, &self.tables);
-            words.map(|words| format!("after a whole call; single calls leave the first: {words}"))
-        })
+        single
+            .or_else(|| self.wrongly_stopped(&before, &told))
+            .or_else(|| differ("the answer, beside single calls", told, expected))
+            .or_else(|| {
+                let words = Tables::difference(&judged.lent.tables, &self.tables);
+                words.map(|words| format!("after a whole call; single calls leave the first: {words}"))
+            })
+    }
+
+    /// An add or a finish that answers 9 is told as stopped exactly where it changed the tables.
+    fn wrongly_stopped(&self, before: &Tables, told: &LibraryTold) -> Option<String> {
+        let LibraryTold::One(answer) = told else { return None };
+        if answer.number != refusal::DAMAGED {
+            return None;
+        }
+        let changed = Tables::difference(before, &self.tables);
+        differ("stopped, beside changed tables", answer.kind == kind::STOPPED, changed.is_some())
     }
 
     /// The answer of a single call, and its fault.

@@ -36,15 +36,20 @@ pub fn told_by_single_calls(calls: &mut impl SingleCalls, item: &Item) -> Option
     }
 }
 
-/// Steps, as many as there may be, until one does not go on.
+/// Steps, as many as there may be, until one does not go on. Number 9 once the call is posted is met in its middle: the
+/// post has changed the tables, and the call is half done.
 fn run(calls: &mut impl SingleCalls, worker: u32, posted: Answer, most: usize) -> Answer {
     let goes_on = |answer: &Answer| answer.kind == kind::POSTED || answer.kind == kind::GOING_ON;
+    let in_its_middle = goes_on(&posted);
     let mut answer = posted;
     for _ in 0..most {
         if !goes_on(&answer) {
             break;
         }
         answer = calls.call(Item::Step { worker });
+    }
+    if in_its_middle && answer.kind == kind::REFUSED && answer.number == refusal::DAMAGED {
+        return Answer { kind: kind::STOPPED, ..answer };
     }
     answer
 }
@@ -67,6 +72,9 @@ fn sheet(calls: &mut impl SingleCalls, worker: u32, entries: &[Entry], stray: us
             let answer = add(calls, worker, entry);
             added.numbers[place] = answer.number;
             added.places[place] = answer.place;
+            if answer.kind == kind::STOPPED {
+                added.stopped = place as u32 + 1;
+            }
         }
     }
     added
@@ -135,18 +143,22 @@ pub fn decided(item: &Item, told: &Told) -> usize {
     }
 }
 
-/// How a whole call or a load was answered: what it is, and the number, where 0 is accepted and `HALF_LEFT` a finish
-/// that goes on. Of a sheet there is one for the sheet and one for each entry.
+/// How a whole call or a load was answered: what it is, and the number, where 0 is accepted, `HALF_LEFT` a finish that
+/// goes on, and `STOPPED` a call or an entry that damage stopped half done. Of a sheet there is one for the sheet and one
+/// for each entry.
 pub fn ways(item: &Item, told: &LibraryTold) -> Vec<(&'static str, u32)> {
     match (item, told) {
-        (Item::Add { .. }, LibraryTold::One(answer)) => vec![("add", answer.number)],
+        (Item::Add { .. }, LibraryTold::One(answer)) => vec![("add", unless_stopped(answer))],
         (Item::Finish { .. }, LibraryTold::One(answer)) if answer.kind == kind::GOING_ON => {
             vec![("finish", HALF_LEFT)]
         }
-        (Item::Finish { .. }, LibraryTold::One(answer)) => vec![("finish", answer.number)],
+        (Item::Finish { .. }, LibraryTold::One(answer)) => vec![("finish", unless_stopped(answer))],
         (Item::AddSheet { entries, .. }, LibraryTold::Each(added)) => {
             let served = if added.number == 0 { entries.len() } else { 0 };
-            let entries = added.numbers.iter().take(served).map(|number| ("entry", *number));
+            let number = |(place, number): (usize, &u32)| {
+                ("entry", if added.stopped as usize == place + 1 { STOPPED } else { *number })
+            };
+            let entries = added.numbers.iter().take(served).enumerate().map(number);
             std::iter::once(("sheet", added.number)).chain(entries).collect()
         }
         (Item::Load { .. }, LibraryTold::One(answer)) => vec![("load", answer.number)],
@@ -154,5 +166,16 @@ pub fn ways(item: &Item, told: &LibraryTold) -> Vec<(&'static str, u32)> {
     }
 }
 
+fn unless_stopped(answer: &Answer) -> u32 {
+    if answer.kind == kind::STOPPED {
+        STOPPED
+    } else {
+        answer.number
+    }
+}
+
 /// No number: a finish that answers "going on".
 pub const HALF_LEFT: u32 = u32::MAX;
+
+/// No number: a call that damage stopped half done.
+pub const STOPPED: u32 = u32::MAX - 1;

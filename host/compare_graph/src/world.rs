@@ -94,7 +94,8 @@ impl fmt::Debug for LibraryTold {
                 // Most are 0, and the last ones say nothing.
                 let pairs: Vec<_> = added.numbers.iter().zip(&added.places).collect();
                 let said = pairs.iter().rposition(|pair| *pair != (&0, &0)).map_or(0, |last| last + 1);
-                write!(f, "number {}, of each entry number and place {:?} and 0", added.number, &pairs[..said])
+                write!(f, "number {}, stopped {}, ", added.number, added.stopped)?;
+                write!(f, "of each entry number and place {:?} and 0", &pairs[..said])
             }
         }
     }

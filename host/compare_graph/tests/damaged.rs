@@ -9,7 +9,7 @@ use compare_graph::{
     index::WrongSlot,
     tables::Tables,
     watchdog::Watchdog,
-    whole::{self, HALF_LEFT},
+    whole::{self, HALF_LEFT, STOPPED},
     world::{call_library, to_library},
 };
 use compare_sheets::{case::Comparison, random::seed};
@@ -107,12 +107,14 @@ fn ways_of(history: History) -> BTreeSet<(&'static str, u32)> {
     met
 }
 
-/// What the comparison must meet of whole calls: damage before and in the middle of each, entries after such a middle,
-/// which get 3, and a finish that uses up its steps; and loads answered by each of their numbers.
+/// What the comparison must meet of whole calls: damage before and in the middle of each, where it is told as stopped;
+/// entries after such a middle, which get 3, and a finish that uses up its steps; and loads answered by each of their
+/// numbers.
 #[test]
 fn whole_calls_meet_damage() {
     let mut due =
         BTreeSet::from([("add", 9), ("finish", 9), ("finish", HALF_LEFT), ("sheet", 9), ("entry", 9), ("entry", 3)]);
+    due.extend(["add", "finish", "entry"].map(|what| (what, STOPPED)));
     due.insert(("finish", 19));
     due.extend([0, 1, 17, 9, 18].map(|number| ("load", number)));
     let mut number = 0;

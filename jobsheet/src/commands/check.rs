@@ -67,9 +67,9 @@ impl Answer {
             return format!("{start}, all accepted");
         }
         let end = match sheet.form {
-            _ if self.packs && self.judged.own().is_empty() => "a host adds nothing of it",
+            _ if self.packs && self.judged.own().is_empty() => "a host adds none of it",
             _ if self.packs => "a host adds the others",
-            Form::Bytes => "it is broken, and a host adds nothing of it",
+            Form::Bytes => "it is broken, so a host adds none of it",
             Form::Text | Form::Csv => "it cannot be packed",
         };
         format!("{start}, {} refused; {faults}; {end}", grouped(self.judged.refused()))
@@ -79,7 +79,7 @@ impl Answer {
         let Summary { jobs, arcs, classes, minutes, longest, slowest, waits } = &self.summary;
         let minutes_of = |minutes: u32| counted(minutes as usize, "minute");
         if !self.packs {
-            writeln!(out, "  what can be read comes to:")?;
+            writeln!(out, "  totals of what can be read:")?;
         }
         let sums = [(*jobs as usize, "job"), (*arcs, "arc"), (classes.len(), "class"), (*minutes as usize, "minute")];
         writeln!(out, "  {}", sums.map(|(sum, thing)| counted(sum, thing)).join(", "))?;

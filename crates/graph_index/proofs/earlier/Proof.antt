@@ -1,5 +1,6 @@
 -- `graph_index::earlier` meets its contract: each way through the code is a case of the definition.
 -- Assumes nothing.
+use native.Mathlib.Omega.{arith}
 use borrow.Author.Needs.{needs}
 use Rattle.graph_index.proofs.earlier.Statement.{statement}
 use Rattle.graph_index.proofs.earlier.Tie as tie
@@ -18,32 +19,38 @@ enum-told-2 c = search needs
 
 returns : tie.Need-returns
 returns c =
-    let c4 = c .before .before .before .before in
-    rw (
-      c4 .before .left .given .1,
-      c .before .before .right .given .1,
-      c .if1 .taken,
+    let c4 = c .before .before .before .before in (
+      rw (
+        c4 .before .left .given .1,
+        c .before .before .right .given .1,
+        c .if1 .taken,
+      ),
+      omega arith,
     )
 
 returns-2 : tie.Need-returns-2
 returns-2 c =
-    let c4 = c .before .before .before .before in
-    rw (
-      c4 .before .left .given .1,
-      c .before .before .right .given .1,
-      c .if1 .left,
+    let c4 = c .before .before .before .before in (
+      rw (
+        c4 .before .left .given .1,
+        c .before .before .right .given .1,
+        c .if1 .left,
+      ),
+      omega arith,
     )
 
 returns-3 : tie.Need-returns-3
-returns-3 c =
-    rw (
-      c .before .before .before .left .given .1,
-      c .enum-told .given .1,
-    )
+returns-3 c = (
+  rw (
+    c .before .before .before .left .given .1,
+    c .enum-told .given .1,
+  ),
+  omega arith,
+)
 
 returns-4 : tie.Need-returns-4
 returns-4 c =
-    rw (c .enum-told2 .given .1)
+    (rw (c .enum-told2 .given .1), omega arith)
 
 pub earlier-spec : {M : Type 1} → statement M
 earlier-spec =

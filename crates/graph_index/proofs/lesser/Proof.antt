@@ -1,5 +1,6 @@
 -- `graph_index::lesser` meets its contract: each way through the code is a case of the definition.
 -- Assumes nothing.
+use native.Mathlib.Omega.{arith}
 use borrow.Author.Needs.{needs}
 use Rattle.graph_index.proofs.lesser.Statement.{statement}
 use Rattle.graph_index.proofs.lesser.Tie as tie
@@ -20,12 +21,14 @@ add-alone : tie.Need-add-alone
 add-alone c = search needs
 
 returns : tie.Need-returns
-returns c =
-    λ arcs buckets workers.
-    rw (
-      ← c .before .look .ensures arcs buckets workers,
-      c .if1 .taken,
-    )
+returns c = (
+  λ arcs buckets workers.
+      rw (
+        ← c .before .look .ensures arcs buckets workers,
+        c .if1 .taken,
+      ),
+  omega arith,
+)
 
 mul-look-2 : tie.Need-mul-look-2
 mul-look-2 c = search needs
@@ -40,14 +43,16 @@ earlier-requires : tie.Need-earlier-requires
 earlier-requires c κs = search needs
 
 returns-2 : tie.Need-returns-2
-returns-2 c =
-    λ arcs buckets workers.
-    rw (
-      ← c .before .before .before .look .ensures arcs buckets workers,
-      c .before .before .if1 .left,
-      ← c .before .look2 .ensures arcs buckets workers,
-      ← c .earlier .ensures,
-    )
+returns-2 c = (
+  λ arcs buckets workers.
+      rw (
+        ← c .before .before .before .look .ensures arcs buckets workers,
+        c .before .before .if1 .left,
+        ← c .before .look2 .ensures arcs buckets workers,
+        ← c .earlier .ensures .0,
+      ),
+  c .earlier .ensures .1,
+)
 
 pub lesser-spec : {M : Type 1} → statement M
 lesser-spec =

@@ -18,19 +18,39 @@ enum Found {
     Enters { prerequisites: [u32; MAX_NAMES as usize], tally: u32, note: u32, seat: Option<Seat> },
 }
 
+/// A worker's phase, if there is such a worker.
+#[inline(always)]
+fn phase_of(tables: &Tables, worker: u32) -> Option<u32> {
+    tables.workers.get(worker as usize * WORKER_WORDS + worker::PHASE).copied()
+}
+
+/// An answer, or that damage stopped the call half done.
+#[inline(always)]
+fn unless_stopped(answer: Answer, before: Option<u32>, after: Option<u32>) -> Answer {
+    let half_done = before == Some(phase::IDLE) && after != Some(phase::IDLE);
+    if answer.kind == kind::REFUSED && answer.number == DAMAGED.0 && half_done {
+        return Answer { kind: kind::STOPPED, ..answer };
+    }
+    answer
+}
+
 #[inline(never)]
 pub fn add<const INDEXED: bool>(sizes: Sizes, tables: &mut Tables, worker: u32, entry: Entry) -> Answer {
-    answered(
+    let before = phase_of(tables, worker);
+    let answer = answered(
         Graph::<INDEXED>::admitted(sizes, tables, worker).and_then(|(mut graph, at)| graph.add(at, &entry, &mut false)),
-    )
+    );
+    unless_stopped(answer, before, phase_of(tables, worker))
 }
 
 #[inline(never)]
 pub fn finish<const INDEXED: bool>(sizes: Sizes, tables: &mut Tables, worker: u32, name: u32, outcome: u32) -> Answer {
-    answered(Graph::<INDEXED>::admitted(sizes, tables, worker).and_then(|(mut graph, at)| {
+    let before = phase_of(tables, worker);
+    let answer = answered(Graph::<INDEXED>::admitted(sizes, tables, worker).and_then(|(mut graph, at)| {
         graph.judge_idle(at)?;
         graph.finish(at, name, outcome)
-    }))
+    }));
+    unless_stopped(answer, before, phase_of(tables, worker))
 }
 
 #[inline(never)]
@@ -65,6 +85,9 @@ fn add_rows<const INDEXED: bool>(
         if let Err((number, listed)) = graph.add(at, &entry_of(row), &mut cleared) {
             added.numbers[place] = number;
             added.places[place] = listed;
+            if number == DAMAGED.0 && graph.judge_idle(at).is_err() {
+                added.stopped = place as u32 + 1;
+            }
         }
     }
     Ok(())

@@ -1,4 +1,5 @@
-//! What the calls over damaged tables meet of the index beside the queue, and of outcomes, marks and notes.
+//! What the calls over damaged tables meet of the index beside the queue, and of outcomes, marks and notes; and how whole
+//! calls were answered 9.
 
 use std::{cell::RefCell, cmp::Reverse, collections::BTreeMap, fmt};
 
@@ -10,6 +11,8 @@ use crate::{
     index::WrongSlot,
     layout::{self, cell_at, job, job_at, position_at, slot_at, JOB_WORDS, NONE},
     tables::{Tables, JOBS, QUEUE},
+    whole,
+    world::LibraryTold,
 };
 
 /// What uses the index.
@@ -54,13 +57,14 @@ pub enum By {
     Get,
 }
 
-/// How many calls met each way, how many boards and minutes of graphs were answered by each number, and how many calls met
-/// what of outcomes, marks and notes.
+/// How many calls met each way, how many boards and minutes of graphs were answered by each number, how many calls met
+/// what of outcomes, marks and notes, and how many whole calls and entries of sheets were refused by 9 or stopped by it.
 #[derive(Debug, Default)]
 pub struct Met(
     RefCell<BTreeMap<(Use, Way), u64>>,
     RefCell<BTreeMap<Board, u64>>,
     RefCell<BTreeMap<(By, Meeting), u64>>,
+    RefCell<BTreeMap<(&'static str, bool), u64>>,
 );
 
 /// The numbers of the board over a graph and of its minutes.
@@ -117,6 +121,15 @@ impl Met {
         *self.2.borrow_mut().entry((by, meeting)).or_insert(0) += 1;
     }
 
+    /// Notes a whole call, or the entries of a sheet, that met 9: whether it was stopped half done.
+    pub(super) fn note_whole(&self, item: &Item, told: &LibraryTold) {
+        for (what, number) in whole::ways(item, told) {
+            if number == refusal::DAMAGED || number == whole::STOPPED {
+                *self.3.borrow_mut().entry((what, number == whole::STOPPED)).or_insert(0) += 1;
+            }
+        }
+    }
+
     pub fn has_meeting(&self, meeting: &(By, Meeting)) -> bool {
         self.2.borrow().contains_key(meeting)
     }
@@ -139,7 +152,8 @@ impl fmt::Display for Met {
             )?;
         }
         writeln!(f, "boards of graphs, by their number and that of the minutes: {:?}", self.1.borrow())?;
-        writeln!(f, "what single calls met of outcomes, marks and notes: {:?}", self.2.borrow())
+        writeln!(f, "what single calls met of outcomes, marks and notes: {:?}", self.2.borrow())?;
+        writeln!(f, "whole calls and entries that met 9, and whether it stopped them half done: {:?}", self.3.borrow())
     }
 }
 

@@ -1,0 +1,1 @@
+// What the arguments of an add mean, and which are wrong, stands in specs/.

@@ -1,0 +1,10 @@
+pub mod Quoted
+pub mod Decimal
+pub mod DayRows
+pub mod DayCases
+pub mod DayTold
+pub mod WrongTold
+pub mod WrongDays
+pub mod DayAnswers
+pub mod WrongAnswers
+pub mod WrongDecimals

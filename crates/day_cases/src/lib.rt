@@ -1,0 +1,1 @@
+// What the day list prints for given sheets stands in specs/.

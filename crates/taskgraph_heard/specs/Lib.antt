@@ -1,0 +1,4 @@
+pub mod ToldApart
+pub mod WrongTaken
+pub mod Contracts
+pub mod WrongContracts

@@ -1,0 +1,306 @@
+-- WHAT C IS TOLD CAN BE HEARD: of every struct that the C interface hands out, the answer is read off its fields by the
+-- numerals of include/taskgraph.h, fields that say nothing are 0, and no other answers are given than those that are
+-- read so. Each `heard` stands in the specs/Heard.antt of the crate named beside it, with tellings that lose something
+-- in its WrongHeard.antt. Follows docs/RULES.md, "Steps", "Turned-away calls", "Tables and their measures", "The board
+-- and the day list", and docs/SHEETS.md. Assumes nothing.
+use mathlib.Core.Path.{_≡_, refl, ap, _∙_}
+use mathlib.Core.List.{List, [], _∷_, map}
+use Prim.Native.Nat.{ℕ, zero, suc, _+_, _*_, _/_, _≤_, _<_}
+use native.Mathlib.Omega.{arith}
+use lib.ListN.{length, getD}
+use Rattle.basics.specs.Laws.{pick-by}
+use Rattle.terms.specs.Terms.{Arguments, noArguments, Finish}
+use Rattle.terms.specs.Runs.{Item, postAdd, postFinish, step, get, load, Outcome}
+use Rattle.terms.specs.declared.Answer.{Answer}
+use Rattle.terms.specs.declared.Answer.the-variants.{Laid, Refused}
+use Rattle.terms.specs.declared.Sizes.{Sizes}
+use Rattle.words.specs.Layout.{Tables, roomFor}
+use Rattle.words.specs.Words.{perform, layOut}
+use Rattle.locality.specs.Numbers.{Fits, fits}
+use Rattle.locality.specs.Numbers as list
+use Rattle.whole_words.specs.Whole.{wholeAdd, wholeFinish}
+use Rattle.sheet_rows.specs.SheetRows.{addsOf, rowsWords}
+use Rattle.sheet_rows.specs.Arguments.{argumentsOf}
+use Rattle.sheet_rows.specs.declared.SheetAdded.{SheetAdded}
+use Rattle.whole_answers.specs.Heard as whole
+use Rattle.taskgraph_answer.specs.Answers.{graphAnswer}
+use Rattle.taskgraph_answer.specs.Heard as answer
+use Rattle.taskgraph_answer.specs.WholeAnswers.{toldWhole}
+use Rattle.taskgraph_answer.specs.HeardWhole as wholly
+use Rattle.whole_stops.specs.StoppedSheet.{rowsStopped, rowsAdded}
+use Rattle.whole_answers.specs.SheetHeard.{heardSheet, sheetOf, sheet-heard-as-told}
+use Rattle.taskgraph_answer.specs.declared.GraphAnswer.{GraphAnswer}
+use Rattle.sheet_format.specs.Job.{Job}
+use Rattle.sheet_format.specs.Decode.{Decoded, decode, Sheet, decodeSheet, entryOf, scanSheet, readSheet}
+use Rattle.sheet_format.specs.Write.{jobOf, entryAt, entriesFrom, writeEntry, writeSheet}
+use Rattle.sheet_format.specs.declared.Entry.{Entry}
+use Rattle.sheet_format.specs.declared.SheetRead.{SheetRead}
+use Rattle.sheet_format.specs.declared.Wrote.{Wrote}
+use Rattle.sheet_format.specs.declared.SheetWrote.{SheetWrote}
+use Rattle.taskgraph_reader.specs.Answers.{entryRead, sheetRead}
+use Rattle.taskgraph_reader.specs.Heard as reader
+use Rattle.taskgraph_reader.specs.Rows as rows
+use Rattle.taskgraph_reader.specs.declared.EntryRead.{EntryRead}
+use Rattle.taskgraph_reader.specs.declared.SheetScanned.{SheetScanned}
+use Rattle.taskgraph_writer.specs.Answers.{entryWritten, sheetWritten}
+use Rattle.taskgraph_writer.specs.Heard as writer
+use Rattle.taskgraph_writer.specs.declared.EntryWritten.{EntryWritten}
+use Rattle.taskgraph_writer.specs.declared.SheetWritten.{SheetWritten}
+use Rattle.worker_state.specs.Held.{heldWords}
+use Rattle.worker_state.specs.Drained.{drainedWords}
+use Rattle.worker_state.specs.Heard as state
+use Rattle.worker_state.specs.declared.Holding.{Holding}
+use Rattle.worker_state.specs.declared.Drained.{Drained}
+use Rattle.totals.specs.Board.{totalsOf, totalsBy, totalsOfWords}
+use Rattle.totals.specs.Heard as board
+use Rattle.totals.specs.declared.JobRecord.{JobRecord}
+use Rattle.totals.specs.declared.Totals.{Totals}
+use Rattle.graph_board.specs.Board.{graphTotals, graphMinutes}
+use Rattle.graph_board.specs.Heard as graph
+use Rattle.minutes.specs.declared.GraphMinutes.{GraphMinutes}
+use Rattle.graph_layout.specs.Needed.{wordsNeeded}
+use Rattle.graph_layout.specs.Heard as layout
+use Rattle.graph_layout.specs.declared.Need.{Need}
+use Rattle.day_format.specs.Day.{dayList}
+use Rattle.day_format.specs.declared.DayAnswer.{DayAnswer}
+use Rattle.taskgraph_day.specs.Answers.{dayPrinted}
+use Rattle.taskgraph_day.specs.Heard as day
+use Rattle.taskgraph_day.specs.declared.DayPrinted.{DayPrinted}
+
+-- "refused with" these, of each function of the graph but for a step's 6, which alone has a place
+abbrev pub refusedWith : Item → List ℕ
+refusedWith (postAdd s w a) = 1 ∷ 2 ∷ 9 ∷ 3 ∷ 5 ∷ []
+refusedWith (postFinish s w f) = 1 ∷ 2 ∷ 9 ∷ 3 ∷ 11 ∷ 19 ∷ []
+refusedWith (step s w) = 1 ∷ 2 ∷ 9 ∷ 4 ∷ 7 ∷ 8 ∷ []
+refusedWith (get s w) = 1 ∷ 2 ∷ 9 ∷ 3 ∷ 10 ∷ []
+refusedWith (load s m) = 1 ∷ 9 ∷ 17 ∷ 18 ∷ []
+
+-- "laid out, or refused with 1"
+pub data LaidOrNot : Answer → Type 0 where
+  laid : LaidOrNot Laid
+  by-1 : LaidOrNot (Refused 1 0)
+
+-- "Posts an add" of a tg_entry: field by field
+pub record AddTaken (a : Arguments) (e : Entry) : Type 0 where
+  pub name : a .name ≡ e .name
+  pub count : a .count ≡ e .count
+  pub names : a .names ≡ e .names
+  pub class : a .class ≡ e .class
+  pub grower : a .grower ≡ e .grower
+
+-- "Adds the entries of all rows": an add for each 36 words, in order
+pub record SheetTaken (l : List Arguments) (r : List ℕ) : Type 0 where
+  pub many : length l ≡ length r / 36
+  pub each : (i : ℕ) → i < length r / 36 → AddTaken (getD l i noArguments) (rows.heardRow r i)
+
+-- a field for what each function hands out, and one for which answers there are, by the definition that its contract
+-- cites
+pub record ToldApart : Type 0 where
+  -- tg_answer, of tg_lay_out, tg_load_minutes, tg_post_add, tg_post_finish, tg_step, tg_get, tg_add and tg_finish
+  -- (taskgraph_answer); which answers there are: locality, whole_answers
+  pub answers : answer.AnswersHeard graphAnswer
+  pub which-answers : (t : Tables) (i : Item) → Fits i (perform t i .answer)
+  pub which-numbers : (i : Item) → list.numbers i ≡ refusedWith i
+  pub how-laid-out : (s : Sizes) (t : Tables) → LaidOrNot (layOut s t .answer)
+  -- the same of tg_add and tg_finish, which tell too whether damage stopped the call half done
+  pub whole-answers : wholly.WholesHeard toldWhole
+  pub how-an-add-ends : (s : Sizes) (t : Tables) (w : ℕ) (a : Arguments) → whole.AddEnded (wholeAdd s t w a .answer)
+  pub how-a-finish-ends : (s : Sizes) (t : Tables) (w : ℕ) (f : Finish)
+      → whole.FinishEnded (wholeFinish s t w f .answer)
+  -- tg_sheet_added, of tg_add_sheet; of each entry what its add would tell (whole_answers)
+  pub sheets-added : whole.SheetsHeard whole.sheetTold
+  pub a-sheet-added-is-told : (s : Sizes) (t : Tables) (w : ℕ) (r : List ℕ)
+      → rowsAdded s t w r
+      ≡ whole.sheetTold (rowsStopped s t w r) (rowsWords s t w r .number) (rowsWords s t w r .answers)
+  pub how-a-sheet-is-added : (s : Sizes) (t : Tables) (w : ℕ) (r : List ℕ)
+      → whole.Adds (rowsWords s t w r .number) (rowsWords s t w r .answers)
+  pub entry-by-entry : (s : Sizes) (t : Tables) (w : ℕ) (r : List ℕ)
+      → heardSheet (length (addsOf r)) (rowsAdded s t w r) ≡ sheetOf s t w r
+  -- tg_entry, the job in a tg_reading (taskgraph_reader)
+  pub jobs : reader.JobsHeard entryOf
+  -- tg_reading, of tg_read_entry
+  pub entries-read : reader.EntriesHeard entryRead
+  pub what-stands : (sheet : List ℕ) (at : ℕ) → reader.Stands (decode sheet at)
+  -- tg_sheet, of tg_scan_sheet and tg_read_sheet
+  pub sheets-read : reader.SheetsHeard sheetRead
+  pub how-scanned : (sheet : List ℕ) → reader.Scanned (scanSheet (decodeSheet sheet))
+  pub how-read : (sheet rows : List ℕ) → reader.ReadIn (readSheet (decodeSheet sheet) rows .answer)
+  -- the rows that tg_read_sheet fills
+  pub rows-read : (sheet r : List ℕ) (js : List Job) → decodeSheet sheet ≡ Sheet.jobs js → 36 * length js ≤ length r
+      → rows.RowsHeard (λ x l. readSheet x l .rows) sheet r js
+  -- tg_entry and rows that a host hands over to be written are taken for what is heard in them
+  pub entries-taken : (e : Entry) → jobOf e ≡ reader.heardJob e
+  pub rows-taken : (r : List ℕ) (i : ℕ) → entryAt r i ≡ rows.heardRow r i
+  -- so are those that it hands over to be added, which tg_post_add, tg_add and tg_add_sheet take
+  pub adds-taken : (e : Entry) → AddTaken (argumentsOf e) e
+  pub sheets-taken : (r : List ℕ) → SheetTaken (addsOf r) r
+  -- tg_written, of tg_write_entry (taskgraph_writer)
+  pub entries-written : writer.EntriesHeard entryWritten
+  pub how-written : (e : Entry) (out : List ℕ) (start : ℕ) → writer.Writes (writeEntry e out start .answer)
+  -- tg_sheet_written, of tg_write_sheet
+  pub sheets-written : writer.SheetsHeard sheetWritten
+  pub how-all-written : (rows out : List ℕ) → writer.WritesAll (writeSheet rows out .answer)
+  -- tg_holding, of tg_held (worker_state)
+  pub holdings : state.HoldingsHeard state.holdingTold
+  pub a-holding-is-told : (s : Sizes) (t : Tables) (w : ℕ)
+      → (x : state.Told) × state.Tells x × (heldWords s t w ≡ state.holdingTold x)
+  -- tg_drained_answer, of tg_drained
+  pub drained : state.DrainedHeard state.drainedTold
+  pub drained-is-told : (s : Sizes) (t : Tables)
+      → (x : state.DrainedTold) × state.TellsDrained x × (drainedWords s t ≡ state.drainedTold x)
+  -- tg_totals, of tg_totals_of_words, tg_totals_of_records, tg_totals_by_minutes and tg_totals_of_graph (totals,
+  -- graph_board)
+  pub totals : board.TotalsHeard board.totalsTold
+  pub words-are-told : (table words : List ℕ)
+      → (x : board.Told) × board.TellsOwn x × (totalsOfWords table words ≡ board.totalsTold x)
+  pub a-row-is-told : (table : List ℕ) (rows : List JobRecord)
+      → (x : board.Told) × board.TellsOwn x × (totalsOf table rows ≡ board.totalsTold x)
+  pub a-row-by-minutes-is-told : (table : List ℕ) (rows : List JobRecord)
+      → (x : board.Told) × board.Tells x × (totalsBy table rows ≡ board.totalsTold x)
+  pub the-graphs-row-is-told : (s : Sizes) (jobs : List ℕ)
+      → (x : board.Told) × board.TellsOwn x × (graphTotals s jobs ≡ board.totalsTold x)
+  -- tg_graph_minutes, of tg_minutes_of_graph (graph_board)
+  pub minutes : graph.MinutesHeard graph.minutesTold
+  pub minutes-are-told : (s : Sizes) (jobs : List ℕ)
+      → (x : graph.Told) × graph.Tells x × (graphMinutes s jobs ≡ graph.minutesTold x)
+  -- tg_need, of tg_words_needed, and which words are needed (graph_layout)
+  pub needs : layout.NeedsHeard layout.needTold
+  pub a-need-is-told : (s : Sizes) → (x : layout.Told) × layout.Tells x × (wordsNeeded s ≡ layout.needTold x)
+  pub the-need-is : (s : Sizes) → layout.NeedsExactly wordsNeeded s
+  -- tg_day, of tg_day_list (taskgraph_day)
+  pub days : day.DaysHeard dayPrinted
+  pub how-a-day-is-answered : (workers : ℕ) (sheet out : List ℕ) → day.Answers (dayList workers sheet out .answer)
+
+same-numbers : (i : Item) → list.numbers i ≡ refusedWith i
+same-numbers (postAdd s w a) = refl
+same-numbers (postFinish s w f) = refl
+same-numbers (step s w) = refl
+same-numbers (get s w) = refl
+same-numbers (load s m) = refl
+
+laid-or-not : (s : Sizes) (t : Tables) → LaidOrNot (layOut s t .answer)
+unfolding layOut
+laid-or-not s t =
+    pick-by (λ (o : Outcome Tables). LaidOrNot (o .answer)) (roomFor s t) (λ e. laid) (λ e. LaidOrNot.by-1)
+
+-- the entries of rows, one after another
+module _ (r : List ℕ) where
+  many-adds : (n i : ℕ) → length (map argumentsOf (entriesFrom r i n)) ≡ n
+  unfolding entriesFrom
+  many-adds zero i = refl
+  many-adds (suc n) i = ap suc (many-adds n (i + 1))
+
+  add-at : (n i k : ℕ) → k < n
+      → getD (map argumentsOf (entriesFrom r i n)) k noArguments ≡ argumentsOf (entryAt r (i + k))
+  unfolding entriesFrom
+  add-at zero i k h = absurd (omega arith)
+  add-at (suc n) i zero h = ap (λ m. argumentsOf (entryAt r m)) {x = i} {y = i + 0} (omega arith)
+  add-at (suc n) i (suc k) h =
+      add-at n (i + 1) k (omega arith)
+      ∙ ap (λ m. argumentsOf (entryAt r m)) {x = i + 1 + k} {y = i + suc k} (omega arith)
+
+  taken : SheetTaken (addsOf r) r
+  taken = record {
+    many = many-adds (length r / 36) 0;
+    each = λ i h.
+        let e : getD (addsOf r) i noArguments ≡ argumentsOf (rows.heardRow r i) =
+        add-at (length r / 36) 0 i h ∙ ap (λ m. argumentsOf (entryAt r m)) {x = 0 + i} {y = i} (omega arith) in
+        rw e (record { name = refl; count = refl; names = refl; class = refl; grower = refl });
+  }
+
+pub told-apart : ToldApart
+told-apart = record {
+  answers = answer.answers-heard;
+  which-answers = fits;
+  which-numbers = same-numbers;
+  how-laid-out = laid-or-not;
+  whole-answers = wholly.wholes-heard;
+  how-an-add-ends = whole.how-an-add-ends;
+  how-a-finish-ends = whole.how-a-finish-ends;
+  sheets-added = whole.sheets-heard;
+  a-sheet-added-is-told = λ s t w r. whole.a-sheet-is-told (rowsStopped s t w r) (rowsWords s t w r);
+  how-a-sheet-is-added = whole.how-added;
+  entry-by-entry = sheet-heard-as-told;
+  jobs = reader.jobs-heard;
+  entries-read = reader.entries-heard;
+  what-stands = reader.what-stands;
+  sheets-read = reader.sheets-heard;
+  how-scanned = reader.how-scanned;
+  how-read = reader.how-read;
+  rows-read = rows.rows-heard;
+  entries-taken = λ e. refl;
+  rows-taken = λ r i. refl;
+  adds-taken = λ e. record { name = refl; count = refl; names = refl; class = refl; grower = refl };
+  sheets-taken = taken;
+  entries-written = writer.entries-heard;
+  how-written = writer.how-written;
+  sheets-written = writer.sheets-heard;
+  how-all-written = writer.how-all-written;
+  holdings = state.holdings-heard;
+  a-holding-is-told = state.holding-is-told;
+  drained = state.drained-heard;
+  drained-is-told = state.drained-is-told;
+  totals = board.totals-heard;
+  words-are-told = board.words-are-told;
+  a-row-is-told = board.row-is-told;
+  a-row-by-minutes-is-told = board.row-by-minutes-is-told;
+  the-graphs-row-is-told = graph.board-is-told;
+  minutes = graph.minutes-heard;
+  minutes-are-told = graph.minutes-are-told;
+  needs = layout.needs-heard;
+  a-need-is-told = layout.need-is-told;
+  the-need-is = layout.needs-exactly;
+  days = day.days-heard;
+  how-a-day-is-answered = day.how-answered;
+}
+
+-- ---- and by one telling alone: whatever is heard so is what C is told
+pub record ToldOneWay : Type 0 where
+  pub answers : (told : Answer → GraphAnswer) → answer.AnswersHeard told → (x : Answer) → told x ≡ graphAnswer x
+  pub sheets-added : (told : ℕ → ℕ → List Answer → SheetAdded) → whole.SheetsHeard told
+      → (stop n : ℕ) (xs : List Answer)
+      → whole.Adds n xs
+      → told stop n xs ≡ whole.sheetTold stop n xs
+  pub jobs : (told : Job → Entry) → reader.JobsHeard told → (j : Job) → length (j .list) ≤ 32 → told j ≡ entryOf j
+  pub entries-read : (told : ℕ → Decoded → EntryRead) → reader.EntriesHeard told → (asked : ℕ) (x : Decoded)
+      → reader.Stands x
+      → told asked x ≡ entryRead asked x
+  pub sheets-read : (told : SheetRead → SheetScanned) → reader.SheetsHeard told → (x : SheetRead) → reader.ReadIn x
+      → told x ≡ sheetRead x
+  pub entries-written : (told : Wrote → EntryWritten) → writer.EntriesHeard told → (x : Wrote) → writer.Writes x
+      → told x ≡ entryWritten x
+  pub sheets-written : (told : SheetWrote → SheetWritten) → writer.SheetsHeard told → (x : SheetWrote)
+      → writer.WritesAll x
+      → told x ≡ sheetWritten x
+  pub holdings : (told : state.Told → Holding) → state.HoldingsHeard told → (x : state.Told) → state.Tells x
+      → told x ≡ state.holdingTold x
+  pub drained : (told : state.DrainedTold → Drained) → state.DrainedHeard told → (x : state.DrainedTold)
+      → state.TellsDrained x
+      → told x ≡ state.drainedTold x
+  pub totals : (told : board.Told → Totals) → board.TotalsHeard told → (x : board.Told) → board.Tells x
+      → told x ≡ board.totalsTold x
+  pub minutes : (told : graph.Told → GraphMinutes) → graph.MinutesHeard told → (x : graph.Told) → graph.Tells x
+      → told x ≡ graph.minutesTold x
+  pub needs : (told : layout.Told → Need) → layout.NeedsHeard told → (x : layout.Told) → layout.Tells x
+      → told x ≡ layout.needTold x
+  pub the-need : (ask : Sizes → Need) → ((s : Sizes) → layout.NeedsExactly ask s) → (s : Sizes) → ask s ≡ wordsNeeded s
+  pub days : (told : DayAnswer → DayPrinted) → day.DaysHeard told → (x : DayAnswer) → day.Answers x
+      → told x ≡ dayPrinted x
+
+pub told-one-way : ToldOneWay
+told-one-way = record {
+  answers = answer.answers-told-one-way;
+  sheets-added = whole.sheets-told-one-way;
+  jobs = reader.jobs-told-one-way;
+  entries-read = reader.entries-told-one-way;
+  sheets-read = reader.sheets-told-one-way;
+  entries-written = writer.entries-told-one-way;
+  sheets-written = writer.sheets-told-one-way;
+  holdings = state.holdings-told-one-way;
+  drained = state.drained-told-one-way;
+  totals = board.totals-told-one-way;
+  minutes = graph.minutes-told-one-way;
+  needs = layout.needs-told-one-way;
+  the-need = layout.needs-by-one-function-alone;
+  days = day.days-told-one-way;
+}

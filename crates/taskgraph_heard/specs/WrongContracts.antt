@@ -1,0 +1,47 @@
+-- Contracts of the graph's calls that say less than Contracts.antt asks, so that a call could meet them and leave its
+-- work undone or untold: each refuted by one outcome. Assumes nothing.
+use mathlib.Core.Path.{_≡_, refl, ap}
+use mathlib.Core.List.{[], _∷_}
+use Prim.Native.Nat.{ℕ}
+use native.Mathlib.Omega.{arith}
+use lib.ListN.{length, getD}
+use Rattle.terms.specs.Runs.{outcome}
+use Rattle.terms.specs.declared.Answer.the-variants.{Ended, Refused}
+use Rattle.words.specs.Layout.{Tables, tables}
+use Rattle.whole_words.specs.Sheet.{sheetOutcome}
+use Rattle.sheet_rows.specs.SheetRows.{turnedAway}
+use Rattle.sheet_rows.specs.declared.SheetAdded.{SheetAdded}
+use Rattle.taskgraph_answer.specs.Answers.{graphAnswer}
+use Rattle.taskgraph_answer.specs.declared.GraphAnswer.{GraphAnswer}
+use Rattle.taskgraph_heard.specs.Contracts.{GivesAll, AddsAll}
+
+abbrev none : Tables
+none = tables [] [] [] [] []
+
+-- the answer alone: the call may leave the tables as they were
+pub tables-forgotten : GivesAll (λ r t o. r ≡ graphAnswer (o .answer)) → ⊥
+tables-forgotten h =
+    let s = h (graphAnswer Ended) none (outcome Ended (tables (7 ∷ []) [] [] [] [])) refl .1 in
+    omega (arith, ap length (s .jobs))
+
+-- the jobs and the workers alone: the queue may be as it was
+pub queue-forgotten :
+    GivesAll (λ r t o. (r ≡ graphAnswer (o .answer)) × (t .jobs ≡ o .state .jobs) × (t .workers ≡ o .state .workers))
+    → ⊥
+queue-forgotten h =
+    let s = h (graphAnswer Ended) none (outcome Ended (tables [] [] [] (7 ∷ []) [])) (refl, refl, refl) .1 in
+    omega (arith, ap length (s .queue))
+
+-- the tables alone
+pub answer-forgotten : GivesAll (λ r t o. t ≡ o .state) → ⊥
+answer-forgotten h =
+    let r : GraphAnswer = record { kind = 9; number = 0; place = 0; job = 0; name = 0; spoiled = 0 } in
+    let z : _≡_ {A = ℕ} 0 1 = cc (h r none (outcome Ended none) refl .0) in
+    omega arith
+
+-- of a sheet its number alone: a refused entry seems added
+pub entries-forgotten : AddsAll (λ r t stop o. (r .number ≡ o .number) × (t ≡ o .state)) → ⊥
+entries-forgotten h =
+    let e = h (turnedAway 0) none 0 (sheetOutcome 0 (Refused 7 0 ∷ []) none) (refl, refl) .0 in
+    let z = ap (λ (r : SheetAdded). getD (r .numbers) 0 0) e in
+    omega arith

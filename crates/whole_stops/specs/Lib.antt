@@ -1,0 +1,3 @@
+pub mod Stopped
+pub mod StoppedSheet
+pub mod Known
