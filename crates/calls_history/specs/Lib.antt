@@ -14,6 +14,7 @@ pub mod Failures
 pub mod Audited
 pub mod Holders
 pub mod NoneLost
+pub mod Strangers
 pub mod AcceptedAdds
 pub mod Withdrawn
 pub mod NeverDamaged

@@ -10,6 +10,7 @@ use Rattle.host_calls.specs.Audit.{HandsOutOnce, HandsOutFairly, ForgetsNone}
 use Rattle.calls_history.specs.WordsCalls.{answerWords}
 use Rattle.calls_history.specs.Audited as audited
 use Rattle.calls_history.specs.NoneLost as lost
+use Rattle.calls_history.specs.Strangers as strangers
 use Rattle.calls_history.specs.Withdrawn as decided
 
 module _ (s : Sizes) (t : Tables) (laid : layOut s t .answer ≡ Laid) (calls : List HostCall) where
@@ -20,6 +21,7 @@ module _ (s : Sizes) (t : Tables) (laid : layOut s t .answer ≡ Laid) (calls : 
     finished-once = audited.finished-once s t laid calls;
     none-withdrawn = decided.none-withdrawn s t laid calls;
     none-replaced = lost.none-replaced s t laid calls;
+    strangers-turned = strangers.strangers-turned s t laid calls;
   }
 
   pub fairly : HandsOutFairly answerWords s (layOut s t .state) calls

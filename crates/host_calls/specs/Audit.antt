@@ -11,7 +11,7 @@ use Prim.Native.Nat.{ℕ, zero, suc, _≤_, _<_}
 use lib.ListN.{length, getD}
 use Rattle.basics.specs.Base.{pick, occurrences}
 use Rattle.terms.specs.Terms.{Arguments, Finish}
-use Rattle.terms.specs.Runs.{postAdd, postFinish, get}
+use Rattle.terms.specs.Runs.{postAdd, postFinish, get, sizesOf, workerOf, isLoad}
 use Rattle.terms.specs.declared.Sizes.{Sizes}
 use Rattle.terms.specs.declared.HandOut.{HandOut}
 use Rattle.terms.specs.declared.Answer.{Answer}
@@ -96,6 +96,19 @@ pub record TurnedByThree {S : Type 0} (answer : S → HostCall → Replied S) (s
   pub whole-finish : (f : Finish) → answer x (wholeFinish s w f) .reply ≡ one (Refused 3 0)
   pub adds-in-sheet : (l : List Arguments) → answer x (sheet s w l) .reply ≡ each 3 []
 
+-- what a call brings: its sizes, and its worker, if it has one
+abbrev pub sizesIn : HostCall → Sizes
+sizesIn (single i) = sizesOf i
+sizesIn (wholeAdd q w a) = q
+sizesIn (wholeFinish q w f) = q
+sizesIn (sheet q w l) = q
+
+abbrev pub workerIn : HostCall → Option ℕ
+workerIn (single i) = pick (isLoad i) none (some (workerOf i))
+workerIn (wholeAdd q w a) = some w
+workerIn (wholeFinish q w f) = some w
+workerIn (sheet q w l) = some w
+
 -- ---- the claim, of a machine that answers calls, the sizes laid out, the state that laying out left, and a list of
 -- calls. Lists are of any length, so that what is said after the calls is said of every moment.
 module _ {S : Type 0} (answer : S → HostCall → Replied S) (s : Sizes) (t : S) (calls : List HostCall) where
@@ -179,6 +192,14 @@ module _ {S : Type 0} (answer : S → HostCall → Replied S) (s : Sizes) (t : S
   NoneReplaced =
       (w : ℕ) → w < s .workers → (read .pending w ≡ idle → ⊥) → TurnedByThree answer s at-end w
 
+  -- nor does a call that is not this graph's: one with other sizes is turned away by 1, and one of a worker that is not
+  -- there by 2;
+  abbrev pub StrangersTurned : Type 0
+  StrangersTurned =
+      (c : HostCall)
+      → ((sizesIn c ≡ s → ⊥) → next c ≡ Refused 1 0 ∷ [])
+      × ((w : ℕ) → sizesIn c ≡ s → workerIn c ≡ some w → s .workers ≤ w → next c ≡ Refused 2 0 ∷ [])
+
   -- and what was decided stays so: the next call withdraws nothing, and no job's number passes to another
   abbrev pub NoneWithdrawn : Type 0
   NoneWithdrawn =
@@ -192,6 +213,7 @@ module _ {S : Type 0} (answer : S → HostCall → Replied S) (s : Sizes) (t : S
     pub finished-once : FinishedOnce
     pub none-withdrawn : NoneWithdrawn
     pub none-replaced : NoneReplaced
+    pub strangers-turned : StrangersTurned
 
   pub record HandsOutFairly : Type 0 where
     pub none-early : NoneEarly

@@ -11,7 +11,8 @@ use Rattle.basics.specs.Base.{occurrences}
 use Rattle.basics.specs.Laws.{never}
 use Rattle.terms.specs.Terms.{finishOf}
 use Rattle.terms.specs.Runs.{postAdd, postFinish, step, get, load}
-use Rattle.terms.specs.Starred.{S, job, hands}
+use Rattle.terms.specs.Starred.{S, sizes, job, hands}
+use Rattle.terms.specs.declared.Sizes.{Sizes}
 use Rattle.terms.specs.declared.Answer.{Answer}
 use Rattle.terms.specs.declared.Answer.the-variants.{Laid, Loaded, Posted, Going, Ended, NoneReady, Handed, Refused}
 use Rattle.linearization.specs.Calls.{acceptedFinishes}
@@ -24,7 +25,7 @@ use Rattle.host_calls.specs.Audit.{here, later, GetAnswered, none-ready,
 use Rattle.host_calls.specs.Audit.{handedIn, toldBy, failedFinishes, HandedOnce}
 use Rattle.host_calls.specs.Audit.{AddedOnce, FinishedOnce, NoneEarly}
 use Rattle.host_calls.specs.Audit.{GetsAnswered, NoneForgotten, HandedToAsker, NoneHeldUp, NoneLeft}
-use Rattle.host_calls.specs.Audit.{FinishedByHolder}
+use Rattle.host_calls.specs.Audit.{FinishedByHolder, StrangersTurned}
 use Rattle.host_calls.specs.Served.{namesListed}
 use Rattle.host_calls.specs.WrongCalls.{calling}
 
@@ -198,3 +199,33 @@ pub adds-circle : NoneLeft script S (ends ∷ ends ∷ one NoneReady ∷ [])
     (wholeAdd S 0 (job 7 (8 ∷ [])) ∷ wholeAdd S 1 (job 8 (7 ∷ [])) ∷ []) → ⊥
 unfolding computing
 adds-circle all = omega (arith, all (λ w. refl) (λ w h. refl) S 0 refl 0 (omega arith))
+
+-- ---- strangers: a post with other sizes, which takes the place of a call half done, and a call of a worker that is not
+-- there, whose half done call no get waits for; whole calls and sheets of both
+abbrev other : Sizes
+other = sizes 1 4
+
+abbrev first : List Answer → ℕ
+first [] = 0
+first (x ∷ l) = number x
+
+others : other ≡ S → ⊥
+others e = omega (arith, ap (λ (z : Sizes). z .jobs) e)
+
+pub takes-other-sizes : StrangersTurned script S (one Posted ∷ one Posted ∷ []) (single (postAdd S 0 (job 1 [])) ∷ [])
+    → ⊥
+unfolding computing
+takes-other-sizes turned = omega (arith, ap first (turned (single (postAdd other 0 (job 2 []))) .0 others))
+
+pub adds-by-other-sizes : StrangersTurned script S (each 0 (Ended ∷ []) ∷ []) [] → ⊥
+unfolding computing
+adds-by-other-sizes turned = omega (arith, ap first (turned (sheet other 0 (job 1 [] ∷ [])) .0 others))
+
+pub takes-nobodys-post : StrangersTurned script S (one Posted ∷ []) [] → ⊥
+unfolding computing
+takes-nobodys-post turned =
+    omega (arith, ap first (turned (single (postAdd S 2 (job 1 []))) .1 2 refl refl (omega arith)))
+
+pub finishes-for-nobody : StrangersTurned script S (ends ∷ hands-one ∷ ends ∷ []) (one-in ∷ asking 0 ∷ []) → ⊥
+unfolding computing
+finishes-for-nobody turned = omega (arith, ap first (turned (finishing-one 2) .1 2 refl refl (omega arith)))

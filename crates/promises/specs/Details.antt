@@ -66,7 +66,7 @@ use Rattle.arguments.specs.Lists.{Inside, contains-means, Twice, repeats-means,
 use Rattle.arguments.specs.Judged.{Lists, listed-means, Judges, judged-alone}
 use Rattle.pinned.specs.AddPosts.{Post, AddsExactly, item-adds-exactly, adds-alone, ByFive, five-means}
 use Rattle.pinned.specs.Five as five
-use Rattle.pinned.specs.FreshWords.{LaysFresh, lays-fresh, lays-alone}
+use Rattle.pinned.specs.FreshWords.{LaysFresh, lays-alone}
 use Rattle.pinned.specs.Numerals.{Pinned, pinned}
 use Rattle.day_cases.specs.Decimal.{Decimal, decimal-means}
 use Rattle.day_cases.specs.DayRows.{DayRows}
@@ -702,12 +702,7 @@ pub drained-exactly-by-one-function-alone : (ask : AskDrained)
     → ((s : Sizes) (t : Tables) → DrainedExactly ask s t) → (s : Sizes) (t : Tables) → ask s t ≡ drainedWords s t
 drained-exactly-by-one-function-alone = only-drained-words
 
--- Laying out succeeds exactly if the sizes lie in their limits and each table is long enough; then the words needed are
--- a fresh graph, each word by its place and numeral, whatever they were, and the rest is as it was. Else it is refused
--- by 1, and nothing is changed. No table's length is. One laying-out alone does so.
-pub a-fresh-graph-is-these-words : (s : Sizes) (t : Tables) → LaysFresh layOut s t
-a-fresh-graph-is-these-words = lays-fresh
-
+-- One laying-out alone leaves a fresh graph (`a-fresh-graph-is-these-words` of Promises.antt).
 pub laid-so-by-one-laying-out-alone : (lay : Sizes → Tables → Outcome Tables)
     → ((s : Sizes) (t : Tables) → LaysFresh lay s t) → (s : Sizes) (t : Tables) → lay s t ≡ layOut s t
 laid-so-by-one-laying-out-alone = lays-alone

@@ -42,6 +42,7 @@ use Rattle.sheet_format.specs.Writing.{WritesSheetExactly}
 use Rattle.sheet_format.specs.Write.{jobOf, entriesOf, writeSheet}
 use Rattle.sheet_format.specs.declared.SheetWrote.{SheetWrote}
 use Rattle.locality.specs.Need.{KeepsToNeed}
+use Rattle.pinned.specs.FreshWords.{LaysFresh, lays-fresh}
 use Rattle.taskgraph_heard.specs.ToldApart.{ToldApart, told-apart}
 use Rattle.taskgraph_answer.specs.WholeAnswers.{wholeOf, toldWhole}
 use Rattle.whole_answers.specs.Stopped.{TellsWhole, tells-whole}
@@ -62,7 +63,7 @@ module _ (s : Sizes) (t : Tables) (laid : layOut s t .answer ≡ Laid) (calls : 
   -- ---- THE AUDITOR'S QUESTION: "could a sheet, or the moment at which a worker happens to run, bring a canal split
   -- forward of the reach it rests on, or have it worked twice?" By calls and replies alone.
   -- Each job is handed out at most once, a name is added once, and at most one finish of it is accepted; what was
-  -- decided stays so, and no call takes the place of one half done.
+  -- decided stays so, no call takes the place of one half done, and a call with other sizes or of no worker is refused.
   pub no-job-is-handed-out-twice : HandsOutOnce answerWords s fresh calls
   no-job-is-handed-out-twice = question.once s t laid calls
 
@@ -119,6 +120,12 @@ module _ (t : Tables) (i : Item) where
   -- them afterwards, the rest is as it was, and so is each table's length.
   pub nothing-past-the-need-is-touched : KeepsToNeed perform t i
   nothing-past-the-need-is-touched = within.keeps-to-need t i
+
+-- Laying out succeeds exactly if the sizes lie in their limits and each table is long enough; then the words needed are
+-- a fresh graph, each word by its place and numeral, whatever they were, and the rest is as it was. Else it is refused
+-- by 1, and nothing is changed. No table's length is.
+pub a-fresh-graph-is-these-words : (s : Sizes) (t : Tables) → LaysFresh layOut s t
+a-fresh-graph-is-these-words = lays-fresh
 
 -- "equal those of the single adds with no other worker's step between": a whole call replies what the items that it is
 -- worth answer, and leaves what they leave.

@@ -1,8 +1,10 @@
 -- The struct of the C interface for the calls of the graph: for each case of an answer the number and the values that
 -- docs/RULES.md, "Turned-away calls" and "Steps", has for it. What does not belong to a case is 0. Assumes nothing.
 use mathlib.Core.Path.{_≡_}
+use mathlib.Core.Bool.{not}
 use Prim.Native.Nat.{ℕ}
-use Rattle.terms.specs.Terms.{bit}
+use lib.Dec.{eqb}
+use Rattle.terms.specs.Terms.{bit, Finish, finishOf}
 use Rattle.terms.specs.Runs.{Outcome}
 use Rattle.terms.specs.declared.Answer.{Answer}
 use Rattle.words.specs.Layout.{Tables}
@@ -61,6 +63,10 @@ graphAnswer (Answer.Handed h) =
     }
 graphAnswer (Answer.Refused number place) =
     record { kind = kindRefused; number = number; place = place; job = 0; name = 0; spoiled = 0 }
+
+-- the finish that C brings by a name and a number: "Any number but 0 counts as failed"
+abbrev pub finishTaken : ℕ → ℕ → Finish
+finishTaken name outcome = finishOf name (not (eqb outcome 0))
 
 -- a call answers so and leaves these tables: those of a definition's outcome, as C has them
 abbrev pub Gives : GraphAnswer → Tables → Outcome Tables → Type 0

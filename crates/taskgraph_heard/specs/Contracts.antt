@@ -2,23 +2,17 @@
 -- those of a definition's outcome, so that no call answers rightly and leaves its work undone; and the tables of a
 -- contract are what lies behind the five references, each in its place, as the call begins and as it ends. Follows
 -- docs/RULES.md, "Steps" and "Whole calls", and include/taskgraph.h. (WrongContracts.antt has contracts that say less.)
-use mathlib.Core.Path.{_≡_, refl, ap, _∙_}
-use mathlib.Core.List.{List, [], _∷_}
-use mathlib.Core.Option.{some}
+use mathlib.Core.Path.{_≡_, refl, ap}
+use mathlib.Core.List.{List}
 use Prim.Native.Nat.{ℕ}
-use native.Mathlib.Omega.{arith}
-use lib.ListN.{length, getD}
 use denote.Ref.{RefT, now}
-use Rattle.terms.specs.Runs.{Outcome, outcome}
-use Rattle.terms.specs.declared.Answer.the-variants.{Ended, Refused}
-use Rattle.words.specs.Layout.{Tables, tables, Lent, atEntry, atExit}
-use Rattle.whole_words.specs.Sheet.{SheetOutcome, sheetOutcome}
-use Rattle.sheet_rows.specs.SheetRows.{sheetAdded, turnedAway, Added}
+use Rattle.terms.specs.Runs.{Outcome}
+use Rattle.words.specs.Layout.{Tables, Lent, atEntry, atExit}
+use Rattle.whole_words.specs.Sheet.{SheetOutcome}
+use Rattle.sheet_rows.specs.SheetRows.{sheetAdded, Added}
 use Rattle.sheet_rows.specs.declared.SheetAdded.{SheetAdded}
 use Rattle.taskgraph_answer.specs.Answers.{graphAnswer, Gives}
-use Rattle.taskgraph_answer.specs.Heard.{heard, answers-heard}
-use Rattle.taskgraph_answer.specs.WholeAnswers.{wholeOf, GivesWhole}
-use Rattle.taskgraph_answer.specs.HeardWhole.{heardWhole, wholes-heard}
+use Rattle.taskgraph_answer.specs.WholeAnswers.{wholeOf, toldWhole, GivesWhole}
 use Rattle.taskgraph_answer.specs.declared.GraphAnswer.{GraphAnswer}
 
 -- each of the five tables is the same
@@ -37,12 +31,12 @@ pub record Behind (t : Tables) (j a b q w : RefT (List ℕ)) : Type 0 where
   pub queue : t .queue ≡ now q
   pub workers : t .workers ≡ now w
 
--- a contract of a call that answers by the struct r and leaves the tables t: the outcome's answer is heard in r, and
--- its tables are left
+-- a contract of a call that answers by the struct r and leaves the tables t: the outcome's answer is told by r, all of
+-- it (what is heard in it: ToldApart.antt), and its tables are left
 abbrev pub GivesAll : (GraphAnswer → Tables → Outcome Tables → Type 0) → Type 0
 GivesAll gives =
     (r : GraphAnswer) (t : Tables) (o : Outcome Tables) → gives r t o
-    → (heard r ≡ some (o .answer)) × SameTables t (o .state)
+    → (r ≡ graphAnswer (o .answer)) × SameTables t (o .state)
 
 -- the same of a sheet: what is told is all of `sheetAdded` (what is heard in it: whole_answers, specs/SheetHeard.antt)
 abbrev pub AddsAll : (SheetAdded → Tables → ℕ → SheetOutcome → Type 0) → Type 0
@@ -54,7 +48,7 @@ AddsAll added =
 abbrev pub GivesAllWhole : (GraphAnswer → Tables → Tables → ℕ → Outcome Tables → Type 0) → Type 0
 GivesAllWhole gives =
     (r : GraphAnswer) (t u : Tables) (w : ℕ) (o : Outcome Tables) → gives r t u w o
-    → (heardWhole r ≡ some (wholeOf u w o)) × SameTables t (o .state)
+    → (r ≡ toldWhole (wholeOf u w o)) × SameTables t (o .state)
 
 pub record Contracts : Type 0 where
   pub gives : GivesAll Gives
@@ -76,10 +70,9 @@ same-tables e = record {
 
 pub contracts : Contracts
 contracts = record {
-  gives = λ r t o g. (ap heard (g .0) ∙ answers-heard .heard-as-told (o .answer), same-tables (g .1));
+  gives = λ r t o g. (g .0, same-tables (g .1));
   added = λ r t stop o g. (g .0, same-tables (g .1));
-  gives-whole = λ r t u w o g.
-      (ap heardWhole (g .0) ∙ wholes-heard .heard-as-told (wholeOf u w o), same-tables (g .1));
+  gives-whole = λ r t u w o g. (g .0, same-tables (g .1));
   begins = λ j a b q w. record { jobs = refl; arcs = refl; buckets = refl; queue = refl; workers = refl };
   ends = λ j a b q w. record { jobs = refl; arcs = refl; buckets = refl; queue = refl; workers = refl };
 }

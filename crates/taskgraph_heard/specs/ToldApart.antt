@@ -4,10 +4,13 @@
 -- in its WrongHeard.antt. Follows docs/RULES.md, "Steps", "Turned-away calls", "Tables and their measures", "The board
 -- and the day list", and docs/SHEETS.md. Assumes nothing.
 use mathlib.Core.Path.{_≡_, refl, ap, _∙_}
+use mathlib.Core.Logic.{_≢_}
+use mathlib.Core.Bool.{true, false}
 use mathlib.Core.List.{List, [], _∷_, map}
 use Prim.Native.Nat.{ℕ, zero, suc, _+_, _*_, _/_, _≤_, _<_}
 use native.Mathlib.Omega.{arith}
 use lib.ListN.{length, getD}
+use borrow.Author.Tests.{eq-eqb, ne-eqb}
 use Rattle.basics.specs.Laws.{pick-by}
 use Rattle.terms.specs.Terms.{Arguments, noArguments, Finish}
 use Rattle.terms.specs.Runs.{Item, postAdd, postFinish, step, get, load, Outcome}
@@ -23,7 +26,7 @@ use Rattle.sheet_rows.specs.SheetRows.{addsOf, rowsWords}
 use Rattle.sheet_rows.specs.Arguments.{argumentsOf}
 use Rattle.sheet_rows.specs.declared.SheetAdded.{SheetAdded}
 use Rattle.whole_answers.specs.Heard as whole
-use Rattle.taskgraph_answer.specs.Answers.{graphAnswer}
+use Rattle.taskgraph_answer.specs.Answers.{graphAnswer, finishTaken}
 use Rattle.taskgraph_answer.specs.Heard as answer
 use Rattle.taskgraph_answer.specs.WholeAnswers.{toldWhole}
 use Rattle.taskgraph_answer.specs.HeardWhole as wholly
@@ -88,6 +91,12 @@ pub record AddTaken (a : Arguments) (e : Entry) : Type 0 where
   pub class : a .class ≡ e .class
   pub grower : a .grower ≡ e .grower
 
+-- a finish of a name with an outcome: good just if the number is 0
+pub record FinishTaken (f : Finish) (name outcome : ℕ) : Type 0 where
+  pub named : f .name ≡ name
+  pub good : outcome ≡ 0 → f .failed ≡ false
+  pub failed : outcome ≢ 0 → f .failed ≡ true
+
 -- "Adds the entries of all rows": an add for each 36 words, in order
 pub record SheetTaken (l : List Arguments) (r : List ℕ) : Type 0 where
   pub many : length l ≡ length r / 36
@@ -134,6 +143,8 @@ pub record ToldApart : Type 0 where
   -- so are those that it hands over to be added, which tg_post_add, tg_add and tg_add_sheet take
   pub adds-taken : (e : Entry) → AddTaken (argumentsOf e) e
   pub sheets-taken : (r : List ℕ) → SheetTaken (addsOf r) r
+  -- what tg_post_finish and tg_finish take for an outcome
+  pub finishes-taken : (name outcome : ℕ) → FinishTaken (finishTaken name outcome) name outcome
   -- tg_written, of tg_write_entry (taskgraph_writer)
   pub entries-written : writer.EntriesHeard entryWritten
   pub how-written : (e : Entry) (out : List ℕ) (start : ℕ) → writer.Writes (writeEntry e out start .answer)
@@ -182,6 +193,13 @@ laid-or-not : (s : Sizes) (t : Tables) → LaidOrNot (layOut s t .answer)
 unfolding layOut
 laid-or-not s t =
     pick-by (λ (o : Outcome Tables). LaidOrNot (o .answer)) (roomFor s t) (λ e. laid) (λ e. LaidOrNot.by-1)
+
+finish-taken : (name outcome : ℕ) → FinishTaken (finishTaken name outcome) name outcome
+finish-taken name outcome = record {
+  named = refl;
+  good = λ e. rw (eq-eqb outcome 0 e) refl;
+  failed = λ e. rw (ne-eqb outcome 0 e) refl;
+}
 
 -- the entries of rows, one after another
 module _ (r : List ℕ) where
@@ -232,6 +250,7 @@ told-apart = record {
   rows-taken = λ r i. refl;
   adds-taken = λ e. record { name = refl; count = refl; names = refl; class = refl; grower = refl };
   sheets-taken = taken;
+  finishes-taken = finish-taken;
   entries-written = writer.entries-heard;
   how-written = writer.how-written;
   sheets-written = writer.sheets-heard;

@@ -1,15 +1,16 @@
--- Ways to take a tg_entry or rows for adds that are not what a host handed over, each refuted by one of them. Assumes
--- nothing.
-use mathlib.Core.Path.{_≡_}
+-- Ways to take a tg_entry, rows or an outcome for what a host did not hand over, each refuted by one of them.
+use mathlib.Core.Path.{_≡_, refl, sym}
+use mathlib.Core.Bool.{true≢false}
 use mathlib.Core.List.{List, [], _∷_, _++_, map}
 use Prim.Native.Nat.{ℕ}
 use native.Mathlib.Omega.{arith}
+use lib.Dec.{eqb}
 use lib.ListN.{drop, replicate}
-use Rattle.terms.specs.Terms.{Arguments}
+use Rattle.terms.specs.Terms.{Arguments, finishOf}
 use Rattle.sheet_format.specs.Write.{entriesFrom, entriesOf}
 use Rattle.sheet_format.specs.declared.Entry.{Entry}
 use Rattle.sheet_rows.specs.Arguments.{argumentsOf}
-use Rattle.taskgraph_heard.specs.ToldApart.{AddTaken, SheetTaken}
+use Rattle.taskgraph_heard.specs.ToldApart.{AddTaken, SheetTaken, FinishTaken}
 
 -- the class is taken for the grower, and the grower for the class
 abbrev swapped : Entry → Arguments
@@ -38,3 +39,10 @@ pub taken-backwards : ((r : List ℕ) → SheetTaken (backwards [] (map argument
 unfolding entriesFrom backwards
 taken-backwards h =
     let z : _≡_ {A = ℕ} 2 1 = h (replicate 36 1 ++ replicate 36 2) .each 0 (omega arith) .name in omega arith
+
+-- a finish is taken for failed only at 1, so that any other slip calls good what was not; and good and failed exchanged
+pub failed-only-at-1 : ((name outcome : ℕ) → FinishTaken (finishOf name (eqb outcome 1)) name outcome) → ⊥
+failed-only-at-1 h = true≢false (sym (h 7 2 .failed (λ e. omega (arith, e))))
+
+pub good-as-failed : ((name outcome : ℕ) → FinishTaken (finishOf name (eqb outcome 0)) name outcome) → ⊥
+good-as-failed h = true≢false (h 7 0 .good refl)

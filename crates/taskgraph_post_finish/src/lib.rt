@@ -2,12 +2,9 @@
 // outcome, 0 for good and any other number for failed. A slice is a pointer and a count of elements in C; answers are
 // structs by value. include/taskgraph.h declares all of this. Follows docs/RULES.md, "Steps" and "Turned-away calls".
 // Assumes nothing but that a pointer with a count points to that many elements.
-ghost use mathlib.Core.Bool.{not};
-ghost use lib.Dec.{eqb};
-ghost use Rattle.terms.specs.Terms.{finishOf};
 ghost use Rattle.words.specs.Layout.{atEntry, atExit};
 ghost use Rattle.words.specs.Words.{finishWords};
-ghost use Rattle.taskgraph_answer.specs.Answers.{Gives};
+ghost use Rattle.taskgraph_answer.specs.Answers.{Gives, finishTaken};
 use taskgraph_answer::GraphAnswer;
 use taskgraph_answer::answered;
 use terms::Sizes;
@@ -27,7 +24,7 @@ pub extern "C" fn tg_post_finish(
 ) -> GraphAnswer
     ensures { λ r. ⌜ Gives r (atExit jobs arcs buckets queue workers)
         (finishWords sizes (atEntry jobs arcs buckets queue workers) worker
-        (finishOf name (not (eqb outcome 0)))) ⌝ }
+        (finishTaken name outcome)) ⌝ }
 {
     answered(graph_post_finish::post_finish(
         sizes,

@@ -1,11 +1,9 @@
 // An add and a finish run whole as C has them: posted, and stepped to the end, in one call. A slice is a pointer and a
 // count of elements in C; answers are structs by value. include/taskgraph.h declares all of this. Follows
 // docs/RULES.md, "Whole calls". Assumes nothing but that a pointer with a count points to that many elements.
-ghost use mathlib.Core.Bool.{not};
-ghost use lib.Dec.{eqb};
-ghost use Rattle.terms.specs.Terms.{finishOf};
 ghost use Rattle.words.specs.Layout.{atEntry, atExit};
 ghost use Rattle.whole_words.specs.Whole.{wholeAdd, wholeFinish};
+ghost use Rattle.taskgraph_answer.specs.Answers.{finishTaken};
 ghost use Rattle.taskgraph_answer.specs.WholeAnswers.{GivesWhole};
 ghost use Rattle.sheet_rows.specs.Arguments.{argumentsOf};
 use sheet_format::Entry;
@@ -57,7 +55,7 @@ pub extern "C" fn tg_finish(
     ensures { λ r. ⌜ GivesWhole r (atExit jobs arcs buckets queue workers)
         (atEntry jobs arcs buckets queue workers) worker
         (wholeFinish sizes (atEntry jobs arcs buckets queue workers) worker
-        (finishOf name (not (eqb outcome 0)))) ⌝ }
+        (finishTaken name outcome)) ⌝ }
 {
     let before = phase_of(workers, sizes.workers, worker);
     let answer = answered(whole_finish::finish_whole(

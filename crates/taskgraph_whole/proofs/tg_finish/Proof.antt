@@ -3,7 +3,7 @@
 -- Assumes nothing.
 use mathlib.Core.Bool.{not}
 use lib.Dec.{ltb, eqb}
-use Rattle.terms.specs.Terms.{finishOf}
+use Rattle.taskgraph_answer.specs.Answers.{finishTaken}
 use Rattle.words.specs.Layout.{tables}
 use borrow.Author.Needs.{needs}
 use Rattle.whole_stops.specs.Known.{unknown-finish}
@@ -54,7 +54,7 @@ returns c =
     let a = c21 .before .before .before .before .before .before .before .args in
     let t = tables (a .jobs .now) (a .arcs .now) (a .buckets .now) (a .queue .now) (a .workers .now) in
     whole-in-c t (a .worker) (ltb (a .worker) (a .sizes .workers)) (c15 .finish-whole .ensures)
-    (λ e. unknown-finish (a .sizes) t (a .worker) e (finishOf (a .name) (not (eqb (a .outcome) 0)))) (c4 .answered .ensures) (c21 .phase-of .ensures)
+    (λ e. unknown-finish (a .sizes) t (a .worker) e (finishTaken (a .name) (a .outcome))) (c4 .answered .ensures) (c21 .phase-of .ensures)
     (c .before .before .phase-of2 .ensures) (c .before .stopped-as .ensures) (c .whole-answered .ensures)
 
 pub tg-finish-spec : {M : Type 1} → statement M
