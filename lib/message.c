@@ -1,5 +1,5 @@
 /* The texts of the numbers, and the version. This file is not proved: it is two look-ups of constants, and
- * scripts/check-numbers compares every text with docs/NUMBERS.md. */
+ * tests/test_numbers.py compares every text with docs/NUMBERS.md. */
 #include "taskgraph.h"
 
 static const char *const texts[] = {

@@ -15,7 +15,7 @@ fn main() {
     println!("cargo:rustc-link-lib=static=taskgraph");
     if !archive.is_file() {
         println!("cargo:warning={} is missing, so nothing links", archive.display());
-        println!("cargo:warning=`bash scripts/library`, in the repository of taskgraph, writes it");
+        println!("cargo:warning=`scripts/library`, in the repository of taskgraph, writes it");
     }
 }
 

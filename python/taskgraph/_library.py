@@ -10,7 +10,7 @@ VARIABLE = "TASKGRAPH_LIBRARY"
 INSTALLED = ("libtaskgraph.so.5", "libtaskgraph.so")
 HOW = f"""\
 Build one in the repository of the task graph:
-    bash scripts/install PREFIX
+    scripts/install PREFIX
 and name PREFIX/lib/libtaskgraph.so in the environment variable {VARIABLE}, or by taskgraph.load(PATH)."""
 
 

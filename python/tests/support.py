@@ -10,7 +10,7 @@ import sys
 TOP = pathlib.Path(__file__).resolve().parents[2]
 # the package of this repository, not an installed one
 sys.path.insert(0, str(TOP / "python"))
-BUILT = TOP / "target/host/libtaskgraph.so"
+BUILT = TOP / "target/staticlib/libtaskgraph.so"
 if BUILT.is_file():
     os.environ.setdefault("TASKGRAPH_LIBRARY", str(BUILT))
 

@@ -63,7 +63,7 @@ class Missing(unittest.TestCase):
         with mock.patch.dict(os.environ, environment), self.assertRaises(LibraryError) as caught:
             _library.find(*path)
         text = str(caught.exception)
-        self.assertIn("bash scripts/install PREFIX", text)
+        self.assertIn("scripts/install PREFIX", text)
         self.assertIn("TASKGRAPH_LIBRARY", text)
         return text
 

@@ -1,4 +1,4 @@
-//! The declarations of `include/taskgraph.h`, which says what each function answers. `scripts/check-interface` holds
+//! The declarations of `include/taskgraph.h`, which says what each function answers. `tests/test_interface.py` holds
 //! them to it.
 
 use std::{mem::size_of, os::raw::c_char};

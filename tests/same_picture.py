@@ -1,7 +1,4 @@
-#!/usr/bin/env python3
 """Whether two pictures show the same drawing.
-
-usage: same-picture PNG STORED.png
 
 Both are PNGs of 8-bit RGB or RGBA, not interlaced; alpha is not looked at. A pixel is explained if each of its colours
 lies within those that the other picture has up to 2 pixels away, or nearly so. Words that another version of a browser
@@ -11,13 +8,9 @@ the other. The pictures are the same if at most 2 blocks differ.
 
 What may pass: a digit changed, the head of one arrow missing, a dashed line drawn solid, and a pattern changed for
 another of the same colours.
-
-Exit: 0 the same, 1 different (where, and how much, is said), 2 a picture cannot be read.
 """
-
 import itertools
 import struct
-import sys
 import zlib
 
 AWAY = 2  # how far a pixel is looked for
@@ -127,33 +120,15 @@ def different(one, other):
     return {place: max(both) for place, both in counts.items() if max(both) > UNEXPLAINED}
 
 
-def main(arguments):
-    if "--help" in arguments or "-h" in arguments:
-        print(__doc__.strip())
-        return 0
-    if len(arguments) != 2:
-        print("usage: same-picture PNG STORED.png", file=sys.stderr)
-        return 2
-    pictures = []
-    for name in arguments:
-        try:
-            pictures.append(read(name))
-        except (OSError, Unreadable, zlib.error) as error:
-            print(f"same-picture: {name}: {error}", file=sys.stderr)
-            return 2
-    (width, one), (other_width, other) = pictures
-    if (width, len(one)) != (other_width, len(other)):
-        print(f"different: {width} x {len(one)} pixels, stored {other_width} x {len(other)}")
-        return 1
+def compare(name, stored):
+    """What tells two pictures apart, a line each; none where they are the same."""
+    (width, one), (stored_width, other) = read(name), read(stored)
+    if (width, len(one)) != (stored_width, len(other)):
+        return [f"{width} x {len(one)} pixels, stored {stored_width} x {len(other)}"]
     blocks = different(one, other)
     if len(blocks) <= BLOCKS:
-        print(f"the same: {len(blocks)} blocks differ")
-        return 0
-    told = [f"different: {len(blocks)} blocks of {BLOCK} x {BLOCK} pixels, where {BLOCKS} may"]
+        return []
+    told = [f"{len(blocks)} blocks of {BLOCK} x {BLOCK} pixels differ, where {BLOCKS} may"]
     for (column, row), pixels in sorted(blocks.items(), key=lambda block: -block[1])[:TOLD]:
-        told.append(f"  at x {column * BLOCK}, y {row * BLOCK}: {pixels} pixels are not in the other picture")
-    print("\n".join(told))
-    return 1
-
-
-sys.exit(main(sys.argv[1:]))
+        told.append(f"at x {column * BLOCK}, y {row * BLOCK}: {pixels} pixels are not in the other picture")
+    return told

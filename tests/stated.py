@@ -1,5 +1,47 @@
-"""The names of the numbers and limits, in definitions, code and docs."""
-from compare import HEADER, RULES, SHEETS, TABLES
+"""Where numbers and limits are stated, and by which names: in the header, the pages, the definitions and the code."""
+from helper import SHARED, TOP, Cases
+
+HEADER, TEXTS = "include/taskgraph.h", "lib/message.c"
+NUMBERS, SHEETS, RULES, TABLES, HOSTS = (
+    f"docs/{name}.md" for name in ("NUMBERS", "SHEETS", "RULES", "TABLES", "HOSTS"))
+
+
+class Stated(Cases):
+    needs = (SHARED,)
+
+    def agree(self, what, one, other):
+        """Compares two values, each with the place where it stands."""
+        self.same(f"{what}: {one[1]}, held to {other[1]}", one[0], other[0])
+
+    def says(self, path, sentence, place):
+        """A page has a sentence, however its lines are broken."""
+        text = " ".join((TOP / path).read_text().replace("\n *", "\n").split())
+        found = " ".join(sentence.split()) in text
+        self.agree(repr(sentence), ("said" if found else "not said", path), ("said", place))
+
+
+def lines(path):
+    for number, line in enumerate((TOP / path).read_text().splitlines(), 1):
+        yield f"{path}:{number}", line
+
+
+def number(cell):
+    """A figure of a table, written with or without commas."""
+    cell = cell.replace(",", "").strip("` ")
+    return int(cell) if cell.isdigit() else cell
+
+
+def rows(path, heading, columns):
+    """The rows of the tables under a heading that have so many columns, without their first two lines."""
+    under, table = False, 0
+    for place, line in lines(path):
+        if line.startswith("#"):
+            under = line.lstrip("# ") == heading
+        table = table + 1 if line.startswith("|") else 0
+        cells = [cell.strip() for cell in line.strip().strip("|").split("|")]
+        if under and table > 2 and len(cells) == columns:
+            yield place, cells
+
 
 # What definitions and code call a number or limit of the header. A name in a crate that the pattern matches.
 SHEET_CRATES = "sheet|entry|day"

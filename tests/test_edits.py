@@ -1,15 +1,8 @@
-#!/usr/bin/env python3
-"""Sees that each must-fail edit can be made: that the text it replaces stands in its file once.
+"""Each must-fail edit can be made: the text that it replaces stands in its file once.
 
-usage: check-edits
-
-The gate (rt ci) tries the edits after it has proved every crate; this says in a second which of them no longer fits the code.
-Prints each that does not, and last how many do; exit status 1 where one does not.
+The gate (rt ci) tries the edits after it has proved every crate; this says in a second which no longer fits the code.
 """
-import sys
-from pathlib import Path
-
-TOP = Path(__file__).resolve().parent.parent
+from helper import TOP, Cases
 
 
 def fault(edit):
@@ -34,14 +27,7 @@ def fault(edit):
     return None if pairs else "it has no `old:` and `new:` pair"
 
 
-def main():
-    edits = sorted(TOP.glob("crates/*/must-fail/*.edit"))
-    faults = [(edit, why) for edit in edits if (why := fault(edit))]
-    for edit, why in faults:
-        print(f"{edit.relative_to(TOP)}: {why}")
-    print(f"{len(edits) - len(faults)} passed, {len(faults)} failed")
-    sys.exit(1 if faults else 0)
-
-
-if __name__ == "__main__":
-    main()
+class Edits(Cases):
+    def test_edits(self):
+        for edit in sorted(TOP.glob("crates/*/must-fail/*.edit")):
+            self.same(edit.relative_to(TOP), fault(edit), None)

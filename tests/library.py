@@ -1,8 +1,7 @@
-"""The library through ctypes, as far as numbers, limits and sheets need it."""
+"""The shared library through ctypes, as far as numbers, limits and sheets need it."""
 import ctypes as c
-import subprocess
 
-from compare import ARCHIVE, top
+from helper import SHARED
 
 
 class Sizes(c.Structure):
@@ -26,12 +25,8 @@ class Written(c.Structure):
     _fields_ = [("number", c.c_uint32), ("at", c.c_size_t)]
 
 
-def load(folder):
-    """The archive as a shared object."""
-    shared = f"{folder}/libtaskgraph.so"
-    whole = ["-Wl,--whole-archive", str(top / ARCHIVE), "-Wl,--no-whole-archive"]
-    subprocess.run(["gcc", "-shared", "-o", shared, *whole], check=True)
-    library, size, word = c.CDLL(shared), c.c_size_t, c.c_uint32
+def load():
+    library, size, word = c.CDLL(str(SHARED)), c.c_size_t, c.c_uint32
     for name, answer, *arguments in [
         ("tg_message", c.c_char_p, word), ("tg_version", c.c_char_p),
         ("tg_minutes", word, word), ("tg_bucket", word, word, word),
