@@ -1,15 +1,21 @@
 """The lists of the C interface's functions agree.
 
 The header, include/taskgraph.h, is what the others are held to. What target/staticlib/libtaskgraph.a exports and what
-host/c/check.c calls are the functions that it declares, by name. What rust/src/ffi.rs declares for Rust has the same
-structs, field by field, and the same functions, parameter by parameter; its constants, and those of rust/src/raw.rs,
-have the header's values. Only names with the prefix tg_ count.
+host/c/check.c calls are the functions that it declares, by name. What is proved in crates/, and what rust/src/ffi.rs
+declares for Rust, has the same structs, field by field, and the same functions, parameter by parameter; the constants of
+ffi.rs and of rust/src/raw.rs have the header's values. Only names with the prefix tg_ count.
 """
 import re
 
 from helper import ARCHIVE, TOP, Cases, run
 
 HEADER, RUST = "include/taskgraph.h", "rust/src/ffi.rs"
+# The structs of crates/ that the header calls otherwise, and the functions that are C's.
+CALLED = {
+    "GraphAnswer": "Answer", "EntryRead": "Reading", "SheetScanned": "Sheet", "EntryWritten": "Written",
+    "Drained": "DrainedAnswer", "DayPrinted": "Day",
+}
+IN_C = ("tg_message", "tg_version")
 
 
 def without_comments(path):
@@ -86,6 +92,23 @@ def rust_declarations(path):
     return found
 
 
+def proved_declarations():
+    """The structs and functions of crates/ that C sees. A slice is a pointer and a count."""
+    found = {}
+    for path in sorted(TOP.glob("crates/*/src/**/*.rt")):
+        text = without_comments(path)
+        for name, fields in re.findall(r"#\[repr\(C\)\]\s*pub struct (\w+) \{(.*?)\n\}", text, flags=re.S):
+            found[name] = ", ".join(field.removeprefix("pub ") for field in pieces(fields, ","))
+        for name, parameters, answer in re.findall(r'pub extern\s+fn (tg_\w+)\((.*?)\) -> (\w+)', text, flags=re.S):
+            listed = ", ".join(pieces(parameters, ","))
+            for lent, pointer in ("&mut ", "*mut"), ("&", "*const"):
+                listed = re.sub(rf"(\w+): {lent}\[(\w+)\]", rf"\1: {pointer} \2, \1_len: usize", listed)
+            found[name] = f"({listed}) -> {answer}"
+    called = re.compile(rf"\b({'|'.join(CALLED)})\b")
+    return {called.sub(lambda name: CALLED[name[1]], name): called.sub(lambda name: CALLED[name[1]], said)
+            for name, said in found.items()}
+
+
 def constants(pattern, path):
     return {name: value.replace("_", "") for name, value in re.findall(pattern, without_comments(path))}
 
@@ -108,6 +131,13 @@ class Interface(Cases):
 
     def test_declarations(self):
         self.compare(RUST, rust_declarations(RUST), c_declarations(HEADER))
+
+    def test_proved(self):
+        """By numerals: crates/ may call a length otherwise."""
+        header = constants(r"\bTG_(\w+) = (\w+)", HEADER)
+        wanted = {name: re.sub(r"; (\w+)\]", lambda length: f"; {header.get(length[1], length[1])}]", said)
+                  for name, said in c_declarations(HEADER).items() if name not in IN_C}
+        self.compare("crates/", proved_declarations(), wanted)
 
     def test_constants(self):
         header = constants(r"\bTG_(\w+) = (\w+)", HEADER)
