@@ -1,15 +1,14 @@
 // The day list as a program: a sheet from standard input, the list to standard output. A read or a write that fails is
 // said on standard error; after a failed read nothing is printed. Follows docs/RULES.md, "The board and the day list"
-// (R 256, A 1,024, b 4, P 2). What it prints is the library's: day_of_two says it.
+// (R 256, A 1,024, b 4, P 2). What it prints is the library's: day_of_two says it. No contract says
+// that the bytes which are read are the sheet, or that those printed are written: that is the system's, and this file's.
 use day_input::read_whole;
 use day_of_two::OUT_BYTES;
-use day_of_two::day_list_of_two;
+use day_of_two::SHEET_BYTES;
+use day_of_two::day_list_of_input;
 use libc::STDERR_FILENO;
 use libc::STDIN_FILENO;
 use libc::STDOUT_FILENO;
-
-// One byte more than the longest sheet, so that a longer one is seen.
-const SHEET_BYTES: usize = 32769;
 
 // Writes the bytes that were printed.
 fn show(out: &[u8], bytes: usize) {
@@ -28,6 +27,6 @@ fn main() {
         return;
     }
     let mut out = [0u8; OUT_BYTES];
-    let bytes = day_list_of_two(&sheet[..input.bytes], &mut out);
+    let bytes = day_list_of_input(&sheet, input.bytes, &mut out);
     show(&out, bytes);
 }

@@ -22,18 +22,12 @@ write-all-requires c κs = search needs
 returns : tie.Need-returns
 returns c = search needs
 
-array-share-prefix-sheet : tie.Need-array-share-prefix-sheet
-array-share-prefix-sheet c = search needs
-
-slice-aggregate-day-list-of-two : tie.Need-slice-aggregate-day-list-of-two
-slice-aggregate-day-list-of-two c = search needs
-
-day-list-of-two-requires : tie.Need-day-list-of-two-requires
-day-list-of-two-requires c κs = search needs
+day-list-of-input-requires : tie.Need-day-list-of-input-requires
+day-list-of-input-requires c κs = search needs
 
 slice-aggregate-show : tie.Need-slice-aggregate-show
 slice-aggregate-show c =
-    sym (simp length-sets at (ap length (c .before .day-list-of-two .ensures .1)) ∙ length-replicate {A = ℕ} _ 0)
+    sym (simp length-sets at (ap length (c .before .day-list-of-input .ensures .1 .0)) ∙ length-replicate {A = ℕ} _ 0)
 
 show-requires : tie.Need-show-requires
 show-requires c κs = search needs
@@ -45,5 +39,4 @@ pub main-spec : {M : Type 1} → statement M
 main-spec =
     tie.close
     (tie.spec slice-aggregate-read-whole read-whole-requires slice-aggregate-write-all write-all-requires returns
-    array-share-prefix-sheet slice-aggregate-day-list-of-two day-list-of-two-requires slice-aggregate-show
-    show-requires returns-2)
+    day-list-of-input-requires slice-aggregate-show show-requires returns-2)
