@@ -16,7 +16,7 @@ use Rattle.terms.specs.declared.Answer.the-variants.{Laid, Handed}
 use Rattle.words.specs.Layout.{Tables}
 use Rattle.words.specs.Words.{perform, layOut}
 use Rattle.words.specs.Observed.{seen}
-use Rattle.locality.specs.Numbers.{handed-by-get}
+use Rattle.thm_words_refusals.specs.Numbers.{handed-by-get}
 use Rattle.linearization.specs.Calls.{Reading, reading, acceptedAdds, acceptedFinishes}
 use Rattle.linearizability.specs.Demand.{addOf, handedOut, HandedRightly}
 use Rattle.words_history.specs.Lifted as lifted

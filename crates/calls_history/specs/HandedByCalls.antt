@@ -15,8 +15,8 @@ use Rattle.terms.specs.declared.Answer.the-variants.{Laid, Loaded, Posted, Goin
 use Rattle.words.specs.Layout.{Tables}
 use Rattle.words.specs.Words.{perform}
 use Rattle.words.specs.Observed.{seen}
-use Rattle.locality.specs.Numbers as list
-use Rattle.locality.specs.Numbers.{Fits, fits}
+use Rattle.thm_words_refusals.specs.Numbers as list
+use Rattle.thm_words_refusals.specs.Numbers.{Fits, fits}
 use Rattle.linearizability.specs.Demand.{orHanded, handedOut}
 use Rattle.audit.specs.Deeds.{HandsNone}
 use Rattle.host_calls.specs.HostCalls.{HostCall, single, wholeAdd, wholeFinish, sheet, whereGoing, lastAnswer}

@@ -22,7 +22,7 @@ use Rattle.terms.specs.declared.Answer.the-variants.{Laid, Posted, Ended, Hande
 use Rattle.words.specs.Layout.{Tables}
 use Rattle.words.specs.Words.{perform, layOut}
 use Rattle.words_refine_rules.specs.Own.{same-sizes}
-use Rattle.locality.specs.Numbers.{handed-by-get}
+use Rattle.thm_words_refusals.specs.Numbers.{handed-by-get}
 use Rattle.rules.specs.Rules.{Graph, empty, job}
 use Rattle.rules.specs.Rules as rules
 use Rattle.rules_cases.specs.Own.{own-sizes}

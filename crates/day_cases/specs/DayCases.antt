@@ -21,9 +21,9 @@ use Rattle.words.specs.Words.{withSeat, planSettle, planMark, planNotify, planA
 use Rattle.words.specs.Words.{admitted, applied, stepWords, planTake, planQueue, planGet, appliedGet, getWords, posted}
 use Rattle.words.specs.Words.{addWords, finishWords, layOut}
 use Rattle.words.specs.Index.{waits, seatFor, firstSeatBy, shiftedDown, shiftedUp, putSeat, takeSeat}
-use Rattle.locality.specs.Parts.{rest, joined}
-use Rattle.locality.specs.Judged.{room-means}
-use Rattle.locality.specs.Laying.{fresh, lays-out}
+use Rattle.thm_words_tests.specs.Judged.{room-means}
+use Rattle.thm_words_need.specs.Parts.{rest, joined}
+use Rattle.thm_words_loads.specs.Laying.{fresh, lays-out}
 use Rattle.sheet_format.specs.Number.{numberAt}
 use Rattle.sheet_format.specs.Job.{Job}
 use Rattle.sheet_format.specs.Decode.{mapAt, nameAt, limitedAt, listAt, namesAt, decode, decodeFrom, decodeSheet, Sheet}

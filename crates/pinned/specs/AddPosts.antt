@@ -22,11 +22,12 @@ use Rattle.terms.specs.declared.Answer.the-variants.{Posted, Refused}
 use Rattle.words.specs.Columns.{place, header}
 use Rattle.words.specs.Layout.{workerShape, HELD, Tables, tables, view, sizesFit}
 use Rattle.words.specs.Words.{countersOk, ownOk, addingWorker, addWords, perform}
-use Rattle.locality.specs.Parts.{test}
-use Rattle.locality.specs.Judged.{sized-means, own-means, Counters, counters-mean, Admitted, TurnedAway}
-use Rattle.locality.specs.Judged.{by-1, by-2, by-9}
-use Rattle.locality.specs.Comes.{first-of-all, by-3, by-5, counters, add-is-refused, add-is-posted, withWorker}
-use Rattle.locality.specs.Outcomes.{ownWord, own-by-word, MayPost, Counted}
+use Rattle.thm_words_tests.specs.Tests.{test}
+use Rattle.thm_words_tests.specs.Judged.{sized-means, own-means, Counters, counters-mean, Admitted, TurnedAway, by-1}
+use Rattle.thm_words_tests.specs.Judged.{by-2, by-9}
+use Rattle.thm_words_tests.specs.OneWord.{ownWord, own-by-word, MayPost, Counted}
+use Rattle.thm_words_refusals.specs.Comes.{first-of-all, by-3, by-5, counters, add-is-refused, add-is-posted}
+use Rattle.thm_words_refusals.specs.Comes.{withWorker}
 use Rattle.arguments.specs.Judged.{Wrong, right-means, wrong-means, listed-means}
 
 -- ---- the statement

@@ -17,8 +17,8 @@ use Rattle.terms.specs.declared.Answer.{Answer}
 use Rattle.terms.specs.declared.Answer.the-variants.{Refused}
 use Rattle.words.specs.Layout.{Tables}
 use Rattle.words.specs.Words.{addWords, stepWords, perform}
-use Rattle.locality.specs.Parts.{test}
-use Rattle.locality.specs.Numbers.{Fits, going, ended, turned-away, unknown, posted-add, fits}
+use Rattle.thm_words_tests.specs.Tests.{test}
+use Rattle.thm_words_refusals.specs.Numbers.{Fits, going, ended, turned-away, unknown, posted-add, fits}
 use Rattle.whole_words.specs.Whole.{andThen, stepsOf, wholeAdd}
 use Rattle.sequential_model.specs.Book.{Book, Place, nowhere, at, known, full, End, accepted, refused}
 use Rattle.sequential_model.specs.Book.{addKnown, addEnd}

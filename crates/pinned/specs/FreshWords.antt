@@ -18,9 +18,10 @@ use Rattle.terms.specs.declared.Answer.the-variants.{Laid, Refused}
 use Rattle.words.specs.Layout.{Tables, tables, repeated, freshJobs, freshArcs, freshBuckets, freshQueue, freshWorkers}
 use Rattle.words.specs.Layout.{freshJob, freshArc, freshPlace, bareWorker, roomFor}
 use Rattle.words.specs.Words.{layOut}
-use Rattle.locality.specs.Parts.{test, lengths, rest, joined}
-use Rattle.locality.specs.Judged.{Roomy, room-means}
-use Rattle.locality.specs.Laying.{fresh, lays-out}
+use Rattle.thm_words_tests.specs.Tests.{test}
+use Rattle.thm_words_tests.specs.Judged.{Roomy, room-means}
+use Rattle.thm_words_need.specs.Parts.{lengths, rest, joined}
+use Rattle.thm_words_loads.specs.Laying.{fresh, lays-out}
 
 -- ---- the statement
 -- from place i on stand the words r

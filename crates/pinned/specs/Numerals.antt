@@ -33,7 +33,7 @@ use Rattle.words.specs.Layout.{HELD, OWN-NAME, LIST-COUNT, OWN-CLASS, OWN-GROWE
 use Rattle.words.specs.Layout.{NAMES, IDLE, LOOKING, LINKING, MARKING, NOTIFYING}
 use Rattle.words.specs.Sized.{limited-means}
 use Rattle.arguments.specs.Lists.{or-cases, or-first, or-second}
-use Rattle.locality.specs.Parts.{parts}
+use Rattle.thm_words_tests.specs.Tests.{parts}
 
 -- ---- the numbers of "Turned-away calls", and those of later requests
 pub record Refusals : Type 0 where

@@ -18,8 +18,8 @@ use Rattle.terms.specs.declared.Answer.the-variants.{Laid, Loaded, Posted, Goin
 use Rattle.words.specs.Columns.{header, columns}
 use Rattle.words.specs.Layout.{none, PHASE, HELD, IDLE, Tables, tables, view, longEnough, sizesKept, bareWorker}
 use Rattle.words.specs.Words.{ownOk, admitted, refusal, judgedCounters, addingWorker, posted}
-use Rattle.locality.specs.Judged.{sized-means, own-means}
-use Rattle.locality.specs.Outcomes.{MayPost, Counted}
+use Rattle.thm_words_tests.specs.Judged.{sized-means, own-means}
+use Rattle.thm_words_tests.specs.OneWord.{MayPost, Counted}
 use Rattle.sequential_model.specs.Book.{Book, End, refused, addKnown, firstUnknown, known, blank}
 use Rattle.arguments.specs.Judged.{Wrong, class-over, name-twice, wrong-means, right-means}
 use Rattle.arguments.specs.WrongJudges.{job, judgeBy, judgeUpTo, threeRepeat, neighbours}

@@ -16,7 +16,7 @@ use Rattle.terms.specs.declared.Sizes.{Sizes}
 use Rattle.terms.specs.declared.Answer.the-variants.{Laid, Refused}
 use Rattle.words.specs.Layout.{none, Tables, tables, longEnough, roomFor, repeated, freshJobs, freshArcs, freshBuckets}
 use Rattle.words.specs.Layout.{freshQueue, freshWorkers, bareWorker}
-use Rattle.locality.specs.Judged.{Roomy, room-means}
+use Rattle.thm_words_tests.specs.Judged.{Roomy, room-means}
 use Rattle.pinned.specs.FreshWords.{LaysFresh}
 
 -- tables of raw memory, 7 in each word, for R 1, A 1, b 1 and P 1, with one word more than is needed in each

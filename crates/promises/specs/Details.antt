@@ -44,23 +44,25 @@ use Rattle.linearizability.specs.Stays.{Stays}
 use Rattle.words_history.specs.Lifted as lifted
 use Rattle.words_history.specs.Staying as staying
 use Rattle.words_history.specs.IndexExact.{IndexExact, index-exact}
-use Rattle.locality.specs.Parts.{needed, rest, joined, laidOut}
-use Rattle.locality.specs.Numbers as list
-use Rattle.locality.specs.Refusals.{ends, wordsOf, holdAfter}
-use Rattle.locality.specs.Refusals as refusals
-use Rattle.locality.specs.Within as within
-use Rattle.locality.specs.Judged.{Sized, sized-means, Own, own-means, Counters, counters-mean, Admitted, TurnedAway}
-use Rattle.locality.specs.Compared.{index, reach, placesByGet, comparedByGet, few-compared, counted-at-index}
-use Rattle.locality.specs.Compared.{none-before-index}
-use Rattle.locality.specs.Comes.{first-of-all, StepRefused, step-refused, MayGet, GetRefused, at-empty, at-index}
-use Rattle.locality.specs.Comes.{comes-early}
-use Rattle.locality.specs.Outcomes.{FinishesExactly, item-finishes-exactly, TellsMark, item-tells-mark}
-use Rattle.locality.specs.OutcomeWords.{WritesOutcomes}
+use Rattle.thm_words_need.specs.Parts.{needed, rest, joined, laidOut}
+use Rattle.thm_words_refusals.specs.Numbers as list
+use Rattle.thm_words_refusals.specs.Refusals.{ends, wordsOf, holdAfter}
+use Rattle.thm_words_refusals.specs.Refusals as refusals
+use Rattle.thm_words_need.specs.Within as within
+use Rattle.thm_words_tests.specs.Judged.{Sized, sized-means, Own, own-means, Counters, counters-mean, Admitted}
+use Rattle.thm_words_tests.specs.Judged.{TurnedAway}
+use Rattle.thm_words_tests.specs.Reach.{index, reach}
+use Rattle.thm_words_refusals.specs.Comes.{first-of-all, StepRefused, step-refused, MayGet, GetRefused, at-empty}
+use Rattle.thm_words_refusals.specs.Comes.{at-index, comes-early}
+use Rattle.thm_words_order.specs.Compared.{placesByGet, comparedByGet, few-compared, counted-at-index}
+use Rattle.thm_words_order.specs.Compared.{none-before-index}
+use Rattle.thm_words_outcomes.specs.Outcomes.{FinishesExactly, item-finishes-exactly, TellsMark, item-tells-mark}
+use Rattle.thm_words_outcomes.specs.OutcomeWords.{WritesOutcomes}
 use Rattle.bucket.specs.Laws.{Large, large-buckets}
 use Rattle.words.specs.declared.Found.{Found}
-use Rattle.locality.specs.Buckets.{LooksFor, look-up-means, OneEnd, one-end}
-use Rattle.locality.specs.LookUpSteps.{LooksUpExactly, item-looks-up-exactly}
-use Rattle.locality.specs.EnterSteps.{EntersExactly, item-enters-exactly}
+use Rattle.thm_words_steps.specs.Buckets.{LooksFor, look-up-means, OneEnd, one-end}
+use Rattle.thm_words_steps.specs.LookUpSteps.{LooksUpExactly, item-looks-up-exactly}
+use Rattle.thm_words_steps.specs.EnterSteps.{EntersExactly, item-enters-exactly}
 use Rattle.sequential_model.specs.Book.{addEnd}
 use Rattle.arguments.specs.Lists.{Inside, contains-means, Twice, repeats-means, Times, occurrences-mean}
 use Rattle.arguments.specs.Judged.{Lists, listed-means, Judges, judged-alone}
@@ -79,26 +81,26 @@ use Rattle.graph_board.specs.Lent.{LendsAlike, lends-alike}
 use Rattle.graph_board.specs.Within.{WithinNeed, totals-within-need, minutes-within-need}
 use Rattle.taskgraph_heard.specs.ToldApart.{ToldOneWay, told-one-way}
 use Rattle.taskgraph_heard.specs.Contracts.{Contracts, contracts}
-use Rattle.locality.specs.LinkSteps.{LinksExactly, item-links-exactly}
-use Rattle.locality.specs.MarkSteps.{MarksExactly, item-marks-exactly}
-use Rattle.locality.specs.OutcomeItems.{writes-outcomes}
-use Rattle.locality.specs.Elsewhere.{withQueue, Elsewhere, elsewhere}
-use Rattle.locality.specs.Loads.{Stored, loaded-stores, LoadsExactly, item-loads-exactly}
-use Rattle.locality.specs.MinutesElsewhere.{minutes-apart, minutes-stay}
-use Rattle.locality.specs.Classes.{ButClasses, Classed, withJobs, SameGet, get-by-classes}
-use Rattle.locality.specs.IndexFirst.{FirstTaken, first-taken, none-ready-empty}
-use Rattle.locality.specs.Looked.{eachWaits, isSeated, lookedByGet, takesFirst, lookedByEntry, mayEnter}
-use Rattle.locality.specs.Looked as looked
-use Rattle.locality.specs.Waits.{Waits, waits-means, one-slot}
-use Rattle.locality.specs.Order.{classAt, GoesFirst, rank-means}
-use Rattle.locality.specs.EntryReads.{SameCounters, SameSlots, seat-same}
-use Rattle.locality.specs.GetReads.{first-seat-same, takes-same}
-use Rattle.locality.specs.Moved.{Next, seat-next}
-use Rattle.locality.specs.Taken.{GetsFirst, early-refuses, empty-none-ready, first-got}
-use Rattle.locality.specs.Queued.{Comes, ComesToSettle, counted, putBack, Settles, Unsettled, SettlesRightly}
-use Rattle.locality.specs.Queued.{settles-rightly, settling-is-9, settles-seated}
-use Rattle.locality.specs.Notified.{Lowers, Unlowered, Onward, NotifiesRightly, notifies-rightly, notifying-is-9}
-use Rattle.locality.specs.Notified.{notifies-seated}
+use Rattle.thm_words_loads.specs.Loads.{Stored, loaded-stores, LoadsExactly, item-loads-exactly}
+use Rattle.thm_words_loads.specs.MinutesElsewhere.{minutes-apart, minutes-stay}
+use Rattle.thm_words_queue.specs.Elsewhere.{withQueue, Elsewhere, elsewhere}
+use Rattle.thm_words_order.specs.IndexFirst.{FirstTaken, first-taken, none-ready-empty}
+use Rattle.thm_words_order.specs.Looked.{eachWaits, isSeated, lookedByGet, takesFirst, lookedByEntry, mayEnter}
+use Rattle.thm_words_order.specs.Classes.{ButClasses, Classed, withJobs, SameGet, get-by-classes}
+use Rattle.thm_words_steps.specs.LinkSteps.{LinksExactly, item-links-exactly}
+use Rattle.thm_words_steps.specs.MarkSteps.{MarksExactly, item-marks-exactly}
+use Rattle.thm_words_outcomes.specs.OutcomeItems.{writes-outcomes}
+use Rattle.thm_words_order.specs.Looked as looked
+use Rattle.thm_words_queue.specs.Waits.{Waits, waits-means, one-slot}
+use Rattle.thm_words_queue.specs.Moved.{Next, seat-next}
+use Rattle.thm_words_queue.specs.Queued.{Comes, ComesToSettle, counted, putBack, Settles, Unsettled, SettlesRightly}
+use Rattle.thm_words_queue.specs.Queued.{settles-rightly, settling-is-9, settles-seated}
+use Rattle.thm_words_queue.specs.Notified.{Lowers, Unlowered, Onward, NotifiesRightly, notifies-rightly, notifying-is-9}
+use Rattle.thm_words_queue.specs.Notified.{notifies-seated}
+use Rattle.thm_words_order.specs.Order.{classAt, GoesFirst, rank-means}
+use Rattle.thm_words_order.specs.Taken.{GetsFirst, early-refuses, empty-none-ready, first-got}
+use Rattle.thm_words_order.specs.EntryReads.{SameCounters, SameSlots, seat-same}
+use Rattle.thm_words_order.specs.GetReads.{first-seat-same, takes-same}
 use Rattle.words.specs.declared.Seat.{Seat}
 use Rattle.words.specs.declared.Seating.the-variants.{Seated}
 use Rattle.sheet_format.specs.Job.{Job}

@@ -14,12 +14,12 @@ use Rattle.words.specs.Layout.{Tables}
 use Rattle.words.specs.Words.{perform, layOut}
 use Rattle.words.specs.Observed.{seen}
 use Rattle.linearizability.specs.LongFirst.{TakesLongest}
-use Rattle.locality.specs.Plans.{quitsBy}
-use Rattle.locality.specs.Numbers.{Fits}
-use Rattle.locality.specs.Numbers as list
-use Rattle.locality.specs.Refusals.{idled}
-use Rattle.locality.specs.Refusals as refusals
-use Rattle.locality.specs.Within as within
+use Rattle.thm_words_need.specs.Plans.{quitsBy}
+use Rattle.thm_words_refusals.specs.Numbers.{Fits}
+use Rattle.thm_words_refusals.specs.Numbers as list
+use Rattle.thm_words_refusals.specs.Refusals.{idled}
+use Rattle.thm_words_refusals.specs.Refusals as refusals
+use Rattle.thm_words_need.specs.Within as within
 use Rattle.sheet_format.specs.Job.{Job, Below}
 use Rattle.sheet_format.specs.NumberLaws.{Bytes}
 use Rattle.sheet_format.specs.Decode.{decodeSheet, jobs}
@@ -41,7 +41,7 @@ use Rattle.sheet_format.specs.Reading.{SheetReadsExactly}
 use Rattle.sheet_format.specs.Writing.{WritesSheetExactly}
 use Rattle.sheet_format.specs.Write.{jobOf, entriesOf, writeSheet}
 use Rattle.sheet_format.specs.declared.SheetWrote.{SheetWrote}
-use Rattle.locality.specs.Need.{KeepsToNeed}
+use Rattle.thm_words_need.specs.Need.{KeepsToNeed}
 use Rattle.pinned.specs.FreshWords.{LaysFresh, lays-fresh}
 use Rattle.taskgraph_heard.specs.ToldApart.{ToldApart, told-apart}
 use Rattle.taskgraph_answer.specs.WholeAnswers.{wholeOf, toldWhole}

@@ -32,7 +32,7 @@ use Rattle.words.specs.declared.Plan.{Plan}
 use Rattle.words.specs.declared.Seat.{Seat}
 use Rattle.words.specs.declared.Seating.{Seating}
 use Rattle.words.specs.declared.Seating.the-variants.{Seated, Unseated}
-use Rattle.locality.specs.Parts.{test}
+use Rattle.thm_words_tests.specs.Tests.{test}
 use Rattle.representation_kept.specs.Stand.{both}
 use Rattle.worker_state.specs.Held.{callOf, holdingOf, counted, heldWords}
 use Rattle.worker_state.specs.Drained.{every, queueOk, wordsOk, free, isDrained, drainedWords}

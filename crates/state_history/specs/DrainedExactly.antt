@@ -14,9 +14,9 @@ use Rattle.terms.specs.declared.Sizes.{Sizes}
 use Rattle.words.specs.Columns.{header}
 use Rattle.words.specs.Layout.{none, PHASE, HELD, IDLE, Tables, View, view, sizesFit}
 use Rattle.words.specs.Words.{countersOk, ownOk}
-use Rattle.locality.specs.Parts.{test}
-use Rattle.locality.specs.Judged.{Sized, sized-means, Own, own-means}
-use Rattle.locality.specs.Outcomes.{ownWord, own-by-word, Counted}
+use Rattle.thm_words_tests.specs.Tests.{test}
+use Rattle.thm_words_tests.specs.Judged.{Sized, sized-means, Own, own-means}
+use Rattle.thm_words_tests.specs.OneWord.{ownWord, own-by-word, Counted}
 use Rattle.representation_kept.specs.Stand.{both}
 use Rattle.words_refine_rules.specs.Own.{and-true}
 use Rattle.worker_state.specs.Drained.{every, queueOk, wordsOk, free, isDrained, judged, drainedWords}

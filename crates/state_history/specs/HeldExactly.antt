@@ -14,10 +14,10 @@ use Rattle.terms.specs.declared.Sizes.{Sizes}
 use Rattle.words.specs.Columns.{header}
 use Rattle.words.specs.Layout.{none, MARK, HELD, OWN-NAME, Tables, view, sizesFit}
 use Rattle.words.specs.Words.{countersOk, markOk, ownOk}
-use Rattle.locality.specs.Parts.{test}
-use Rattle.locality.specs.Judged.{sized-means, own-means, counters-mean, Admitted, TurnedAway}
-use Rattle.locality.specs.Judged.{by-1, by-2, by-9, admits, turns-away}
-use Rattle.locality.specs.Outcomes.{ownWord, jobWord, own-by-word, job-by-word, Counted, markWord}
+use Rattle.thm_words_tests.specs.Tests.{test}
+use Rattle.thm_words_tests.specs.Judged.{sized-means, own-means, counters-mean, Admitted, TurnedAway, by-1, by-2, by-9}
+use Rattle.thm_words_tests.specs.Judged.{admits, turns-away}
+use Rattle.thm_words_tests.specs.OneWord.{ownWord, jobWord, own-by-word, job-by-word, Counted, markWord}
 use Rattle.worker_state.specs.Held.{callOf, addsOf, refused, holdingOf, counted, heldWords}
 use Rattle.worker_state.specs.declared.Holding.{Holding}
 use Rattle.state_history.specs.Told.{turnedAway}

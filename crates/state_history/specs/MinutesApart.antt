@@ -10,7 +10,7 @@ use Rattle.terms.specs.Terms.{wrongSizes, damaged}
 use Rattle.terms.specs.declared.Sizes.{Sizes}
 use Rattle.words.specs.Layout.{Tables}
 use Rattle.words.specs.Words.{loaded}
-use Rattle.locality.specs.MinutesElsewhere.{plans-alike, view-apart, fit-apart}
+use Rattle.thm_words_loads.specs.MinutesElsewhere.{plans-alike, view-apart, fit-apart}
 use Rattle.worker_state.specs.Held.{refused, counted, heldWords}
 use Rattle.worker_state.specs.Drained.{wordsOk, judged, isDrained, drainedWords}
 use Rattle.worker_state.specs.Drained.{refused as refuses}

@@ -9,10 +9,11 @@ use borrow.Author.Tests.{lt-ltb}
 use Rattle.terms.specs.declared.Sizes.{Sizes}
 use Rattle.words.specs.Layout.{HELD, Tables, View, view, longEnough}
 use Rattle.words.specs.Words.{countersOk, ownOk, admitted}
-use Rattle.locality.specs.Parts.{test, needed, rest, joined, long, clip, clip-joined, whole, long-needed, long-joined}
-use Rattle.locality.specs.Parts.{kept-joined}
-use Rattle.locality.specs.Plans.{place-cases, own-places, own-alike}
-use Rattle.locality.specs.Within.{admitted-joined, too-short}
+use Rattle.thm_words_tests.specs.Tests.{test, long}
+use Rattle.thm_words_need.specs.Parts.{needed, rest, joined, clip, clip-joined, whole, long-needed, long-joined}
+use Rattle.thm_words_need.specs.Parts.{kept-joined}
+use Rattle.thm_words_need.specs.Plans.{place-cases, own-places, own-alike}
+use Rattle.thm_words_need.specs.Within.{admitted-joined, too-short}
 use Rattle.worker_state.specs.Held.{holdingOf, counted, heldWords}
 use Rattle.worker_state.specs.Drained.{every, queueOk, wordsOk, free, isDrained, drainedWords}
 

@@ -37,7 +37,7 @@ use Rattle.rules_history.specs.Onward.{entriesBy, onward}
 use Rattle.rules_invariant.specs.Sound.{sound, soundly}
 use Rattle.rules_follow_model.specs.Paced.{paced}
 use Rattle.rules_follow_model.specs.Steps.{pending-there}
-use Rattle.locality.specs.Parts.{test}
+use Rattle.thm_words_tests.specs.Tests.{test}
 use Rattle.representation.specs.Rep.{Ghost, CallRep}
 use Rattle.representation_kept.specs.Stand.{both}
 use Rattle.representation_kept.specs.Queue.{waiting-queue, put-there, queue-end}

@@ -14,8 +14,8 @@ use Rattle.words.specs.Columns.{header, columns}
 use Rattle.words.specs.Layout.{none, PHASE, HELD, LIST-COUNT, OWN-CLASS, OWN-GROWER, TALLY, PLACE, OWN-JOB, OWN-ARC}
 use Rattle.words.specs.Layout.{IDLE, Tables, tables, View, view, longEnough, sizesFit, sizesKept, bareWorker}
 use Rattle.words.specs.Words.{placeOk, countersOk, ownOk}
-use Rattle.locality.specs.Judged.{sized-means}
-use Rattle.locality.specs.WrongOutcomes.{one, with, apart}
+use Rattle.thm_words_tests.specs.Judged.{sized-means}
+use Rattle.thm_words_tests.specs.Small.{one, with, apart}
 use Rattle.worker_state.specs.Drained.{every, queueOk, free, isDrained, refused, judged, drainedWords}
 use Rattle.worker_state.specs.declared.Drained.{Drained}
 use Rattle.state_history.specs.DrainedExactly.{AskDrained, DrainedExactly, words-mean}

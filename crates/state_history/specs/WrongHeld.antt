@@ -14,8 +14,8 @@ use Rattle.words.specs.Columns.{header, columns}
 use Rattle.words.specs.Layout.{none, NAME, MARK, PHASE, HELD, IDLE, MARKING, Tables, tables, View, view, longEnough}
 use Rattle.words.specs.Layout.{sizesFit, sizesKept, bareWorker}
 use Rattle.words.specs.Words.{isPlace, countersOk, markOk, ownOk, admitted}
-use Rattle.locality.specs.Judged.{sized-means, own-means, Admitted, by-1}
-use Rattle.locality.specs.WrongOutcomes.{one, with, holding}
+use Rattle.thm_words_tests.specs.Judged.{sized-means, own-means, Admitted, by-1}
+use Rattle.thm_words_tests.specs.Small.{one, with, holding}
 use Rattle.worker_state.specs.Held.{callAt, addsAt, refused, holdingJob, holdingNone, holdingOf, counted}
 use Rattle.worker_state.specs.Held.{heldWords}
 use Rattle.worker_state.specs.declared.Holding.{Holding}

@@ -19,8 +19,8 @@ use Rattle.terms.specs.declared.Answer.the-variants.{Laid, Refused}
 use Rattle.terms.specs.declared.Sizes.{Sizes}
 use Rattle.words.specs.Layout.{Tables, roomFor}
 use Rattle.words.specs.Words.{perform, layOut}
-use Rattle.locality.specs.Numbers.{Fits, fits}
-use Rattle.locality.specs.Numbers as list
+use Rattle.thm_words_refusals.specs.Numbers.{Fits, fits}
+use Rattle.thm_words_refusals.specs.Numbers as list
 use Rattle.whole_words.specs.Whole.{wholeAdd, wholeFinish}
 use Rattle.sheet_rows.specs.SheetRows.{addsOf, rowsWords}
 use Rattle.sheet_rows.specs.Arguments.{argumentsOf}
@@ -106,7 +106,7 @@ pub record SheetTaken (l : List Arguments) (r : List ℕ) : Type 0 where
 -- cites
 pub record ToldApart : Type 0 where
   -- tg_answer, of tg_lay_out, tg_load_minutes, tg_post_add, tg_post_finish, tg_step, tg_get, tg_add and tg_finish
-  -- (taskgraph_answer); which answers there are: locality, whole_answers
+  -- (taskgraph_answer); which answers there are: thm_words_refusals, whole_answers
   pub answers : answer.AnswersHeard graphAnswer
   pub which-answers : (t : Tables) (i : Item) → Fits i (perform t i .answer)
   pub which-numbers : (i : Item) → list.numbers i ≡ refusedWith i

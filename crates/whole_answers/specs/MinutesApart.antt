@@ -15,7 +15,7 @@ use Rattle.terms.specs.declared.Answer.{Answer}
 use Rattle.terms.specs.declared.Answer.the-variants.{Laid, Loaded, Posted, Going, Ended, NoneReady, Handed, Refused}
 use Rattle.words.specs.Layout.{Tables, storedMinutes, PHASE, IDLE}
 use Rattle.words.specs.Words.{loaded, stepWords, addWords, finishWords, refusal, perform}
-use Rattle.locality.specs.MinutesElsewhere.{minutes-elsewhere, minutes-stay, plans-alike}
+use Rattle.thm_words_loads.specs.MinutesElsewhere.{minutes-elsewhere, minutes-stay, plans-alike}
 use Rattle.whole_words.specs.Whole.{andThen, stepsOf, wholeAdd, wholeFinish}
 use Rattle.whole_words.specs.Sheet.{SheetOutcome, sheetOutcome, addEach, judgedSheet, served, sheetWords}
 

@@ -15,7 +15,7 @@ use Rattle.terms.specs.declared.Sizes.{Sizes}
 use Rattle.terms.specs.declared.Answer.{Answer}
 use Rattle.words.specs.Layout.{Tables, view, HELD, sizesFit}
 use Rattle.words.specs.Words.{ownOk, admitted, addingWorker, posted, addWords, perform}
-use Rattle.locality.specs.Parts.{needed}
+use Rattle.thm_words_need.specs.Parts.{needed}
 use Rattle.whole_words.specs.Whole.{wholeAdd}
 use Rattle.whole_words.specs.Sheet.{SheetOutcome, addEach, judgedSheet, served, sheetWords}
 use Rattle.sheet_rows.specs.SheetRows.{numberOf}

@@ -10,8 +10,8 @@ use Rattle.terms.specs.declared.Answer.{Answer}
 use Rattle.terms.specs.declared.Answer.the-variants.{Laid, Loaded, Posted, Going, Ended, NoneReady, Handed, Refused}
 use Rattle.words.specs.Layout.{Tables}
 use Rattle.words.specs.Words.{stepWords, addWords, finishWords, perform}
-use Rattle.locality.specs.Parts.{needed, rest, lengths}
-use Rattle.locality.specs.Within.{not-read, not-changed}
+use Rattle.thm_words_need.specs.Parts.{needed, rest, lengths}
+use Rattle.thm_words_need.specs.Within.{not-read, not-changed}
 use Rattle.whole_words.specs.Whole.{andThen, stepsOf, wholeAdd, wholeFinish}
 
 -- a call that answers so and leaves such tables: tables that agree in the words needed give one answer, and agree in

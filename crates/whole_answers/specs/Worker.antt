@@ -13,7 +13,7 @@ use Rattle.terms.specs.Terms.{wrongSizes, noSuchWorker, damaged}
 use Rattle.terms.specs.declared.Sizes.{Sizes}
 use Rattle.words.specs.Layout.{Tables, view, workerShape, PHASE, HELD, IDLE, bareWorker, sizesFit}
 use Rattle.words.specs.Words.{putWorker, ownOk, admitted}
-use Rattle.locality.specs.Refusals.{wordsOf, put-back}
+use Rattle.thm_words_refusals.specs.Refusals.{wordsOf, put-back}
 use Rattle.fused_words.specs.FusedWorker.{Admitted, isIdle, holdOf, withWorker, idledWith}
 use Rattle.fused_laws.specs.Records.{record-word}
 use Rattle.fused_laws.specs.Steps.{room-for-workers}

@@ -19,8 +19,7 @@ use Rattle.words.specs.Layout.{Tables, none, IDLE, LOOKING, bareWorker, longEno
 use Rattle.words.specs.Words.{ownOk, walk, findOf, planLookUp, planEnter, planAppend, planTally, planLink, withSeat}
 use Rattle.words.specs.Words.{planSettle, planMark, planNotify, planAdd, planLinks, planCall, planPhase, admitted}
 use Rattle.words.specs.Words.{applied, stepWords, posted, addWords, finishWords}
-use Rattle.locality.specs.WrongOutcomes.{apart}
-use Rattle.locality.specs.WrongSteps.{two, graph, jobOf}
+use Rattle.thm_words_tests.specs.Small.{apart, two, graph, jobOf}
 use Rattle.whole_words.specs.Whole.{stepsOf, wholeAdd, wholeFinish}
 use Rattle.whole_words.specs.Sheet.{addEach, served, sheetWords}
 use Rattle.sheet_format.specs.Write.{entriesFrom}

@@ -1,0 +1,8 @@
+pub mod Order
+pub mod Compared
+pub mod IndexFirst
+pub mod Looked
+pub mod Classes
+pub mod Taken
+pub mod EntryReads
+pub mod GetReads

@@ -1,0 +1,3 @@
+pub mod Comes
+pub mod Refusals
+pub mod Numbers

@@ -1,0 +1,7 @@
+pub mod Buckets
+pub mod LinkSteps
+pub mod LookUpSteps
+pub mod EnterSteps
+pub mod MarkSteps
+pub mod WrongSteps
+pub mod WrongLookUps
