@@ -1,3 +1,3 @@
 pub mod Lists
 pub mod Judged
-pub mod WrongJudges
+pub mod Wrong

@@ -22,7 +22,7 @@ use Rattle.rules_cases.specs.Deed.{noPlace}
 use Rattle.sequential_model.specs.Book.{blank, add, accepted, refused, listedNames, addEnd, Follows}
 use Rattle.linearization.specs.Calls.{Reading, reading, idle, adding, acceptedAdds, endsCall, note, noteStep}
 use Rattle.linearizability.specs.Ends.{AddStep, looked-up, unknown, entered, present, no-room, linked, settled}
-use Rattle.linearizability.specs.Wrong.{last-fed}
+use Rattle.linearizability.specs.Wrong.Clauses.{last-fed}
 use Rattle.rules_history.specs.History.{History, start, entriesOf, Booked}
 use Rattle.rules_history.specs.Onward.{entriesBy, onward}
 use Rattle.rules_follow_model.specs.Entries.{listed-length, found-name}

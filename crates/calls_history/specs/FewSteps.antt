@@ -1,5 +1,5 @@
 -- How many steps a call run whole makes, of any machine, on ALL states, damaged ones too: "An add makes at most 2d + 2
--- steps and a finish at most A + 1". Follows docs/RULES.md, "Whole calls". (WrongSteps.antt has machines that make
+-- steps and a finish at most A + 1". Follows docs/RULES.md, "Whole calls". (Wrong/Steps.antt has machines that make
 -- more.) Assumes nothing.
 use mathlib.Core.Path.{_≡_, refl, ap, _∙_}
 use mathlib.Core.List.{List, [], _∷_}

@@ -21,10 +21,9 @@ pub mod NeverDamaged
 pub mod CallsEnd
 pub mod NoneCutShort
 pub mod EachEnds
-pub mod WrongEnds
 pub mod InTurn
 pub mod NeverStopped
 pub mod Example
 pub mod Question
 pub mod FewSteps
-pub mod WrongSteps
+pub mod Wrong

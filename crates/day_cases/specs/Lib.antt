@@ -3,8 +3,5 @@ pub mod Decimal
 pub mod DayRows
 pub mod DayCases
 pub mod DayTold
-pub mod WrongTold
-pub mod WrongDays
 pub mod DayAnswers
-pub mod WrongAnswers
-pub mod WrongDecimals
+pub mod Wrong

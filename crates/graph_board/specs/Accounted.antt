@@ -1,6 +1,6 @@
 -- What a board over the graph's own row must answer from a fresh graph on, said of any board and by the number of the
 -- job: "the number of jobs and the sum of minutes under each label", and "the three sums together equal the minutes of
--- all jobs that ever entered". (Wrong.antt has boards that do not.) Assumes nothing.
+-- all jobs that ever entered". (Wrong/Boards.antt has boards that do not.) Assumes nothing.
 use mathlib.Core.Path.{_≡_, refl}
 use mathlib.Core.Bool.{Bool, true, false, _&&_}
 use mathlib.Core.List.{List, [], _∷_}

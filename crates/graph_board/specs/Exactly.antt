@@ -1,6 +1,6 @@
 -- For ALL tables of jobs, damaged ones too, and by the table's own words: what a board over the graph must answer, of
 -- any board, and which minutes must be told. Follows docs/RULES.md, "The board and the day list" and "Turned-away
--- calls". (Wrong.antt has boards that do not.) Assumes nothing.
+-- calls". (Wrong/Boards.antt has boards that do not.) Assumes nothing.
 use mathlib.Core.Path.{_≡_, refl, ap}
 use mathlib.Core.Bool.{Bool, true, false, _&&_}
 use mathlib.Core.List.{List}

@@ -1,7 +1,7 @@
 -- What a host hears of the graph's board and of the minutes that stand in the graph: the board as that of a lent row
 -- (totals, specs/Heard.antt), and the sixteen minutes, or the number that refused, are read off the structs, so no two
 -- are told alike, and a refusal has 0 in all else. Follows docs/RULES.md, "The board and the day list" and "A
--- district's minutes"; include/taskgraph.h has the fields. (WrongHeard.antt has tellings that lose something.) Assumes
+-- district's minutes"; include/taskgraph.h has the fields. (Wrong/Heard.antt has tellings that lose something.) Assumes
 -- nothing.
 use mathlib.Core.Path.{_≡_, refl, ap, _∙_}
 use mathlib.Core.Logic.{_≢_}

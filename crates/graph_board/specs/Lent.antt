@@ -1,6 +1,7 @@
 -- A host that lends the board its own row: the label and class of each job made, copied off the jobs table, by the
 -- minutes that the graph tells, have the graph's own totals, also after a load. Follows docs/RULES.md, "The board and
--- the day list" and "A district's minutes". (WrongLent.antt has a board that keeps the fixed minutes.) Assumes nothing.
+-- the day list" and "A district's minutes". (Wrong/Lent.antt has a board that keeps the fixed minutes.) Assumes
+-- nothing.
 use mathlib.Core.Path.{_≡_, refl, sym, _∙_}
 use mathlib.Core.Bool.{Bool, true, false}
 use mathlib.Core.List.{List}

@@ -1,9 +1,7 @@
 pub mod Board
 pub mod Accounted
 pub mod Exactly
-pub mod Wrong
 pub mod Heard
-pub mod WrongHeard
 pub mod Lent
 pub mod Within
-pub mod WrongLent
+pub mod Wrong

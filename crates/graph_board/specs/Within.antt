@@ -1,6 +1,6 @@
 -- The graph's board and its minutes read nothing past the need of the jobs table: tables that agree in their first 21 +
 -- 10 R words, R the size that the call brings, get one answer. Follows docs/RULES.md, "Tables and their measures":
--- words past the need are never touched. (WrongLent.antt has a board that looks further.) Assumes nothing.
+-- words past the need are never touched. (Wrong/Lent.antt has a board that looks further.) Assumes nothing.
 use mathlib.Core.Path.{_≡_, refl, sym, ap, _∙_}
 use mathlib.Core.Bool.{Bool, true, false, _&&_}
 use mathlib.Core.List.{List}

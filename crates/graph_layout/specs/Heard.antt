@@ -1,6 +1,6 @@
 -- What a host hears of the words that the tables need: the five lengths, or the number that refused, are read off the
 -- struct, so no two are told alike, and a refusal has 0 in all else. And which they are, by the sizes. Follows
--- docs/RULES.md, "Tables and their measures"; include/taskgraph.h has the fields. (WrongHeard.antt has tellings that
+-- docs/RULES.md, "Tables and their measures"; include/taskgraph.h has the fields. (Wrong/Heard.antt has tellings that
 -- lose something, and wrong needs.) Assumes nothing.
 use mathlib.Core.Path.{_≡_, refl, sym, ap, _∙_}
 use mathlib.Core.Logic.{_≢_}

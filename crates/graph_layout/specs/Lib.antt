@@ -1,3 +1,3 @@
 pub mod Needed
 pub mod Heard
-pub mod WrongHeard
+pub mod Wrong

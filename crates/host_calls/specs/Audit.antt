@@ -1,6 +1,6 @@
 -- The auditor's question, of lists of host calls: could a job be handed out twice, or before what it rests on, or be
 -- forgotten? By calls and replies alone, of any machine: no word here of how a machine keeps its jobs. Follows
--- docs/RULES.md, "Steps", "The plain book" and "Whole calls". (WrongAudit.antt has machines that do not meet it;
+-- docs/RULES.md, "Steps", "The plain book" and "Whole calls". (Wrong/Audit.antt has machines that do not meet it;
 -- Served.antt says that nothing is refused at will.)
 use mathlib.Core.Path.{_≡_}
 use mathlib.Core.Logic.{_↔_}

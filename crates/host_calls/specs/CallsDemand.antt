@@ -1,6 +1,6 @@
 -- Demand 3 of lists in which single items stand beside adds and finishes run whole and sheets: what is read off calls
--- and replies alone, and the claim, of any machine. (WrongSheets.antt, WrongTurned.antt, WrongWhole.antt and
--- WrongLoads.antt have machines that do not meet it.) Follows docs/RULES.md, "Whole calls". Assumes nothing.
+-- and replies alone, and the claim, of any machine. (Wrong/Sheets.antt, Wrong/Turned.antt, Wrong/Whole.antt and
+-- Wrong/Loads.antt have machines that do not meet it.) Follows docs/RULES.md, "Whole calls". Assumes nothing.
 use mathlib.Core.Path.{_≡_}
 use mathlib.Core.List.{List, [], _∷_, _++_}
 use Prim.Native.Nat.{ℕ}

@@ -5,11 +5,5 @@ pub mod Served
 pub mod InTurn
 pub mod MinutesRead
 pub mod Joined
-pub mod WrongCalls
-pub mod WrongAudit
-pub mod WrongRefusals
-pub mod WrongSheets
-pub mod WrongTurned
-pub mod WrongWhole
-pub mod WrongLoads
 pub mod RightCalls
+pub mod Wrong

@@ -1,5 +1,5 @@
 -- A right machine on a list of every kind of call: what it replies, and the clauses for the lists by which the wrong
--- machines of WrongSheets.antt, WrongTurned.antt and WrongWhole.antt are refuted. Assumes nothing.
+-- machines of Wrong/Sheets.antt, Wrong/Turned.antt and Wrong/Whole.antt are refuted. Assumes nothing.
 use mathlib.Core.Path.{_≡_, refl}
 use mathlib.Core.Bool.{true, false}
 use mathlib.Core.List.{List, [], _∷_, _++_}
@@ -11,15 +11,15 @@ use Rattle.terms.specs.declared.Answer.the-variants.{Loaded, Posted, Going, End
 use Rattle.rules.specs.Rules.{Graph, empty}
 use Rattle.rules.specs.Observed.{seen}
 use Rattle.linearization.specs.Calls.{reading}
-use Rattle.linearizability.specs.WrongLoads.{district, equalOnes}
+use Rattle.linearizability.specs.Wrong.Loads.{district, equalOnes}
 use Rattle.linearizability.specs.Spoiling.{handsSpoiled}
 use Rattle.host_calls.specs.HostCalls.{HostCall, single, wholeAdd, wholeFinish, sheet, Reply, one, each, Replied}
 use Rattle.host_calls.specs.HostCalls.{worth, afterCalls, callEntries}
 use Rattle.host_calls.specs.CallsDemand.{turningSheet, allWorth, items, read, at-end, Replies, Leaves}
 use Rattle.host_calls.specs.Joined.{after-joined}
-use Rattle.host_calls.specs.WrongCalls.{acts, turning, Answering, rightly, calling}
-use Rattle.host_calls.specs.WrongSheets.{refusedFirst, tooMany}
-use Rattle.host_calls.specs.WrongWhole.{held}
+use Rattle.host_calls.specs.Wrong.Calls.{acts, turning, Answering, rightly, calling}
+use Rattle.host_calls.specs.Wrong.Sheets.{refusedFirst, tooMany}
+use Rattle.host_calls.specs.Wrong.Whole.{held}
 
 -- ---- the replies of a list of calls
 module _ {X : Type 0} (answer : X → HostCall → Replied X) where

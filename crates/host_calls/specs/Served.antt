@@ -1,8 +1,8 @@
 -- Nothing is refused at will, of lists of host calls: an add that nothing stands against is accepted, run whole, in a
 -- sheet or posted and stepped, a finish is answered by what its worker was handed, what was posted or has entered is
 -- not refused on its way, and minutes are loaded before the first job enters. By calls and replies alone, of any
--- machine. Follows docs/RULES.md, "The plain book", "A district's minutes" and "Turned-away calls". (WrongRefusals.antt
--- has machines that do not meet it.)
+-- machine. Follows docs/RULES.md, "The plain book", "A district's minutes" and "Turned-away calls".
+-- (Wrong/Refusals.antt has machines that do not meet it.)
 use mathlib.Core.Path.{_≡_}
 use mathlib.Core.Bool.{false, _&&_, not}
 use mathlib.Core.List.{List, [], _∷_}

@@ -1,5 +1,5 @@
 -- Demand 3: what is claimed of every list of items, of any machine that answers items and shows what is looked at in
--- its state. Read with docs/RULES.md, "Steps" and "The plain book". (Wrong.antt has machines that do not meet it.)
+-- its state. Read with docs/RULES.md, "Steps" and "The plain book". (Wrong/ has machines that do not meet it.)
 -- Assumes nothing.
 use mathlib.Core.Path.{_≡_}
 use mathlib.Core.Logic.{_↔_}

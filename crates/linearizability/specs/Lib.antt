@@ -3,14 +3,5 @@ pub mod Stays
 pub mod Ends
 pub mod LongFirst
 pub mod ByCount
-pub mod Wrong
-pub mod WrongIdle
-pub mod WrongTexts
-pub mod WrongOthers
-pub mod WrongOrders
-pub mod WrongLoads
 pub mod Spoiling
-pub mod WrongMarks
-pub mod WrongOutcomes
-pub mod WrongMoments
-pub mod WrongHandOut
+pub mod Wrong

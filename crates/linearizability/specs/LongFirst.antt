@@ -1,6 +1,6 @@
 -- Long jobs first: which waiting job a get takes, and when a job that waits is handed out. Claimed of any machine that
 -- answers items and shows what is looked at in its state, at any state of it. Read with docs/RULES.md, "Steps".
--- (WrongOrders.antt has machines that do not meet it.) Assumes nothing.
+-- (Wrong/Orders.antt has machines that do not meet it.) Assumes nothing.
 use mathlib.Core.Path.{_≡_}
 use mathlib.Core.Logic.{_≢_}
 use mathlib.Core.Bool.{true}

@@ -1,6 +1,6 @@
 -- How systems that spoil otherwise are shown to be wrong: the rules with what spoils put otherwise, lists of items with
--- what the rules answer, and how a mark that lacks, or is too many, is refuted. The systems stand in WrongMarks.antt,
--- WrongOutcomes.antt and WrongMoments.antt. Assumes nothing.
+-- what the rules answer, and how a mark that lacks, or is too many, is refuted. The systems stand in Wrong/Marks.antt,
+-- Wrong/Outcomes.antt and Wrong/Moments.antt. Assumes nothing.
 use mathlib.Core.Path.{_≡_, refl, sym, ap, subst, _∙_}
 use mathlib.Core.Bool.{Bool, true, false}
 use mathlib.Core.List.{List, [], _∷_, _++_}
@@ -21,9 +21,9 @@ use Rattle.rules.specs.Rules.{linked, linkTo, link, settled, notified, notify, 
 use Rattle.rules.specs.Rules as rules
 use Rattle.rules.specs.Observed.{seen}
 use Rattle.linearizability.specs.Demand.{adds, at-end, entriesInto, Prerequisite, PrerequisiteFailed}
-use Rattle.linearizability.specs.Wrong.{System, posts, looks, labels, takes, system, same-parts, Lacks}
-use Rattle.linearizability.specs.Wrong.{marks, marked-once-queued}
-use Rattle.linearizability.specs.Wrong.{running, apart}
+use Rattle.linearizability.specs.Wrong.Clauses.{System, posts, looks, labels, takes, system, same-parts, Lacks}
+use Rattle.linearizability.specs.Wrong.Clauses.{marks, marked-once-queued}
+use Rattle.linearizability.specs.Wrong.Clauses.{running, apart}
 
 -- ---- the rules but for what spoils: a link to a finished job tallies by one function of the job, and the step of a
 -- finish for an arc spoils by another, of the job that the finish ended and its outcome

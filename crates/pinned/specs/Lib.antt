@@ -1,7 +1,5 @@
 pub mod AddPosts
 pub mod Five
-pub mod WrongAdds
 pub mod FreshWords
-pub mod WrongFresh
 pub mod Numerals
-pub mod WrongTests
+pub mod Wrong

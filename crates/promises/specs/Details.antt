@@ -714,7 +714,7 @@ pub the-numbers-are-these : Pinned
 the-numbers-are-these = pinned
 
 -- ---- the starred cases of docs/RULES.md, "Checked by hand": after each item the answer, the waiting jobs and the
--- worker's tally, by the rules and by the words; wrong ones in rules, specs/WrongCases.antt.
+-- worker's tally, by the rules and by the words; wrong ones in rules, specs/Wrong/Cases.antt.
 pub the-starred-cases-hold : Starred
 the-starred-cases-hold = every-row
 

@@ -1,5 +1,5 @@
 pub mod Rules
 pub mod RuleCases
-pub mod WrongCases
 pub mod Sound
 pub mod Observed
+pub mod Wrong

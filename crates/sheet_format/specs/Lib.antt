@@ -13,7 +13,6 @@ pub mod RewriteTrip
 pub mod Place
 pub mod PlaceLaws
 pub mod SheetPlace
-pub mod WrongPlaces
 pub mod Refusals
 pub mod CodeLaws
 pub mod Reading
@@ -21,5 +20,5 @@ pub mod ReadingLaws
 pub mod SheetReading
 pub mod Writing
 pub mod WritingLaws
-pub mod WrongReaders
 pub mod SheetPromises
+pub mod Wrong

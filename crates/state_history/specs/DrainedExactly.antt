@@ -1,6 +1,6 @@
 -- For ALL tables: what is told to one that asks whether the graph is drained, of any function that answers it, by the
 -- words of docs/TABLES.md: which number refuses it, and else when it is drained. The words' function tells just that,
--- and two functions that do tell the same. (WrongDrained.antt: functions that tell otherwise.) Assumes nothing.
+-- and two functions that do tell the same. (Wrong/Drained.antt: functions that tell otherwise.) Assumes nothing.
 use mathlib.Core.Path.{_≡_, refl, sym, ap, _∙_}
 use mathlib.Core.Logic.{_↔_}
 use mathlib.Core.Bool.{Bool, true, false, _&&_}

@@ -1,6 +1,6 @@
 -- For ALL tables: what a worker is told that asks what it holds, of any function that answers it, by the words of
 -- docs/TABLES.md: which number refuses it, and else each of the seven fields. The words' function tells just that, and
--- two functions that do tell the same. (WrongHeld.antt: functions that tell otherwise.) Assumes nothing.
+-- two functions that do tell the same. (Wrong/Held.antt: functions that tell otherwise.) Assumes nothing.
 use mathlib.Core.Path.{_≡_, refl, sym, ap, _∙_}
 use mathlib.Core.Logic.{_↔_, _≢_}
 use mathlib.Core.Bool.{Bool, true, false}

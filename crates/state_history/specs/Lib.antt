@@ -5,9 +5,7 @@ pub mod Numbers
 pub mod Need
 pub mod Theorem
 pub mod Agrees
-pub mod Wrong
 pub mod MinutesApart
 pub mod HeldExactly
-pub mod WrongHeld
 pub mod DrainedExactly
-pub mod WrongDrained
+pub mod Wrong

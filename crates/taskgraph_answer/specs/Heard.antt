@@ -1,6 +1,6 @@
 -- What a host hears in an answer of the graph, by the fields of the struct and the numerals of include/taskgraph.h: the
 -- answer is read off it, so no two answers are told alike, and a field that says nothing is 0. Follows docs/RULES.md,
--- "Steps" and "Turned-away calls". (WrongHeard.antt has tellings that lose something.) Assumes nothing.
+-- "Steps" and "Turned-away calls". (Wrong/Heard.antt has tellings that lose something.) Assumes nothing.
 use mathlib.Core.Path.{_≡_, refl, sym, _∙_}
 use mathlib.Core.Logic.{_≢_}
 use mathlib.Core.Bool.{Bool, true, false}

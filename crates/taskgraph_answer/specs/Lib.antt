@@ -1,6 +1,6 @@
 pub mod Answers
 pub mod InC
 pub mod Heard
-pub mod WrongHeard
 pub mod WholeAnswers
 pub mod HeardWhole
+pub mod Wrong

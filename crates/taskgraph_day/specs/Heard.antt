@@ -1,6 +1,6 @@
 -- What a host hears of the day list, by the fields of the struct and the numerals of include/taskgraph.h: how many
 -- bytes the lines take, or which number refused, is read off it, so no two are told alike, and a refusal has no bytes.
--- Follows docs/RULES.md, "The board and the day list" and "Turned-away calls". (WrongHeard.antt has tellings that lose
+-- Follows docs/RULES.md, "The board and the day list" and "Turned-away calls". (Wrong/Heard.antt has tellings that lose
 -- something.) Assumes nothing.
 use mathlib.Core.Path.{_≡_, refl, ap, _∙_}
 use mathlib.Core.Logic.{_≢_}

@@ -1,4 +1,3 @@
 pub mod ToldApart
-pub mod WrongTaken
 pub mod Contracts
-pub mod WrongContracts
+pub mod Wrong

@@ -1,7 +1,7 @@
 -- WHAT C IS TOLD CAN BE HEARD: of every struct that the C interface hands out, the answer is read off its fields by the
 -- numerals of include/taskgraph.h, fields that say nothing are 0, and no other answers are given than those that are
 -- read so. Each `heard` stands in the specs/Heard.antt of the crate named beside it, with tellings that lose something
--- in its WrongHeard.antt. Follows docs/RULES.md, "Steps", "Turned-away calls", "Tables and their measures", "The board
+-- in its Wrong/Heard.antt. Follows docs/RULES.md, "Steps", "Turned-away calls", "Tables and their measures", "The board
 -- and the day list", and docs/SHEETS.md. Assumes nothing.
 use mathlib.Core.Path.{_≡_, refl, ap, _∙_}
 use mathlib.Core.Logic.{_≢_}

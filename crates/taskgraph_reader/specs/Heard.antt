@@ -1,7 +1,7 @@
 -- What a host hears of a sheet that is read, by the fields of the structs and the numerals of include/taskgraph.h: what
 -- stands at an offset, and how many entries a sheet has, are read off them, so no two are told alike, and a field that
 -- says nothing is 0. Follows docs/SHEETS.md and numbers 12 to 15 of docs/RULES.md, "Turned-away calls".
--- (WrongHeard.antt has tellings that lose something.) Assumes nothing.
+-- (Wrong/Heard.antt has tellings that lose something.) Assumes nothing.
 use mathlib.Core.Path.{_≡_, refl, sym, ap, _∙_}
 use mathlib.Core.Logic.{_≢_}
 use mathlib.Core.Bool.{false, _&&_}

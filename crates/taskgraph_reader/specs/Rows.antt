@@ -1,7 +1,7 @@
 -- What a host hears in the rows into which a sheet was read, by their words: row i has the job of entry i, "laid out as
 -- a tg_entry" of 36 words, with 0 for the names past its count, and the words past the last entry are as they were.
--- Follows docs/SHEETS.md; include/taskgraph.h has the fields. (WrongRows.antt has readers that lose something.) Assumes
--- nothing.
+-- Follows docs/SHEETS.md; include/taskgraph.h has the fields. (Wrong/Rows.antt has readers that lose something.)
+-- Assumes nothing.
 use mathlib.Core.Path.{_≡_, ap, _∙_}
 use mathlib.Core.List.{List, [], _∷_, _++_, append-assoc}
 use Prim.Native.Nat.{ℕ, zero, suc, _+_, _*_, _-_, _≤_, _<_}

@@ -1,6 +1,4 @@
 pub mod Laying
 pub mod Loads
 pub mod MinutesElsewhere
-pub mod WrongLaying
-pub mod WrongLoads
-pub mod WrongMinutes
+pub mod Wrong

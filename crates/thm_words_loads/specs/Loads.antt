@@ -1,6 +1,6 @@
 -- For ALL tables: what a load does, of any machine over the tables, and that the words' load does it; and the words
 -- that it reads. Follows docs/RULES.md: "A host may load sixteen minute values in place of the fixed ones, before the
--- first job enters", "the order is 1, 17, 9, 18, with nothing changed". (WrongLoads.antt has loads that do otherwise.)
+-- first job enters", "the order is 1, 17, 9, 18, with nothing changed". (Wrong/Loads.antt has loads that do otherwise.)
 -- Assumes nothing.
 use mathlib.Core.Path.{_≡_, refl, sym, ap, _∙_}
 use mathlib.Core.List.{List}

@@ -5,5 +5,4 @@ pub mod Fields
 pub mod OutcomeSteps
 pub mod NoteSteps
 pub mod OutcomeItems
-pub mod WrongOutcomes
-pub mod WrongOutcomeSteps
+pub mod Wrong

@@ -1,7 +1,7 @@
 -- For ALL tables: which calls write the words of outcome, mark and note, and which do not, of any machine over the
 -- tables, by the words of docs/TABLES.md. Follows docs/RULES.md: "A link to a failed job is noted beside the tally, and
 -- settling spoils; a failed finish's step for an arc spoils that arc's dependent". (OutcomeItems.antt shows it of the
--- words' calls; WrongOutcomes.antt and WrongOutcomeSteps.antt have machines that do otherwise.) Assumes nothing.
+-- words' calls; Wrong/Outcomes.antt and Wrong/OutcomeSteps.antt have machines that do otherwise.) Assumes nothing.
 use mathlib.Core.Path.{_≡_}
 use mathlib.Core.Bool.{true}
 use Prim.Native.Nat.{ℕ, _+_, _*_, _≤_, _<_}

@@ -1,7 +1,7 @@
 -- For ALL tables: what the post of a finish does with its outcome, of any machine over the tables, and that the words'
 -- post does it; and that a get tells the mark. By the words of docs/TABLES.md. Follows docs/RULES.md: "Finish now
 -- brings an outcome, good or failed", "19, good for a spoiled job, after 11, nothing changed". (OutcomeWords.antt:
--- which calls write outcomes, marks and notes. WrongOutcomes.antt: machines that do otherwise.) Assumes nothing.
+-- which calls write outcomes, marks and notes. Wrong/Outcomes.antt: machines that do otherwise.) Assumes nothing.
 use mathlib.Core.Path.{_≡_, refl, sym, ap, _∙_}
 use mathlib.Core.Logic.{_≢_}
 use mathlib.Core.Bool.{true, false, and-false}

@@ -2,7 +2,7 @@
 -- head, and name and next of each job passed. It ends in one way and no other, and the words' look-up tells which.
 -- Follows docs/RULES.md: "The bucket of a name is the top b bits of its product with 2654435769, kept to 32 bits", and
 -- 9 where "a bucket walk passes more jobs than were made". (LookUpSteps.antt, EnterSteps.antt, LinkSteps.antt: what a
--- step does by it. WrongLookUps.antt: walks that end otherwise.) Assumes nothing.
+-- step does by it. Wrong/LookUps.antt: walks that end otherwise.) Assumes nothing.
 use mathlib.Core.Path.{_≡_, refl, sym, ap}
 use mathlib.Core.Logic.{_↔_, _≢_}
 use Prim.Native.Nat.{ℕ, zero, suc, _+_, _*_, _-_, _/_, _%_, _^_, _≤_, _<_}

@@ -2,7 +2,7 @@
 -- of docs/TABLES.md. A damaged walk is 9; a name that is present is 7, before 8; no room is 8; and in every other case
 -- the job is made. Follows docs/RULES.md, "Steps": "it makes the job with remaining count d, the list's length, at the
 -- head of its bucket, and reserves the next d arcs", and the rows of 7, 8 and 9 in "Turned-away calls". (Buckets.antt:
--- what a walk finds. WrongLookUps.antt: machines that do otherwise.) Assumes nothing.
+-- what a walk finds. Wrong/LookUps.antt: machines that do otherwise.) Assumes nothing.
 use mathlib.Core.Path.{_≡_, sym, ap, _∙_}
 use mathlib.Core.Bool.{true, or-true}
 use mathlib.Core.List.{List, [], _∷_}

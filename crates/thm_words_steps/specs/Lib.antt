@@ -3,5 +3,4 @@ pub mod LinkSteps
 pub mod LookUpSteps
 pub mod EnterSteps
 pub mod MarkSteps
-pub mod WrongSteps
-pub mod WrongLookUps
+pub mod Wrong

@@ -2,7 +2,7 @@
 -- docs/TABLES.md. A name that is not found, a damaged walk and a word off its range are 9, with nothing changed, and
 -- nothing else is. Follows docs/RULES.md, "Steps": "A finished prerequisite adds 1 to the worker's tally, and one that
 -- failed is noted beside it; any other gets the arc reserved for that list place appended to its list". (Buckets.antt:
--- what a walk finds. MarkSteps.antt: the mark of a finish. WrongSteps.antt: machines that do otherwise.) Assumes
+-- what a walk finds. MarkSteps.antt: the mark of a finish. Wrong/Steps.antt: machines that do otherwise.) Assumes
 -- nothing.
 use mathlib.Core.Path.{_≡_, sym, ap, _∙_}
 use mathlib.Core.Logic.{_≢_}

@@ -2,7 +2,7 @@
 -- docs/TABLES.md. A name that the walk finds is passed, one that it does not find is 6, and a damaged walk is 9; there
 -- is no fourth. Follows docs/RULES.md, "Steps": "First one look-up for each listed name, in list order", and the rows
 -- of 6 and 9 in "Turned-away calls". (Buckets.antt: what a walk finds. EnterSteps.antt: the step after the look-ups.
--- WrongLookUps.antt: machines that do otherwise.) Assumes nothing.
+-- Wrong/LookUps.antt: machines that do otherwise.) Assumes nothing.
 use mathlib.Core.Path.{_≡_, sym, ap, _∙_}
 use mathlib.Core.List.{_∷_}
 use Prim.Native.Nat.{ℕ, _+_, _*_, _<_}

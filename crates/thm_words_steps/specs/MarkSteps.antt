@@ -2,7 +2,7 @@
 -- docs/TABLES.md. A hold of none, a label that is not 1 and a first arc off its range are 9, with nothing changed, and
 -- nothing else is: the mark of the job, its word 9, is neither read nor written. Follows docs/RULES.md, "Steps": a
 -- finish's "first step labels the job finished, keeps the outcome and frees the worker's hold; it is called the mark".
--- (WrongSteps.antt: machines that do otherwise.) Assumes nothing.
+-- (Wrong/Steps.antt: machines that do otherwise.) Assumes nothing.
 use mathlib.Core.Path.{_≡_, sym, ap, _∙_}
 use mathlib.Core.Logic.{_≢_}
 use mathlib.Core.Bool.{Bool, true, _&&_}

@@ -1,6 +1,6 @@
 -- For ALL minute values and ALL rows, damaged ones too: what a board by minutes that a host gives must answer, of any
--- board. Follows docs/RULES.md, "The board and the day list" and "Turned-away calls". (Wrong.antt has boards that do
--- not.) Assumes nothing.
+-- board. Follows docs/RULES.md, "The board and the day list" and "Turned-away calls". (Wrong/Boards.antt has boards
+-- that do not.) Assumes nothing.
 use mathlib.Core.Path.{_≡_, refl, sym, ap}
 use mathlib.Core.Bool.{Bool, true, false, _&&_}
 use mathlib.Core.List.{List, [], _∷_}

@@ -1,6 +1,5 @@
 pub mod Board
 pub mod AllJobs
 pub mod Exactly
-pub mod Wrong
 pub mod Heard
-pub mod WrongHeard
+pub mod Wrong

@@ -1,7 +1,7 @@
 -- What a host hears of adds and finishes run whole and of a sheet of adds, by the fields of the structs and the
 -- numerals of include/taskgraph.h: which number turned the sheet away, or how the add of each entry ended, is read off
 -- it, so no two are told alike, and what says nothing is 0. Follows docs/RULES.md, "Whole calls" and "Turned-away
--- calls". (WrongHeard.antt has tellings that lose something.) Assumes nothing.
+-- calls". (Wrong/Heard.antt has tellings that lose something.) Assumes nothing.
 use mathlib.Core.Path.{_≡_, refl, sym, ap, subst, _∙_}
 use mathlib.Core.Logic.{_≢_}
 use mathlib.Core.Bool.{Bool, true, false, _||_}

@@ -9,12 +9,11 @@ pub mod Sheets
 pub mod InC
 pub mod StoppedSheet
 pub mod SheetHeard
-pub mod WrongStops
 pub mod Heard
-pub mod WrongHeard
 pub mod Requests
 pub mod ReadRows
 pub mod Within
 pub mod SheetWithin
 pub mod SheetTurned
 pub mod MinutesApart
+pub mod Wrong

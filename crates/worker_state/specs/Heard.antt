@@ -1,7 +1,7 @@
 -- What a host hears of a worker and of a drained graph, by the fields of the structs and the numerals of
 -- include/taskgraph.h: what a worker is told, in the document's words, is read off them, so no two are told alike, and
 -- a field that says nothing is 0. Follows docs/RULES.md, "Tables and their measures" and "Turned-away calls".
--- (WrongHeard.antt has tellings that lose something.) Assumes nothing.
+-- (Wrong/Heard.antt has tellings that lose something.) Assumes nothing.
 use mathlib.Core.Path.{_≡_, refl}
 use mathlib.Core.Logic.{_≢_}
 use mathlib.Core.Bool.{Bool, true, false, _||_}

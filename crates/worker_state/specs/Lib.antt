@@ -1,4 +1,4 @@
 pub mod Held
 pub mod Drained
 pub mod Heard
-pub mod WrongHeard
+pub mod Wrong

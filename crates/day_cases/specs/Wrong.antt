@@ -1,0 +1,4 @@
+pub mod Told
+pub mod Days
+pub mod Answers
+pub mod Decimals
