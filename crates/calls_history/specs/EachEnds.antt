@@ -47,7 +47,8 @@ module _ {S : Type 0} (answer : S → HostCall → Replied S) (see : S → Seen)
       pub few-arcs : (j : ℕ) → j < see at-end .made → length (see at-end .job j .arcs) ≤ s .arcs
       -- run whole for an idle worker, an add ends or is refused by 5 to 8, a finish ends or is refused by 11 or 19, and
       -- a sheet of at most 64 entries has such an answer for each
-      pub adds : (w : ℕ) → w < s .workers → read .pending w ≡ idle → (a : Arguments) → Replies (wholeAdd s w a) AddAnswer
+      pub adds : (w : ℕ) → w < s .workers → read .pending w ≡ idle → (a : Arguments)
+          → Replies (wholeAdd s w a) AddAnswer
       pub finishes : (w : ℕ) → w < s .workers → read .pending w ≡ idle → (f : Finish)
           → Replies (wholeFinish s w f) FinishAnswer
       pub sheets : (w : ℕ) → w < s .workers → read .pending w ≡ idle → (l : List Arguments) → length l ≤ 64

@@ -60,7 +60,8 @@ last-gives : (n : ℕ) (x : Answer) (es : List Event) → isNumber n (lastAnswer
     → (isNumber n x || gives n es) ≡ true
 unfolding gives lastAnswer
 last-gives n x [] e = rw e
-last-gives n x (y ∷ es) e = or-true (isNumber n x) (isNumber n (y .answer) || gives n es) (last-gives n (y .answer) es e)
+last-gives n x (y ∷ es) e =
+    or-true (isNumber n x) (isNumber n (y .answer) || gives n es) (last-gives n (y .answer) es e)
 
 -- one of some answers is 9
 unfoldable anyNine : List Answer → Bool
@@ -73,7 +74,8 @@ among-nine i here = refl
 among-nine i (later {y} {l} m) = or-true (isNumber 9 y) (anyNine l) (among-nine i m)
 
 -- ---- the answers of a call, among those of the items that it is worth
-one-of : (is : List Item) (x : Tables) → anyNine (lastOf perform is x ∷ []) ≡ true → gives 9 (events perform x is) ≡ true
+one-of : (is : List Item) (x : Tables) → anyNine (lastOf perform is x ∷ []) ≡ true
+    → gives 9 (events perform x is) ≡ true
 unfolding anyNine
 one-of is x e = last-gives 9 Laid (events perform x is) (alone (isNumber 9 (lastOf perform is x)) e)
   where

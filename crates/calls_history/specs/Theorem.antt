@@ -24,7 +24,8 @@ use Rattle.calls_history.specs.Entered.{call-enters}
 use Rattle.calls_history.specs.Turned.{sheet-turned}
 
 -- a call leaves what the items that it is worth leave, and replies what they make it reply
-pub leaves-worth : (x : Tables) (c : HostCall) → answerWords x c .state ≡ after perform x (worth perform turnedWords x c)
+pub leaves-worth : (x : Tables) (c : HostCall)
+    → answerWords x c .state ≡ after perform x (worth perform turnedWords x c)
 leaves-worth x c = ap (λ (o : Replied Tables). o .state) (whole-is-worth x c)
 
 pub replies-worth : (x : Tables) (c : HostCall) → answerWords x c .reply ≡ replyWorth perform turnedWords x c

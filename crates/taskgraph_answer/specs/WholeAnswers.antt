@@ -63,8 +63,8 @@ pub whole-in-c : {made said : Outcome Tables} {r g : GraphAnswer} {b : Bool} {p 
     → b ≡ stoppedAs (g .number) p q → r ≡ pick b stoppedAnswer g
     → GivesWhole r (made .state) t w said
 whole-in-c {made} t w known told away g p q b r =
-    let same = stopped-known known (numberOf (made .answer)) (view t .worker PHASE w) (view (made .state) .worker PHASE w)
-    (λ e. rw told (away e))
-    in
+    let before = view t .worker PHASE w in
+    let after = view (made .state) .worker PHASE w in
+    let same = stopped-known known (numberOf (made .answer)) before after (λ e. rw told (away e)) in
     rw (← told)
     (r ∙ (rw (b, g, p, q, number-told (made .answer), same) (told-by (stoppedBy t w made) (made .answer))), refl)

@@ -3,7 +3,8 @@
 use Prim.Native.Nat.{ℕ}
 use Rattle.terms.specs.declared.HandOut.{HandOut}
 use Rattle.terms.specs.declared.Answer.{Answer}
-use Rattle.terms.specs.declared.Answer.the-variants.{Laid, Loaded, Posted, Going, Ended, NoneReady, Handed, Refused}
+use Rattle.terms.specs.declared.Answer.the-variants.{Laid, Loaded, Posted, Going, Ended, NoneReady, Handed}
+use Rattle.terms.specs.declared.Answer.the-variants.{Refused}
 
 abbrev pub byKind : {A : Type 0} → A → A → A → A → A → A → (HandOut → A) → (ℕ → ℕ → A) → Answer → A
 byKind laid loaded posted going ended none-ready handed refused Laid = laid

@@ -129,7 +129,9 @@ stops-exactly t w (half-done {u} i h) = (
   λ c. rw (i, h) refl,
 )
 stops-exactly t w (other {x} {u} d) = (
-  λ e. absurd (d (eqb-true (numberOf x) damaged (first-of-and (eqb (numberOf x) damaged) (isIdle t w && not (isIdle u w)) e))),
+  λ e.
+      let wrong = first-of-and (eqb (numberOf x) damaged) (isIdle t w && not (isIdle u w)) e in
+      absurd (d (eqb-true (numberOf x) damaged wrong)),
   λ c. absurd (d (ap numberOf (c .0))),
 )
 

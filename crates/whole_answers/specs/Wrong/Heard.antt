@@ -25,7 +25,8 @@ one-entry x e = served {xs = x ∷ []} (omega arith) at
 
 pub refused-as-accepted : SheetsHeard allAccepted → ⊥
 refused-as-accepted h =
-    never (cc (h .heard-as-told 0 0 (Refused 7 0 ∷ []) (one-entry (Refused 7 0) AddEnded.by-7) .entries 0 (omega arith)))
+    let told = h .heard-as-told 0 0 (Refused 7 0 ∷ []) (one-entry (Refused 7 0) AddEnded.by-7) in
+    never (cc (told .entries 0 (omega arith)))
 
 -- the places stand where the numbers belong
 abbrev swapped : ℕ → ℕ → List Answer → SheetAdded

@@ -35,12 +35,14 @@ use Rattle.whole_answers.specs.StoppedSheet.{StopsAt}
 -- its label is 5, which is none: an add of 8 that needs 7 enters, and stops at its link
 abbrev pub wrongLabel : Tables
 wrongLabel =
-    graph 1 (jobOf 7 5 0 none 0 0) (jobOf 0 0 0 none 0 0) (0 ∷ none ∷ none ∷ []) (0 ∷ none ∷ []) (bareWorker IDLE none 0)
+    graph 1 (jobOf 7 5 0 none 0 0) (jobOf 0 0 0 none 0 0) (0 ∷ none ∷ none ∷ []) (0 ∷ none ∷ [])
+    (bareWorker IDLE none 0)
 
 -- three jobs were made, of which there is room for two: an add is turned away by 9
 abbrev pub wrongCounter : Tables
 wrongCounter =
-    graph 3 (jobOf 7 0 0 none 0 0) (jobOf 0 0 0 none 0 0) (0 ∷ none ∷ none ∷ []) (0 ∷ none ∷ []) (bareWorker IDLE none 0)
+    graph 3 (jobOf 7 0 0 none 0 0) (jobOf 0 0 0 none 0 0) (0 ∷ none ∷ none ∷ []) (0 ∷ none ∷ [])
+    (bareWorker IDLE none 0)
 
 -- the worker's add is half done, and its tally is above its list's count: 9 for its own words
 abbrev pub wrongTally : Tables
@@ -185,11 +187,13 @@ abbrev pub oneRow : List ℕ
 oneRow = 8 ∷ 1 ∷ 0 ∷ 0 ∷ 7 ∷ replicate 31 0
 
 label-served : rowsWords two wrongLabel 0 oneRow .number ≡ 0
-unfolding rowsWords sheetWords served addEach entriesFrom admitted withinLimits columns header longEnough sizesKept ownOk
+unfolding rowsWords sheetWords served addEach entriesFrom admitted withinLimits columns header longEnough sizesKept
+    ownOk
 label-served = refl
 
 counter-served : rowsWords two wrongCounter 0 oneRow .number ≡ 0
-unfolding rowsWords sheetWords served addEach entriesFrom admitted withinLimits columns header longEnough sizesKept ownOk
+unfolding rowsWords sheetWords served addEach entriesFrom admitted withinLimits columns header longEnough sizesKept
+    ownOk
 counter-served = refl
 
 -- no entry was ever stopped
