@@ -5,10 +5,13 @@ ghost use mathlib.Core.Path.{_≡_};
 ghost use Rattle.words.specs.Layout.{atEntry};
 ghost use Rattle.day_text.specs.Page.{page};
 ghost use Rattle.day_end.specs.Ended.{ended};
-use day_print::count_unfinished;
-use day_print::print_hand_outs;
+
+mod print;
+
 use day_run::run_rounds;
 use day_text::left_line;
+use print::count_unfinished;
+use print::print_hand_outs;
 use terms::Sizes;
 
 // Answers the place printed up to.

@@ -26,7 +26,7 @@ use Rattle.day_text.specs.Page.{short-day}
 use Rattle.day_adds.specs.Adding.{entriesAt, entries-whole}
 use Rattle.day_begin.specs.Begun.{begun}
 use Rattle.day_end.specs.Ended.{ended}
-use Rattle.day_fresh.specs.Pages.{dayPage}
+use Rattle.day_list.specs.Pages.{dayPage}
 use Rattle.day_history.specs.Theorem.{day-limits, hand-outs-within}
 
 -- ---- few lines

@@ -5,9 +5,12 @@ ghost use Prim.Native.Nat.{_≤_};
 ghost use Rattle.terms.specs.Terms.{mostWorkers};
 ghost use Rattle.day_format.specs.Day.{dayText, printing, dayList};
 ghost use Rattle.day_text.specs.Page.{page, print};
+
+mod fresh;
+
 use day_format::DayAnswer;
-use day_fresh::print_day;
 use day_text::broken_line;
+use fresh::print_day;
 use sheet_format::SheetRead;
 use sheet_scan::scan_sheet;
 

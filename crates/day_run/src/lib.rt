@@ -7,10 +7,13 @@ ghost use Rattle.words.specs.Layout.{atEntry, atExit};
 ghost use Rattle.day_rounds.specs.Rounds.{runDay};
 ghost use Rattle.day_rounds.specs.Rows.{holding, stored};
 ghost use Rattle.day_run.specs.Kept.{kept, runKept};
-use day_round::run_round;
+
+mod round;
+
 use day_rounds::Holders;
 use graph_words::put_word;
 use graph_words::word;
+use round::run_round;
 use terms::Sizes;
 
 // Stores the hand-outs of a round.

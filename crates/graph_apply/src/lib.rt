@@ -5,18 +5,16 @@ ghost use mathlib.Core.Path.{_≡_};
 ghost use mathlib.Core.List.{List};
 ghost use Prim.Native.Nat.{ℕ};
 ghost use Rattle.words.specs.Layout.{tables, atEntry, atExit, view};
-ghost use Rattle.words.specs.Words.{applied, appliedGet};
-ghost use Rattle.fitting.specs.Fitting.{Fitting, FittingGet};
+ghost use Rattle.words.specs.Words.{applied};
+ghost use Rattle.fitting.specs.Fitting.{Fitting};
 ghost use Rattle.fitting.specs.Kinds.{Own, Stored};
-use graph_adding::apply_link;
-use graph_adding::apply_settle;
-use graph_entering::enter;
-use graph_finishing::apply_finish;
-use graph_finishing::take;
+use graph_step_stores::adding::apply_link;
+use graph_step_stores::adding::apply_settle;
+use graph_step_stores::entering::enter;
+use graph_step_stores::finishing::apply_finish;
 use graph_worker_words::count_place;
 use graph_worker_words::count_tally;
 use graph_worker_words::idle_worker;
-use words::GetPlan;
 use words::Plan;
 
 // The plans that store in the worker's record alone.
@@ -80,26 +78,5 @@ pub fn apply(
             worker,
             plan,
         ),
-    }
-}
-
-// The stores of a get's plan. The arcs and the buckets are not lent: whatever they are, they stay.
-pub fn apply_get(
-    jobs: &mut [u32],
-    queue: &mut [u32],
-    workers: &mut [u32],
-    worker: u32,
-    plan: GetPlan,
-)
-    ensures { λ _. ⌜ ((arcs buckets : List ℕ) →
-        FittingGet plan (view (tables (now (jobs .entry)) arcs buckets (now (queue .entry)) (now (workers .entry)))) →
-        tables (now (jobs .exit)) arcs buckets (now (queue .exit)) (now (workers .exit))
-        ≡ appliedGet plan (tables (now (jobs .entry)) arcs buckets (now (queue .entry)) (now (workers .entry)))
-        worker) ⌝ }
-{
-    match plan {
-        GetPlan::RefuseGet { .. } => {}
-        GetPlan::Wait => {}
-        GetPlan::Take { out, seat } => take(jobs, queue, workers, worker, out, seat),
     }
 }

@@ -4,8 +4,11 @@ ghost use mathlib.Core.Path.{_≡_};
 ghost use Rattle.terms.specs.Runs.{outcome};
 ghost use Rattle.words.specs.Layout.{atEntry, atExit};
 ghost use Rattle.words.specs.Words.{answerGet, getWords};
-use graph_apply::apply_get;
+
+mod stores;
+
 use graph_plan_get::plan_get;
+use stores::apply_get;
 use terms::Answer;
 use terms::Sizes;
 use words::GetPlan;

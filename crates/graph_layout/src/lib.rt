@@ -5,8 +5,11 @@ ghost use Rattle.terms.specs.Runs.{outcome};
 ghost use Rattle.words.specs.Layout.{atEntry, atExit};
 ghost use Rattle.words.specs.Words.{layOut};
 ghost use Rattle.graph_layout.specs.Needed.{wordsNeeded};
-use graph_fresh::buckets_of;
-use graph_fresh::fresh_tables;
+
+mod fresh;
+
+use fresh::buckets_of;
+use fresh::fresh_tables;
 use graph_sizes::need;
 use graph_sizes::room_for;
 use graph_sizes::within_limits;

@@ -3,7 +3,10 @@
 ghost use mathlib.Core.Path.{_≡_};
 ghost use Rattle.words.specs.Layout.{atEntry, view};
 ghost use Rattle.words.specs.Words.{planPhase, planStep};
-use graph_enter_steps::plan_add;
+
+mod enter_steps;
+
+use enter_steps::plan_add;
 use graph_finish_steps::plan_mark;
 use graph_finish_steps::plan_notify;
 use graph_link_steps::plan_links;

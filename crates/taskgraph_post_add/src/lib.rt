@@ -26,5 +26,5 @@ pub extern "C" fn tg_post_add(
     ensures { λ r. ⌜ Gives r (atExit jobs arcs buckets queue workers)
         (addWords sizes (atEntry jobs arcs buckets queue workers) worker (argumentsOf entry)) ⌝ }
 {
-    answered(graph_post_add::post_add(sizes, jobs, arcs, buckets, queue, workers, worker, entry))
+    answered(graph_post::add::post_add(sizes, jobs, arcs, buckets, queue, workers, worker, entry))
 }

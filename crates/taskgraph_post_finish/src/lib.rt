@@ -26,7 +26,7 @@ pub extern "C" fn tg_post_finish(
         (finishWords sizes (atEntry jobs arcs buckets queue workers) worker
         (finishTaken name outcome)) ⌝ }
 {
-    answered(graph_post_finish::post_finish(
+    answered(graph_post::finish::post_finish(
         sizes,
         jobs,
         arcs,

@@ -1,0 +1,29 @@
+// A round of the day list: every worker gets, then each holder finishes, run whole. Follows docs/RULES.md, "The board
+// and the day list". Assumes nothing.
+ghost use mathlib.Core.Path.{_≡_};
+ghost use Prim.Native.Nat.{_≤_};
+ghost use Rattle.terms.specs.Terms.{mostWorkers};
+ghost use Rattle.words.specs.Layout.{atEntry, atExit};
+ghost use Rattle.day_rounds.specs.Rounds.{gets, roundOf};
+ghost use Rattle.day_rounds.specs.Rows.{holding};
+use day_calls::finishes::finish_all;
+use day_calls::gets::get_all;
+use day_rounds::Holders;
+use terms::Sizes;
+
+// Answers who was handed what.
+pub fn run_round(
+    sizes: Sizes,
+    jobs: &mut [u32],
+    arcs: &mut [u32],
+    buckets: &mut [u32],
+    queue: &mut [u32],
+    workers: &mut [u32],
+) -> Holders
+    ensures { λ r. ⌜ (gets (atExit jobs arcs buckets queue workers) (holding r)
+        ≡ roundOf sizes (atEntry jobs arcs buckets queue workers)) × (r .count ≤ mostWorkers) ⌝ }
+{
+    let holders = get_all(sizes, jobs, arcs, buckets, queue, workers);
+    finish_all(sizes, jobs, arcs, buckets, queue, workers, holders);
+    holders
+}
