@@ -1,32 +1,77 @@
--- What an add comes to where nothing turns it away. Assumes nothing.
-use mathlib.Core.Path.{_≡_, sym, _∙_}
-use mathlib.Core.Bool.{Bool, true, false, _||_}
-use Prim.Native.Nat.{ℕ, _≤_}
-use lib.Dec.{ltb, eqb}
-use borrow.Author.Tests.{ltb-false}
-use Rattle.basics.specs.Limits.{mostNames, mostClass, mostGrower}
-use Rattle.basics.specs.Base.{contains, repeats}
-use Rattle.basics.specs.Laws.{or-left, or-right}
+-- What an add comes to, by its plan. Assumes nothing.
+use mathlib.Core.Path.{_≡_, _∙_}
+use mathlib.Core.Bool.{_||_}
+use mathlib.Core.List.{List}
+use Prim.Native.Nat.{ℕ, _+_, _≤_, _<_}
+use lib.Dec.{eqb, ltb, leb}
+use borrow.Author.Tests.{ltb-false, leb-false}
+use Rattle.basics.specs.Laws.{or-left, or-right, pick-by}
 use Rattle.terms.specs.Terms.{Arguments, listed, argumentsWrong}
-use Rattle.terms.specs.Runs.{Outcome}
+use Rattle.terms.specs.Runs.{Outcome, outcome}
 use Rattle.terms.specs.declared.Sizes.{Sizes}
-use Rattle.words.specs.Layout.{Tables, view, PHASE, IDLE}
-use Rattle.words.specs.Words.{countersOk}
-use Rattle.fused_words.specs.FusedAdd.{lookUps, lookIn, addIn, addIfIdle}
+use Rattle.terms.specs.declared.Answer.the-variants.{Refused}
+use Rattle.words.specs.Layout.{Tables, View, view, none, PHASE, IDLE, LOOKING}
+use Rattle.words.specs.Words.{countersOk, findOf}
+use Rattle.words.specs.declared.Found.{Found}
+use Rattle.words.specs.declared.Found.the-variants.{At, Missing, Damaged}
+use Rattle.fused_words.specs.FusedWorker.{holdOf, idledWith, addWorker, halted}
+use Rattle.fused_words.specs.FusedAdd.{lookUps, jobsFound, enteredTables, Links, links, settleIn, planOwn, planLooked}
+use Rattle.fused_words.specs.FusedAdd.{planAdd, addBy, addIfIdle}
+use Rattle.fused_words.specs.declared.LookUps.{LookUps}
+use Rattle.fused_words.specs.declared.LookUps.the-variants.{All, Unknown, Broken}
+use Rattle.fused_words.specs.declared.AddPlan.{AddPlan}
+use Rattle.fused_words.specs.declared.AddPlan.the-variants.{Reject, TurnAway, Stop, EnterJob}
+use Rattle.fused_plan.proofs.Plans.{not-rejected, not-away, not-stopped}
 
--- arguments that are not wrong list at most 32 names
-pub short : (a : Arguments) {wrong : Bool} → wrong ≡ argumentsWrong a → wrong ≡ false → a .count ≤ mostNames
-unfolding argumentsWrong
-short a e f =
-    let values = ltb mostClass (a .class) || ltb mostGrower (a .grower) in
-    let names = contains (a .name) (listed a) || repeats (listed a) in
-    ltb-false mostNames (a .count)
-    (or-right values (ltb mostNames (a .count)) (or-left (values || ltb mostNames (a .count)) names (sym e ∙ f)))
+-- ---- each plan
+module _ (s : Sizes) (t : Tables) (w : ℕ) (a : Arguments) {f : AddPlan} (q : f ≡ planAdd s (view t) w a) {held : ℕ}
+    (h : held ≡ holdOf t w) {o : Outcome Tables} where
+  pub rejected : {n : ℕ} → f ≡ Reject n → o ≡ outcome (Refused n 0) t → o ≡ addIfIdle s t w a
+  unfolding addIfIdle addBy
+  rejected e p = rw (← q, e) p
 
--- with what the code finds of the worker's phase, of the arguments and of the counters
-pub goes : (s : Sizes) (t : Tables) (w : ℕ) (a : Arguments) {phase : ℕ} {wrong counted : Bool} {o : Outcome Tables}
-    → phase ≡ view t .worker PHASE w → eqb phase IDLE ≡ true → wrong ≡ argumentsWrong a → wrong ≡ false
-    → counted ≡ countersOk s (view t) → counted ≡ true → o ≡ lookIn s t w a (lookUps s (view t) (listed a) 0)
-    → o ≡ addIfIdle s t w a
-unfolding addIfIdle addIn
-goes s t w a p idle n right k taken e = rw (← p, idle, ← n, right, ← k, taken) e
+  pub turned-away : {n i : ℕ} → f ≡ TurnAway n i → o ≡ outcome (Refused n i) (idledWith t w held)
+      → o ≡ addIfIdle s t w a
+  unfolding addIfIdle addBy
+  turned-away e p = rw (← q, e, ← h) p
+
+  pub stopped : {i : ℕ} → f ≡ Stop i → o ≡ halted t w (addWorker LOOKING held a 0 i none none 0) → o ≡ addIfIdle s t w a
+  unfolding addIfIdle addBy
+  stopped e p = rw (← q, e, ← h) p
+
+  -- entry, links and settling, one after the other
+  pub entered : f ≡ EnterJob → {j x : ℕ} {r : Links} {u : Tables} {l : List ℕ} → o ≡ settleIn s w a held j x r
+      → r ≡ links s j x l 0 u 0 0 → u ≡ enteredTables s t a → j ≡ view t .made → x ≡ view t .reserved
+      → l ≡ jobsFound s (view t) (listed a) → o ≡ addIfIdle s t w a
+  unfolding addIfIdle addBy
+  entered e p linked enters job arc found = p ∙ rw (linked, enters, job, arc, found, h, ← q, e)
+
+-- ---- where its job is to enter, the tables have room for it and for its arcs
+module _ (s : Sizes) (v : View) (w : ℕ) (a : Arguments) where
+  abbrev Room : AddPlan → Type 0
+  Room p = p ≡ EnterJob → (v .made < s .jobs) × (v .reserved + a .count ≤ s .arcs)
+
+  by-own : (f : Found) → Room (planOwn s v (a .count) f)
+  by-own (At j) = λ e. absurd (not-away e)
+  by-own Damaged = λ e. absurd (not-stopped e)
+  by-own Missing =
+      let full = leb (s .jobs) (v .made) in
+      let over = ltb (s .arcs) (v .reserved + a .count) in
+      pick-by Room (full || over) (λ _ e. absurd (not-away e))
+      (λ k _. (
+        leb-false (s .jobs) (v .made) (or-left full over k),
+        ltb-false (s .arcs) (v .reserved + a .count) (or-right full over k),
+      ))
+
+  by-looks : (x : LookUps) → Room (planLooked s v a x)
+  by-looks All = by-own (findOf s v (a .name))
+  by-looks (Unknown i) = λ e. absurd (not-away e)
+  by-looks (Broken i) = λ e. absurd (not-stopped e)
+
+  pub has-room : Room (planAdd s v w a)
+  unfolding planAdd
+  has-room =
+      pick-by Room (eqb (v .worker PHASE w) IDLE)
+      (λ _. pick-by Room (argumentsWrong a) (λ _ e. absurd (not-rejected e))
+      (λ _. pick-by Room (countersOk s v) (λ _. by-looks (lookUps s v (listed a) 0)) (λ _ e. absurd (not-rejected e))))
+      (λ _ e. absurd (not-rejected e))

@@ -6,17 +6,20 @@ ghost use Rattle.terms.specs.Runs.{outcome};
 ghost use Rattle.words.specs.Layout.{atEntry, atExit};
 ghost use Rattle.fused_words.specs.FusedAdd.{addIfIdle};
 ghost use Rattle.sheet_rows.specs.Arguments.{argumentsOf};
-use fused_looking::look_up_all;
-use graph_arguments::arguments_wrong;
-use graph_own::counters_ok;
+use fused_ends::settling::settle_add;
+use fused_ends::stops::stop_looking;
+use fused_ends::stops::turn_away;
+use fused_job::entering::enter_job;
+use fused_job::links::link_all;
+use fused_plan::plan_add;
+use fused_words::AddPlan;
 use graph_words::layout::*;
-use graph_words::numbers::*;
 use graph_words::worker_word;
 use sheet_format::Entry;
 use terms::Answer;
 use terms::Sizes;
 
-// Adds a job. Of a worker that is half done it answers 3, and changes nothing.
+// Adds a job: planned, and then done. Of a worker that is half done it answers 3, and changes nothing.
 pub fn add_if_idle(
     sizes: Sizes,
     jobs: &mut [u32],
@@ -30,33 +33,26 @@ pub fn add_if_idle(
     ensures { λ r. ⌜ outcome r (atExit jobs arcs buckets queue workers)
         ≡ addIfIdle sizes (atEntry jobs arcs buckets queue workers) worker (argumentsOf entry) ⌝ }
 {
-    let idle = worker_word(workers, worker, PHASE) == IDLE;
-    if idle {} else {
-        return Answer::Refused {
-            number: HALF_DONE,
-            place: 0,
-        };
-    }
-    let wrong = arguments_wrong(
-        entry.name,
-        &entry.names,
-        entry.count,
-        entry.class,
-        entry.grower,
+    let held = worker_word(workers, worker, HELD);
+    let mut found = [0u32; 32];
+    let plan = plan_add(
+        sizes,
+        jobs,
+        arcs,
+        buckets,
+        workers,
+        worker,
+        entry,
+        &mut found,
     );
-    if wrong {
-        return Answer::Refused {
-            number: WRONG_ARGUMENTS,
-            place: 0,
-        };
-    }
-    let counted = counters_ok(sizes, jobs, arcs);
-    if counted {
-        look_up_all(sizes, jobs, arcs, buckets, queue, workers, worker, entry)
-    } else {
-        Answer::Refused {
-            number: DAMAGED,
-            place: 0,
+    match plan {
+        AddPlan::Reject { number } => Answer::Refused { number, place: 0 },
+        AddPlan::TurnAway { number, place } => turn_away(workers, worker, held, number, place),
+        AddPlan::Stop { place } => stop_looking(workers, worker, held, entry, place),
+        AddPlan::EnterJob => {
+            let new = enter_job(sizes, jobs, arcs, buckets, entry);
+            let links = link_all(sizes, jobs, arcs, new.job, new.arc, &found, entry.count);
+            settle_add(sizes, jobs, queue, workers, worker, held, entry, new, links)
         }
     }
 }

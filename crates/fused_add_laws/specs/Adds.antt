@@ -14,7 +14,8 @@ use Rattle.words.specs.Layout.{Tables, view, none, HELD, LOOKING}
 use Rattle.words.specs.Words.{countersOk, admitted, refusal, judgedAdd, addingWorker, posted, addWords}
 use Rattle.whole_words.specs.Whole.{andThen, stepsOf, wholeAdd}
 use Rattle.fused_words.specs.FusedWorker.{Admitted, isIdle, holdOf, withWorker, addWorker}
-use Rattle.fused_words.specs.FusedAdd.{lookUps, lookIn, addIn, addIfIdle}
+use Rattle.fused_words.specs.FusedAdd.{lookUps, planLooked, planAdd, addBy, addIfIdle}
+use Rattle.fused_words.specs.declared.AddPlan.the-variants.{Reject}
 use Rattle.fused_laws.specs.Posts.{admitted-as, admitted-each, admitted-map, add-posted}
 use Rattle.fused_add_laws.specs.Listed.{right}
 use Rattle.fused_add_laws.specs.Halfway.{Run, run-on, run-ends}
@@ -36,17 +37,18 @@ module _ (s : Sizes) (t : Tables) (w : ℕ) (a : Arguments) (A : Admitted s t w)
       (pick sound (outcome Posted (withWorker t w (addWorker LOOKING (holdOf t w) a 0 0 none none 0)))
       (outcome (Refused damaged 0) t)))
       (outcome (Refused halfDone 0) t)))
-      (pick idle
-      (pick wrong (outcome (Refused wrongArguments 0) t)
-      (pick sound (lookIn s t w a (lookUps s (view t) (listed a) 0)) (outcome (Refused damaged 0) t)))
-      (outcome (Refused halfDone 0) t))
+      (addBy s t w a (pick idle
+      (pick wrong (Reject wrongArguments)
+      (pick sound (planLooked s (view t) a (lookUps s (view t) (listed a) 0)) (Reject damaged)))
+      (Reject halfDone)))
+  unfolding addBy
   after-post true true sound e f = turned-away wrongArguments
   after-post true false true e f = looked-run s t w A a (right a e) f (2 * a .count + 2) (omega arith)
   after-post true false false e f = turned-away damaged
   after-post false wrong sound e f = turned-away halfDone
 
   add-run : Run s w (wholeAdd s t w a) (addIfIdle s t w a)
-  unfolding wholeAdd addIfIdle addIn
+  unfolding wholeAdd addIfIdle planAdd
   add-run =
       run-on (ap then (add-posted s t w a A))
       (after-post (isIdle t w) (argumentsWrong a) (countersOk s (view t)) refl refl)

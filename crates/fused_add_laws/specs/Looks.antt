@@ -24,8 +24,9 @@ use Rattle.words.specs.declared.Plan.{Plan}
 use Rattle.words.specs.declared.Plan.the-variants.{Quit, Enter}
 use Rattle.whole_words.specs.Whole.{andThen, stepsOf}
 use Rattle.fused_words.specs.FusedWorker.{Admitted, holdOf, withWorker, idledWith, addWorker}
-use Rattle.fused_words.specs.FusedAdd.{orOn, lookUps, jobsFound, enteredTables, links, settleIn, enterIn, lookIn}
+use Rattle.fused_words.specs.FusedAdd.{orOn, lookUps, jobsFound, enteredTables, planOwn, planLooked, addBy}
 use Rattle.fused_words.specs.declared.LookUps.the-variants.{All}
+use Rattle.fused_words.specs.declared.AddPlan.the-variants.{TurnAway, EnterJob}
 use Rattle.fused_laws.specs.Plans.{recordPlan}
 use Rattle.fused_laws.specs.Deeds.{recordBy, storedBy}
 use Rattle.fused_laws.specs.Posts.{hold-ok}
@@ -79,10 +80,8 @@ module _ (s : Sizes) (t : Tables) (w : ℕ) (A : Admitted s t w) (a : Arguments)
         (andThen (answerOf (enterPlan b))
         (withWorker (storedBy (enterPlan b) t (words (a .count))) w (recordBy (enterPlan b) (words (a .count))))
         (stepsOf n s w))
-        (pick b (outcome (Refused tablesFull 0) (idledWith t w (holdOf t w)))
-        (settleIn s w a (holdOf t w) (v .made) (v .reserved)
-        (links s (v .made) (v .reserved) (jobsFound s v (listed a)) 0 (enteredTables s t a) 0 0)))
-    unfolding storedBy
+        (addBy s t w a (pick b (TurnAway tablesFull 0) EnterJob))
+    unfolding addBy storedBy
     room true e = run-ends (Refused tablesFull 0) _ refl idle
     room false e =
         let few = leb-false (s .jobs) (v .made)
@@ -98,14 +97,14 @@ module _ (s : Sizes) (t : Tables) (w : ℕ) (A : Admitted s t w) (a : Arguments)
         (andThen (answerOf (planEnter s (view t) (a .name) (a .count) f))
         (withWorker (storedBy (planEnter s (view t) (a .name) (a .count) f) t (words (a .count))) w
         (recordBy (planEnter s (view t) (a .name) (a .count) f) (words (a .count)))) (stepsOf n s w))
-        (enterIn s t w a f)
-    unfolding planEnter enterIn storedBy
+        (addBy s t w a (planOwn s v (a .count) f))
+    unfolding planEnter addBy storedBy
     after-plan (At j) = run-ends (Refused namePresent 0) _ refl idle
     after-plan Missing = room full refl
     after-plan Damaged = run-ends (Refused damaged 0) _ refl (stays (a .count) (omega arith))
 
     enter-run : Run s w (stepsOf (suc n) s w (withWorker t w (words (a .count))))
-        (enterIn s t w a (findOf s (view t) (a .name)))
+        (addBy s t w a (planOwn s v (a .count) (findOf s v (a .name))))
     enter-run =
         run-on
         (steps (a .count) (omega arith) _
@@ -122,8 +121,8 @@ module _ (s : Sizes) (t : Tables) (w : ℕ) (A : Admitted s t w) (a : Arguments)
   -- the rest of the look-ups, from place i on with the names l
   looks-run : (l : List ℕ) (i : ℕ) → Rest a l i → lookUps s (view t) (listed a) 0 ≡ lookUps s (view t) l i
       → (n : ℕ) → length l + (a .count + 2) ≤ n
-      → Run s w (stepsOf n s w (withWorker t w (words i))) (lookIn s t w a (lookUps s (view t) l i))
-  unfolding lookUps lookIn planLookUp storedBy
+      → Run s w (stepsOf n s w (withWorker t w (words i))) (addBy s t w a (planLooked s v a (lookUps s v l i)))
+  unfolding lookUps addBy planLookUp storedBy
   looks-run l i R E zero h = absurd (omega arith)
   looks-run [] i R E (suc n) h =
       let e : i ≡ a .count = omega (arith, R .ends) in
@@ -135,11 +134,11 @@ module _ (s : Sizes) (t : Tables) (w : ℕ) (A : Admitted s t w) (a : Arguments)
     where
       go : (f : Found) → findOf s (view t) x ≡ f
           → (lookUps s (view t) (x ∷ l) i ≡ lookUps s (view t) l (suc i)
-          → Run s w (stepsOf n s w (withWorker t w (words (suc i)))) (lookIn s t w a (lookUps s (view t) l (suc i))))
+          → Run s w (stepsOf n s w (withWorker t w (words (suc i)))) (addBy s t w a (planLooked s v a (lookUps s v l (suc i)))))
           → Run s w
           (andThen (answerOf (planLookUp i f))
           (withWorker (storedBy (planLookUp i f) t (words i)) w (recordBy (planLookUp i f) (words i))) (stepsOf n s w))
-          (lookIn s t w a (orOn f i (lookUps s (view t) l (suc i))))
+          (addBy s t w a (planLooked s v a (orOn f i (lookUps s v l (suc i)))))
       go (At j) z rest =
           run-on (ap (λ m. stepsOf n s w (withWorker t w (words m))) (add-one i))
           (rest (ap (λ f. orOn f i (lookUps s (view t) l (suc i))) z))
@@ -149,6 +148,6 @@ module _ (s : Sizes) (t : Tables) (w : ℕ) (A : Admitted s t w) (a : Arguments)
 
   pub looked-run : (n : ℕ) → a .count + (a .count + 2) ≤ n
       → Run s w (stepsOf n s w (withWorker t w (addWorker LOOKING (holdOf t w) a 0 0 none none 0)))
-      (lookIn s t w a (lookUps s (view t) (listed a) 0))
+      (addBy s t w a (planLooked s v a (lookUps s v (listed a) 0)))
   looked-run n h =
       looks-run (listed a) 0 (rest-all a) refl n (omega (arith, length-prefix (a .count) (a .names)))

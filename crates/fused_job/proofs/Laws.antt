@@ -1,15 +1,56 @@
--- Entry, links and settling, one after the other. Assumes nothing.
-use mathlib.Core.Path.{_≡_, _∙_}
-use mathlib.Core.List.{List}
-use Prim.Native.Nat.{ℕ}
-use Rattle.terms.specs.Terms.{Arguments}
-use Rattle.terms.specs.Runs.{Outcome}
+-- The plan of a link, by what it asks for; and the links of an add, one at a time. Assumes nothing.
+use mathlib.Core.Path.{_≡_, refl}
+use mathlib.Core.Bool.{true, false}
+use mathlib.Core.Logic.{inl, inr}
+use mathlib.Core.List.{List, [], _∷_}
+use Prim.Native.Nat.{ℕ, _+_, _≤_, _<_}
+use native.Mathlib.Omega.{arith}
+use native.Mathlib.Numerals.{add-one}
+use lib.ListN.{getD, drop}
+use types.Run.{OneOf}
+use Rattle.basics.specs.Base.{prefix}
 use Rattle.terms.specs.declared.Sizes.{Sizes}
-use Rattle.words.specs.Layout.{Tables}
-use Rattle.fused_words.specs.FusedAdd.{Links, links, settleIn}
+use Rattle.words.specs.Layout.{Tables, view}
+use Rattle.words.specs.Words.{planLink}
+use Rattle.words.specs.declared.Found.the-variants.{At}
+use Rattle.words.specs.declared.Plan.{Plan}
+use Rattle.words.specs.declared.Plan.the-variants.{Refuse, Quit, Pass, Enter, Tally, LinkFirst, LinkAfter, Settle}
+use Rattle.words.specs.declared.Plan.the-variants.{SettleQueue, Mark, Notify, NotifyQueue}
+use Rattle.graph_arguments.proofs.Listed.{next, none-left}
+use Rattle.fitting.specs.Kinds.{tag, apart}
+use Rattle.fused_words.specs.FusedAdd.{Links, linksTo, linkBy, links}
 
--- entry, links and settling, with the job and the arc that the code read before
-pub joined : (s : Sizes) (w : ℕ) (a : Arguments) (held : ℕ) (l : List ℕ) {j x m r : ℕ} {o : Outcome Tables} {k : Links}
-    {t u : Tables} → o ≡ settleIn s w a held j x k → k ≡ links s j x l 0 t 0 0 → t ≡ u → j ≡ m → x ≡ r
-    → o ≡ settleIn s w a held m r (links s m r l 0 u 0 0)
-joined s w a held l p q e f g = p ∙ rw (q, e, f, g)
+pub add-zero : (k : ℕ) → k + 0 ≡ k
+add-zero k = omega arith
+
+-- ---- any plan but a tally and an arc ends the links
+pub ends : (p : Plan) → OneOf (0 ∷ 1 ∷ 2 ∷ 3 ∷ 7 ∷ 8 ∷ 9 ∷ 10 ∷ 11 ∷ []) (tag p) → (t : Tables) (i k n : ℕ)
+    (more : Tables → ℕ → ℕ → Links) → linksTo t i k n false ≡ linkBy p t i k n more
+ends (Tally o) h t i k n more =
+    absurd (apart (4 ∷ 5 ∷ 6 ∷ []) (0 ∷ 1 ∷ 2 ∷ 3 ∷ 7 ∷ 8 ∷ 9 ∷ 10 ∷ 11 ∷ []) 4 tt (inl refl) h)
+ends (LinkFirst p x j) h t i k n more =
+    absurd (apart (4 ∷ 5 ∷ 6 ∷ []) (0 ∷ 1 ∷ 2 ∷ 3 ∷ 7 ∷ 8 ∷ 9 ∷ 10 ∷ 11 ∷ []) 5 tt (inr (inl refl)) h)
+ends (LinkAfter p l x j) h t i k n more =
+    absurd (apart (4 ∷ 5 ∷ 6 ∷ []) (0 ∷ 1 ∷ 2 ∷ 3 ∷ 7 ∷ 8 ∷ 9 ∷ 10 ∷ 11 ∷ []) 6 tt (inr (inr refl)) h)
+ends (Refuse m) h t i k n more = refl
+ends (Quit m q) h t i k n more = refl
+ends Pass h t i k n more = refl
+ends (Enter j b g x) h t i k n more = refl
+ends (Settle j c) h t i k n more = refl
+ends (SettleQueue j c q) h t i k n more = refl
+ends (Mark p x) h t i k n more = refl
+ends (Notify j c x) h t i k n more = refl
+ends (NotifyQueue j c x q) h t i k n more = refl
+
+-- ---- one link of those that are left
+module _ (s : Sizes) (j x count : ℕ) (found : List ℕ) (i : ℕ) (t : Tables) (k n : ℕ) where
+  pub link-next : i < count
+      → linkBy (planLink s (view t) (x + i) j (At (getD found i 0))) t i k n
+      (links s j x (drop (i + 1) (prefix count found)) (i + 1))
+      ≡ links s j x (drop i (prefix count found)) i t k n
+  unfolding links
+  link-next h = rw (next count found i h, add-one)
+
+  pub link-none : count ≤ i → i ≤ count → linksTo t i k n true ≡ links s j x (drop i (prefix count found)) i t k n
+  unfolding links
+  link-none a b = rw (none-left count found i a b)

@@ -1,9 +1,10 @@
--- An add of an idle worker in one go: all look-ups, entering, all links by the jobs that were found, settling. The
--- worker's words are stored once, at the end. (That this is the post and its steps: fused_add_laws.) Assumes nothing.
+-- An add of an idle worker in one go: all look-ups, entering, all links by the jobs that were found, settling. It is
+-- planned before anything is stored, and the worker's words are stored once, at the end. (That this is the post and its
+-- steps: fused_add_laws.) Assumes nothing.
 use mathlib.Core.Bool.{Bool, true, false, _||_}
 use mathlib.Core.List.{List, [], _∷_}
 use Prim.Native.Nat.{ℕ, suc, _+_, _-_}
-use lib.Dec.{ltb, leb}
+use lib.Dec.{eqb, ltb, leb}
 use lib.Seq.{sets}
 use Rattle.basics.specs.Base.{pick}
 use Rattle.bucket.specs.Bucket.{bucketOf}
@@ -14,7 +15,7 @@ use Rattle.terms.specs.declared.Sizes.{Sizes}
 use Rattle.terms.specs.declared.Answer.the-variants.{Ended, Refused}
 use Rattle.words.specs.Columns.{place, put, putHeader}
 use Rattle.words.specs.Layout.{Tables, tables, View, view, none, jobShape, bucketShape, MADE, FIRST, LAST}
-use Rattle.words.specs.Layout.{RESERVED, arcShape, AFTER, LOOKING, LINKING}
+use Rattle.words.specs.Layout.{RESERVED, arcShape, AFTER, PHASE, IDLE, LOOKING, LINKING}
 use Rattle.words.specs.Index.{seatFor, putSeat}
 use Rattle.words.specs.Words.{countersOk, findOf, planLink, firstArc, noted, putCount, newArc}
 use Rattle.words.specs.declared.Seat.{Seat}
@@ -25,9 +26,11 @@ use Rattle.words.specs.declared.Found.the-variants.{At, Missing, Damaged}
 use Rattle.words.specs.declared.Plan.{Plan}
 use Rattle.words.specs.declared.Plan.the-variants.{Refuse, Quit, Pass, Enter, Tally, LinkFirst, LinkAfter, Settle}
 use Rattle.words.specs.declared.Plan.the-variants.{SettleQueue, Mark, Notify, NotifyQueue}
-use Rattle.fused_words.specs.FusedWorker.{isIdle, holdOf, idledWith, addWorker, halted}
+use Rattle.fused_words.specs.FusedWorker.{holdOf, idledWith, addWorker, halted}
 use Rattle.fused_words.specs.declared.LookUps.{LookUps}
 use Rattle.fused_words.specs.declared.LookUps.the-variants.{All, Unknown, Broken}
+use Rattle.fused_words.specs.declared.AddPlan.{AddPlan}
+use Rattle.fused_words.specs.declared.AddPlan.the-variants.{Reject, TurnAway, Stop, EnterJob}
 
 -- ---- the look-ups, the first of these names being at place i: how they end, and the jobs found
 abbrev pub orOn : Found → ℕ → LookUps → LookUps
@@ -130,28 +133,35 @@ settleIn s w a held j x r =
     (outcome Ended (idledWith (settledTables t j c (r .note)) w held)))
     stopped
 
--- ---- entering, links and settling, after the look-up of the add's own name
-unfoldable pub enterIn : Sizes → Tables → ℕ → Arguments → Found → Outcome Tables
-enterIn s t w a (At j) = outcome (Refused namePresent 0) (idledWith t w (holdOf t w))
-enterIn s t w a Damaged = halted t w (addWorker LOOKING (holdOf t w) a 0 (a .count) none none 0)
-enterIn s t w a Missing =
+-- ---- the plan of an add: what its post is refused by, then its look-ups, its own name and the room
+-- by the look-up of its own name, with d prerequisites
+abbrev pub planOwn : Sizes → View → ℕ → Found → AddPlan
+planOwn s v d (At j) = TurnAway namePresent 0
+planOwn s v d Damaged = Stop d
+planOwn s v d Missing =
+    pick (leb (s .jobs) (v .made) || ltb (s .arcs) (v .reserved + d)) (TurnAway tablesFull 0) EnterJob
+
+abbrev pub planLooked : Sizes → View → Arguments → LookUps → AddPlan
+planLooked s v a All = planOwn s v (a .count) (findOf s v (a .name))
+planLooked s v a (Unknown i) = TurnAway unknownName i
+planLooked s v a (Broken i) = Stop i
+
+unfoldable pub planAdd : Sizes → View → ℕ → Arguments → AddPlan
+planAdd s v w a =
+    pick (eqb (v .worker PHASE w) IDLE)
+    (pick (argumentsWrong a) (Reject wrongArguments)
+    (pick (countersOk s v) (planLooked s v a (lookUps s v (listed a) 0)) (Reject damaged)))
+    (Reject halfDone)
+
+-- ---- the add by its plan
+unfoldable pub addBy : Sizes → Tables → ℕ → Arguments → AddPlan → Outcome Tables
+addBy s t w a (Reject n) = outcome (Refused n 0) t
+addBy s t w a (TurnAway n i) = outcome (Refused n i) (idledWith t w (holdOf t w))
+addBy s t w a (Stop i) = halted t w (addWorker LOOKING (holdOf t w) a 0 i none none 0)
+addBy s t w a EnterJob =
     let v = view t in
-    pick (leb (s .jobs) (v .made) || ltb (s .arcs) (v .reserved + a .count))
-    (outcome (Refused tablesFull 0) (idledWith t w (holdOf t w)))
-    (settleIn s w a (holdOf t w) (v .made) (v .reserved)
-    (links s (v .made) (v .reserved) (jobsFound s v (listed a)) 0 (enteredTables s t a) 0 0))
+    settleIn s w a (holdOf t w) (v .made) (v .reserved)
+    (links s (v .made) (v .reserved) (jobsFound s v (listed a)) 0 (enteredTables s t a) 0 0)
 
-unfoldable pub lookIn : Sizes → Tables → ℕ → Arguments → LookUps → Outcome Tables
-lookIn s t w a All = enterIn s t w a (findOf s (view t) (a .name))
-lookIn s t w a (Unknown i) = outcome (Refused unknownName i) (idledWith t w (holdOf t w))
-lookIn s t w a (Broken i) = halted t w (addWorker LOOKING (holdOf t w) a 0 i none none 0)
-
--- ---- the whole add: what its post is refused by, then the look-ups and what follows
-unfoldable pub addIn : Sizes → Tables → ℕ → Arguments → Outcome Tables
-addIn s t w a =
-    pick (argumentsWrong a) (outcome (Refused wrongArguments 0) t)
-    (pick (countersOk s (view t)) (lookIn s t w a (lookUps s (view t) (listed a) 0)) (outcome (Refused damaged 0) t))
-
--- of a worker that may be half done: number 3
 unfoldable pub addIfIdle : Sizes → Tables → ℕ → Arguments → Outcome Tables
-addIfIdle s t w a = pick (isIdle t w) (addIn s t w a) (outcome (Refused halfDone 0) t)
+addIfIdle s t w a = addBy s t w a (planAdd s (view t) w a)

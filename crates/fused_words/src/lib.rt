@@ -7,3 +7,12 @@ pub enum LookUps {
     Unknown { place: u32 },
     Broken { place: u32 },
 }
+
+// What an add is to do: it is refused with nothing changed, turned away with its worker idle, stopped half done in its
+// look-ups, at a place of its list or at its own name after them, or its job enters.
+pub enum AddPlan {
+    Reject { number: u32 },
+    TurnAway { number: u32, place: u32 },
+    Stop { place: u32 },
+    EnterJob,
+}

@@ -29,9 +29,11 @@ use Rattle.words.specs.declared.Plan.the-variants.{SettleQueue, Mark, Notify, N
 use Rattle.whole_words.specs.Whole.{wholeAdd}
 use Rattle.fused_words.specs.FusedWorker.{Admitted, isIdle, holdOf, idledWith, addWorker, halted}
 use Rattle.fused_words.specs.FusedAdd.{orOn, lookUps, jobsFound, enteredTables, Links, linkBy, links, queueIn}
-use Rattle.fused_words.specs.FusedAdd.{settleIn, settledTables, queuedTables, enterIn, lookIn, addIn, addIfIdle}
+use Rattle.fused_words.specs.FusedAdd.{settleIn, settledTables, queuedTables, planOwn, planLooked, planAdd, addBy}
+use Rattle.fused_words.specs.FusedAdd.{addIfIdle}
 use Rattle.fused_words.specs.declared.LookUps.{LookUps}
 use Rattle.fused_words.specs.declared.LookUps.the-variants.{All, Unknown, Broken}
+use Rattle.fused_words.specs.declared.AddPlan.{AddPlan}
 use Rattle.fused_laws.specs.Calls.{add-whole}
 use Rattle.fused_add_laws.specs.Adds.{whole-add}
 use Rattle.whole_answers.specs.Worker.{Back, back, busy, orderNumbers, by-admission, contains-left}
@@ -125,18 +127,22 @@ module _ (s : Sizes) (t : Tables) (w : ℕ) (a : Arguments) (A : Admitted s t w)
       (λ _. ends-in (settledTables u j c (r .note)) e))
       (λ _. stops)
 
-  entered : (f : Found) → Ends (enterIn s t w a f)
-  unfolding enterIn contains
+  -- the plan's end
+  abbrev By : AddPlan → Type 0
+  By p = Ends (addBy s t w a p)
+
+  entered : (f : Found) → By (planOwn s (view t) (a .count) f)
+  unfolding addBy contains
   entered (At j) = unfit refl idle-again
   entered Damaged = stops-in LOOKING 0 (a .count) none none 0 t refl refl
   entered Missing =
       let v = view t in
-      pick-by Ends (leb (s .jobs) (v .made) || ltb (s .arcs) (v .reserved + a .count)) (λ _. unfit refl idle-again)
+      pick-by By (leb (s .jobs) (v .made) || ltb (s .arcs) (v .reserved + a .count)) (λ _. unfit refl idle-again)
       (λ _. settled (v .made) (v .reserved) _
       (links-workers s (v .made) (v .reserved) (jobsFound s v (listed a)) 0 (enteredTables s t a) 0 0))
 
-  looked : (x : LookUps) → lookUps s (view t) (listed a) 0 ≡ x → Ends (lookIn s t w a x)
-  unfolding lookIn
+  looked : (x : LookUps) → lookUps s (view t) (listed a) 0 ≡ x → By (planLooked s (view t) a x)
+  unfolding addBy
   looked All e = entered (findOf s (view t) (a .name))
   looked (Unknown i) e =
       unknown {i = i} (omega (arith, looks-below s (view t) (listed a) 0 i e, length-prefix (a .count) (a .names)))
@@ -144,11 +150,11 @@ module _ (s : Sizes) (t : Tables) (w : ℕ) (a : Arguments) (A : Admitted s t w)
   looked (Broken i) e = stops-in LOOKING 0 i none none 0 t refl refl
 
   if-idle : Ends (addIfIdle s t w a)
-  unfolding addIfIdle addIn contains
+  unfolding addIfIdle planAdd addBy contains
   if-idle =
-      pick-by Ends (isIdle t w)
-      (λ _. pick-by Ends (argumentsWrong a) (λ _. turned-away refl)
-      (λ _. pick-by Ends (countersOk s (view t)) (λ _. looked _ refl) (λ _. turned-away refl)))
+      pick-by By (isIdle t w)
+      (λ _. pick-by By (argumentsWrong a) (λ _. turned-away refl)
+      (λ _. pick-by By (countersOk s (view t)) (λ _. looked _ refl) (λ _. turned-away refl)))
       (λ _. turned-away refl)
 
 -- ---- THE cases, of every worker

@@ -22,7 +22,7 @@ use Rattle.words.specs.Words.{refusal}
 use Rattle.whole_words.specs.Whole.{wholeAdd}
 use Rattle.whole_words.specs.Sheet.{SheetOutcome, sheetOutcome, addEach, judgedSheet, served, sheetWords}
 use Rattle.fused_words.specs.FusedWorker.{Admitted, isIdle}
-use Rattle.fused_words.specs.FusedAdd.{addIfIdle}
+use Rattle.fused_words.specs.FusedAdd.{planAdd, addBy, addIfIdle}
 use Rattle.fused_laws.specs.Posts.{admitted-as}
 use Rattle.fused_add_laws.specs.Adds.{fused-add}
 use Rattle.fused_add_laws.specs.Sheets.{fused-sheet, sheet-admitted}
@@ -86,7 +86,7 @@ module _ (s : Sizes) (t : Tables) (w : ℕ) (l : List Arguments) where
 -- ---- "Where damage stops an add half done, each later entry gets what its post would get, 3"
 stuck-add : (s : Sizes) (t : Tables) (w : ℕ) (a : Arguments) → Admitted s t w → isIdle t w ≡ false
     → wholeAdd s t w a ≡ outcome (Refused halfDone 0) t
-unfolding addIfIdle
+unfolding addIfIdle planAdd addBy
 stuck-add s t w a A b = fused-add s t w a A ∙ rw b
 
 pub stuck-adds : (s : Sizes) (w : ℕ) (l : List Arguments) (t : Tables) → Admitted s t w → isIdle t w ≡ false

@@ -21,7 +21,7 @@ use Rattle.whole_words.specs.Whole.{wholeAdd, wholeFinish}
 use Rattle.sheet_rows.specs.SheetRows.{numberOf}
 use Rattle.whole_stops.specs.Stopped.{stoppedBy}
 use Rattle.fused_words.specs.FusedWorker.{isIdle}
-use Rattle.fused_words.specs.FusedAdd.{addIfIdle}
+use Rattle.fused_words.specs.FusedAdd.{planAdd, addBy, addIfIdle}
 use Rattle.fused_words.specs.FusedFinish.{finishIfIdle}
 use Rattle.fused_add_laws.specs.Adds.{whole-add}
 use Rattle.fused_finish_laws.specs.Finish.{whole-finish}
@@ -66,7 +66,7 @@ NineOf t w o = Nine t w (o .answer) (o .state)
 
 module _ (s : Sizes) (t : Tables) (w : ℕ) (a : Arguments) where
   add-busy : isIdle t w ≡ false → NineOf t w (wholeAdd s t w a)
-  unfolding addIfIdle
+  unfolding addIfIdle planAdd addBy
   add-busy b = rw (whole-add s t w a) (by-admission (NineOf t w) s t w _ _ (λ n e. kept) (λ A. rw b kept))
 
   add-nine : NineOf t w (wholeAdd s t w a)
@@ -175,7 +175,7 @@ module _ (s : Sizes) (t : Tables) (w : ℕ) (a : Arguments) where
 
   -- a worker whose call is half done changes nothing by an add
   pub busy-keeps : isIdle t w ≡ false → wholeAdd s t w a .state ≡ t
-  unfolding addIfIdle
+  unfolding addIfIdle planAdd addBy
   busy-keeps b =
       rw (whole-add s t w a)
       (by-admission (λ (o : Outcome Tables). o .state ≡ t) s t w _ _ (λ n e. refl) (λ A. rw b refl))
