@@ -5,12 +5,15 @@ ghost use Rattle.terms.specs.Terms.{finishOf};
 ghost use Rattle.terms.specs.Runs.{outcome};
 ghost use Rattle.words.specs.Layout.{atEntry, atExit};
 ghost use Rattle.fused_words.specs.FusedFinish.{finishIfIdle};
-use fused_mark::mark_and_tell;
+
+mod mark;
+
 use graph_judge::judge_outcome;
 use graph_words::job_word;
 use graph_words::layout::*;
 use graph_words::numbers::*;
 use graph_words::worker_word;
+use mark::mark_and_tell;
 use terms::Answer;
 use terms::Sizes;
 use terms::bit;

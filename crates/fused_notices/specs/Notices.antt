@@ -6,10 +6,10 @@ use Rattle.terms.specs.declared.Answer.the-variants.{Going, Ended}
 use Rattle.words.specs.Layout.{Tables, none}
 use Rattle.fused_words.specs.FusedWorker.{withWorker, idledWith, notifyWorker, halted}
 use Rattle.fused_words.specs.FusedFinish.{orEnd}
-use Rattle.fused_notices.specs.declared.Told.{Told}
-use Rattle.fused_notices.specs.declared.Told.the-variants.{Next, Halt}
-use Rattle.fused_notices.specs.declared.Ending.{Ending}
-use Rattle.fused_notices.specs.declared.Ending.the-variants.{Done, Broken, Left}
+use Rattle.fused_notices.specs.declared.notices.Told.{Told}
+use Rattle.fused_notices.specs.declared.notices.Told.the-variants.{Next, Halt}
+use Rattle.fused_notices.specs.declared.notices.Ending.{Ending}
+use Rattle.fused_notices.specs.declared.notices.Ending.the-variants.{Done, Broken, Left}
 
 -- after the notice along the arc x the finish of outcome o ends, goes on, or stays half done
 abbrev pub toldTo : Told → ℕ → ℕ → ℕ → Tables → (ℕ → Tables → Outcome Tables) → Outcome Tables

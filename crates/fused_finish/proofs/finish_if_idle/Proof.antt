@@ -1,4 +1,4 @@
--- `fused_finish::finish_if_idle` meets its contract: each way through the code is a case of the definition.
+-- `finish_if_idle` meets its contract: each way through the code is a case of the definition.
 -- Assumes nothing.
 use mathlib.Core.Path.{refl}
 use mathlib.Core.List.{[]}

@@ -1,11 +1,11 @@
--- `fused_mark::mark_and_tell` meets its contract: the mark, and then the notices or the end; any other plan is a
+-- `mark_and_tell` meets its contract: the mark, and then the notices or the end; any other plan is a
 -- refusal.
 -- Assumes nothing.
 use borrow.Author.Needs.{needs}
 use Rattle.fused_words.specs.FusedFinish.{markIn}
-use Rattle.fused_mark.proofs.Laws.{halts}
-use Rattle.fused_mark.proofs.mark_and_tell.Statement.{statement}
-use Rattle.fused_mark.proofs.mark_and_tell.Tie as tie
+use Rattle.fused_finish.proofs.Halts.{halts}
+use Rattle.fused_finish.proofs.mark.mark_and_tell.Statement.{statement}
+use Rattle.fused_finish.proofs.mark.mark_and_tell.Tie as tie
 
 plan-mark-requires : tie.Need-plan-mark-requires
 plan-mark-requires c κs = search needs

@@ -1,11 +1,11 @@
--- `fused_notices::tell` meets its contract: each plan's stores are the definition's, and a queued job's place is below
+-- `tell` meets its contract: each plan's stores are the definition's, and a queued job's place is below
 -- the number of jobs, so that the counter is a word.
 -- Assumes nothing.
 use native.Mathlib.Omega.{arith}
 use borrow.Author.Needs.{needs}
 use Rattle.fused_notices.proofs.Laws.{seat-below, halts}
-use Rattle.fused_notices.proofs.tell.Statement.{statement}
-use Rattle.fused_notices.proofs.tell.Tie as tie
+use Rattle.fused_notices.proofs.notices.tell.Statement.{statement}
+use Rattle.fused_notices.proofs.notices.tell.Tie as tie
 
 plan-notify-requires : tie.Need-plan-notify-requires
 plan-notify-requires c κs = search needs

@@ -1,10 +1,10 @@
--- `fused_mark::put_notifying` meets its contract: a call with no arguments lists no names, and its list is kept as
+-- `put_notifying` meets its contract: a call with no arguments lists no names, and its list is kept as
 -- 0.
 -- Assumes nothing.
 use borrow.Author.Needs.{needs}
 use Rattle.basics.specs.Base.{prefix}
-use Rattle.fused_mark.proofs.put_notifying.Statement.{statement}
-use Rattle.fused_mark.proofs.put_notifying.Tie as tie
+use Rattle.fused_notices.proofs.closing.put_notifying.Statement.{statement}
+use Rattle.fused_notices.proofs.closing.put_notifying.Tie as tie
 
 slice-aggregate-put-call : tie.Need-slice-aggregate-put-call
 slice-aggregate-put-call c = search needs

@@ -1,4 +1,4 @@
--- `fused_notices::notices` meets its contract: the loop's invariant: the notices that are left make the whole. The
+-- `notices` meets its contract: the loop's invariant: the notices that are left make the whole. The
 -- measure is the number of arcs that it may still pass.
 -- Assumes nothing.
 use mathlib.Core.List.{List}
@@ -9,8 +9,8 @@ use borrow.Author.Needs.{needs}
 use Rattle.words.specs.Layout.{tables}
 use Rattle.fused_words.specs.FusedFinish.{notifyIn}
 use Rattle.fused_notices.proofs.Laws.{notify-one, notify-none}
-use Rattle.fused_notices.proofs.notices.Statement.{statement}
-use Rattle.fused_notices.proofs.notices.Tie as tie
+use Rattle.fused_notices.proofs.notices.notices.Statement.{statement}
+use Rattle.fused_notices.proofs.notices.notices.Tie as tie
 
 abbrev Inv-loop : tie.InvT-loop
 Inv-loop sizes jobs₀ arcs queue₀ note first arc₀ left₀ jobs queue arc left =

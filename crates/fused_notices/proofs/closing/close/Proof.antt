@@ -1,8 +1,8 @@
--- `fused_mark::close` meets its contract: each way the notices end is a case of the definition.
+-- `close` meets its contract: each way the notices end is a case of the definition.
 -- Assumes nothing.
 use borrow.Author.Needs.{needs}
-use Rattle.fused_mark.proofs.close.Statement.{statement}
-use Rattle.fused_mark.proofs.close.Tie as tie
+use Rattle.fused_notices.proofs.closing.close.Statement.{statement}
+use Rattle.fused_notices.proofs.closing.close.Tie as tie
 
 enum-told : tie.Need-enum-told
 enum-told c = search needs
