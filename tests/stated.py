@@ -1,4 +1,8 @@
-"""Where numbers and limits are stated, and by which names: in the header, the pages, the definitions and the code."""
+"""Where numbers and limits are stated, and by which names: in the header, the pages, the definitions and the code.
+
+A number of the header has one definition and one constant, both in crates/numbers, and one stem: TG_HALF_DONE is
+HALF_DONE in the code and halfDone in the definitions, TG_MAX_JOBS is MOST_JOBS and mostJobs.
+"""
 from helper import SHARED, TOP, Cases
 
 HEADER, TEXTS = "include/taskgraph.h", "lib/message.c"
@@ -43,62 +47,22 @@ def rows(path, heading, columns):
             yield place, cells
 
 
-# What definitions and code call a number or limit of the header. A name in a crate that the pattern matches.
-SHEET_CRATES = "sheet|entry|day"
-CALLED = [
-    ("TG_ACCEPTED", "", "ACCEPTED SERVED"),
-    ("TG_SIZE", "", "WRONG_SIZES CUT_TABLE"),
-    ("TG_SIZE", f"^(?!{SHEET_CRATES})", "OFF_LIMITS"),
-    ("TG_WORKER", "", "NO_SUCH_WORKER"),
-    ("TG_HALF_DONE", "", "HALF_DONE"),
-    ("TG_IDLE", "", "NOTHING_TO_STEP"),
-    ("TG_ARGUMENTS", "", "WRONG_ARGUMENTS"),
-    ("TG_UNKNOWN_NAME", "", "UNKNOWN_NAME"),
-    ("TG_NAME_PRESENT", "", "NAME_PRESENT"),
-    ("TG_FULL", f"^(?!{SHEET_CRATES})", "NO_ROOM"),
-    ("TG_DAMAGED", "", "DAMAGED"),
-    ("TG_HOLDING", "", "ALREADY_HOLDING"),
-    ("TG_NOT_HELD", "", "NOT_HELD"),
-    ("TG_CUT", "", "CUT"),
-    ("TG_MAP", "", "WRONG_MAP"),
-    ("TG_VALUE", f"^({SHEET_CRATES})", "OFF_LIMITS"),
-    ("TG_NO_ROOM", f"^({SHEET_CRATES})", "NO_ROOM"),
-    ("TG_ENTRIES", "", "TOO_MANY_ENTRIES"),
-    ("TG_MINUTES", "", "WRONG_MINUTES"),
-    ("TG_ENTERED", "", "JOBS_ENTERED"),
-    ("TG_GOOD_FOR_SPOILED", "", "GOOD_FOR_SPOILED"),
-    ("TG_MAX_JOBS", "", "MOST_JOBS"),
-    ("TG_MAX_ARCS", "", "MOST_ARCS"),
-    ("TG_MAX_BITS", "", "MOST_BITS"),
-    ("TG_MAX_WORKERS", "", "MOST_WORKERS"),
-    ("TG_MAX_NAMES", "", "MOST_NAMES"),
-    ("TG_MAX_CLASS", "", "MOST_CLASS HIGHEST_CLASS"),
-    ("TG_CLASSES", "", "CLASSES"),
-    ("TG_MAX_MINUTES", "", "MOST_MINUTES"),
-    ("TG_MAX_GROWER", "", "MOST_GROWER"),
-    ("TG_MAX_RECORDS", "", "MOST_RECORDS"),
-    ("TG_ENTRY_WORDS", "", "ROW_WORDS"),
-    ("TG_MAX_ENTRY_BYTES", "", "LONGEST_ENTRY"),
-    ("TG_MAX_ENTRIES", "", "MOST_ENTRIES"),
-    ("TG_MAX_DAY_SHEET", "^day", "MOST_BYTES"),
-    ("TG_MAX_DAY_LIST", "^day", "MOST_PRINTED"),
-    ("TG_DAY_JOBS", "^day", "JOBS DAY_JOBS"),
-    ("TG_DAY_ARCS", "^day", "ARCS DAY_ARCS"),
-    ("TG_DAY_BITS", "^day", "BITS DAY_BITS"),
-    ("TG_NONE", "", "NONE"),
-    ("TG_REFUSED", "^taskgraph", "REFUSED"),
-    ("TG_LAID_OUT", "^taskgraph", "LAID_OUT"),
-    ("TG_POSTED", "^taskgraph", "POSTED"),
-    ("TG_GOING_ON", "^taskgraph", "GOING_ON"),
-    ("TG_ENDED", "^taskgraph", "ENDED"),
-    ("TG_NONE_READY", "^taskgraph", "NONE_READY"),
-    ("TG_HANDED_OUT", "^taskgraph", "HANDED_OUT"),
-    ("TG_LOADED", "^taskgraph", "LOADED"),
-    ("TG_STOPPED", "^taskgraph", "STOPPED"),
-    ("TG_CALL_NONE", "", "NO_CALL"),
-    ("TG_CALL_ADD", "", "AN_ADD"),
-    ("TG_CALL_FINISH", "", "A_FINISH"),
-]
+# The word before a stem that alone would say too little, or says something else in the rules: TG_SIZE is WRONG_SIZE.
+BEFORE = {
+    "WRONG": "SIZE ARGUMENTS MAP VALUE MINUTES",
+    "NO_SUCH": "WORKER",
+    "WORKER": "IDLE",
+    "TABLES": "FULL",
+    "ALREADY": "HOLDING",
+    "TOO_MANY": "ENTRIES",
+    "JOBS": "ENTERED",
+    "KIND": "REFUSED LAID_OUT POSTED GOING_ON ENDED NONE_READY HANDED_OUT LOADED STOPPED",
+}
+# What the header has and crates/numbers has not: the version; "none", which stands with the tables' layout in `words`
+# and `graph_words`; the outcomes, which are `false` and `true` in definitions and code.
+VERSION = {"TG_VERSION_MAJOR", "TG_VERSION_MINOR", "TG_VERSION_PATCH"}
+PLACES = {"TG_NONE"}
+OUTCOMES = {"TG_GOOD", "TG_FAILED"}
 # What definitions and code have and the header has not, by the sentences of the docs that give it.
 SAID = {
     "MULTIPLIER": [(RULES, "its product with {}, kept"), (HEADER, "its product with {}, kept")],
@@ -113,3 +77,12 @@ SAID = {
     "LEVELS": [(RULES, "an entry looks at no more than {} slots")],
     "WORKER_SHAPE": [(TABLES, "Workers: {} P words")],
 }
+
+
+def called(name):
+    """What definitions and code call a name of the header."""
+    stem = name.removeprefix("TG_")
+    if stem.startswith("MAX_"):
+        return "MOST_" + stem.removeprefix("MAX_")
+    before = [word for word, stems in BEFORE.items() if stem in stems.split()]
+    return "_".join(before + [stem])

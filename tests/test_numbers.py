@@ -3,9 +3,12 @@
 The places: include/taskgraph.h, docs/NUMBERS.md, docs/SHEETS.md, docs/RULES.md, docs/TABLES.md, lib/message.c, the
 definitions in crates/*/specs, the constants in crates/*/src, and what the library answers. Each is held to the header.
 
+The header's numbers stand in crates/numbers alone, once as a definition and once as a constant; a second one of the
+same name in another crate is a difference too.
+
 Passed over, so for a reader to see:
-- constants whose name is not in stated.py, and those not written as `abbrev pub NAME : ℕ` or `const NAME: T = N;` with
-  a numeral;
+- constants of other crates whose name is not in stated.py, and those not written as `abbrev pub NAME : ℕ` or
+  `const NAME: T = N;` with a numeral;
 - rows of a table that have more or fewer columns than the others;
 - of docs/RULES.md's table the words: its numbers alone are read; of docs/NUMBERS.md the sentences below its first
   table, and its column "left behind";
@@ -17,9 +20,11 @@ import re
 
 from helper import TOP
 from library import Sizes, load, shortest_day_list, shortest_entry, words_needed
-from stated import CALLED, HEADER, HOSTS, NUMBERS, RULES, SAID, SHEETS, TEXTS, Stated, lines, number, rows
+from stated import HEADER, HOSTS, NUMBERS, OUTCOMES, PLACES, RULES, SAID, SHEETS, TEXTS, VERSION
+from stated import Stated, called, lines, number, rows
 
 UNKNOWN = "other"  # the row of docs/NUMBERS.md for all other numbers
+DEFINED, CODED = "crates/numbers/specs/Numbers.antt", "crates/numbers/src/lib.rt"
 
 
 def header_values():
@@ -33,30 +38,27 @@ def header_values():
 
 
 def upper(name):
-    """wrongSizes, OWN-NAME or WRONG_SIZES as WRONG_SIZES."""
+    """wrongSize and WRONG_SIZE as WRONG_SIZE, OWN-NAME as OWN_NAME."""
     return re.sub(r"(?<=[a-z])(?=[A-Z])", "_", name).replace("-", "_").upper()
 
 
 def constants():
-    """Each constant of the definitions and of the code: crate, name, value and place."""
+    """Each constant of the definitions and of the code: crate, name, value and place. The value is a number, or the
+    text that stands there."""
     for path in sorted(TOP.glob("crates/*/specs/*.antt")) + sorted(TOP.glob("crates/*/src/*.rt")):
         text, crate = path.read_text(), path.parts[-3]
         if path.suffix == ".antt":
-            found = re.finditer(r"^abbrev pub (\S+) : ℕ\n\1 = (\d+)$", text, re.M)
+            found = re.finditer(r"^abbrev (?:pub )?(\S+) : ℕ\n\1 = (.*)$", text, re.M)
         else:
-            found = re.finditer(r"^(?:pub )?const ([A-Z_]+): \w+ = (\d+);$", text, re.M)
+            found = re.finditer(r"^(?:pub )?const ([A-Z_]+): \w+ = (.*);$", text, re.M)
         for match in found:
             line = text.count("\n", 0, match.start(2)) + 1
-            yield crate, upper(match[1]), (int(match[2]), f"{path.relative_to(TOP)}:{line}")
+            yield crate, upper(match[1]), (number(match[2]), f"{path.relative_to(TOP)}:{line}")
         for match in re.finditer(r"^(\w+Shape) = record \{ head = (\d+); width = (\d+) \}", text, re.M):
             head, width = match[2] + " + " if match[2] != "0" else "", match[3] if match[3] != "1" else ""
             yield crate, upper(match[1]), ((head + width).strip(), str(path.relative_to(TOP)))
         for match in re.finditer(r"^fixedMinutes = (.*) ∷ \[\]$", text, re.M):
             yield crate, "FIXED_MINUTES", (match[1].replace(" ∷", ","), str(path.relative_to(TOP)))
-        for match in re.finditer(r"^daySizes .*jobs = (\d+); arcs = (\d+); bits = (\d+);", text, re.M):
-            line = text.count("\n", 0, match.start()) + 1
-            for name, value in zip(("DAY_JOBS", "DAY_ARCS", "DAY_BITS"), match.groups()):
-                yield "day", name, (int(value), f"{path.relative_to(TOP)}:{line}")
 
 
 def texts():
@@ -72,17 +74,36 @@ class Numbers(Stated):
         return self.header.get(name, ("missing", HEADER))
 
     def test_constants(self):
-        """Definitions and code against the header and the docs; each name must be met somewhere."""
-        met = set()
+        """Of each number of the header one definition and one constant, both in crates/numbers, and none of the same
+        name in another crate."""
+        found = list(constants())
+        ours = {called(name): name for name in set(self.header) - VERSION - PLACES - OUTCOMES}
+        tables = {file: {name: value for _, name, value in found if value[1].startswith(file)}
+                  for file in (DEFINED, CODED)}
+        named = set(ours).union(*tables.values())
+        for name in sorted(named):
+            for file, table in tables.items():
+                value = table.get(name, ("missing", file))
+                if name in ours:
+                    self.agree(f"{name} and {ours[name]}", value, self.of_header(ours[name]))
+                else:
+                    self.agree(name, ("there" if name in table else "missing", file), ("there", f"{DEFINED}, {CODED}"))
+                    self.agree(name, ("there", value[1]), ("there" if name in SAID else "missing", "stated.py"))
+        for crate, name, value in found:
+            if not value[1].startswith((DEFINED, CODED)) and name in named:
+                self.agree(name, ("defined again", value[1]), ("defined once", f"{DEFINED}, {CODED}"))
+
+    def test_said(self):
+        """The constants that the header has not against the docs, and "none" against the header; each must be met."""
+        places, met = {called(name): name for name in PLACES}, set()
         for crate, name, value in constants():
-            for called, pattern, names in CALLED:
-                if name in names.split() and re.search(pattern, crate):
-                    met.add(called)
-                    self.agree(f"{name} of {crate} and {called}", value, self.of_header(called))
+            if name in places:
+                met.add(name)
+                self.agree(f"{name} of {crate} and {places[name]}", value, self.of_header(places[name]))
             for path, sentence in SAID.get(name, []):
                 met.add(name)
                 self.says(path, sentence.format(value[0]), value[1])
-        for name in sorted({*SAID, *(called for called, _, _ in CALLED)} - met):
+        for name in sorted({*places, *SAID} - met):
             self.agree(name, ("missing", "crates/*/specs and crates/*/src"), ("there", HEADER))
 
     def test_numbers_page(self):

@@ -6,8 +6,8 @@ use mathlib.Core.Bool.{true, false, true≢false}
 use mathlib.Core.Option.{Option, none, some}
 use Prim.Native.Nat.{ℕ}
 use borrow.Author.Tests.{lt-ltb, le-ltb}
+use Rattle.numbers.specs.Numbers.{halfDone, workerIdle}
 use Rattle.basics.specs.Base.{pick}
-use Rattle.terms.specs.Terms.{halfDone, nothingToStep}
 use Rattle.terms.specs.Runs.{Item, postAdd, postFinish, step, get, load, workerOf, isLoad}
 use Rattle.terms.specs.declared.Sizes.{Sizes}
 use Rattle.terms.specs.declared.Answer.{Answer}
@@ -53,7 +53,7 @@ passed-made (by.getHanded e j f) = refl
 module _ {s : Sizes} {g : Graph} (r : Reading) (S : Sound s g) (P : Paced g r) where
   by-step : {w : ℕ} {c : Call} {x : Answer} {h : Graph} → CallSound g (g .workers w .held) c
       → PacedCall g (g .workers w .held) c (r .pending w) → Stepped s g w c x h
-      → turnedAwayBy x ≡ pick (isIdle (r .pending w)) nothingToStep 0
+      → turnedAwayBy x ≡ pick (isIdle (r .pending w)) workerIdle 0
   by-step C P by.noCall = rw P
   by-step {w} {c} C P (by.broken b) = absurd (unbroken g (g .workers w .held) c C b)
   by-step C P (by.lookedUp j l e) = rw P

@@ -8,12 +8,14 @@ use Prim.Native.Nat.{ℕ, zero, suc, _+_, _≤_, _<_}
 use native.Mathlib.Omega.{arith}
 use lib.ListN.{length, getD}
 use borrow.Author.Tests.{le-leb, ltb-false, eqb-true, eq-eqb}
+use Rattle.numbers.specs.Numbers.{wrongSize}
+use Rattle.numbers.specs.Numbers as numbers
 use Rattle.basics.specs.Base.{pick}
 use Rattle.basics.specs.Laws.{never, and-left, and-right}
 use Rattle.minutes.specs.Rising.{isRising, rising-means}
 use Rattle.minutes.specs.Judged.{allMinutes, noMinutes, judgedMinutes}
 use Rattle.terms.specs.Terms.{noArguments, Label, unexecuted, executing, finished, labelNumber, Arguments}
-use Rattle.terms.specs.Terms.{argumentsWrong, sameSizes, wrongSizes}
+use Rattle.terms.specs.Terms.{argumentsWrong, sameSizes}
 use Rattle.terms.specs.Runs.{Item, after, events}
 use Rattle.terms.specs.declared.Sizes.{Sizes}
 use Rattle.terms.specs.declared.Answer.the-variants.{Laid}
@@ -27,7 +29,7 @@ use Rattle.sequential_model.specs.Book.{addEnd}
 use Rattle.sequential_model.specs.Book.{addKnown, firstUnknown, Follows, done, feed}
 use Rattle.sequential_model.specs.Book as book
 use Rattle.linearization.specs.Calls.{reading, acceptedAdds, minutesLoaded}
-use Rattle.totals.specs.Board.{sumOver, minutesOfAll, served, totalsOf}
+use Rattle.totals.specs.Board.{sumOver, minutesOfAll, totalsOf}
 use Rattle.totals.specs.AllJobs.{all-jobs}
 use Rattle.totals.specs.declared.Totals.{Totals}
 use Rattle.graph_board.specs.Board.{rowsFrom, jobsFit, graphMinutes, graphTotals, minutesEntered}
@@ -172,13 +174,14 @@ module _ (s : Sizes) (t : Tables) (laid : layOut s t .answer ≡ Laid) (items : 
   sized : JobsSized s (T .jobs)
   sized = jobs-sized-means s (T .jobs) .0 fit
 
-  is-served : (q : Sizes) → JobsSized q (T .jobs) → length adds ≤ q .jobs → graphTotals q (T .jobs) .number ≡ served
+  is-served : (q : Sizes) → JobsSized q (T .jobs) → length adds ≤ q .jobs
+      → graphTotals q (T .jobs) .number ≡ numbers.accepted
   unfolding columns header
   is-served q z h =
       boards-exactly q (T .jobs) .serves z (rw made h) (rising-means (storedMinutes (T .jobs)) .0 (rw stored rises))
       (λ k l. well k (rw made at l)) .0
 
-  laid-served : graphTotals s (T .jobs) .number ≡ served
+  laid-served : graphTotals s (T .jobs) .number ≡ numbers.accepted
   laid-served = is-served s sized few
 
   pub accounted : Accounted graphTotals table s (T .jobs) adds
@@ -215,19 +218,19 @@ module _ (s : Sizes) (t : Tables) (laid : layOut s t .answer ≡ Laid) (items : 
 
   -- the minutes that are told are the loaded ones
   pub minutes-told : (q : Sizes)
-      → graphMinutes q (T .jobs) ≡ pick (sameSizes q s) (allMinutes table) (noMinutes wrongSizes)
+      → graphMinutes q (T .jobs) ≡ pick (sameSizes q s) (allMinutes table) (noMinutes wrongSize)
   unfolding graphMinutes judgedMinutes
   minutes-told q = go (sameSizes q s) refl
     where
       go : (b : Bool) → sameSizes q s ≡ b
-          → graphMinutes q (T .jobs) ≡ pick b (allMinutes table) (noMinutes wrongSizes)
+          → graphMinutes q (T .jobs) ≡ pick b (allMinutes table) (noMinutes wrongSize)
       go true e = rw (jobs-sized-means q (T .jobs) .1 (sized-as q e), stored, rises)
       go false e = minutes-exactly q (T .jobs) .by-1 (others q e)
 
   -- the board is refused by 1 alone
-  pub board-number : (q : Sizes) → graphTotals q (T .jobs) .number ≡ pick (sameSizes q s) 0 wrongSizes
+  pub board-number : (q : Sizes) → graphTotals q (T .jobs) .number ≡ pick (sameSizes q s) 0 wrongSize
   board-number q = go (sameSizes q s) refl
     where
-      go : (b : Bool) → sameSizes q s ≡ b → graphTotals q (T .jobs) .number ≡ pick b 0 wrongSizes
+      go : (b : Bool) → sameSizes q s ≡ b → graphTotals q (T .jobs) .number ≡ pick b 0 wrongSize
       go true e = is-served q (sized-as q e) (omega (arith, same-means q s .0 e .0, few))
       go false e = ap (λ (x : Totals). x .number) (boards-exactly q (T .jobs) .by-1 (others q e))

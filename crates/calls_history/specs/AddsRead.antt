@@ -6,7 +6,8 @@ use mathlib.Core.List.{append-nil}
 use Prim.Native.Nat.{ℕ, zero, suc, _+_, _*_, _≤_, _<_}
 use native.Mathlib.Omega.{arith}
 use borrow.Author.Tests.{eq-eqb, ne-eqb, le-ltb, lt-leb}
-use Rattle.terms.specs.Terms.{Arguments, wrongArguments, unknownName, namePresent, tablesFull}
+use Rattle.numbers.specs.Numbers.{wrongArguments, unknownName, namePresent, tablesFull}
+use Rattle.terms.specs.Terms.{Arguments}
 use Rattle.terms.specs.Runs.{step, events}
 use Rattle.terms.specs.declared.Sizes.{Sizes}
 use Rattle.terms.specs.declared.Answer.{Answer}

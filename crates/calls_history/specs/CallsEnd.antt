@@ -4,7 +4,8 @@ use mathlib.Core.Path.{_≡_, refl, ap, _∙_}
 use mathlib.Core.List.{List, [], _∷_}
 use Prim.Native.Nat.{ℕ, suc, _+_, _*_, _<_}
 use native.Mathlib.Omega.{arith}
-use Rattle.terms.specs.Terms.{Arguments, Finish, wrongArguments, notHeld, goodForSpoiled}
+use Rattle.numbers.specs.Numbers.{wrongArguments, notHeld, goodForSpoiled}
+use Rattle.terms.specs.Terms.{Arguments, Finish}
 use Rattle.terms.specs.Runs.{Item, postAdd, postFinish, after, events}
 use Rattle.terms.specs.declared.Sizes.{Sizes}
 use Rattle.terms.specs.declared.Answer.{Answer}

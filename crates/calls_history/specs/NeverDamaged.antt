@@ -9,8 +9,9 @@ use native.Mathlib.Omega.{arith}
 use lib.Dec.{ltb, leb, eqb}
 use borrow.Author.Tests.{eqb-true}
 use lib.ListN.{length}
+use Rattle.numbers.specs.Numbers.{mostEntries}
 use Rattle.basics.specs.Laws.{pick-by}
-use Rattle.terms.specs.Terms.{Arguments, sameSizes, mostEntries}
+use Rattle.terms.specs.Terms.{Arguments, sameSizes}
 use Rattle.terms.specs.Runs.{Item, Event, after, events}
 use Rattle.terms.specs.declared.Sizes.{Sizes}
 use Rattle.terms.specs.declared.Answer.{Answer}

@@ -10,10 +10,11 @@ use native.Mathlib.Omega.{arith}
 use lib.Dec.{ltb, eqb}
 use lib.ListN.{length}
 use borrow.Author.Tests.{ltb-true, lt-ltb, eq-eqb, ne-eqb}
+use Rattle.numbers.specs.Numbers.{halfDone, noSuchWorker, wrongSize}
 use Rattle.basics.specs.Base.{pick}
 use Rattle.basics.specs.Laws.{never, fails}
 use Rattle.minutes.specs.Rising.{isRising, rising-means}
-use Rattle.terms.specs.Terms.{Arguments, argumentsWrong, Finish, sameSizes, halfDone, noSuchWorker, wrongSizes}
+use Rattle.terms.specs.Terms.{Arguments, argumentsWrong, Finish, sameSizes}
 use Rattle.terms.specs.Runs.{Outcome, outcome, Item, postAdd, postFinish, get, load, after, events}
 use Rattle.terms.specs.declared.Sizes.{Sizes}
 use Rattle.terms.specs.declared.HandOut.{HandOut}
@@ -71,7 +72,7 @@ admits : (s q : Sizes) (r : Reading) (w : ℕ) → 0 ≡ turningAway s r (get q 
 admits s q r w e = go (sameSizes q s) (ltb w (s .workers)) (isIdle (r .pending w)) refl refl refl e
   where
     go : (b c d : Bool) → sameSizes q s ≡ b → ltb w (s .workers) ≡ c → isIdle (r .pending w) ≡ d
-        → 0 ≡ pick b (pick c (pick d 0 halfDone) noSuchWorker) wrongSizes → Admits s q r w
+        → 0 ≡ pick b (pick c (pick d 0 halfDone) noSuchWorker) wrongSize → Admits s q r w
     go true true true f g h e =
         record { sizes = same-sizes q s f; there = ltb-true w (s .workers) g; free = is-idle (r .pending w) h }
     go false c d f g h e = never e

@@ -7,9 +7,10 @@ use Prim.Native.Nat.{ℕ, _≤_}
 use native.Mathlib.Omega.{arith}
 use lib.Dec.{ltb}
 use lib.ListN.{length}
+use Rattle.numbers.specs.Numbers.{noSuchWorker, wrongSize, halfDone}
 use Rattle.basics.specs.Base.{pick}
 use Rattle.basics.specs.Laws.{never}
-use Rattle.terms.specs.Terms.{Arguments, Finish, sameSizes, noSuchWorker, wrongSizes, halfDone}
+use Rattle.terms.specs.Terms.{Arguments, Finish, sameSizes}
 use Rattle.terms.specs.Runs.{Item, postAdd, postFinish, step, after, events}
 use Rattle.terms.specs.declared.Sizes.{Sizes}
 use Rattle.terms.specs.declared.Answer.{Answer}
@@ -81,12 +82,12 @@ module _ (s : Sizes) (t : Tables) (laid : layOut s t .answer ≡ Laid) where
     -- a post that is taken is that of an idle worker, with the sizes laid out
     taken : (q : Sizes) (w : ℕ)
         → 0 ≡ pick (sameSizes q s) (pick (ltb w (s .workers)) (pick (isIdle (r .pending w)) 0 halfDone) noSuchWorker)
-        wrongSizes
+        wrongSize
         → Taken s q r w
     taken q w e = go (sameSizes q s) (ltb w (s .workers)) (isIdle (r .pending w)) refl refl e
       where
         go : (b c d : Bool) → sameSizes q s ≡ b → isIdle (r .pending w) ≡ d
-            → 0 ≡ pick b (pick c (pick d 0 halfDone) noSuchWorker) wrongSizes → Taken s q r w
+            → 0 ≡ pick b (pick c (pick d 0 halfDone) noSuchWorker) wrongSize → Taken s q r w
         go true true true f g e = record { sizes = same-sizes q s f; idle = is-idle (r .pending w) g }
         go false c d f g e = never e
         go true false d f g e = absurd (omega arith)

@@ -8,9 +8,9 @@ use Prim.Native.Nat.{ℕ, _<_}
 use lib.Dec.{ltb, leb, eqb}
 use lib.ListN.{length}
 use borrow.Author.Tests.{ltb-true}
+use Rattle.numbers.specs.Numbers.{mostEntries, wrongSize, noSuchWorker, halfDone, damaged, tooManyEntries}
 use Rattle.basics.specs.Base.{pick}
-use Rattle.terms.specs.Terms.{Arguments, sameSizes, mostEntries, wrongSizes, noSuchWorker, halfDone, damaged}
-use Rattle.terms.specs.Terms.{tooManyEntries}
+use Rattle.terms.specs.Terms.{Arguments, sameSizes}
 use Rattle.terms.specs.Runs.{after, events}
 use Rattle.terms.specs.declared.Sizes.{Sizes}
 use Rattle.terms.specs.declared.Answer.the-variants.{Laid}
@@ -68,8 +68,8 @@ module _ (s : Sizes) (x : Tables) (g : Graph) (G : Ghost) (S : Stands s x g G) (
           (pick (ltb w (q .workers))
           (pick (ownOk q (view x) w) (pick (eqb (view x .worker PHASE w) IDLE) n halfDone) damaged)
           noSuchWorker)
-          wrongSizes
-          ≡ pick b (pick (ltb w (s .workers)) (pick (isIdle (r .pending w)) n halfDone) noSuchWorker) wrongSizes
+          wrongSize
+          ≡ pick b (pick (ltb w (s .workers)) (pick (isIdle (r .pending w)) n halfDone) noSuchWorker) wrongSize
       sizes true e = rw (same-sizes q s e) (worker (ltb w (s .workers)) refl)
       sizes false e = refl
 

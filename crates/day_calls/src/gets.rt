@@ -3,8 +3,8 @@
 ghost use mathlib.Core.Path.{_≡_};
 ghost use mathlib.Core.List.{[], _∷_, _++_};
 ghost use Prim.Native.Nat.{_+_, _≤_, _<_};
+ghost use Rattle.numbers.specs.Numbers.{mostWorkers};
 ghost use Rattle.basics.specs.Base.{pick};
-ghost use Rattle.terms.specs.Terms.{mostWorkers};
 ghost use Rattle.words.specs.Layout.{atEntry, atExit};
 ghost use Rattle.day_rounds.specs.Rounds.{holder, gets, getRound};
 ghost use Rattle.day_rounds.specs.Rows.{holding};
@@ -14,9 +14,8 @@ use day_rounds::MOST_HOLDERS;
 use day_told::Told;
 use day_told::tell;
 use graph_get::get;
+use numbers::MOST_WORKERS;
 use terms::Sizes;
-
-const MOST_WORKERS: u32 = 16;
 
 // One holder more, if the worker was handed a job.
 fn hold(holders: Holders, worker: u32, told: Told) -> Holders

@@ -6,20 +6,16 @@ use Prim.Native.Nat.{ℕ, suc}
 use lib.Dec.{leb}
 use lib.ListN.{length}
 use lib.Seq.{sets}
+use Rattle.numbers.specs.Numbers.{mostWorkers, wrongSize, cut, noRoom, mostDaySheet}
 use Rattle.basics.specs.Base.{pick}
-use Rattle.terms.specs.Terms.{mostWorkers, wrongSizes}
 use Rattle.terms.specs.declared.Sizes.{Sizes}
 use Rattle.words.specs.Layout.{Tables, view, LABEL}
 use Rattle.sheet_format.specs.Job.{Job}
-use Rattle.sheet_format.specs.Decode.{Sheet, jobs, broken, decodeSheet, cut, noRoom}
+use Rattle.sheet_format.specs.Decode.{Sheet, jobs, broken, decodeSheet}
 use Rattle.day_rounds.specs.Rounds.{daySizes, Refusal, Holder, handOuts, unfinished, addedDay, runDay}
 use Rattle.day_format.specs.Text.{decimal, jobsWord, workersWord, leftWord, refusedWord, brokenWord, _␣_, line}
 use Rattle.day_format.specs.declared.DayAnswer.{DayAnswer}
 use Rattle.day_format.specs.declared.DayAnswer.the-variants.{Printed}
-
--- "a sheet of at most 32,768 bytes"
-abbrev pub mostBytes : ℕ
-mostBytes = 32768
 
 -- ---- the lines
 -- "A refused entry puts refused I N before the first line"
@@ -75,7 +71,8 @@ daySheet s (broken number offset) = brokenLine offset number
 -- "a longer sheet prints broken 32768 12"
 unfoldable pub dayText : ℕ → List ℕ → List ℕ
 dayText workers sheet =
-    pick (leb (length sheet) mostBytes) (daySheet (daySizes workers) (decodeSheet sheet)) (brokenLine mostBytes cut)
+    pick (leb (length sheet) mostDaySheet) (daySheet (daySizes workers) (decodeSheet sheet))
+    (brokenLine mostDaySheet cut)
 
 -- ---- the answer of the library function, and the output afterwards
 pub record Printing : Type 0 where
@@ -91,4 +88,4 @@ dayList workers sheet out =
     (pick (leb (length (dayText workers sheet)) (length out))
     (printing (Printed (length (dayText workers sheet))) (sets out 0 (dayText workers sheet)))
     (printing (DayAnswer.Refused noRoom) out))
-    (printing (DayAnswer.Refused wrongSizes) out)
+    (printing (DayAnswer.Refused wrongSize) out)

@@ -9,10 +9,10 @@ use native.Mathlib.Omega.{arith}
 use native.Mathlib.Numerals.{add-one}
 use lib.ListN.{length, getD}
 use borrow.Author.Tests.{eq-eqb}
+use Rattle.numbers.specs.Numbers.{wrongArguments, unknownName, namePresent, tablesFull}
 use Rattle.basics.specs.Base.{update, occurrences}
 use Rattle.basics.specs.Laws.{never}
-use Rattle.terms.specs.Terms.{executing, Arguments, wrongArguments, unknownName, namePresent, tablesFull}
-use Rattle.terms.specs.Terms.{finishOf, Tally, noTally, tallyOne}
+use Rattle.terms.specs.Terms.{executing, Arguments, finishOf, Tally, noTally, tallyOne}
 use Rattle.terms.specs.Order.{without}
 use Rattle.terms.specs.OrderLaws.{first-occurs}
 use Rattle.terms.specs.Runs.{postAdd, postFinish, step, get, Outcome, outcome}

@@ -8,7 +8,8 @@ use native.Mathlib.Omega.{arith}
 use lib.Dec.{leb}
 use lib.ListN.{length, length-replicate, replicate}
 use borrow.Author.Tests.{le-leb, eq-eqb}
-use Rattle.terms.specs.Terms.{labelNumber, mostWorkers, withinLimits, bit}
+use Rattle.numbers.specs.Numbers.{mostWorkers}
+use Rattle.terms.specs.Terms.{labelNumber, withinLimits, bit}
 use Rattle.terms.specs.declared.Sizes.{Sizes}
 use Rattle.words.specs.Layout.{Tables, view, need, jobShape, arcShape, bucketShape, queueShape, workerShape, LABEL}
 use Rattle.words.specs.Layout.{OUTCOME, MARK, longEnough, roomFor}

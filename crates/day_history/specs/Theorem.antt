@@ -11,8 +11,9 @@ use lib.Dec.{leb}
 use lib.ListN.{length}
 use lib.Seq.{sets}
 use borrow.Author.Tests.{leb-true, le-leb}
+use Rattle.numbers.specs.Numbers.{mostWorkers, cut, mostDaySheet, mostDayList}
 use Rattle.basics.specs.Laws.{pick-by}
-use Rattle.terms.specs.Terms.{mostWorkers, withinLimits, finishOf}
+use Rattle.terms.specs.Terms.{withinLimits, finishOf}
 use Rattle.terms.specs.Runs.{Outcome}
 use Rattle.terms.specs.declared.Sizes.{Sizes}
 use Rattle.terms.specs.declared.Answer.the-variants.{Ended}
@@ -23,7 +24,7 @@ use Rattle.sheet_format.specs.Job.{Job, Valid}
 use Rattle.sheet_format.specs.NumberLaws.{Bytes}
 use Rattle.sheet_format.specs.SheetTrip.{Each, none, more, sheet-back}
 use Rattle.sheet_format.specs.CodeLaws.{sheet-bounds}
-use Rattle.sheet_format.specs.Decode.{Sheet, jobs, broken, decodeSheet, cut}
+use Rattle.sheet_format.specs.Decode.{Sheet, jobs, broken, decodeSheet}
 use Rattle.whole_words.specs.Whole.{wholeAdd, wholeFinish}
 use Rattle.whole_words.specs.CallEnds.{AddAnswer}
 use Rattle.whole_words.specs.CallEnds as answers
@@ -31,7 +32,7 @@ use Rattle.day_rounds.specs.Rounds.{daySizes, freshDay, argumentsOf, addedDay, 
 use Rattle.day_rounds.specs.Rounds.{rounds, runDay, handOuts, unfinished}
 use Rattle.day_format.specs.Text.{digits, decimal, leftWord, _␣_, line}
 use Rattle.day_format.specs.Day.{refusalLines, jobsLine, handOutLines, linesBefore, dayLines, dayOf, daySheet}
-use Rattle.day_format.specs.Day.{dayText, mostBytes, printing, dayList}
+use Rattle.day_format.specs.Day.{dayText, printing, dayList}
 use Rattle.representation_kept.specs.Queue.{waiting-queue}
 use Rattle.words.specs.Observed.{waiting}
 use Rattle.day_format.specs.declared.DayAnswer.the-variants.{Printed}
@@ -215,12 +216,8 @@ words-within : (js : List Job) → Each Valid js → Each (λ j. LineWithin 14 2
 words-within js none = none
 words-within js (more v e) = more (word-within 2 _ (omega arith) (v .name)) (words-within _ e)
 
--- the most bytes that the day list prints with two workers
-abbrev pub mostPrinted : ℕ
-mostPrinted = 97979
-
-sheet-fits : (sheet : List ℕ) → Bytes sheet → length sheet ≤ mostBytes → (x : Sheet) → decodeSheet sheet ≡ x
-    → length (daySheet (daySizes 2) x) ≤ mostPrinted
+sheet-fits : (sheet : List ℕ) → Bytes sheet → length sheet ≤ mostDaySheet → (x : Sheet) → decodeSheet sheet ≡ x
+    → length (daySheet (daySizes 2) x) ≤ mostDayList
 unfolding decodeSheet digitsBelow
 sheet-fits sheet bytes h (jobs js) e =
     let entries = sheet-bounds (length sheet) sheet 0 js (omega arith) e .0 in
@@ -234,15 +231,15 @@ sheet-fits sheet bytes h (jobs js) e =
 sheet-fits sheet bytes h (broken number offset) e = omega (arith, broken-bytes offset number)
 
 -- "a sheet of at most 32,768 bytes ..; a longer sheet prints broken 32768 12": with two workers no sheet prints more
-pub the-day-list-fits : (sheet : List ℕ) → Bytes sheet → length (dayText 2 sheet) ≤ mostPrinted
+pub the-day-list-fits : (sheet : List ℕ) → Bytes sheet → length (dayText 2 sheet) ≤ mostDayList
 unfolding dayText
 the-day-list-fits sheet bytes =
-    pick-by (λ (l : List ℕ). length l ≤ mostPrinted) (leb (length sheet) mostBytes)
-    (λ e. sheet-fits sheet bytes (leb-true (length sheet) mostBytes e) (decodeSheet sheet) refl)
-    (λ e. omega (arith, broken-bytes mostBytes cut))
+    pick-by (λ (l : List ℕ). length l ≤ mostDayList) (leb (length sheet) mostDaySheet)
+    (λ e. sheet-fits sheet bytes (leb-true (length sheet) mostDaySheet e) (decodeSheet sheet) refl)
+    (λ e. omega (arith, broken-bytes mostDaySheet cut))
 
 -- so an output of so many bytes is never refused (number 15): the list stands at its front, and its rest stays
-pub nothing-is-refused : (sheet out : List ℕ) → Bytes sheet → mostPrinted ≤ length out
+pub nothing-is-refused : (sheet out : List ℕ) → Bytes sheet → mostDayList ≤ length out
     → dayList 2 sheet out ≡ printing (Printed (length (dayText 2 sheet))) (sets out 0 (dayText 2 sheet))
 unfolding dayList
 nothing-is-refused sheet out bytes h =

@@ -5,8 +5,8 @@ use mathlib.Core.List.{List, [], _∷_, _++_}
 use Prim.Native.Nat.{ℕ, suc, _+_, _*_, _≤_}
 use native.Mathlib.Omega.{arith}
 use lib.ListN.{length, length-append, replicate, length-replicate}
+use Rattle.numbers.specs.Numbers.{mostWorkers, mostDaySheet}
 use Rattle.basics.specs.Laws.{never}
-use Rattle.terms.specs.Terms.{mostWorkers}
 use Rattle.terms.specs.declared.Sizes.{Sizes}
 use Rattle.terms.specs.declared.Answer.{Answer}
 use Rattle.terms.specs.declared.Answer.the-variants.{Laid, Loaded, Posted, Going, Ended, NoneReady, Handed, Refused}
@@ -20,7 +20,6 @@ use Rattle.day_rounds.specs.Rounds.{daySizes, freshDay, Refusal, refusal, argum
 use Rattle.day_rounds.specs.Rounds.{Holder, runDay, handOuts}
 use Rattle.day_rounds.specs.Rows.{in-stored}
 use Rattle.day_format.specs.Day.{refusalLines, jobsLine, handOutLines, leftLine, linesBefore, dayLines, dayOf}
-use Rattle.day_format.specs.Day.{mostBytes}
 use Rattle.day_text.specs.Page.{Page, page, print, printLine, printLines, lines-append, one-line, printed-lines}
 use Rattle.day_text.specs.Page.{short-day}
 use Rattle.day_adds.specs.Adding.{entriesAt, entries-whole}
@@ -78,7 +77,7 @@ module _ (workers : ℕ) (some : 1 ≤ workers) (few : workers ≤ mostWorkers) 
   s = daySizes workers
 
   -- the lines are few and short
-  day-printed : (limit : ℕ) (out : List ℕ) (js : List Job) → 5 * length js ≤ mostBytes
+  day-printed : (limit : ℕ) (out : List ℕ) (js : List Job) → 5 * length js ≤ mostDaySheet
       → printLines limit (page 0 out) (dayLines s js) ≡ print limit (page 0 out) (dayOf s js)
   unfolding dayLines
   day-printed limit out js short =
@@ -99,7 +98,7 @@ module _ (workers : ℕ) (some : 1 ≤ workers) (few : workers ≤ mostWorkers) 
 
   pub whole-day : (limit : ℕ) (out sheet : List ℕ) (js : List Job) (q : Page)
       → decodeSheet sheet ≡ jobs js
-      → length sheet ≤ mostBytes
+      → length sheet ≤ mostDaySheet
       → q ≡ dayPage limit (page 0 out) s (entriesAt sheet 0)
       → q ≡ print limit (page 0 out) (dayOf s js)
   unfolding dayPage begun ended dayLines decodeSheet

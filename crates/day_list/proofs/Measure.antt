@@ -8,9 +8,8 @@ use lib.Dec.{leb}
 use lib.ListN.{length}
 use lib.Seq.{sets}
 use borrow.Author.Tests.{leb-true, le-leb, lt-leb}
+use Rattle.numbers.specs.Numbers.{mostWorkers, noRoom}
 use Rattle.basics.specs.Laws.{and-left, and-right}
-use Rattle.terms.specs.Terms.{mostWorkers}
-use Rattle.sheet_format.specs.Decode.{noRoom}
 use Rattle.day_format.specs.Day.{dayText, printing, dayList}
 use Rattle.day_format.specs.declared.DayAnswer.{DayAnswer}
 use Rattle.day_text.specs.Page.{Page, page, print, emitted-none, emitted-whole}

@@ -9,17 +9,13 @@ ghost use Rattle.day_list.specs.Pages.{dayPage};
 use day_begin::begin_day;
 use day_end::end_day;
 use graph_words::layout::*;
+use numbers::DAY_ARCS;
+use numbers::DAY_BITS;
+use numbers::DAY_JOBS;
+use numbers::MOST_WORKERS;
 use terms::Sizes;
 
-const MOST_WORKERS: u32 = 16;
-
 // The sizes of the day's graph, and the words that its tables need, with the most workers.
-const DAY_JOBS: u32 = 256;
-
-const DAY_ARCS: u32 = 1024;
-
-const DAY_BITS: u32 = 4;
-
 const DAY_BUCKETS: u32 = 16;
 
 const JOB_WORDS: usize = (JOB_HEAD + JOB_WIDTH * DAY_JOBS) as usize;

@@ -2,7 +2,7 @@
 // Assumes nothing.
 ghost use mathlib.Core.Path.{_≡_};
 ghost use Prim.Native.Nat.{_≤_};
-ghost use Rattle.terms.specs.Terms.{mostWorkers};
+ghost use Rattle.numbers.specs.Numbers.{mostWorkers};
 ghost use Rattle.day_format.specs.Day.{dayText, printing, dayList};
 ghost use Rattle.day_text.specs.Page.{page, print};
 
@@ -11,20 +11,13 @@ mod fresh;
 use day_format::DayAnswer;
 use day_text::broken_line;
 use fresh::print_day;
+use numbers::CUT;
+use numbers::MOST_DAY_SHEET;
+use numbers::MOST_WORKERS;
+use numbers::NO_ROOM;
+use numbers::WRONG_SIZE;
 use sheet_format::SheetRead;
 use sheet_scan::scan_sheet;
-
-// Refusals: a number of workers off its limits, a sheet that is cut, an output that is too short.
-const WRONG_SIZES: u32 = 1;
-
-const CUT: u32 = 12;
-
-const NO_ROOM: u32 = 15;
-
-const MOST_WORKERS: u32 = 16;
-
-// The most bytes of a sheet.
-const MOST_BYTES: usize = 32768;
 
 // What the day list prints, stored below a limit. "A sheet that cannot be read prints only broken O N"; a longer sheet
 // is cut.
@@ -33,8 +26,8 @@ fn print_list(sheet: &[u8], workers: u32, out: &mut [u8], limit: usize) -> usize
     ensures { λ r. ⌜ page r (now (out .exit))
         ≡ print limit (page 0 (now (out .entry))) (dayText workers (now (sheet .entry))) ⌝ }
 {
-    if MOST_BYTES < sheet.len() {
-        return broken_line(out, limit, 0, MOST_BYTES, CUT);
+    if MOST_DAY_SHEET < sheet.len() {
+        return broken_line(out, limit, 0, MOST_DAY_SHEET, CUT);
     }
     match scan_sheet(sheet) {
         SheetRead::Whole { entries: _ } => print_day(sheet, workers, out, limit),
@@ -49,9 +42,7 @@ pub fn day_list(sheet: &[u8], workers: u32, out: &mut [u8]) -> DayAnswer
 {
     let right = (1 <= workers) & (workers <= MOST_WORKERS);
     if right {} else {
-        return DayAnswer::Refused {
-            number: WRONG_SIZES,
-        };
+        return DayAnswer::Refused { number: WRONG_SIZE };
     }
     let bytes = print_list(sheet, workers, out, 0);
     if out.len() < bytes {

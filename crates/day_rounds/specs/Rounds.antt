@@ -6,8 +6,9 @@ use mathlib.Core.List.{List, [], _∷_, _++_}
 use Prim.Native.Nat.{ℕ, zero, suc, _+_, _^_}
 use lib.Dec.{eqb}
 use lib.ListN.{length, replicate}
+use Rattle.numbers.specs.Numbers.{mostWorkers, dayJobs, dayArcs, dayBits}
 use Rattle.basics.specs.Base.{pick}
-use Rattle.terms.specs.Terms.{Arguments, finishOf, mostWorkers}
+use Rattle.terms.specs.Terms.{Arguments, finishOf}
 use Rattle.terms.specs.Cases.{ifHanded, ifRefused}
 use Rattle.terms.specs.declared.Sizes.{Sizes}
 use Rattle.terms.specs.declared.Answer.{Answer}
@@ -18,7 +19,7 @@ use Rattle.whole_words.specs.Whole.{wholeAdd, wholeFinish}
 
 -- "(R 256, A 1,024, b 4, P 2)", with the number of workers as given
 abbrev pub daySizes : ℕ → Sizes
-daySizes workers = record { jobs = 256; arcs = 1024; bits = 4; workers = workers }
+daySizes workers = record { jobs = dayJobs; arcs = dayArcs; bits = dayBits; workers = workers }
 
 -- a fresh graph of these sizes, in tables that just suffice for the most workers
 abbrev pub blankTables : Sizes → Tables

@@ -2,7 +2,7 @@
 // docs/RULES.md, "The board and the day list". Assumes nothing. A hand-out past the row's end is not stored.
 ghost use mathlib.Core.Path.{_≡_};
 ghost use Prim.Native.Nat.{_+_, _^_, _≤_};
-ghost use Rattle.terms.specs.Terms.{mostWorkers};
+ghost use Rattle.numbers.specs.Numbers.{mostWorkers};
 ghost use Rattle.words.specs.Layout.{atEntry, atExit};
 ghost use Rattle.day_rounds.specs.Rounds.{runDay};
 ghost use Rattle.day_rounds.specs.Rows.{holding, stored};

@@ -2,7 +2,7 @@
 // and the day list". Assumes nothing.
 ghost use mathlib.Core.Path.{_≡_};
 ghost use Prim.Native.Nat.{_≤_};
-ghost use Rattle.terms.specs.Terms.{mostWorkers};
+ghost use Rattle.numbers.specs.Numbers.{mostWorkers};
 ghost use Rattle.words.specs.Layout.{atEntry, atExit};
 ghost use Rattle.day_rounds.specs.Rounds.{gets, roundOf};
 ghost use Rattle.day_rounds.specs.Rows.{holding};

@@ -8,11 +8,10 @@ use native.Mathlib.Omega.{arith}
 use lib.ListN.{length}
 use lib.Dec.{ltb}
 use borrow.Author.Tests.{ltb-true}
-use Rattle.basics.specs.Limits.{mostNames, mostClass, mostGrower}
+use Rattle.numbers.specs.Numbers.{mostNames, mostClass, mostGrower, nameBytes, countBytes, classBytes, growerBytes}
 use Rattle.basics.specs.Base.{pick}
 use Rattle.basics.specs.Laws.{never}
-use Rattle.sheet_format.specs.Job.{Job, nameBytes, countBytes, classBytes}
-use Rattle.sheet_format.specs.Job.{growerBytes}
+use Rattle.sheet_format.specs.Job.{Job}
 use Rattle.sheet_format.specs.NumberLaws.{length-namesAt}
 use Rattle.sheet_format.specs.Decode.{mapAt, nameAt, limitedAt, listAt, ifBit, namesAt, Decoded, job, end}
 use Rattle.sheet_format.specs.Decode.{refused, thenDecoded, decode, scanOf}

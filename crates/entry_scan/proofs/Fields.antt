@@ -8,13 +8,12 @@ use native.Mathlib.Omega.{arith}
 use lib.ListN.{length, getD}
 use lib.Dec.{ltb, leb, eqb, eqb·suc-zero}
 use borrow.Author.Tests.{leb-true}
-use Rattle.basics.specs.Limits.{mostNames, mostClass, mostGrower}
+use Rattle.numbers.specs.Numbers.{mostNames, mostClass, mostGrower, countBytes, classBytes, growerBytes, cut}
+use Rattle.numbers.specs.Numbers.{wrongValue}
 use Rattle.basics.specs.Base.{pick}
 use Rattle.basics.specs.Laws.{never, and-right}
 use Rattle.sheet_format.specs.Number.{numberAt}
-use Rattle.sheet_format.specs.Job.{countBytes, classBytes, growerBytes}
-use Rattle.sheet_format.specs.Decode.{cut, offLimits, mapAt, nameAt, limitedAt, listAt, then, ifBit, Decoded, job}
-use Rattle.sheet_format.specs.Decode.{refused, thenDecoded}
+use Rattle.sheet_format.specs.Decode.{mapAt, nameAt, limitedAt, listAt, then, ifBit, Decoded, job, refused, thenDecoded}
 use Rattle.sheet_format.specs.declared.Field.{Field}
 use Rattle.sheet_format.specs.declared.Field.the-variants.{Got, Refused}
 use Rattle.entry_scan.specs.Stages.{judgedThen, fromGrower, fromClass}
@@ -137,15 +136,15 @@ unfolding judgedThen limitedAt nameAt
 judged w most zero s at onward = refl
 judged w most (suc b) s at onward = rw eqb·suc-zero (there (leb (at + w) (length s)))
   where
-    right : (y : Bool) → pick y (onward (numberAt w s at) (at + w)) (refused offLimits at)
-        ≡ thenDecoded (pick y (Got (numberAt w s at) (at + w)) (Refused offLimits at)) onward
+    right : (y : Bool) → pick y (onward (numberAt w s at) (at + w)) (refused wrongValue at)
+        ≡ thenDecoded (pick y (Got (numberAt w s at) (at + w)) (Refused wrongValue at)) onward
     right true = refl
     right false = refl
 
     there : (x : Bool) → thenDecoded (pick x (Got (numberAt w s at) (at + w)) (Refused cut at))
-        (λ v n. pick (leb 1 v && leb v most) (onward v n) (refused offLimits at))
+        (λ v n. pick (leb 1 v && leb v most) (onward v n) (refused wrongValue at))
         ≡ thenDecoded (pick x (pick (leb 1 (numberAt w s at) && leb (numberAt w s at) most)
-        (Got (numberAt w s at) (at + w)) (Refused offLimits at)) (Refused cut at)) onward
+        (Got (numberAt w s at) (at + w)) (Refused wrongValue at)) (Refused cut at)) onward
     there true = right (leb 1 (numberAt w s at) && leb (numberAt w s at) most)
     there false = refl
 

@@ -5,16 +5,15 @@ use Prim.Native.Nat.{ℕ, _/_, _%_}
 use mathlib.Core.List.{List}
 use mathlib.Core.Bool.{_&&_, _||_}
 use lib.Dec.{leb, eqb}
-use Rattle.basics.specs.Limits.{mostClass, mostGrower}
+use Rattle.numbers.specs.Numbers.{mostClass, mostGrower, classBytes, growerBytes, wrongValue}
 use Rattle.basics.specs.Base.{pick}
-use Rattle.sheet_format.specs.Job.{classBytes, growerBytes}
-use Rattle.sheet_format.specs.Decode.{offLimits, nameAt, ifBit, Decoded, job, refused, thenDecoded}
+use Rattle.sheet_format.specs.Decode.{nameAt, ifBit, Decoded, job, refused, thenDecoded}
 
 -- a number of w bytes that its bit lets stand: a cut is noticed before a value off its limits
 unfoldable pub judgedThen : ℕ → ℕ → ℕ → List ℕ → ℕ → (ℕ → ℕ → Decoded) → Decoded
 judgedThen w most bit s at onward =
     thenDecoded (ifBit bit at (nameAt w s at)) λ value next.
-    pick (eqb bit 0 || (leb 1 value && leb value most)) (onward value next) (refused offLimits at)
+    pick (eqb bit 0 || (leb 1 value && leb value most)) (onward value next) (refused wrongValue at)
 
 -- an entry from its grower on, and from its class on
 unfoldable pub fromGrower : List ℕ → ℕ → ℕ → ℕ → List ℕ → ℕ → Decoded

@@ -1,6 +1,14 @@
 // The entry at an offset of a job sheet, its fields read one after the other and judged (docs/SHEETS.md and numbers 12
 // to 14): each answer is the one that the definitions of sheet_format give. Assumes nothing of the bytes, and nothing
 // of the offset.
+use numbers::COUNT_BYTES;
+use numbers::CUT;
+use numbers::MOST_CLASS;
+use numbers::MOST_GROWER;
+use numbers::MOST_NAMES;
+use numbers::NAME_BYTES;
+use numbers::WRONG_MAP;
+use numbers::WRONG_VALUE;
 use sheet_format::Field;
 use sheet_format::Scan;
 ghost use mathlib.Core.Path.{_≡_};
@@ -9,31 +17,14 @@ ghost use mathlib.Core.List.{List};
 ghost use Prim.Native.Nat.{ℕ, _+_, _*_, _≤_};
 ghost use lib.ListN.{length};
 ghost use lib.Dec.{leb, eqb};
-ghost use Rattle.sheet_format.specs.Job.{nameBytes};
+ghost use Rattle.numbers.specs.Numbers.{nameBytes};
 ghost use Rattle.sheet_format.specs.Decode.{nameAt, listAt, ifBit, decode, scanOf};
 ghost use Rattle.entry_scan.specs.Stages.{fromGrower, fromClass};
 
-// the refusals
-const CUT: u32 = 12;
-
-const WRONG_MAP: u32 = 13;
-
-const OFF_LIMITS: u32 = 14;
-
-// the limits
-pub const MOST_NAMES: usize = 32;
-
-pub const MOST_CLASS: u32 = 15;
-
-pub const MOST_GROWER: u32 = 65535;
-
-// the bytes of a name
-pub const NAME_BYTES: usize = 4;
-
 // where the list of an entry stands: past the map byte and the name; and where its names start: past the count byte too
-pub const LIST_PLACE: usize = 5;
+pub const LIST_PLACE: usize = 1 + NAME_BYTES;
 
-pub const NAMES_FROM: usize = 6;
+pub const NAMES_FROM: usize = LIST_PLACE + COUNT_BYTES;
 
 // A byte as a number.
 pub fn wide(a: u8) -> u32
@@ -80,7 +71,7 @@ fn list(s: &[u8], at: usize) -> Field
     }
     let count = wide(s[at]);
     let names = count as usize;
-    let right = (1 <= names) & (names <= MOST_NAMES);
+    let right = (1 <= count) & (count <= MOST_NAMES);
     if right {
         let end = at + 1 + NAME_BYTES * names;
         if end <= s.len() {
@@ -93,7 +84,7 @@ fn list(s: &[u8], at: usize) -> Field
         }
     } else {
         Field::Refused {
-            number: OFF_LIMITS,
+            number: WRONG_VALUE,
             at,
         }
     }
@@ -177,7 +168,7 @@ fn from_grower(s: &[u8], at: usize, map: u32, name: u32, count: u32, class: u32)
                 }
             } else {
                 Scan::Refused {
-                    number: OFF_LIMITS,
+                    number: WRONG_VALUE,
                     at,
                 }
             }
@@ -199,7 +190,7 @@ fn from_class(s: &[u8], at: usize, map: u32, name: u32, count: u32) -> Scan
                 from_grower(s, next, map, name, count, class)
             } else {
                 Scan::Refused {
-                    number: OFF_LIMITS,
+                    number: WRONG_VALUE,
                     at,
                 }
             }

@@ -6,10 +6,10 @@ use Prim.Native.Nat.{ℕ, _+_, _-_, _<_, _≤_}
 use native.Mathlib.Omega.{arith}
 use lib.Dec.{ltb, leb, eqb}
 use borrow.Author.Tests.{ltb-false, leb-true, leb-false}
-use Rattle.basics.specs.Limits.{mostNames, mostClass, mostGrower}
+use Rattle.numbers.specs.Numbers.{mostNames, mostClass, mostGrower, mostJobs, mostArcs, mostBits, mostWorkers}
 use Rattle.basics.specs.Base.{pick}
 use Rattle.basics.specs.Laws.{and-left, and-right, or-left, or-right}
-use Rattle.terms.specs.Terms.{settles, mostJobs, mostArcs, mostBits, mostWorkers, withinLimits}
+use Rattle.terms.specs.Terms.{settles, withinLimits}
 use Rattle.terms.specs.declared.Sizes.{Sizes}
 use Rattle.terms.specs.declared.HandOut.{HandOut}
 use Rattle.words.specs.Layout.{none, LABEL, COUNT, FIRST, LAST, DEPENDENT, AFTER, PHASE, HELD, LIST-COUNT}

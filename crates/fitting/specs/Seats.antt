@@ -5,12 +5,11 @@ use mathlib.Core.Bool.{_&&_}
 use Prim.Native.Nat.{ℕ, _<_}
 use lib.Dec.{ltb, leb}
 use borrow.Author.Tests.{ltb-true}
-use Rattle.basics.specs.Limits.{mostClass}
+use Rattle.numbers.specs.Numbers.{mostClass, damaged}
 use Rattle.basics.specs.Laws.{and-left, and-right, pick-by}
 use Rattle.heap.specs.Sift.{siftUp}
 use Rattle.heap.specs.declared.Sifted.{Sifted}
 use Rattle.heap.specs.declared.Sifted.the-variants.{Rests, Astray}
-use Rattle.terms.specs.Terms.{damaged}
 use Rattle.terms.specs.declared.Sizes.{Sizes}
 use Rattle.words.specs.Layout.{CLASS, SLOT, View}
 use Rattle.words.specs.Index.{levels, rank, rankOf, waits, filled, seated, seatFor}

@@ -3,8 +3,8 @@
 use mathlib.Core.Bool.{_&&_}
 use Prim.Native.Nat.{ℕ}
 use lib.Dec.{ltb, leb, eqb}
+use Rattle.numbers.specs.Numbers.{damaged}
 use Rattle.basics.specs.Laws.{pick-by}
-use Rattle.terms.specs.Terms.{damaged}
 use Rattle.terms.specs.declared.Sizes.{Sizes}
 use Rattle.words.specs.Layout.{View, none, LABEL, LAST, OUTCOME}
 use Rattle.words.specs.Words.{placeOk, planAppend, planTally, planLink}

@@ -9,8 +9,9 @@ use native.Mathlib.Numerals.{add-one}
 use lib.Dec.{eqb}
 use lib.ListN.{length, getD}
 use borrow.Author.Tests.{ne-eqb}
+use Rattle.numbers.specs.Numbers.{damaged}
 use Rattle.basics.specs.Laws.{pick-by}
-use Rattle.terms.specs.Terms.{Arguments, listed, damaged}
+use Rattle.terms.specs.Terms.{Arguments, listed}
 use Rattle.terms.specs.declared.Sizes.{Sizes}
 use Rattle.terms.specs.declared.Answer.the-variants.{Refused}
 use Rattle.words.specs.Layout.{Tables, View, view}

@@ -9,7 +9,7 @@ use native.Mathlib.Omega.{arith}
 use lib.Dec.{ltb, eqb}
 use lib.ListN.{length, getD}
 use borrow.Author.Tests.{ltb-false, eqb-false}
-use Rattle.basics.specs.Limits.{mostNames, mostClass, mostGrower}
+use Rattle.numbers.specs.Numbers.{mostNames, mostClass, mostGrower}
 use Rattle.basics.specs.Base.{contains, repeats}
 use Rattle.basics.specs.Laws.{never, or-left, or-right, length-prefix}
 use Rattle.terms.specs.Terms.{Arguments, listed, argumentsWrong}

@@ -9,10 +9,11 @@ use native.Mathlib.Numerals.{add-one}
 use lib.Dec.{ltb, leb}
 use lib.ListN.{length, getD}
 use borrow.Author.Tests.{leb-false, ltb-false}
+use Rattle.numbers.specs.Numbers.{damaged, unknownName, namePresent, tablesFull}
 use Rattle.basics.specs.Base.{pick}
 use Rattle.basics.specs.Laws.{or-left, or-right, length-prefix}
 use Rattle.bucket.specs.Bucket.{bucketOf}
-use Rattle.terms.specs.Terms.{Arguments, listed, damaged, unknownName, namePresent, tablesFull}
+use Rattle.terms.specs.Terms.{Arguments, listed}
 use Rattle.terms.specs.Runs.{outcome}
 use Rattle.terms.specs.declared.Sizes.{Sizes}
 use Rattle.terms.specs.declared.Answer.the-variants.{Refused}

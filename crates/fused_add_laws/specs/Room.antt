@@ -6,8 +6,9 @@ use Prim.Native.Nat.{_^_, _≤_}
 use lib.Dec.{leb}
 use lib.ListN.{length}
 use borrow.Author.Tests.{leb-true}
+use Rattle.numbers.specs.Numbers.{mostJobs, mostArcs, mostBits, mostWorkers}
 use Rattle.basics.specs.Laws.{and-left, and-right}
-use Rattle.terms.specs.Terms.{withinLimits, mostJobs, mostArcs, mostBits, mostWorkers}
+use Rattle.terms.specs.Terms.{withinLimits}
 use Rattle.terms.specs.declared.Sizes.{Sizes}
 use Rattle.words.specs.Columns.{rows, Rows}
 use Rattle.words.specs.Layout.{Tables, need, jobShape, arcShape, bucketShape, queueShape, workerShape, longEnough}

@@ -6,9 +6,9 @@ use mathlib.Core.List.{List}
 use Prim.Native.Nat.{ℕ, suc, _+_, _-_, _≤_, _<_}
 use native.Mathlib.Omega.{arith}
 use borrow.Author.Tests.{le-leb}
-use Rattle.basics.specs.Limits.{mostNames}
+use Rattle.numbers.specs.Numbers.{mostNames, damaged}
 use Rattle.basics.specs.Base.{pick}
-use Rattle.terms.specs.Terms.{settles, Arguments, damaged}
+use Rattle.terms.specs.Terms.{settles, Arguments}
 use Rattle.terms.specs.Runs.{outcome}
 use Rattle.terms.specs.declared.Sizes.{Sizes}
 use Rattle.terms.specs.declared.Answer.the-variants.{Ended, Refused}

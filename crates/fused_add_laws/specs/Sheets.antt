@@ -8,8 +8,9 @@ use native.Mathlib.Omega.{arith}
 use lib.Dec.{ltb}
 use lib.ListN.{length}
 use borrow.Author.Tests.{ltb-true}
+use Rattle.numbers.specs.Numbers.{wrongSize, noSuchWorker, damaged}
 use Rattle.basics.specs.Base.{pick}
-use Rattle.terms.specs.Terms.{Arguments, wrongSizes, noSuchWorker, damaged}
+use Rattle.terms.specs.Terms.{Arguments}
 use Rattle.terms.specs.Runs.{Outcome}
 use Rattle.terms.specs.declared.Sizes.{Sizes}
 use Rattle.words.specs.Layout.{Tables, view, sizesFit}
@@ -57,7 +58,7 @@ unfolding admitted
 judged-admitted s t w n e = go (sizesFit s t) refl (ltb w (s .workers)) refl (ownOk s (view t) w) refl e
   where
     go : (x : Bool) → sizesFit s t ≡ x → (y : Bool) → ltb w (s .workers) ≡ y → (z : Bool) → ownOk s (view t) w ≡ z
-        → pick x (pick y (pick z n damaged) noSuchWorker) wrongSizes ≡ 0
+        → pick x (pick y (pick z n damaged) noSuchWorker) wrongSize ≡ 0
         → Admitted s t w
     go true a true b true c h = record { sizes = a; worker = ltb-true w (s .workers) b; own = c }
     go true a true b false c h = absurd (omega arith)

@@ -12,7 +12,7 @@ ghost use Rattle.sheet_rows.specs.Arguments.{argumentsOf};
 use graph_posted_add::put_call;
 use graph_records::put_bare_worker;
 use graph_words::layout::*;
-use graph_words::numbers::*;
+use numbers::*;
 use sheet_format::Entry;
 use terms::Answer;
 

@@ -7,9 +7,10 @@ use Prim.Native.Nat.{ℕ, zero, suc, _+_, _≤_}
 use native.Mathlib.Numerals.{add-one}
 use native.Mathlib.Omega.{arith}
 use lib.Dec.{eqb}
+use Rattle.numbers.specs.Numbers.{damaged, halfDone, notHeld, goodForSpoiled}
 use Rattle.basics.specs.Base.{pick}
 use Rattle.basics.specs.Laws.{and-right, pick-by}
-use Rattle.terms.specs.Terms.{damaged, halfDone, notHeld, goodForSpoiled, Finish, bit}
+use Rattle.terms.specs.Terms.{Finish, bit}
 use Rattle.terms.specs.Runs.{Outcome, outcome}
 use Rattle.terms.specs.declared.Sizes.{Sizes}
 use Rattle.terms.specs.declared.Answer.the-variants.{Refused}

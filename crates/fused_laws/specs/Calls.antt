@@ -6,7 +6,7 @@ use Prim.Native.Nat.{ℕ, _+_, _≤_, _<_}
 use native.Mathlib.Omega.{arith}
 use lib.ListN.{length, getD, take}
 use borrow.Author.Tests.{lt-ltb, le-ltb, le-leb}
-use Rattle.basics.specs.Limits.{mostNames, mostClass, mostGrower}
+use Rattle.numbers.specs.Numbers.{mostNames, mostClass, mostGrower}
 use Rattle.basics.specs.Base.{prefix}
 use Rattle.basics.specs.Laws.{length-prefix, getD-prefix, getD-past}
 use Rattle.terms.specs.Terms.{Arguments, listed}

@@ -6,7 +6,7 @@ use mathlib.Core.List.{List}
 use Prim.Native.Nat.{ℕ, _+_}
 use lib.Dec.{ltb, leb, eqb}
 use lib.ListN.{getD}
-use Rattle.basics.specs.Limits.{mostNames, mostClass, mostGrower}
+use Rattle.numbers.specs.Numbers.{mostNames, mostClass, mostGrower}
 use Rattle.basics.specs.Base.{pick}
 use Rattle.terms.specs.declared.Sizes.{Sizes}
 use Rattle.words.specs.Layout.{View, PHASE, HELD, OWN-NAME, LIST-COUNT, OWN-CLASS, OWN-GROWER, TALLY, PLACE, OWN-JOB}

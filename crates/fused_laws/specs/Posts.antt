@@ -6,9 +6,9 @@ use mathlib.Core.List.{List}
 use Prim.Native.Nat.{ℕ, suc}
 use lib.Dec.{ltb}
 use borrow.Author.Tests.{lt-ltb, ltb-true}
+use Rattle.numbers.specs.Numbers.{wrongSize, noSuchWorker, halfDone, wrongArguments, damaged, notHeld}
 use Rattle.basics.specs.Base.{pick}
-use Rattle.terms.specs.Terms.{Arguments, argumentsWrong, wrongSizes, noSuchWorker, halfDone, wrongArguments, damaged}
-use Rattle.terms.specs.Terms.{notHeld, Finish, bit}
+use Rattle.terms.specs.Terms.{Arguments, argumentsWrong, Finish, bit}
 use Rattle.terms.specs.Runs.{Outcome, outcome}
 use Rattle.terms.specs.declared.Sizes.{Sizes}
 use Rattle.terms.specs.declared.Answer.the-variants.{Posted, Refused}
@@ -47,8 +47,8 @@ unfolding admitted
 admitted-map h s t w f x = go (sizesFit s t) (ltb w (s .workers)) (ownOk s (view t) w)
   where
     go : (a b c : Bool)
-        → h (pick a (pick b (pick c x (f damaged)) (f noSuchWorker)) (f wrongSizes))
-        ≡ pick a (pick b (pick c (h x) (h (f damaged))) (h (f noSuchWorker))) (h (f wrongSizes))
+        → h (pick a (pick b (pick c x (f damaged)) (f noSuchWorker)) (f wrongSize))
+        ≡ pick a (pick b (pick c (h x) (h (f damaged))) (h (f noSuchWorker))) (h (f wrongSize))
     go true true true = refl
     go true true false = refl
     go true false c = refl

@@ -13,7 +13,7 @@ use crate::notices::Ending;
 use graph_posted_add::put_call;
 use graph_records::put_bare_worker;
 use graph_words::layout::*;
-use graph_words::numbers::*;
+use numbers::*;
 use terms::Answer;
 
 // A finish that has marked and is left half done at an arc: its note is its outcome, and it has no list.

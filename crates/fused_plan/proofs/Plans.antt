@@ -5,10 +5,10 @@ use Prim.Native.Nat.{ℕ, _+_, _≤_}
 use native.Mathlib.Omega.{arith}
 use lib.Dec.{eqb, ltb, leb}
 use borrow.Author.Tests.{ltb-false}
-use Rattle.basics.specs.Limits.{mostNames, mostClass, mostGrower}
+use Rattle.numbers.specs.Numbers.{mostNames, mostClass, mostGrower, unknownName, namePresent, tablesFull}
 use Rattle.basics.specs.Base.{contains, repeats}
 use Rattle.basics.specs.Laws.{or-left, or-right}
-use Rattle.terms.specs.Terms.{Arguments, listed, argumentsWrong, unknownName, namePresent, tablesFull}
+use Rattle.terms.specs.Terms.{Arguments, listed, argumentsWrong}
 use Rattle.terms.specs.declared.Sizes.{Sizes}
 use Rattle.words.specs.Layout.{View, PHASE, IDLE}
 use Rattle.words.specs.Words.{countersOk, findOf}

@@ -5,7 +5,7 @@ ghost use mathlib.Core.Path.{_≡_};
 ghost use mathlib.Core.List.{List};
 ghost use Prim.Native.Nat.{ℕ, _≤_};
 ghost use lib.ListN.{length};
-ghost use Rattle.basics.specs.Limits.{mostNames};
+ghost use Rattle.numbers.specs.Numbers.{mostNames};
 ghost use Rattle.basics.specs.Base.{prefix};
 ghost use Rattle.words.specs.Layout.{tables, view};
 ghost use Rattle.words.specs.Words.{findOf};
@@ -22,9 +22,9 @@ use graph_find::find;
 use graph_own::counters_ok;
 use graph_words::header;
 use graph_words::layout::*;
-use graph_words::numbers::*;
 use graph_words::worker_word;
 use look_ups::look_ups;
+use numbers::*;
 use sheet_format::Entry;
 use terms::Sizes;
 use words::Found;
@@ -57,7 +57,7 @@ fn plan_own(
                 | ((sizes.arcs as u64) < (header(arcs, RESERVED) as u64) + (count as u64));
             if full {
                 AddPlan::TurnAway {
-                    number: NO_ROOM,
+                    number: TABLES_FULL,
                     place: 0,
                 }
             } else {

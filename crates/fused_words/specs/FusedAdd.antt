@@ -6,10 +6,10 @@ use mathlib.Core.List.{List, [], _∷_}
 use Prim.Native.Nat.{ℕ, suc, _+_, _-_}
 use lib.Dec.{eqb, ltb, leb}
 use lib.Seq.{sets}
+use Rattle.numbers.specs.Numbers.{halfDone, wrongArguments, unknownName, namePresent, tablesFull, damaged}
 use Rattle.basics.specs.Base.{pick}
 use Rattle.bucket.specs.Bucket.{bucketOf}
-use Rattle.terms.specs.Terms.{settles, Arguments, listed, argumentsWrong, halfDone, wrongArguments, unknownName}
-use Rattle.terms.specs.Terms.{namePresent, tablesFull, damaged}
+use Rattle.terms.specs.Terms.{settles, Arguments, listed, argumentsWrong}
 use Rattle.terms.specs.Runs.{Outcome, outcome}
 use Rattle.terms.specs.declared.Sizes.{Sizes}
 use Rattle.terms.specs.declared.Answer.the-variants.{Ended, Refused}

@@ -2,8 +2,9 @@
 -- the end. (That this is the post and its steps: fused_finish_laws.) Assumes nothing.
 use Prim.Native.Nat.{ℕ, zero, suc}
 use lib.Dec.{eqb}
+use Rattle.numbers.specs.Numbers.{halfDone, notHeld}
 use Rattle.basics.specs.Base.{pick}
-use Rattle.terms.specs.Terms.{halfDone, notHeld, Finish, bit}
+use Rattle.terms.specs.Terms.{Finish, bit}
 use Rattle.terms.specs.Runs.{Outcome, outcome}
 use Rattle.terms.specs.declared.Sizes.{Sizes}
 use Rattle.terms.specs.declared.Answer.the-variants.{Going, Ended, Refused}

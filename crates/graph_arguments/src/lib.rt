@@ -3,12 +3,12 @@
 ghost use mathlib.Core.Path.{_≡_};
 ghost use Prim.Native.Nat.{_≤_};
 ghost use lib.ListN.{drop};
-ghost use Rattle.basics.specs.Limits.{mostNames};
+ghost use Rattle.numbers.specs.Numbers.{mostNames};
 ghost use Rattle.basics.specs.Base.{contains, repeats, prefix};
 ghost use Rattle.terms.specs.Terms.{argumentsWrong};
-use graph_words::numbers::MOST_CLASS;
-use graph_words::numbers::MOST_GROWER;
-use graph_words::numbers::MOST_NAMES;
+use numbers::MOST_CLASS;
+use numbers::MOST_GROWER;
+use numbers::MOST_NAMES;
 
 // A name is among the first `count` names, from `start` on.
 fn listed_from(names: &[u32; 32], start: usize, count: usize, name: u32) -> bool

@@ -8,16 +8,16 @@ use Prim.Native.Nat.{ℕ, zero, suc, _+_}
 use native.Mathlib.Omega.{arith}
 use lib.Dec.{eqb, leb, ltb}
 use lib.ListN.{length}
+use Rattle.numbers.specs.Numbers.{damaged, wrongSize, accepted, mostRecords}
 use Rattle.basics.specs.Base.{pick}
 use Rattle.basics.specs.Laws.{never}
 use Rattle.minutes.specs.Minutes.{minutesIn}
 use Rattle.minutes.specs.Rising.{isRising}
-use Rattle.terms.specs.Terms.{damaged, wrongSizes, Label, unexecuted, executing, finished, labelNumber, Arguments}
+use Rattle.terms.specs.Terms.{Label, unexecuted, executing, finished, labelNumber, Arguments}
 use Rattle.terms.specs.declared.Sizes.{Sizes}
 use Rattle.words.specs.Columns.{columns, header}
 use Rattle.words.specs.Layout.{jobShape, storedMinutes, MADE, LABEL, CLASS}
-use Rattle.totals.specs.Board.{served, refused, sumOver, under, oneJob, itsMinutes}
-use Rattle.totals.specs.Board.{mostRecords, allWellFormed, counted, totalsOf}
+use Rattle.totals.specs.Board.{refused, sumOver, under, oneJob, itsMinutes, allWellFormed, counted, totalsOf}
 use Rattle.totals.specs.AllJobs.{together}
 use Rattle.totals.specs.Exactly.{overJobs}
 use Rattle.totals.specs.declared.JobRecord.{JobRecord}
@@ -47,7 +47,7 @@ Board = Sizes → List ℕ → Totals
 -- by the minutes that were loaded, a table
 pub record Accounted (board : Board) (table : List ℕ) (s : Sizes) (words : List ℕ) (adds : List Arguments)
     : Type 0 where
-  pub answered : board s words .number ≡ served
+  pub answered : board s words .number ≡ accepted
   pub under-labels : UnderLabels table words (board s words)
   pub all-minutes : together (board s words .minutes) ≡ minutesEntered table adds
 
@@ -70,7 +70,7 @@ row-sum f amount (suc n) =
     let e : 0 + n ≡ n = omega arith in omega (arith, rw e at (last-row f amount 0 n), row-sum f amount n)
 
 -- the board of the graph's own row, if it is served, by the minutes that stand in the table
-pub graph-counts : (s : Sizes) (words : List ℕ) → graphTotals s words .number ≡ served
+pub graph-counts : (s : Sizes) (words : List ℕ) → graphTotals s words .number ≡ accepted
     → UnderLabels (storedMinutes words) words (graphTotals s words)
 unfolding graphTotals totalsOf counted
 graph-counts s words =
@@ -88,10 +88,10 @@ graph-counts s words =
 
     given : Bool → Bool → Bool → Bool → Totals
     given fit right many formed =
-        let row = pick many (refused wrongSizes) (pick formed (counted table rows) (refused damaged)) in
-        pick fit (pick right row (refused damaged)) (refused wrongSizes)
+        let row = pick many (refused wrongSize) (pick formed (counted table rows) (refused damaged)) in
+        pick fit (pick right row (refused damaged)) (refused wrongSize)
 
-    by : (fit right many formed : Bool) → given fit right many formed .number ≡ served
+    by : (fit right many formed : Bool) → given fit right many formed .number ≡ accepted
         → UnderLabels table words (given fit right many formed)
     by false right many formed e = never (cc)
     by true false many formed e = never (cc)

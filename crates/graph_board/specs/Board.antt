@@ -5,12 +5,13 @@ use mathlib.Core.List.{List, [], _∷_}
 use Prim.Native.Nat.{ℕ, zero, suc, _+_}
 use lib.Dec.{leb}
 use lib.ListN.{length}
+use Rattle.numbers.specs.Numbers.{damaged, wrongSize}
 use Rattle.basics.specs.Base.{pick}
 use Rattle.minutes.specs.Minutes.{minutesIn}
 use Rattle.minutes.specs.Rising.{isRising}
 use Rattle.minutes.specs.Judged.{noMinutes, judgedMinutes}
 use Rattle.minutes.specs.declared.GraphMinutes.{GraphMinutes}
-use Rattle.terms.specs.Terms.{damaged, wrongSizes, Arguments, withinLimits}
+use Rattle.terms.specs.Terms.{Arguments, withinLimits}
 use Rattle.terms.specs.declared.Sizes.{Sizes}
 use Rattle.words.specs.Columns.{columns, header}
 use Rattle.words.specs.Layout.{jobShape, need, sizesKept, storedMinutes, MADE, LABEL, CLASS}
@@ -32,7 +33,7 @@ jobsFit s jobs = withinLimits s && leb (need jobShape (s .jobs)) (length jobs) &
 
 -- the stored minutes: number 9 where they do not rise or leave their limits
 unfoldable pub graphMinutes : Sizes → List ℕ → GraphMinutes
-graphMinutes s jobs = pick (jobsFit s jobs) (judgedMinutes damaged (storedMinutes jobs)) (noMinutes wrongSizes)
+graphMinutes s jobs = pick (jobsFit s jobs) (judgedMinutes damaged (storedMinutes jobs)) (noMinutes wrongSize)
 
 -- number 9 for a counter over R, stored minutes that do not rise or leave their limits, or a wrong label or class; the
 -- minutes are the stored ones
@@ -42,7 +43,7 @@ graphTotals s jobs =
     (pick (leb (header jobs MADE) (s .jobs) && isRising (storedMinutes jobs))
     (totalsOf (storedMinutes jobs) (graphRows jobs))
     (refused damaged))
-    (refused wrongSizes)
+    (refused wrongSize)
 
 -- the minutes of the jobs that ever entered, by their adds
 unfoldable pub minutesEntered : List ℕ → List Arguments → ℕ

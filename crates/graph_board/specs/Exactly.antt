@@ -10,18 +10,18 @@ use native.Mathlib.Omega.{arith}
 use lib.Dec.{leb, ltb}
 use lib.ListN.{length, getD}
 use borrow.Author.Tests.{leb-true, ltb-true, le-leb, lt-leb, le-ltb, lt-ltb}
+use Rattle.numbers.specs.Numbers.{damaged, wrongSize, accepted, mostRecords}
 use Rattle.basics.specs.Base.{pick}
 use Rattle.basics.specs.Laws.{fails}
 use Rattle.minutes.specs.Rising.{isRising, SixteenRising, rising-means}
 use Rattle.minutes.specs.Judged.{noMinutes, judgedMinutes}
 use Rattle.minutes.specs.declared.GraphMinutes.{GraphMinutes}
-use Rattle.terms.specs.Terms.{damaged, wrongSizes}
 use Rattle.terms.specs.declared.Sizes.{Sizes}
 use Rattle.words.specs.Columns.{columns, header}
 use Rattle.words.specs.Layout.{jobShape, storedMinutes, MADE, LABEL, CLASS}
 use Rattle.words.specs.Stored.{minutes-by-words}
 use Rattle.words.specs.Sized.{both, Limited, limited-means, Kept, kept-means}
-use Rattle.totals.specs.Board.{served, refused, allWellFormed, totalsOf, mostRecords, counted}
+use Rattle.totals.specs.Board.{refused, allWellFormed, totalsOf, counted}
 use Rattle.totals.specs.Exactly.{unrising}
 use Rattle.totals.specs.declared.Totals.{Totals}
 use Rattle.graph_board.specs.Board.{rowsFrom, graphRows, jobsFit, graphMinutes, graphTotals}
@@ -60,18 +60,18 @@ RightRow jobs j = (getD jobs (21 + 10 * j + 1) 0 ≤ 2) × (getD jobs (21 + 10 *
 -- rise", and for "a wrong label or class", "wherever it stands in the row"; else the jobs and the minutes under each
 -- label, by the stored minutes
 pub record BoardsExactly (board : Board) (s : Sizes) (jobs : List ℕ) : Type 0 where
-  pub by-1 : (JobsSized s jobs → ⊥) → board s jobs ≡ refused wrongSizes
+  pub by-1 : (JobsSized s jobs → ⊥) → board s jobs ≡ refused wrongSize
   pub over-R : JobsSized s jobs → s .jobs < getD jobs 4 0 → board s jobs ≡ refused damaged
   pub off-minutes : JobsSized s jobs → (SixteenRising (storedMinutes jobs) → ⊥) → board s jobs ≡ refused damaged
   pub off-row : JobsSized s jobs → (j : ℕ) → j < getD jobs 4 0 → (RightRow jobs j → ⊥)
       → board s jobs ≡ refused damaged
   pub serves : JobsSized s jobs → getD jobs 4 0 ≤ s .jobs → SixteenRising (storedMinutes jobs)
       → ((j : ℕ) → j < getD jobs 4 0 → RightRow jobs j)
-      → (board s jobs .number ≡ served) × UnderLabels (storedMinutes jobs) jobs (board s jobs)
+      → (board s jobs .number ≡ accepted) × UnderLabels (storedMinutes jobs) jobs (board s jobs)
 
 -- the same of the minutes that are told: 1, then 9, then words 5 to 20
 pub record MinutesExactly (tell : Sizes → List ℕ → GraphMinutes) (s : Sizes) (jobs : List ℕ) : Type 0 where
-  pub by-1 : (JobsSized s jobs → ⊥) → tell s jobs ≡ noMinutes wrongSizes
+  pub by-1 : (JobsSized s jobs → ⊥) → tell s jobs ≡ noMinutes wrongSize
   pub by-9 : JobsSized s jobs → (SixteenRising (storedMinutes jobs) → ⊥) → tell s jobs ≡ noMinutes damaged
   pub tells : JobsSized s jobs → SixteenRising (storedMinutes jobs)
       → (tell s jobs .number ≡ 0) × (length (tell s jobs .minutes) ≡ 16)
@@ -146,7 +146,7 @@ boards-exactly s jobs = record {
       (fits s jobs z) (rows-ill f 0 made j h (let e : 0 + j ≡ j = omega arith in rw e wrong)));
   serves = λ z h r right.
       let all = rows-well f 0 made (λ k l. let e : 0 + k ≡ k = omega arith in rw e (right k l)) in
-      let number : graphTotals s jobs .number ≡ served =
+      let number : graphTotals s jobs .number ≡ accepted =
       rw (sized z, le-leb made (s .jobs) h, rising-means (storedMinutes jobs) .1 r, fits s jobs z h, all) in
       (number, graph-counts s jobs number);
 }
@@ -166,7 +166,7 @@ boards-exactly s jobs = record {
 
     by-row : Bool → Bool → Totals
     by-row many formed =
-        pick many (refused wrongSizes) (pick formed (counted (storedMinutes jobs) (graphRows jobs)) (refused damaged))
+        pick many (refused wrongSize) (pick formed (counted (storedMinutes jobs) (graphRows jobs)) (refused damaged))
 
     any-row : (few rises : Bool) → leb made (s .jobs) ≡ few
         → (made ≤ s .jobs → ltb mostRecords (length (rowsFrom f 0 made)) ≡ false)

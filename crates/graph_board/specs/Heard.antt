@@ -11,12 +11,12 @@ use Prim.Native.Nat.{ℕ}
 use lib.Dec.{eqb, leb}
 use lib.ListN.{length, replicate}
 use borrow.Author.Tests.{eqb-true, eqb-false}
+use Rattle.numbers.specs.Numbers.{damaged}
 use Rattle.basics.specs.Base.{pick}
 use Rattle.basics.specs.Laws.{pick-by}
 use Rattle.minutes.specs.Rising.{isRising, SixteenRising, rising-means}
 use Rattle.minutes.specs.Judged.{judgedAs, judgedMinutes}
 use Rattle.minutes.specs.declared.GraphMinutes.{GraphMinutes}
-use Rattle.terms.specs.Terms.{damaged}
 use Rattle.terms.specs.declared.Sizes.{Sizes}
 use Rattle.words.specs.Columns.{header}
 use Rattle.words.specs.Layout.{storedMinutes, MADE}

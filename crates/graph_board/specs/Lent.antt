@@ -10,15 +10,15 @@ use native.Mathlib.Omega.{arith}
 use lib.Dec.{leb, ltb, lit<}
 use lib.ListN.{length, getD}
 use lib.Seq.{ext-getD}
+use Rattle.numbers.specs.Numbers.{damaged, wrongSize, mostRecords}
 use Rattle.basics.specs.Base.{pick}
 use Rattle.minutes.specs.Rising.{isRising}
 use Rattle.minutes.specs.Judged.{judgedMinutes}
-use Rattle.terms.specs.Terms.{damaged, wrongSizes}
 use Rattle.terms.specs.declared.Sizes.{Sizes}
 use Rattle.words.specs.Columns.{columns, header}
 use Rattle.words.specs.Layout.{jobShape, storedMinutes, MADE, LABEL, CLASS}
 use Rattle.words.specs.Stored.{job-by-words}
-use Rattle.totals.specs.Board.{mostRecords, allWellFormed, counted, refused, totalsOf, totalsBy}
+use Rattle.totals.specs.Board.{allWellFormed, counted, refused, totalsOf, totalsBy}
 use Rattle.totals.specs.Exactly.{noRecord}
 use Rattle.totals.specs.declared.JobRecord.{JobRecord}
 use Rattle.totals.specs.declared.Totals.{Totals}
@@ -74,14 +74,14 @@ module _ (s : Sizes) (jobs : List ℕ) where
   table : List ℕ
   table = storedMinutes jobs
 
-  by-row : totalsOf table rows ≡ pick (ltb mostRecords (length rows)) (refused wrongSizes) (totalsOf table rows)
+  by-row : totalsOf table rows ≡ pick (ltb mostRecords (length rows)) (refused wrongSize) (totalsOf table rows)
   unfolding totalsOf
   by-row = go (ltb mostRecords (length rows))
     where
       given : Bool → Totals
-      given many = pick many (refused wrongSizes) (pick (allWellFormed rows) (counted table rows) (refused damaged))
+      given many = pick many (refused wrongSize) (pick (allWellFormed rows) (counted table rows) (refused damaged))
 
-      go : (many : Bool) → given many ≡ pick many (refused wrongSizes) (given many)
+      go : (many : Bool) → given many ≡ pick many (refused wrongSize) (given many)
       go true = refl
       go false = refl
 

@@ -10,9 +10,9 @@ use lib.Dec.{leb, eqb, lit<}
 use lib.ListN.{length, getD, take}
 use lib.Seq.{getD-take, length-take-le, take-all}
 use borrow.Author.Tests.{leb-true, leb-false, eq-eqb, ne-eqb}
+use Rattle.numbers.specs.Numbers.{damaged, wrongSize}
 use Rattle.basics.specs.Base.{pick}
 use Rattle.minutes.specs.Rising.{isRising}
-use Rattle.terms.specs.Terms.{damaged, wrongSizes}
 use Rattle.terms.specs.declared.Sizes.{Sizes}
 use Rattle.words.specs.Columns.{columns, header, cells}
 use Rattle.words.specs.Layout.{jobShape, sizesKept, storedMinutes, MADE, LABEL, CLASS}
@@ -101,7 +101,7 @@ totals-within-need s a b same =
         (refused damaged)
 
     go : (few : Bool) → leb (header b MADE) (s .jobs) ≡ few
-        → pick (jobsFit s b) (rest few a) (refused wrongSizes) ≡ pick (jobsFit s b) (rest few b) (refused wrongSizes)
+        → pick (jobsFit s b) (rest few a) (refused wrongSize) ≡ pick (jobsFit s b) (rest few b) (refused wrongSize)
     go true e = rw (row-same s a b same (leb-true (header b MADE) (s .jobs) e))
     go false e = refl
 

@@ -11,8 +11,8 @@ use graph_own::own_ok;
 use graph_sizes::sizes_fit;
 use graph_words::header;
 use graph_words::layout::*;
-use graph_words::numbers::*;
 use graph_words::worker_word;
+use numbers::*;
 use terms::Sizes;
 use worker_state::Drained;
 
@@ -95,7 +95,7 @@ pub fn drained(
         }
     } else {
         Drained {
-            number: WRONG_SIZES,
+            number: WRONG_SIZE,
             drained: 0,
         }
     }

@@ -13,7 +13,7 @@ use graph_words::header;
 use graph_words::job_word;
 use graph_words::layout::*;
 use graph_words::less;
-use graph_words::numbers::*;
+use numbers::*;
 use terms::Sizes;
 use words::Plan;
 use words::Seating;

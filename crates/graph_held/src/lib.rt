@@ -10,17 +10,10 @@ use graph_own::own_ok;
 use graph_sizes::sizes_fit;
 use graph_words::job_word;
 use graph_words::layout::*;
-use graph_words::numbers::*;
 use graph_words::worker_word;
+use numbers::*;
 use terms::Sizes;
 use worker_state::Holding;
-
-// The call half done.
-const NO_CALL: u32 = 0;
-
-const AN_ADD: u32 = 1;
-
-const A_FINISH: u32 = 2;
 
 // The call of a phase.
 fn call_of(phase: u32) -> u32
@@ -28,17 +21,17 @@ fn call_of(phase: u32) -> u32
 {
     let idle = phase == IDLE;
     if idle {
-        return NO_CALL;
+        return CALL_NONE;
     }
     let adding = (phase == LOOKING) | (phase == LINKING);
-    if adding { AN_ADD } else { A_FINISH }
+    if adding { CALL_ADD } else { CALL_FINISH }
 }
 
 // The name of the add half done, of the worker's words: 0 where its call is none.
 fn adds_of(call: u32, name: u32) -> u32
     ensures { λ r. ⌜ r ≡ addsOf call name ⌝ }
 {
-    let adding = call == AN_ADD;
+    let adding = call == CALL_ADD;
     if adding { name } else { 0 }
 }
 
@@ -133,6 +126,6 @@ pub fn held(
             refused(NO_SUCH_WORKER)
         }
     } else {
-        refused(WRONG_SIZES)
+        refused(WRONG_SIZE)
     }
 }

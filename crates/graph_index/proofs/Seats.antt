@@ -4,7 +4,7 @@ use mathlib.Core.Bool.{Bool, true, false, _&&_}
 use Prim.Native.Nat.{ℕ, _-_}
 use lib.Dec.{ltb, leb}
 use lib.ListN.{length}
-use Rattle.basics.specs.Limits.{mostClass}
+use Rattle.numbers.specs.Numbers.{mostClass}
 use Rattle.basics.specs.Base.{pick}
 use Rattle.heap.specs.Compared.{pairsDown}
 use Rattle.heap.specs.Sift.{siftUp, siftDown}

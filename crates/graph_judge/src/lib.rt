@@ -5,8 +5,9 @@ ghost use mathlib.Core.Path.{_≡_};
 ghost use mathlib.Core.List.{List};
 ghost use Prim.Native.Nat.{ℕ};
 ghost use lib.Dec.{eqb};
+ghost use Rattle.numbers.specs.Numbers.{halfDone, wrongArguments, damaged};
 ghost use Rattle.basics.specs.Base.{pick};
-ghost use Rattle.terms.specs.Terms.{argumentsWrong, halfDone, wrongArguments, damaged, finishOf};
+ghost use Rattle.terms.specs.Terms.{argumentsWrong, finishOf};
 ghost use Rattle.words.specs.Columns.{columns};
 ghost use Rattle.words.specs.Layout.{workerShape, PHASE, IDLE, tables, atEntry, view};
 ghost use Rattle.words.specs.Words.{admitted, refusal, judgedAdd, judgedOutcome, judgedFinish};
@@ -17,8 +18,8 @@ use graph_own::own_ok;
 use graph_sizes::sizes_fit;
 use graph_words::job_word;
 use graph_words::layout::*;
-use graph_words::numbers::*;
 use graph_words::worker_word;
+use numbers::*;
 use sheet_format::Entry;
 use terms::Sizes;
 
@@ -82,7 +83,7 @@ pub fn judge_add(
             NO_SUCH_WORKER
         }
     } else {
-        WRONG_SIZES
+        WRONG_SIZE
     }
 }
 
@@ -165,6 +166,6 @@ pub fn judge_finish(
             NO_SUCH_WORKER
         }
     } else {
-        WRONG_SIZES
+        WRONG_SIZE
     }
 }

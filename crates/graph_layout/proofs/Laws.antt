@@ -3,8 +3,9 @@ use mathlib.Core.Path.{_≡_}
 use mathlib.Core.Bool.{Bool, true, _&&_}
 use Prim.Native.Nat.{ℕ, _≤_}
 use native.Mathlib.Omega.{arith}
+use Rattle.numbers.specs.Numbers.{mostBits}
 use Rattle.basics.specs.Laws.{and-left}
-use Rattle.terms.specs.Terms.{mostBits, withinLimits}
+use Rattle.terms.specs.Terms.{withinLimits}
 use Rattle.terms.specs.declared.Sizes.{Sizes}
 use Rattle.words.specs.Layout.{bucketShape, need}
 use Rattle.graph_sizes.proofs.Laws.{bits-within}

@@ -6,8 +6,9 @@ use Prim.Native.Nat.{ℕ, _≤_, _^_}
 use native.Mathlib.Omega.{arith}
 use lib.ListN.{length}
 use borrow.Author.Tests.{le-leb}
+use Rattle.numbers.specs.Numbers.{wrongSize}
 use Rattle.basics.specs.Base.{pick}
-use Rattle.terms.specs.Terms.{withinLimits, wrongSizes}
+use Rattle.terms.specs.Terms.{withinLimits}
 use Rattle.terms.specs.declared.Sizes.{Sizes}
 use Rattle.terms.specs.declared.Answer.the-variants.{Laid}
 use Rattle.words.specs.Layout.{jobShape, arcShape, bucketShape, queueShape, workerShape, need, longEnough, roomFor}
@@ -27,7 +28,7 @@ wordsNeeded s =
       queue = need queueShape (s .jobs);
       workers = need workerShape (s .workers);
     })
-    (record { number = wrongSizes; jobs = 0; arcs = 0; buckets = 0; queue = 0; workers = 0 })
+    (record { number = wrongSize; jobs = 0; arcs = 0; buckets = 0; queue = 0; workers = 0 })
 
 -- tables of the lengths that the answer names
 unfoldable pub AsLong : Need → Tables → Type 0
@@ -45,7 +46,7 @@ needed-room s t e h = go (withinLimits s) refl
     go true w =
         let k = rw w at h in
         simp (w, le-leb _ _ (k .0), le-leb _ _ (k .1), le-leb _ _ (k .2), le-leb _ _ (k .3), le-leb _ _ (k .4))
-    go false w = absurd (let z : _≡_ {A = ℕ} wrongSizes 0 = rw w at e in omega arith)
+    go false w = absurd (let z : _≡_ {A = ℕ} wrongSize 0 = rw w at e in omega arith)
 
 -- "Laying out makes a fresh graph": of every allowed size, on tables as long as the answer says, it succeeds
 pub needed-served : (s : Sizes) → withinLimits s ≡ true → wordsNeeded s .number ≡ 0

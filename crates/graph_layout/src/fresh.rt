@@ -3,8 +3,8 @@
 ghost use mathlib.Core.Path.{_≡_};
 ghost use Prim.Native.Nat.{_+_, _*_, _^_, _≤_};
 ghost use lib.Seq.{sets};
+ghost use Rattle.numbers.specs.Numbers.{mostBits};
 ghost use Rattle.minutes.specs.Minutes.{fixedMinutes};
-ghost use Rattle.terms.specs.Terms.{mostBits};
 ghost use Rattle.words.specs.Columns.{place};
 ghost use Rattle.words.specs.Layout.{none, jobShape, workerShape, IDLE, bareWorker, repeated, freshJob, freshJobs};
 ghost use Rattle.words.specs.Layout.{putMinutes, freshArcs, freshBuckets, freshQueue, freshTables, atEntry, atExit};
@@ -13,8 +13,8 @@ use graph_records::put_bare_worker;
 use graph_records::put_job_record;
 use graph_records::put_words;
 use graph_words::layout::*;
-use graph_words::numbers::*;
 use graph_words::put_header;
+use numbers::*;
 use terms::Sizes;
 
 // The records of the jobs table.

@@ -14,7 +14,7 @@ use graph_sizes::need;
 use graph_sizes::room_for;
 use graph_sizes::within_limits;
 use graph_words::layout::*;
-use graph_words::numbers::*;
+use numbers::*;
 use terms::Answer;
 use terms::Sizes;
 
@@ -44,7 +44,7 @@ pub fn words_needed(sizes: Sizes) -> Need
         }
     } else {
         Need {
-            number: WRONG_SIZES,
+            number: WRONG_SIZE,
             jobs: 0,
             arcs: 0,
             buckets: 0,
@@ -72,7 +72,7 @@ pub fn lay_out(
         Answer::Laid
     } else {
         Answer::Refused {
-            number: WRONG_SIZES,
+            number: WRONG_SIZE,
             place: 0,
         }
     }

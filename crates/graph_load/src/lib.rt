@@ -9,8 +9,8 @@ use graph_records::put_words;
 use graph_sizes::sizes_fit;
 use graph_words::header;
 use graph_words::layout::*;
-use graph_words::numbers::*;
 use minutes::is_rising;
+use numbers::*;
 use terms::Answer;
 use terms::Sizes;
 
@@ -29,7 +29,7 @@ fn judge_load(
 {
     let fit = sizes_fit(sizes, jobs, arcs, buckets, queue, workers);
     if fit {} else {
-        return WRONG_SIZES;
+        return WRONG_SIZE;
     }
     let rises = is_rising(minutes);
     if rises {} else {

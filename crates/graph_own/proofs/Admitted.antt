@@ -7,8 +7,9 @@ use native.Mathlib.Omega.{arith}
 use lib.Dec.{ltb, leb}
 use lib.ListN.{length}
 use borrow.Author.Tests.{ltb-true, leb-true, le-leb}
+use Rattle.numbers.specs.Numbers.{wrongSize, noSuchWorker, damaged}
 use Rattle.basics.specs.Laws.{and-left, and-right}
-use Rattle.terms.specs.Terms.{wrongSizes, noSuchWorker, damaged, withinLimits}
+use Rattle.terms.specs.Terms.{withinLimits}
 use Rattle.terms.specs.declared.Sizes.{Sizes}
 use Rattle.words.specs.Columns.{place}
 use Rattle.words.specs.Layout.{jobShape, arcShape, bucketShape, queueShape, workerShape, NAMES, need, longEnough}
@@ -46,7 +47,7 @@ own-is s t w {own} fits known o =
 -- own words
 module _ (s : Sizes) (t : Tables) (w : ℕ) {A : Type 0} (refuse : ℕ → A) (plan : A) {r : A} {fit : Bool}
     (f : fit ≡ sizesFit s t) where
-  pub wrong-sizes : fit ≡ false → r ≡ refuse wrongSizes → r ≡ admitted s t w refuse plan
+  pub wrong-sizes : fit ≡ false → r ≡ refuse wrongSize → r ≡ admitted s t w refuse plan
   unfolding admitted
   wrong-sizes left e = rw (sym f ∙ left) e
 

@@ -11,8 +11,8 @@ ghost use Rattle.words.specs.Layout.{workerShape, NAMES, tables, view};
 ghost use Rattle.words.specs.Words.{placeOk, countersOk, ownOk};
 use graph_words::header;
 use graph_words::layout::*;
-use graph_words::numbers::*;
 use graph_words::worker_word;
+use numbers::*;
 use terms::Sizes;
 
 // A place is none or in use: below its counter, and below the table's size.

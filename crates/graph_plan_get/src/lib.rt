@@ -12,9 +12,9 @@ use graph_sizes::sizes_fit;
 use graph_words::header;
 use graph_words::job_word;
 use graph_words::layout::*;
-use graph_words::numbers::*;
 use graph_words::queue_word;
 use graph_words::worker_word;
+use numbers::*;
 use terms::HandOut;
 use terms::Sizes;
 use words::GetPlan;
@@ -123,8 +123,6 @@ pub fn plan_get(
             }
         }
     } else {
-        GetPlan::RefuseGet {
-            number: WRONG_SIZES,
-        }
+        GetPlan::RefuseGet { number: WRONG_SIZE }
     }
 }

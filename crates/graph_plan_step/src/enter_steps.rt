@@ -12,8 +12,8 @@ use graph_words::bucket_word;
 use graph_words::header;
 use graph_words::layout::*;
 use graph_words::name_word;
-use graph_words::numbers::*;
 use graph_words::worker_word;
+use numbers::*;
 use terms::Sizes;
 use words::Found;
 use words::Plan;
@@ -57,7 +57,7 @@ fn plan_enter(
                 | ((sizes.arcs as u64) < (reserved as u64) + (count as u64));
             if full {
                 Plan::Quit {
-                    number: NO_ROOM,
+                    number: TABLES_FULL,
                     place: 0,
                 }
             } else {

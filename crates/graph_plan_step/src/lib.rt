@@ -14,8 +14,8 @@ use graph_own::counters_ok;
 use graph_own::own_ok;
 use graph_sizes::sizes_fit;
 use graph_words::layout::*;
-use graph_words::numbers::*;
 use graph_words::worker_word;
+use numbers::*;
 use terms::Sizes;
 use words::Plan;
 
@@ -35,7 +35,7 @@ fn plan_phase(
     let idle = phase == IDLE;
     if idle {
         return Plan::Refuse {
-            number: NOTHING_TO_STEP,
+            number: WORKER_IDLE,
         };
     }
     let counted = counters_ok(sizes, jobs, arcs);
@@ -93,8 +93,6 @@ pub fn plan_step(
             }
         }
     } else {
-        Plan::Refuse {
-            number: WRONG_SIZES,
-        }
+        Plan::Refuse { number: WRONG_SIZE }
     }
 }

@@ -4,7 +4,7 @@ ghost use mathlib.Core.Path.{_≡_};
 ghost use mathlib.Core.List.{[], _∷_};
 ghost use Prim.Native.Nat.{_≤_, _<_};
 ghost use lib.Seq.{sets};
-ghost use Rattle.basics.specs.Limits.{mostNames};
+ghost use Rattle.numbers.specs.Numbers.{mostNames};
 ghost use Rattle.basics.specs.Base.{prefix};
 ghost use Rattle.words.specs.Columns.{place};
 ghost use Rattle.words.specs.Layout.{workerShape, PHASE, TALLY, NAMES};
@@ -12,10 +12,10 @@ ghost use Rattle.words.specs.Words.{putWorker, addingWorker};
 use graph_records::fill;
 use graph_records::record_at;
 use graph_words::layout::*;
-use graph_words::numbers::*;
 use graph_words::put_word;
 use graph_words::put_worker;
 use graph_words::word;
+use numbers::*;
 
 // A worker's phase, its hold, and the arguments of its call.
 fn put_arguments(

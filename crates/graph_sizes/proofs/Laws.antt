@@ -4,8 +4,9 @@ use mathlib.Core.Bool.{Bool, true, _&&_}
 use Prim.Native.Nat.{_≤_}
 use lib.Dec.{leb}
 use borrow.Author.Tests.{leb-true}
+use Rattle.numbers.specs.Numbers.{mostJobs, mostArcs, mostBits, mostWorkers}
 use Rattle.basics.specs.Laws.{and-left, and-right}
-use Rattle.terms.specs.Terms.{mostJobs, mostArcs, mostBits, mostWorkers, withinLimits}
+use Rattle.terms.specs.Terms.{withinLimits}
 use Rattle.terms.specs.declared.Sizes.{Sizes}
 
 -- the fourth of five tests

@@ -3,11 +3,12 @@
 ghost use mathlib.Core.Path.{_≡_};
 ghost use mathlib.Core.Bool.{true};
 ghost use Prim.Native.Nat.{_^_, _≤_};
-ghost use Rattle.terms.specs.Terms.{mostBits, withinLimits};
+ghost use Rattle.numbers.specs.Numbers.{mostBits};
+ghost use Rattle.terms.specs.Terms.{withinLimits};
 ghost use Rattle.words.specs.Layout.{atEntry, need, longEnough, sizesKept, roomFor, sizesFit};
 use graph_words::header;
 use graph_words::layout::*;
-use graph_words::numbers::*;
+use numbers::*;
 use terms::Sizes;
 
 pub fn within_limits(sizes: Sizes) -> bool

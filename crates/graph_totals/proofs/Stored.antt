@@ -8,11 +8,12 @@ use borrow.Author.Tests.{leb-true}
 use lib.Dec.{leb}
 use lib.ListN.{length, take, drop}
 use lib.Seq.{drop-cons}
+use Rattle.numbers.specs.Numbers.{damaged, wrongSize}
 use Rattle.basics.specs.Base.{pick}
 use Rattle.minutes.specs.Rising.{isRising}
 use Rattle.minutes.specs.Judged.{noMinutes, judgedAs, judgedMinutes}
 use Rattle.minutes.specs.declared.GraphMinutes.{GraphMinutes}
-use Rattle.terms.specs.Terms.{withinLimits, damaged, wrongSizes}
+use Rattle.terms.specs.Terms.{withinLimits}
 use Rattle.terms.specs.declared.Sizes.{Sizes}
 use Rattle.totals.specs.Board.{refused, totalsOf}
 use Rattle.totals.specs.declared.Totals.{Totals}
@@ -46,7 +47,7 @@ unfolding graphMinutes judgedMinutes
 served s jobs by is zero-number = go (jobsFit s jobs) (isRising (storedMinutes jobs)) refl refl is
   where
     go : (a b : Bool) → jobsFit s jobs ≡ a → isRising (storedMinutes jobs) ≡ b
-        → by ≡ pick a (judgedAs b damaged (storedMinutes jobs)) (noMinutes wrongSizes) → Served s jobs by
+        → by ≡ pick a (judgedAs b damaged (storedMinutes jobs)) (noMinutes wrongSize) → Served s jobs by
     go true true x y e = record { fit = x; passes = y; stored = rw e }
     go true false x y e = let z : _≡_ {A = ℕ} 0 9 = cc in absurd (omega arith)
     go false b x y e = let z : _≡_ {A = ℕ} 0 1 = cc in absurd (omega arith)
@@ -57,9 +58,9 @@ pub not-served : (s : Sizes) (jobs : List ℕ) (by : GraphMinutes) {t : Totals} 
 unfolding graphMinutes judgedMinutes graphTotals
 not-served s jobs by {t} is wrong same = go (jobsFit s jobs) (isRising (storedMinutes jobs)) is
   where
-    go : (a b : Bool) → by ≡ pick a (judgedAs b damaged (storedMinutes jobs)) (noMinutes wrongSizes)
+    go : (a b : Bool) → by ≡ pick a (judgedAs b damaged (storedMinutes jobs)) (noMinutes wrongSize)
         → t ≡ pick a (pick (leb (header jobs MADE) (s .jobs) && b) (totalsOf (storedMinutes jobs) (graphRows jobs))
-        (refused damaged)) (refused wrongSizes)
+        (refused damaged)) (refused wrongSize)
     go true true e = absurd (wrong (rw e))
     go true false e = rw (same, e, and-false (leb (header jobs MADE) (s .jobs)))
     go false b e = rw (same, e)

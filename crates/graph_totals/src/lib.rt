@@ -6,10 +6,9 @@ use graph_sizes::need;
 use graph_sizes::within_limits;
 use graph_words::header;
 use graph_words::layout::*;
-use graph_words::numbers::*;
 use minutes::GraphMinutes;
+use numbers::*;
 use terms::Sizes;
-use totals::SERVED;
 use totals::Totals;
 use totals::blank;
 use totals_of_words::of_table;
@@ -36,7 +35,7 @@ pub fn minutes_of_graph(sizes: Sizes, jobs: &[u32]) -> GraphMinutes
         let end = JOB_HEAD as usize;
         minutes::judged(DAMAGED, &jobs[from..end])
     } else {
-        minutes::none(WRONG_SIZES)
+        minutes::none(WRONG_SIZE)
     }
 }
 
@@ -46,7 +45,7 @@ pub fn totals_of_graph(sizes: Sizes, jobs: &[u32]) -> Totals
 {
     let by = minutes_of_graph(sizes, jobs);
     let number = by.number;
-    if number == SERVED {
+    if number == ACCEPTED {
         let made = header(jobs, MADE);
         if made <= sizes.jobs {
             of_table(by, jobs, JOB_HEAD, JOB_WIDTH, LABEL, CLASS, made as usize)

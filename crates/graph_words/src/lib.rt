@@ -8,7 +8,6 @@ ghost use Rattle.words.specs.Layout.{jobShape, arcShape, bucketShape, queueShap
 ghost use Rattle.words.specs.Words.{putCount, putOutcome};
 
 pub mod layout;
-pub mod numbers;
 
 use layout::*;
 

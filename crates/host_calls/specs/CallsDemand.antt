@@ -6,10 +6,10 @@ use mathlib.Core.List.{List, [], _∷_, _++_}
 use Prim.Native.Nat.{ℕ}
 use lib.Dec.{ltb, leb}
 use lib.ListN.{length}
+use Rattle.numbers.specs.Numbers.{mostEntries, wrongSize, noSuchWorker, halfDone, tooManyEntries}
 use Rattle.basics.specs.Base.{pick}
 use Rattle.minutes.specs.Minutes.{fixedMinutes}
-use Rattle.terms.specs.Terms.{Arguments, Finish, sameSizes, mostEntries, wrongSizes, noSuchWorker, halfDone}
-use Rattle.terms.specs.Terms.{tooManyEntries}
+use Rattle.terms.specs.Terms.{Arguments, Finish, sameSizes}
 use Rattle.terms.specs.Runs.{Item, Outcome, after, events, entries}
 use Rattle.terms.specs.Seen.{Seen}
 use Rattle.terms.specs.Cases.{ifEnded, ifRefused}
@@ -79,7 +79,7 @@ turningSheet laid r s w l =
     (pick (ltb w (laid .workers))
     (pick (isIdle (r .pending w)) (pick (leb (length l) mostEntries) 0 tooManyEntries) halfDone)
     noSuchWorker)
-    wrongSizes
+    wrongSize
 
 -- ---- what a list of calls is read as, each given the state as the last left it
 module _ {S : Type 0} (answer : S → HostCall → Replied S) where

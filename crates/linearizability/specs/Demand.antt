@@ -9,10 +9,10 @@ use mathlib.Core.Option.{none}
 use Prim.Native.Nat.{ℕ, _-_, _≤_, _<_}
 use lib.Dec.{ltb, leb, eqb}
 use lib.ListN.{length, getD}
+use Rattle.numbers.specs.Numbers.{wrongSize, noSuchWorker, halfDone, workerIdle, wrongMinutes, jobsEntered}
 use Rattle.basics.specs.Base.{pick, contains, occurrences}
 use Rattle.minutes.specs.Rising.{isRising}
-use Rattle.terms.specs.Terms.{noArguments, Arguments, listed, labelNumber, unexecuted, finished, sameSizes, wrongSizes}
-use Rattle.terms.specs.Terms.{Finish, noSuchWorker, halfDone, nothingToStep, wrongMinutes, jobsEntered, bit}
+use Rattle.terms.specs.Terms.{noArguments, Arguments, listed, labelNumber, unexecuted, finished, sameSizes, Finish, bit}
 use Rattle.terms.specs.Runs.{Item, postAdd, postFinish, step, get, load, Event, Outcome, after, events}
 use Rattle.terms.specs.Runs.{entries, sizesOf, workerOf, isLoad}
 use Rattle.terms.specs.Seen.{Seen, Same}
@@ -123,7 +123,7 @@ isIdle (adding a k) = false
 isIdle (finishing f k) = false
 
 abbrev pub byCall : Item → Bool → ℕ
-byCall (step q w) b = pick b nothingToStep 0
+byCall (step q w) b = pick b workerIdle 0
 byCall (postAdd q w a) b = pick b 0 halfDone
 byCall (postFinish q w f) b = pick b 0 halfDone
 byCall (get q w) b = pick b 0 halfDone
@@ -138,11 +138,11 @@ abbrev pub turningAway : Sizes → Reading → Item → ℕ
 turningAway s r i =
     pick (sameSizes (sizesOf i) s)
     (pick (hasWorker s i) (byCall i (isIdle (r .pending (workerOf i)))) noSuchWorker)
-    wrongSizes
+    wrongSize
 
 -- the number by which an answer turned an item away, or 0
 abbrev pub turnedAwayBy : Answer → ℕ
-turnedAwayBy x = ifRefused x (λ n i. pick (leb n nothingToStep) n 0) 0
+turnedAwayBy x = ifRefused x (λ n i. pick (leb n workerIdle) n 0) 0
 
 -- ---- what the post of a call answers that ends so: a refusal of the post comes at once
 abbrev pub postEnd : book.End → Answer
@@ -157,7 +157,7 @@ abbrev pub loadEnd : Sizes → List Arguments → Sizes → List ℕ → Answer
 loadEnd s adds q m =
     pick (sameSizes q s)
     (pick (isRising m) (pick (eqb (length adds) 0) Loaded (Refused jobsEntered 0)) (Refused wrongMinutes 0))
-    (Refused wrongSizes 0)
+    (Refused wrongSize 0)
 
 -- ---- the claim, of a machine, the sizes laid out, the state that laying out left, and a list of items. Lists are of
 -- any length, so that what is said of the state after the items is said of every moment.

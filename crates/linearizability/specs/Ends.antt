@@ -2,7 +2,8 @@
 use mathlib.Core.Path.{_≡_}
 use Prim.Native.Nat.{ℕ, _+_, _*_, _<_}
 use lib.ListN.{length}
-use Rattle.terms.specs.Terms.{Arguments, unknownName, namePresent, tablesFull}
+use Rattle.numbers.specs.Numbers.{unknownName, namePresent, tablesFull}
+use Rattle.terms.specs.Terms.{Arguments}
 use Rattle.terms.specs.Seen.{Seen}
 use Rattle.terms.specs.declared.Answer.{Answer}
 use Rattle.terms.specs.declared.Answer.the-variants.{Going, Ended, Refused}

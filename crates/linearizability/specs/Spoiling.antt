@@ -8,9 +8,9 @@ use Prim.Native.Nat.{ℕ, zero, suc, _<_}
 use native.Mathlib.Omega.{arith}
 use lib.Dec.{ltb}
 use lib.ListN.{length, getD}
+use Rattle.numbers.specs.Numbers.{damaged}
 use Rattle.basics.specs.Base.{pick, prefix}
 use Rattle.terms.specs.Terms.{Label, unexecuted, executing, finished, Arguments, listed, finishOf, Tally, tallyOne}
-use Rattle.terms.specs.Terms.{damaged}
 use Rattle.terms.specs.Runs.{Item, postFinish, step, get, Outcome, outcome, Event, events}
 use Rattle.terms.specs.Seen.{Seen}
 use Rattle.terms.specs.Starred.{S, job, steps, add, added, answersOf, hands}

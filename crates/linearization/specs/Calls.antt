@@ -5,9 +5,10 @@ use mathlib.Core.Bool.{Bool, true, false, _&&_, _||_, not}
 use mathlib.Core.List.{List, [], _∷_, _++_}
 use Prim.Native.Nat.{ℕ, suc, _+_}
 use lib.Dec.{ltb, leb, eqb}
+use Rattle.numbers.specs.Numbers.{damaged}
 use Rattle.basics.specs.Base.{pick, update}
 use Rattle.minutes.specs.Minutes.{fixedMinutes}
-use Rattle.terms.specs.Terms.{Arguments, Finish, damaged}
+use Rattle.terms.specs.Terms.{Arguments, Finish}
 use Rattle.terms.specs.Runs.{Item, postAdd, postFinish, step, get, load, Event}
 use Rattle.terms.specs.Cases.{ifLoaded, ifPosted, ifGoing, ifEnded, ifNoneReady, ifHanded, ifRefused}
 use Rattle.terms.specs.declared.Answer.{Answer}

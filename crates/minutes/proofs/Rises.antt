@@ -8,8 +8,8 @@ use borrow.Author.Tests.{eq-eqb, ne-eqb, eqb-true}
 use lib.Dec.{eqb, ltb, leb}
 use lib.ListN.{length, getD, drop, take, set, drop-of-length-le}
 use lib.Seq.{drop-cons, take-all, take-suc, take-suc-set}
-use Rattle.minutes.specs.Minutes.{classes}
-use Rattle.minutes.specs.Rising.{mostMinutes, risesAbove, isRising}
+use Rattle.numbers.specs.Numbers.{classes, mostMinutes}
+use Rattle.minutes.specs.Rising.{risesAbove, isRising}
 
 -- what is left of the test at entry i
 pub left-at : (table : List ℕ) (before i : ℕ) → i < length table

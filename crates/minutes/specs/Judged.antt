@@ -5,7 +5,8 @@ use mathlib.Core.List.{List}
 use mathlib.Core.Bool.{Bool, true, false}
 use Prim.Native.Nat.{ℕ}
 use lib.ListN.{replicate}
-use Rattle.minutes.specs.Minutes.{classes, fixedMinutes}
+use Rattle.numbers.specs.Numbers.{classes}
+use Rattle.minutes.specs.Minutes.{fixedMinutes}
 use Rattle.minutes.specs.Rising.{risesAbove, isRising}
 use Rattle.minutes.specs.declared.GraphMinutes.{GraphMinutes}
 

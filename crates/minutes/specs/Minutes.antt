@@ -4,10 +4,6 @@ use mathlib.Core.List.{List, [], _∷_}
 use Prim.Native.Nat.{ℕ}
 use lib.ListN.{getD}
 
--- how many classes there are: "class 0 to 15"
-abbrev pub classes : ℕ
-classes = 16
-
 -- the minutes that a table has for a class. No class has 0 minutes, so the answer 0 says that the table has no such
 -- class.
 unfoldable pub minutesIn : List ℕ → ℕ → ℕ

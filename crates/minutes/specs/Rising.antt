@@ -11,11 +11,8 @@ use Prim.Native.Nat.{ℕ, zero, suc, _≤_, _<_}
 use borrow.Author.Tests.{ltb-true, leb-true, eqb-true, lt-ltb, le-leb, eq-eqb}
 use lib.Dec.{eqb, leb, ltb}
 use lib.ListN.{length, getD, List·getD-eq-default}
-use Rattle.minutes.specs.Minutes.{classes, minutesIn, fixedMinutes}
-
--- a day's minutes: no class has more
-abbrev pub mostMinutes : ℕ
-mostMinutes = 1440
+use Rattle.numbers.specs.Numbers.{classes, mostMinutes}
+use Rattle.minutes.specs.Minutes.{minutesIn, fixedMinutes}
 
 -- the rule: minutes rise strictly from class to class, from 1 to a day's minutes, and there are none past the last
 -- class

@@ -5,6 +5,8 @@ ghost use lib.ListN.{length};
 ghost use Rattle.minutes.specs.Minutes.{minutesIn, fixedMinutes};
 ghost use Rattle.minutes.specs.Rising.{isRising};
 ghost use Rattle.minutes.specs.Judged.{allMinutes, noMinutes, judgedMinutes};
+use numbers::CLASSES;
+use numbers::MOST_MINUTES;
 
 // The minutes of all classes. The number is 0 where they are served. Else it is the refusal's, and all minutes are 0.
 #[repr(C)]
@@ -12,11 +14,6 @@ pub struct GraphMinutes {
     pub number: u32,
     pub minutes: [u32; 16],
 }
-
-const CLASSES: usize = 16;
-
-// A day's minutes: no class has more.
-const MOST_MINUTES: u32 = 1440;
 
 const MINUTES: [u32; CLASSES] = [
     1,

@@ -11,19 +11,16 @@ use native.Mathlib.Omega.{arith}
 use lib.Dec.{ltb, eqb}
 use lib.ListN.{getD, replicate, List·getD-eq-default}
 use borrow.Author.Tests.{eqb-true, eq-eqb, ltb-true, lt-ltb}
-use Rattle.basics.specs.Limits.{mostNames, mostClass, mostGrower}
+use Rattle.numbers.specs.Numbers.{mostNames, mostClass, mostGrower, classes, mostMinutes, mostJobs, mostArcs, mostBits}
+use Rattle.numbers.specs.Numbers.{mostWorkers, mostEntries, wrongSize, noSuchWorker, halfDone, workerIdle}
+use Rattle.numbers.specs.Numbers.{wrongArguments, unknownName, namePresent, tablesFull, damaged, alreadyHolding}
+use Rattle.numbers.specs.Numbers.{notHeld, tooManyEntries, wrongMinutes, jobsEntered, goodForSpoiled, mostRecords, cut}
+use Rattle.numbers.specs.Numbers.{wrongMap, wrongValue, noRoom, nameBytes, countBytes, classBytes, growerBytes}
 use Rattle.basics.specs.Laws.{and-left, and-right}
-use Rattle.minutes.specs.Minutes.{classes, fixedMinutes, minutesIn}
-use Rattle.minutes.specs.Rising.{mostMinutes}
-use Rattle.terms.specs.Terms.{mostJobs, mostArcs, mostBits, mostWorkers, mostEntries, withinLimits, sameSizes}
-use Rattle.terms.specs.Terms.{wrongSizes, noSuchWorker, halfDone, nothingToStep, wrongArguments, unknownName}
-use Rattle.terms.specs.Terms.{namePresent, tablesFull, damaged, alreadyHolding, notHeld, tooManyEntries, wrongMinutes}
-use Rattle.terms.specs.Terms.{jobsEntered, goodForSpoiled, labelNumber, unexecuted, executing, finished, bit, settles}
+use Rattle.minutes.specs.Minutes.{fixedMinutes, minutesIn}
+use Rattle.terms.specs.Terms.{withinLimits, sameSizes, labelNumber, unexecuted, executing, finished, bit, settles}
 use Rattle.terms.specs.declared.Sizes.{Sizes}
-use Rattle.totals.specs.Board.{mostRecords}
 use Rattle.totals.specs.Board as board
-use Rattle.sheet_format.specs.Decode.{cut, wrongMap, offLimits, noRoom}
-use Rattle.sheet_format.specs.Job.{nameBytes, countBytes, classBytes, growerBytes}
 use Rattle.words.specs.Columns.{Shape, columns, header}
 use Rattle.words.specs.Layout.{Tables, View, view, bareWorker}
 use Rattle.words.specs.Layout.{none, jobShape, arcShape, bucketShape, queueShape, workerShape}
@@ -37,10 +34,10 @@ use Rattle.thm_words_tests.specs.Tests.{parts}
 
 -- ---- the numbers of "Turned-away calls", and those of later requests
 pub record Refusals : Type 0 where
-  pub by-1 : wrongSizes ≡ 1
+  pub by-1 : wrongSize ≡ 1
   pub by-2 : noSuchWorker ≡ 2
   pub by-3 : halfDone ≡ 3
-  pub by-4 : nothingToStep ≡ 4
+  pub by-4 : workerIdle ≡ 4
   pub by-5 : wrongArguments ≡ 5
   pub by-6 : unknownName ≡ 6
   pub by-7 : namePresent ≡ 7
@@ -50,7 +47,7 @@ pub record Refusals : Type 0 where
   pub by-11 : notHeld ≡ 11
   pub by-12 : cut ≡ 12
   pub by-13 : wrongMap ≡ 13
-  pub by-14 : offLimits ≡ 14
+  pub by-14 : wrongValue ≡ 14
   pub by-15 : noRoom ≡ 15
   pub by-16 : tooManyEntries ≡ 16
   pub by-17 : wrongMinutes ≡ 17

@@ -11,14 +11,15 @@ use mathlib.Core.Option.{none, some}
 use Prim.Native.Nat.{ℕ, suc, _+_, _*_, _^_, _%_, _≤_, _<_}
 use lib.ListN.{length, getD}
 use lib.Seq.{sets}
-use Rattle.basics.specs.Limits.{mostNames}
+use Rattle.numbers.specs.Numbers.{mostNames, classes, wrongSize, damaged, halfDone, workerIdle, mostWorkers}
+use Rattle.numbers.specs.Numbers.{mostDayList}
 use Rattle.basics.specs.Base.{pick, repeats, contains, occurrences}
 use Rattle.bucket.specs.Bucket.{bucketOf}
-use Rattle.minutes.specs.Minutes.{classes, fixedMinutes}
+use Rattle.minutes.specs.Minutes.{fixedMinutes}
 use Rattle.minutes.specs.Judged.{allMinutes, noMinutes}
 use Rattle.minutes.specs.Rising.{isRising, SixteenRising, rising-means}
-use Rattle.terms.specs.Terms.{Arguments, withinLimits, sameSizes, wrongSizes, damaged, bit, argumentsWrong, settles}
-use Rattle.terms.specs.Terms.{halfDone, nothingToStep, mostWorkers, Finish, finishOf, listed}
+use Rattle.terms.specs.Terms.{Arguments, withinLimits, sameSizes, bit, argumentsWrong, settles}
+use Rattle.terms.specs.Terms.{Finish, finishOf, listed}
 use Rattle.terms.specs.Runs.{Item, postAdd, postFinish, step, get, load, sizesOf, workerOf, isLoad, outcome, after}
 use Rattle.terms.specs.Runs.{events, Outcome}
 use Rattle.terms.specs.Seen.{idle}
@@ -111,7 +112,7 @@ use Rattle.day_rounds.specs.Rounds.{unfinished}
 use Rattle.day_format.specs.Text.{decimal, leftWord, line, _␣_}
 use Rattle.day_format.specs.Day.{linesBefore, dayLines, dayText, dayList, printing}
 use Rattle.day_format.specs.declared.DayAnswer.the-variants.{Printed}
-use Rattle.day_history.specs.Theorem.{Begins, afterAdds, afterRounds, mostPrinted}
+use Rattle.day_history.specs.Theorem.{Begins, afterAdds, afterRounds}
 use Rattle.day_history.specs.Theorem as ends-of-day
 use Rattle.totals.specs.Board.{refused, totalsOf, totalsBy, totalsOfWords}
 use Rattle.totals.specs.Exactly.{RowsExactly, rows-exactly, fixed-rows, recordWords, words-exactly, odd-words}
@@ -233,11 +234,11 @@ module _ (s : Sizes) (t : Tables) (laid : layOut s t .answer ≡ Laid) (calls : 
   -- Asked with other sizes the board is refused by 1, and else never; and whoever asks is told the minutes that were
   -- loaded.
   pub the-board-is-refused-for-other-sizes : (q : Sizes)
-      → graphTotals q (now .jobs) .number ≡ pick (sameSizes q s) 0 wrongSizes
+      → graphTotals q (now .jobs) .number ≡ pick (sameSizes q s) 0 wrongSize
   the-board-is-refused-for-other-sizes = rw (N .here) (board-number s t laid (N .items))
 
   pub the-minutes-are-told-as-loaded : (q : Sizes)
-      → graphMinutes q (now .jobs) ≡ pick (sameSizes q s) (allMinutes minutes) (noMinutes wrongSizes)
+      → graphMinutes q (now .jobs) ≡ pick (sameSizes q s) (allMinutes minutes) (noMinutes wrongSize)
   the-minutes-are-told-as-loaded =
       rw (calls-demand s t laid calls .leaves, loads) (minutes-told s t laid worthOf)
 
@@ -266,7 +267,7 @@ module _ (s : Sizes) (t : Tables) (laid : layOut s t .answer ≡ Laid) (calls : 
 
   -- ---- a host that wants to stop is refused by 1 where it asks with other sizes, and else never;
   pub drained-is-refused-for-other-sizes : (q : Sizes)
-      → drainedWords q now .number ≡ pick (sameSizes q s) 0 wrongSizes
+      → drainedWords q now .number ≡ pick (sameSizes q s) 0 wrongSize
   drained-is-refused-for-other-sizes = rw (N .here) (state.drained-number s t laid (N .items))
 
   -- it is told that the graph is drained exactly if no call is half done, no worker holds a job and nothing waits,
@@ -668,7 +669,7 @@ module _ (s : Sizes) (t : Tables) where
   -- What is told agrees with what the calls answer: where the number is 0, a call of 0 is one whose step is refused by
   -- 4, and another one where a get is refused by 3;
   pub no-call-is-told-where-a-step-is-refused-by-4 : (w : ℕ) → heldWords s t w .number ≡ 0
-      → (heldWords s t w .call ≡ 0) ↔ (stepWords s t w .answer ≡ Refused nothingToStep 0)
+      → (heldWords s t w .call ≡ 0) ↔ (stepWords s t w .answer ≡ Refused workerIdle 0)
   no-call-is-told-where-a-step-is-refused-by-4 = state-agrees.step-by-4 s t
 
   pub a-call-is-told-where-a-get-is-refused-by-3 : (w : ℕ) → heldWords s t w .number ≡ 0
@@ -779,10 +780,10 @@ module _ (workers : ℕ) (some : 1 ≤ workers) (few : workers ≤ mostWorkers) 
   the-day-list-leaves-nothing = ends-of-day.nothing-is-left s limits js
 
 -- With two workers no sheet prints more than 97,979 bytes, so an output of so many is never refused.
-pub the-day-list-fits : (sheet : List ℕ) → Bytes sheet → length (dayText 2 sheet) ≤ mostPrinted
+pub the-day-list-fits : (sheet : List ℕ) → Bytes sheet → length (dayText 2 sheet) ≤ mostDayList
 the-day-list-fits = ends-of-day.the-day-list-fits
 
-pub no-day-list-is-refused : (sheet out : List ℕ) → Bytes sheet → mostPrinted ≤ length out
+pub no-day-list-is-refused : (sheet out : List ℕ) → Bytes sheet → mostDayList ≤ length out
     → dayList 2 sheet out ≡ printing (Printed (length (dayText 2 sheet))) (sets out 0 (dayText 2 sheet))
 no-day-list-is-refused = ends-of-day.nothing-is-refused
 

@@ -7,15 +7,16 @@ use mathlib.Core.Bool.{true, false}
 use mathlib.Core.List.{List, [], map}
 use Prim.Native.Nat.{ℕ, _+_, _*_, _%_, _≤_, _<_}
 use lib.ListN.{length, getD, take}
+use Rattle.numbers.specs.Numbers.{mostEntries, damaged, wrongSize, tooManyEntries, entryWords}
 use Rattle.basics.specs.Base.{contains}
-use Rattle.terms.specs.Terms.{Arguments, Finish, mostEntries, damaged, wrongSizes, noArguments, tooManyEntries}
+use Rattle.terms.specs.Terms.{Arguments, Finish, noArguments}
 use Rattle.terms.specs.declared.Sizes.{Sizes}
 use Rattle.terms.specs.declared.Answer.the-variants.{Laid, Going, Ended, Refused}
 use Rattle.words.specs.Layout.{Tables, none}
 use Rattle.words.specs.Words.{addWords, perform}
 use Rattle.sheet_format.specs.Job.{Job}
 use Rattle.sheet_format.specs.NumberLaws.{Bytes}
-use Rattle.sheet_format.specs.Decode.{decodeSheet, jobs, rowWords, readSheet}
+use Rattle.sheet_format.specs.Decode.{decodeSheet, jobs, readSheet}
 use Rattle.day_rounds.specs.Rounds.{argumentsOf}
 use Rattle.whole_words.specs.Whole.{wholeAdd, wholeFinish}
 use Rattle.whole_words.specs.Sheet.{sheetOutcome, sheetWords}
@@ -157,10 +158,10 @@ module _ (s : Sizes) (t : Tables) (w : ℕ) (l : List Arguments) where
 
 -- As a host has it: words that make no whole rows are 1, and else they are the sheet of their entries;
 module _ (s : Sizes) (t : Tables) (w : ℕ) (words : List ℕ) where
-  pub no-whole-rows-are-1 : length words % rowWords ≢ 0 → rowsWords s t w words ≡ sheetOutcome wrongSizes [] t
+  pub no-whole-rows-are-1 : length words % entryWords ≢ 0 → rowsWords s t w words ≡ sheetOutcome wrongSize [] t
   no-whole-rows-are-1 = rows.rows-cut s t w words
 
-  pub whole-rows-are-a-sheet : length words % rowWords ≡ 0 → rowsWords s t w words ≡ sheetWords s t w (addsOf words)
+  pub whole-rows-are-a-sheet : length words % entryWords ≡ 0 → rowsWords s t w words ≡ sheetWords s t w (addsOf words)
   whole-rows-are-a-sheet = rows.rows-whole s t w words
 
   -- C is told of each entry the number and the place that its add would answer in C, which is 0 just if it ended; and 0
@@ -192,9 +193,9 @@ a-sheet-tells-which-entry-was-stopped = sheet-stops.entry-stopped
 
 -- The rows of a sheet of bytes that was read are the sheet of its jobs' adds.
 pub a-sheet-that-was-read-is-added : (bytes : List ℕ) (js : List Job) (words : List ℕ) → Bytes bytes
-    → decodeSheet bytes ≡ jobs js → rowWords * length js ≤ length words
+    → decodeSheet bytes ≡ jobs js → entryWords * length js ≤ length words
     → (s : Sizes) (t : Tables) (w : ℕ)
-    → rowsWords s t w (take (rowWords * length js) (readSheet (decodeSheet bytes) words .rows))
+    → rowsWords s t w (take (entryWords * length js) (readSheet (decodeSheet bytes) words .rows))
     ≡ sheetWords s t w (map argumentsOf js)
 a-sheet-that-was-read-is-added = read.read-sheet
 

@@ -11,8 +11,8 @@ use native.Mathlib.Decide.{ℕ-discrete}
 use lib.Dec.{ltb}
 use borrow.Author.Tests.{eq-eqb, ne-eqb, lt-ltb}
 use lib.ListN.{length, getD, set, length-set}
+use Rattle.numbers.specs.Numbers.{classes}
 use Rattle.basics.specs.Laws.{set-all, update-other}
-use Rattle.minutes.specs.Minutes.{classes}
 use Rattle.terms.specs.declared.Sizes.{Sizes}
 use Rattle.words.specs.Columns.{columns, columns-put, put, store, Rows, rows-put, header, header-put, stores}
 use Rattle.words.specs.Layout.{jobShape, NAME, LABEL, COUNT, CLASS, GROWER, FIRST, LAST, NEXT, queueShape, CELL}

@@ -12,11 +12,11 @@ use lib.Dec.{eqb}
 use lib.ListN.{length, getD, length-append, List·getD-eq-default}
 use lib.Seq.{sets}
 use borrow.Author.Tests.{lt-ltb, le-ltb, ne-eqb, eqb-true, eqb-false}
+use Rattle.numbers.specs.Numbers.{classes}
 use Rattle.basics.specs.Base.{pick, occurrences}
 use Rattle.basics.specs.Laws.{update-same, update-at, update-other, length-prefix, snoc-all}
 use Rattle.bucket.specs.Bucket.{bucketOf}
 use Rattle.bucket.specs.Laws.{below}
-use Rattle.minutes.specs.Minutes.{classes}
 use Rattle.terms.specs.Terms.{Arguments, Tally}
 use Rattle.terms.specs.declared.Sizes.{Sizes}
 use Rattle.words.specs.Columns.{place, Rows, columns, columns-put, put, store}

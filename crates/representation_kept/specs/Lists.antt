@@ -7,7 +7,7 @@ use native.Mathlib.Omega.{arith}
 use native.Mathlib.Nat.{mul-suc}
 use lib.ListN.{length, getD, replicate, length-append, List·getD-append}
 use lib.ListN.{getD-replicate, take}
-use Rattle.basics.specs.Limits.{mostNames}
+use Rattle.numbers.specs.Numbers.{mostNames}
 use Rattle.basics.specs.Laws.{getD-past}
 use Rattle.words.specs.Layout.{NAMES, bareWorker, repeated}
 use Rattle.words.specs.Columns.{cells}

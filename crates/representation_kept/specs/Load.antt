@@ -9,9 +9,9 @@ use native.Mathlib.Omega.{arith}
 use lib.Dec.{ltb, eqb}
 use lib.ListN.{length}
 use borrow.Author.Tests.{eqb-true, leb-true}
+use Rattle.numbers.specs.Numbers.{classes}
 use Rattle.basics.specs.Base.{pick}
 use Rattle.basics.specs.Stores.{sets-off, sets-at}
-use Rattle.minutes.specs.Minutes.{classes}
 use Rattle.minutes.specs.Rising.{isRising, risesAbove}
 use Rattle.terms.specs.declared.Sizes.{Sizes}
 use Rattle.words.specs.Columns.{place, rows, Rows, columns, header, cells-list}

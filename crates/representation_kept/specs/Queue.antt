@@ -14,7 +14,7 @@ use native.Mathlib.Decide.{ℕ-discrete, decLt}
 use lib.Dec.{leb, ltb}
 use lib.ListN.{length}
 use borrow.Author.Tests.{lt-ltb, le-ltb, le-leb, eq-eqb}
-use Rattle.basics.specs.Limits.{mostClass}
+use Rattle.numbers.specs.Numbers.{mostClass, mostJobs}
 use Rattle.basics.specs.Base.{pick, update, occurrences}
 use Rattle.basics.specs.Laws.{update-same, update-other}
 use Rattle.basics.specs.Counting.{hit, hit-same, hit-other, sum-same}
@@ -24,7 +24,6 @@ use Rattle.heap.specs.Heap.{count, Enters, enters, Leaves, leaves, first-lowest
 use Rattle.heap.specs.Positions.{positions-enter, positions-leave}
 use Rattle.heap.specs.Sift.{siftUp, siftDown, shiftDown, shiftUp, positionsDown, positionsUp}
 use Rattle.heap.specs.declared.Sifted.the-variants.{Rests}
-use Rattle.terms.specs.Terms.{mostJobs}
 use Rattle.terms.specs.Order.{without}
 use Rattle.terms.specs.OrderLaws.{without-occurs}
 use Rattle.terms.specs.declared.Sizes.{Sizes}

@@ -8,7 +8,8 @@ use native.Mathlib.Omega.{arith}
 use lib.Dec.{leb}
 use lib.ListN.{getD}
 use borrow.Author.Tests.{leb-true}
-use Rattle.terms.specs.Terms.{withinLimits, mostJobs, mostArcs, mostBits, mostWorkers}
+use Rattle.numbers.specs.Numbers.{mostJobs, mostArcs, mostBits, mostWorkers}
+use Rattle.terms.specs.Terms.{withinLimits}
 use Rattle.terms.specs.declared.Sizes.{Sizes}
 use Rattle.words.specs.Columns.{Rows}
 use Rattle.words.specs.Layout.{none, jobShape, arcShape, bucketShape, queueShape, workerShape, tables, view}

@@ -6,13 +6,14 @@ use mathlib.Core.Option.{Option, none, some}
 use Prim.Native.Nat.{ℕ, suc, _+_, _-_}
 use lib.Dec.{ltb, leb, eqb}
 use lib.ListN.{length, getD, set}
+use Rattle.numbers.specs.Numbers.{wrongSize, noSuchWorker, halfDone, workerIdle, wrongArguments, unknownName}
+use Rattle.numbers.specs.Numbers.{namePresent, tablesFull, damaged, alreadyHolding, notHeld, wrongMinutes, jobsEntered}
+use Rattle.numbers.specs.Numbers.{goodForSpoiled}
 use Rattle.basics.specs.Base.{pick, update}
 use Rattle.minutes.specs.Minutes.{minutesIn, fixedMinutes}
 use Rattle.minutes.specs.Rising.{isRising}
 use Rattle.terms.specs.Terms.{settles, Label, unexecuted, executing, finished, Arguments, listed, argumentsWrong}
-use Rattle.terms.specs.Terms.{sameSizes, wrongSizes, noSuchWorker, halfDone, nothingToStep, wrongArguments, unknownName}
-use Rattle.terms.specs.Terms.{namePresent, tablesFull, damaged, alreadyHolding, notHeld, wrongMinutes}
-use Rattle.terms.specs.Terms.{jobsEntered, goodForSpoiled, Finish, Tally, noTally, tallyOne}
+use Rattle.terms.specs.Terms.{sameSizes, Finish, Tally, noTally, tallyOne}
 use Rattle.terms.specs.Order.{Order, heavierFirst, firstBy, without}
 use Rattle.terms.specs.Runs.{Item, postAdd, postFinish, step, get, load, Outcome, outcome}
 use Rattle.terms.specs.declared.Sizes.{Sizes}
@@ -226,7 +227,7 @@ notify g w p k f =
 
 -- ---- one step of the call that a worker is in
 unfoldable pub stepCall : Sizes → Graph → ℕ → Call → Outcome Graph
-stepCall s g w idle = outcome (Refused nothingToStep 0) g
+stepCall s g w idle = outcome (Refused workerIdle 0) g
 stepCall s g w (looking a i) =
     pick (ltb i (a .count)) (lookUp g w a i (find g (getD (listed a) i 0))) (enter s g w a (find g (a .name)))
 stepCall s g w (linking a j i t) =
@@ -300,7 +301,7 @@ unfoldable pub admitted : Sizes → Sizes → Graph → ℕ → Outcome Graph �
 admitted laid s g w r =
     pick (sameSizes s laid)
     (pick (ltb w (laid .workers)) r (outcome (Refused noSuchWorker 0) g))
-    (outcome (Refused wrongSizes 0) g)
+    (outcome (Refused wrongSize 0) g)
 
 unfoldable pub perform : Sizes → Graph → Item → Outcome Graph
 perform laid g (postAdd s w a) = admitted laid s g w (whenIdle g (g .workers w .call) (addPosted g w a))
@@ -308,4 +309,4 @@ perform laid g (postFinish s w f) =
     admitted laid s g w (whenIdle g (g .workers w .call) (finishPosted g w f (g .workers w .held)))
 perform laid g (step s w) = admitted laid s g w (stepCall laid g w (g .workers w .call))
 perform laid g (get s w) = admitted laid s g w (whenIdle g (g .workers w .call) (getJob g w (g .workers w .held)))
-perform laid g (load s m) = pick (sameSizes s laid) (loadMinutes g m) (outcome (Refused wrongSizes 0) g)
+perform laid g (load s m) = pick (sameSizes s laid) (loadMinutes g m) (outcome (Refused wrongSize 0) g)

@@ -8,11 +8,11 @@ use mathlib.Core.Option.{Option, none, some}
 use Prim.Native.Nat.{ℕ, suc, _+_, _≤_, _<_}
 use lib.Dec.{ltb, leb, eqb}
 use lib.ListN.{length, getD}
+use Rattle.numbers.specs.Numbers.{wrongSize, noSuchWorker, halfDone, workerIdle, wrongArguments, unknownName}
+use Rattle.numbers.specs.Numbers.{namePresent, tablesFull, damaged, alreadyHolding, notHeld, goodForSpoiled}
+use Rattle.numbers.specs.Numbers.{wrongMinutes, jobsEntered}
 use Rattle.minutes.specs.Rising.{isRising}
-use Rattle.terms.specs.Terms.{finished, Arguments, listed, argumentsWrong, sameSizes, wrongSizes, noSuchWorker}
-use Rattle.terms.specs.Terms.{halfDone, nothingToStep, wrongArguments, unknownName, namePresent, tablesFull, damaged}
-use Rattle.terms.specs.Terms.{alreadyHolding, notHeld, goodForSpoiled, wrongMinutes, jobsEntered, Finish, Tally}
-use Rattle.terms.specs.Terms.{tallyOne}
+use Rattle.terms.specs.Terms.{finished, Arguments, listed, argumentsWrong, sameSizes, Finish, Tally, tallyOne}
 use Rattle.terms.specs.Order.{without}
 use Rattle.terms.specs.Runs.{Item, postAdd, postFinish, step, get, load, sizesOf, workerOf, isLoad}
 use Rattle.terms.specs.declared.Sizes.{Sizes}
@@ -56,7 +56,7 @@ Broken g h (notifying p k f) = ⊥
 
 -- ---- a step of worker w, by the call that it is in
 pub data Stepped (s : Sizes) (g : Graph) (w : ℕ) : Call → Answer → Graph → Type 0 where
-  noCall : Stepped s g w idle (Refused nothingToStep 0) g
+  noCall : Stepped s g w idle (Refused workerIdle 0) g
   broken : {c : Call} → Broken g (g .workers w .held) c → Stepped s g w c (Refused damaged 0) g
   -- the look-ups of an add
   lookedUp : {a : Arguments} {i : ℕ} (j : ℕ) → i < a .count → find g (getD (listed a) i 0) ≡ at j
@@ -119,7 +119,7 @@ pub data Loading (g : Graph) (m : List ℕ) : Answer → Graph → Type 0 where
 
 -- ---- an item: turned away, or by the call that its worker is in; or a load
 pub data Deed (s : Sizes) (g : Graph) : Item → Answer → Graph → Type 0 where
-  otherSizes : {i : Item} → sameSizes (sizesOf i) s ≡ false → Deed s g i (Refused wrongSizes 0) g
+  otherSizes : {i : Item} → sameSizes (sizesOf i) s ≡ false → Deed s g i (Refused wrongSize 0) g
   workerUnknown : {i : Item} → sameSizes (sizesOf i) s ≡ true → isLoad i ≡ false → s .workers ≤ workerOf i
       → Deed s g i (Refused noSuchWorker 0) g
   callHalfDone : {i : Item} → Admitted s i → isStep i ≡ false → g .workers (workerOf i) .call ≢ idle

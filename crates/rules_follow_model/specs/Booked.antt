@@ -10,10 +10,11 @@ use native.Mathlib.Omega.{arith}
 use lib.Dec.{eqb}
 use native.Mathlib.Decide.{ℕ-discrete}
 use lib.ListN.{length, getD, set, length-map, List·getD-map}
+use Rattle.numbers.specs.Numbers.{wrongArguments, unknownName, namePresent, tablesFull, alreadyHolding, notHeld}
+use Rattle.numbers.specs.Numbers.{goodForSpoiled}
 use Rattle.basics.specs.Base.{pick, update, prefix, occurrences}
 use Rattle.basics.specs.Laws.{update-at, update-other}
-use Rattle.terms.specs.Terms.{noArguments, Label, Arguments, wrongArguments, unknownName, namePresent, tablesFull}
-use Rattle.terms.specs.Terms.{alreadyHolding, notHeld, goodForSpoiled, finished, executing, finishOf, noTally}
+use Rattle.terms.specs.Terms.{noArguments, Label, Arguments, finished, executing, finishOf, noTally}
 use Rattle.terms.specs.Order.{without}
 use Rattle.terms.specs.OrderLaws.{first-occurs}
 use Rattle.terms.specs.Runs.{Item}

@@ -7,9 +7,9 @@ use Prim.Native.Nat.{ℕ, _+_, _<_}
 use native.Mathlib.Omega.{arith}
 use lib.ListN.{getD}
 use borrow.Author.Tests.{eq-eqb}
+use Rattle.numbers.specs.Numbers.{wrongArguments, unknownName, namePresent, tablesFull, notHeld, goodForSpoiled}
 use Rattle.basics.specs.Base.{pick, occurrences}
-use Rattle.terms.specs.Terms.{unexecuted, Arguments, listed, argumentsWrong, wrongArguments, unknownName, namePresent}
-use Rattle.terms.specs.Terms.{tablesFull, notHeld, goodForSpoiled, finishOf, Finish}
+use Rattle.terms.specs.Terms.{unexecuted, Arguments, listed, argumentsWrong, finishOf, Finish}
 use Rattle.terms.specs.declared.Sizes.{Sizes}
 use Rattle.rules.specs.Rules.{Graph, job, find, at, missing, endsGood}
 use Rattle.rules.specs.Sound.{startedBy, Looking, Sound}

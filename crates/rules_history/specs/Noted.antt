@@ -5,8 +5,9 @@ use mathlib.Core.Bool.{false}
 use Prim.Native.Nat.{ℕ, suc, _+_, _≤_}
 use native.Mathlib.Omega.{arith}
 use borrow.Author.Tests.{eq-eqb, ne-eqb, le-ltb, lt-leb}
-use Rattle.terms.specs.Terms.{Arguments, wrongSizes, noSuchWorker, halfDone, wrongArguments, unknownName}
-use Rattle.terms.specs.Terms.{namePresent, tablesFull, damaged, alreadyHolding, notHeld, goodForSpoiled, finishOf}
+use Rattle.numbers.specs.Numbers.{wrongSize, noSuchWorker, halfDone, wrongArguments, unknownName, namePresent}
+use Rattle.numbers.specs.Numbers.{tablesFull, damaged, alreadyHolding, notHeld, goodForSpoiled}
+use Rattle.terms.specs.Terms.{Arguments, finishOf}
 use Rattle.terms.specs.Runs.{Item, postAdd, postFinish, step, get, load, workerOf}
 use Rattle.terms.specs.declared.Sizes.{Sizes}
 use Rattle.terms.specs.declared.Answer.{Answer}
@@ -105,7 +106,7 @@ module _ {s : Sizes} {g : Graph} (r : Reading) where
       → let w = workerOf i in PacedCall g (g .workers w .held) (g .workers w .call) (r .pending w)
       → Within (g .workers w .call) → (d : Deed s g i x h) → note r i x ≡ reads r d
   unfolding note noteAdd noteFinish noteGet
-  noted {i} P I (by.otherSizes e) = unnoted r i wrongSizes 0 refl
+  noted {i} P I (by.otherSizes e) = unnoted r i wrongSize 0 refl
   noted {i} P I (by.workerUnknown e n l) = unnoted r i noSuchWorker 0 refl
   noted {i} P I (by.callHalfDone A n c) = unnoted r i halfDone 0 refl
   noted P I (by.made A c (by.addWrong e)) = refl

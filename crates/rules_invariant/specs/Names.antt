@@ -11,7 +11,7 @@ use borrow.Author.Tests.{eq-eqb, eqb-true, ltb-false}
 use lib.Dec.{eqb, ltb}
 use lib.ListN.{length, getD, set, List·getD-append}
 use lib.Seq.{getD-set-same, getD-set-other}
-use Rattle.basics.specs.Limits.{mostNames, mostClass, mostGrower}
+use Rattle.numbers.specs.Numbers.{mostNames, mostClass, mostGrower}
 use Rattle.basics.specs.Base.{pick, contains, repeats}
 use Rattle.basics.specs.Laws.{or-left, or-right}
 use Rattle.terms.specs.Terms.{Arguments, listed, argumentsWrong}

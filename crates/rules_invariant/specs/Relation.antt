@@ -7,7 +7,7 @@ use mathlib.Core.List.{List}
 use Prim.Native.Nat.{ℕ, _≤_, _<_}
 use native.Mathlib.Omega.{arith}
 use lib.ListN.{length, getD}
-use Rattle.basics.specs.Limits.{mostNames, mostClass}
+use Rattle.numbers.specs.Numbers.{mostNames, mostClass}
 use Rattle.basics.specs.Base.{contains}
 use Rattle.minutes.specs.Rising.{isRising}
 use Rattle.terms.specs.Terms.{Label, finished, Arguments, listed, argumentsWrong, Tally}

@@ -7,10 +7,10 @@ use mathlib.Core.Option.{Option, none, some}
 use Prim.Native.Nat.{ℕ, suc, _+_, _<_}
 use lib.Dec.{ltb, leb, eqb}
 use lib.ListN.{length, getD, set}
+use Rattle.numbers.specs.Numbers.{wrongArguments, unknownName, namePresent, tablesFull, alreadyHolding, notHeld}
+use Rattle.numbers.specs.Numbers.{goodForSpoiled}
 use Rattle.basics.specs.Base.{pick, update}
-use Rattle.terms.specs.Terms.{Label, unexecuted, executing, finished, Arguments, listed, argumentsWrong, wrongArguments}
-use Rattle.terms.specs.Terms.{unknownName, namePresent, tablesFull, alreadyHolding, notHeld, goodForSpoiled}
-use Rattle.terms.specs.Terms.{Finish}
+use Rattle.terms.specs.Terms.{Label, unexecuted, executing, finished, Arguments, listed, argumentsWrong, Finish}
 use Rattle.terms.specs.declared.Sizes.{Sizes}
 use Rattle.terms.specs.declared.HandOut.{HandOut}
 

@@ -7,12 +7,12 @@ use native.Mathlib.Omega.{arith}
 use lib.Dec.{eqb, ltb, leb}
 use lib.ListN.{length}
 use borrow.Author.Tests.{leb-true, ltb-true, ltb-false, ne-eqb}
+use Rattle.numbers.specs.Numbers.{mostEntries, wrongSize, entryWords}
 use Rattle.basics.specs.Base.{pick}
-use Rattle.terms.specs.Terms.{Arguments, mostEntries, wrongSizes}
+use Rattle.terms.specs.Terms.{Arguments}
 use Rattle.terms.specs.declared.Sizes.{Sizes}
 use Rattle.words.specs.Layout.{Tables, view, PHASE, IDLE, sizesFit}
 use Rattle.words.specs.Words.{admitted, ownOk}
-use Rattle.sheet_format.specs.Decode.{rowWords}
 use Rattle.sheet_format.specs.Write.{entriesFrom}
 use Rattle.whole_words.specs.Sheet.{sheetOutcome, judgedSheet, sheetWords}
 use Rattle.whole_stops.specs.StoppedSheet.{rowsStopped}
@@ -66,11 +66,11 @@ unfolding entriesFrom
 length-entries rows i zero = refl
 length-entries rows i (suc n) = rw (length-entries rows _ n) refl
 
-pub adds-count : (rows : List ℕ) → length (addsOf rows) ≡ length rows / rowWords
-adds-count rows = length-entries rows 0 (length rows / rowWords)
+pub adds-count : (rows : List ℕ) → length (addsOf rows) ≡ length rows / entryWords
+adds-count rows = length-entries rows 0 (length rows / entryWords)
 
 pub no-whole-rows : (s : Sizes) (t : Tables) (w : ℕ) (rows : List ℕ) (r : SheetAdded)
-    → eqb (length rows % rowWords) 0 ≡ false → r ≡ turnedAway wrongSizes
+    → eqb (length rows % entryWords) 0 ≡ false → r ≡ turnedAway wrongSize
     → Added r t (rowsStopped s t w rows) (rowsWords s t w rows)
 unfolding rowsWords
 no-whole-rows s t w rows r e h = rw e (h, refl)
@@ -79,7 +79,7 @@ not-zero : (n : ℕ) → ltb 0 n ≡ true → eqb n 0 ≡ false
 not-zero n h = let some = ltb-true 0 n h in ne-eqb n 0 (λ e. omega arith)
 
 pub turned-rows : (s : Sizes) (t : Tables) (w : ℕ) (rows : List ℕ) (n : ℕ) (r : SheetAdded)
-    → eqb (length rows % rowWords) 0 ≡ true → n ≡ judgedSheet s t w (length rows / rowWords) → ltb 0 n ≡ true
+    → eqb (length rows % entryWords) 0 ≡ true → n ≡ judgedSheet s t w (length rows / entryWords) → ltb 0 n ≡ true
     → r ≡ turnedAway n
     → Added r t (rowsStopped s t w rows) (rowsWords s t w rows)
 unfolding rowsWords
@@ -88,7 +88,7 @@ turned-rows s t w rows n r e j h k =
 
 -- a sheet that is served has an admitted worker, so its adds in one go are its adds
 pub served-rows : (s : Sizes) (t t' : Tables) (w : ℕ) (rows : List ℕ) (n : ℕ) (r : SheetAdded)
-    → eqb (length rows % rowWords) 0 ≡ true → n ≡ judgedSheet s t w (length rows / rowWords) → ltb 0 n ≡ false
+    → eqb (length rows % entryWords) 0 ≡ true → n ≡ judgedSheet s t w (length rows / entryWords) → ltb 0 n ≡ false
     → Added r t' (stopIfIdle s w 0 (addsOf rows) t) (addEachIfIdle s w (addsOf rows) t)
     → Added r t' (rowsStopped s t w rows) (rowsWords s t w rows)
 unfolding rowsWords

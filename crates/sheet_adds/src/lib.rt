@@ -4,12 +4,10 @@ ghost use mathlib.Core.Path.{_≡_};
 ghost use Prim.Native.Nat.{_+_, _*_, _≤_, _<_};
 ghost use lib.ListN.{length, take, drop};
 ghost use mathlib.Core.List.{map};
+ghost use Rattle.numbers.specs.Numbers.{mostNames, mostEntries, entryWords};
 ghost use Rattle.basics.specs.Base.{pick};
-ghost use Rattle.basics.specs.Limits.{mostNames};
-ghost use Rattle.terms.specs.Terms.{mostEntries};
 ghost use Rattle.terms.specs.Runs.{outcome};
 ghost use Rattle.words.specs.Layout.{atEntry, atExit};
-ghost use Rattle.sheet_format.specs.Decode.{rowWords};
 ghost use Rattle.sheet_format.specs.Write.{entryAt, entriesFrom};
 ghost use Rattle.fused_add_laws.specs.Sheets.{addEachIfIdle};
 ghost use Rattle.sheet_rows.specs.Arguments.{argumentsOf};
@@ -18,8 +16,9 @@ ghost use Rattle.whole_stops.specs.StoppedSheet.{rowsStopped};
 ghost use Rattle.sheet_adds.specs.Stops.{stopIfIdle, orFirst};
 use fused_add::add_if_idle;
 use graph_words::layout::PHASE;
-use graph_words::numbers::WRONG_SIZES;
 use graph_words::worker_word;
+use numbers::ENTRY_WORDS;
+use numbers::WRONG_SIZE;
 use sheet_format::Entry;
 use sheet_judge::judge_sheet;
 use sheet_judge::number_of;
@@ -29,7 +28,6 @@ use sheet_limits::CLASS_WORD;
 use sheet_limits::COUNT_WORD;
 use sheet_limits::GROWER_WORD;
 use sheet_limits::NAMES_WORD;
-use sheet_limits::ROW_WORDS;
 use sheet_rows::SheetAdded;
 use terms::Sizes;
 use worker_phase::stopped_as;
@@ -50,10 +48,10 @@ fn row_names(rows: &[u32], from: usize) -> [u32; 32]
 
 // The entry of a row.
 fn row_entry(rows: &[u32], row: usize) -> Entry
-    requires { ⌜ rowWords * row + rowWords ≤ length (now rows) ⌝ }
+    requires { ⌜ entryWords * row + entryWords ≤ length (now rows) ⌝ }
     ensures { λ r. ⌜ r ≡ entryAt (now (rows .entry)) row ⌝ }
 {
-    let at = ROW_WORDS * row;
+    let at = ENTRY_WORDS * row;
     let names = row_names(rows, at + NAMES_WORD);
     Entry {
         name: rows[at],
@@ -90,7 +88,7 @@ fn add_rows(
     rows: &[u32],
     count: usize,
 ) -> SheetAdded
-    requires { ⌜ (count ≤ mostEntries) × (rowWords * count ≤ length (now rows)) ⌝ }
+    requires { ⌜ (count ≤ mostEntries) × (entryWords * count ≤ length (now rows)) ⌝ }
     ensures { λ r. ⌜ Added r (atExit jobs arcs buckets queue workers)
         (stopIfIdle sizes worker 0 (map argumentsOf (entriesFrom (now (rows .entry)) 0 count))
         (atEntry jobs arcs buckets queue workers))
@@ -135,11 +133,11 @@ pub fn add_sheet(
         (rowsStopped sizes (atEntry jobs arcs buckets queue workers) worker (now (rows .entry)))
         (rowsWords sizes (atEntry jobs arcs buckets queue workers) worker (now (rows .entry))) ⌝ }
 {
-    let whole = rows.len() % ROW_WORDS == 0;
+    let whole = rows.len() % ENTRY_WORDS == 0;
     if whole {} else {
-        return turned_away(WRONG_SIZES);
+        return turned_away(WRONG_SIZE);
     }
-    let count = rows.len() / ROW_WORDS;
+    let count = rows.len() / ENTRY_WORDS;
     let number = judge_sheet(sizes, jobs, arcs, buckets, queue, workers, worker, count);
     let turned = 0 < number;
     if turned {

@@ -5,10 +5,10 @@ use mathlib.Core.Path.{_≡_, refl, ap}
 use mathlib.Core.List.{List, [], _∷_, _++_}
 use native.Mathlib.Omega.{arith}
 use lib.ListN.{length}
+use Rattle.numbers.specs.Numbers.{nameBytes, countBytes, classBytes, growerBytes}
 use Rattle.basics.specs.Laws.{never}
 use Rattle.sheet_format.specs.Number.{numberAt}
-use Rattle.sheet_format.specs.Job.{Job, bitOf, nameBytes, countBytes}
-use Rattle.sheet_format.specs.Job.{classBytes, growerBytes}
+use Rattle.sheet_format.specs.Job.{Job, bitOf}
 use Rattle.sheet_format.specs.Decode.{namesAt, Decoded, job, end, refused, decode, jobs, onward, decodeFrom}
 use Rattle.sheet_format.specs.Write.{listBytes, listPlace, entriesFrom}
 use Rattle.sheet_format.specs.EntryTrip.{length-encode, entry-stands}

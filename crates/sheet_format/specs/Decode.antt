@@ -5,11 +5,11 @@ use mathlib.Core.Bool.{_&&_}
 use lib.ListN.{length, getD, replicate}
 use lib.Seq.{sets}
 use lib.Dec.{ltb, leb, eqb}
-use Rattle.basics.specs.Limits.{mostNames, mostClass, mostGrower}
+use Rattle.numbers.specs.Numbers.{mostNames, mostClass, mostGrower, nameBytes, countBytes, classBytes, growerBytes, cut}
+use Rattle.numbers.specs.Numbers.{wrongMap, wrongValue, noRoom, entryWords}
 use Rattle.basics.specs.Base.{pick}
 use Rattle.sheet_format.specs.Number.{numberAt}
-use Rattle.sheet_format.specs.Job.{Job, nameBytes, countBytes, classBytes}
-use Rattle.sheet_format.specs.Job.{growerBytes}
+use Rattle.sheet_format.specs.Job.{Job}
 use Rattle.sheet_format.specs.declared.Entry.{Entry}
 use Rattle.sheet_format.specs.declared.Field.{Field}
 use Rattle.sheet_format.specs.declared.Field.the-variants.{Got, Refused}
@@ -17,20 +17,6 @@ use Rattle.sheet_format.specs.declared.Scan.{Scan}
 use Rattle.sheet_format.specs.declared.Read.{Read}
 use Rattle.sheet_format.specs.declared.Reading.{Reading}
 use Rattle.sheet_format.specs.declared.SheetRead.{SheetRead}
-
--- refusals: 12, the sheet ends inside an entry; 13, the map byte; 14, a field's value off its limits; 15, no room in
--- the output
-abbrev pub cut : ℕ
-cut = 12
-
-abbrev pub wrongMap : ℕ
-wrongMap = 13
-
-abbrev pub offLimits : ℕ
-offLimits = 14
-
-abbrev pub noRoom : ℕ
-noRoom = 15
 
 -- the map byte: 13 if bit 0 is clear or one of bits 4 to 7 is set
 unfoldable pub mapAt : List ℕ → ℕ → Field
@@ -46,7 +32,7 @@ unfoldable pub limitedAt : ℕ → ℕ → List ℕ → ℕ → Field
 limitedAt w most s at =
     pick (leb (at + w) (length s))
     (pick (leb 1 (numberAt w s at) && leb (numberAt w s at) most) (Got (numberAt w s at) (at + w))
-    (Refused offLimits at))
+    (Refused wrongValue at))
     (Refused cut at)
 
 abbrev pub then : Field → (ℕ → ℕ → Field) → Field
@@ -136,10 +122,7 @@ readingOf (job j n) = record { answer = Read.Job n; entry = entryOf j }
 readingOf end = record { answer = Read.End; entry = blank }
 readingOf (refused c a) = record { answer = Read.Refused c a; entry = blank }
 
--- the row of words that holds an entry
-abbrev pub rowWords : ℕ
-rowWords = 36
-
+-- an entry as a row of words
 abbrev pub rowOf : Job → List ℕ
 rowOf j = j .name ∷ length (j .list) ∷ j .class ∷ j .grower ∷ padded (j .list)
 
@@ -162,7 +145,7 @@ sheetRows a r = record { answer = a; rows = r }
 -- a sheet's own refusal comes first, then 15 where the rows are too few; a refusal leaves the rows as they were
 abbrev pub readSheet : Sheet → List ℕ → SheetRows
 readSheet (jobs js) rows =
-    pick (leb (rowWords * length js) (length rows))
+    pick (leb (entryWords * length js) (length rows))
     (sheetRows (SheetRead.Whole (length js)) (sets rows 0 (rowsOf js)))
     (sheetRows (SheetRead.Refused noRoom 0) rows)
 readSheet (broken c a) rows = sheetRows (SheetRead.Refused c a) rows

@@ -7,11 +7,10 @@ use native.Mathlib.Omega.{arith}
 use lib.ListN.{length, drop, length-append}
 use lib.Dec.{ltb}
 use borrow.Author.Tests.{ltb-true, ltb-false, lt-ltb, le-ltb}
-use Rattle.basics.specs.Limits.{mostNames, mostClass, mostGrower}
+use Rattle.numbers.specs.Numbers.{mostNames, mostClass, mostGrower, nameBytes, countBytes, classBytes, growerBytes}
 use Rattle.basics.specs.Laws.{never}
 use Rattle.sheet_format.specs.Number.{spelt}
 use Rattle.sheet_format.specs.Job.{Job, Valid, bitOf, speltUnlessZero, speltList, mapByte, encode}
-use Rattle.sheet_format.specs.Job.{nameBytes, countBytes, classBytes, growerBytes}
 use Rattle.sheet_format.specs.Decode.{ifBit, mapAt, nameAt, limitedAt, listAt, namesAt, Decoded, job, end}
 use Rattle.sheet_format.specs.Decode.{refused, thenDecoded, decode}
 use Rattle.sheet_format.specs.Write.{listBytes, listPlace}

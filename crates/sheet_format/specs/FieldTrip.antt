@@ -9,12 +9,11 @@ use native.Mathlib.Nat.{add-zero}
 use lib.ListN.{length, getD, drop, length-append}
 use lib.Dec.{ltb, leb, eqb}
 use borrow.Author.Tests.{ltb-true, leb-true, eqb-true, lt-ltb, le-leb, eq-eqb}
-use Rattle.basics.specs.Limits.{mostNames}
+use Rattle.numbers.specs.Numbers.{mostNames, countBytes}
 use Rattle.basics.specs.Base.{pick}
 use Rattle.basics.specs.Laws.{never}
 use Rattle.sheet_format.specs.Number.{numberAt, spelt}
 use Rattle.sheet_format.specs.Job.{Below, none, bitOf, speltUnlessZero, speltNames, speltList}
-use Rattle.sheet_format.specs.Job.{countBytes}
 use Rattle.sheet_format.specs.Decode.{then, ifBit, mapAt, nameAt, limitedAt, listAt, namesAt}
 use Rattle.sheet_format.specs.Choice.{both, held}
 use Rattle.sheet_format.specs.NumberLaws.{Bytes, first, opens, length-spelt, number-there, number-back}

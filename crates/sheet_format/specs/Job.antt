@@ -2,20 +2,8 @@
 use Prim.Native.Nat.{ℕ, zero, suc, _+_, _*_, _≤_, _<_, _^_}
 use mathlib.Core.List.{List, [], _∷_, _++_}
 use lib.ListN.{length}
-use Rattle.basics.specs.Limits.{mostNames, mostClass, mostGrower}
+use Rattle.numbers.specs.Numbers.{mostNames, mostClass, mostGrower, nameBytes, countBytes, classBytes, growerBytes}
 use Rattle.sheet_format.specs.Number.{spelt}
-
-abbrev pub nameBytes : ℕ
-nameBytes = 4
-
-abbrev pub countBytes : ℕ
-countBytes = 1
-
-abbrev pub classBytes : ℕ
-classBytes = 1
-
-abbrev pub growerBytes : ℕ
-growerBytes = 2
 
 -- what an entry says: the job's name, the names of its prerequisites, its class and its grower
 pub record Job : Type 0 where

@@ -5,10 +5,9 @@ use mathlib.Core.Path.{_≡_}
 use mathlib.Core.List.{List, [], _∷_, _++_}
 use lib.ListN.{length}
 use lib.Seq.{sets}
-use Rattle.basics.specs.Limits.{mostNames, mostClass, mostGrower}
+use Rattle.numbers.specs.Numbers.{mostNames, mostClass, mostGrower, nameBytes, classBytes, growerBytes}
 use Rattle.sheet_format.specs.Number.{spelt}
-use Rattle.sheet_format.specs.Job.{Job, nameBytes, classBytes, growerBytes, bitOf, speltUnlessZero}
-use Rattle.sheet_format.specs.Job.{speltList, mapByte}
+use Rattle.sheet_format.specs.Job.{Job, bitOf, speltUnlessZero, speltList, mapByte}
 use Rattle.sheet_format.specs.Write.{jobOf, listBytes}
 use Rattle.sheet_format.specs.declared.Entry.{Entry}
 

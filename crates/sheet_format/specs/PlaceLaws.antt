@@ -9,13 +9,12 @@ use lib.ListN.{length, take, drop, length-append}
 use lib.Seq.{sets, sets-eq, drop-at, take-at, length-take-le}
 use lib.Dec.{leb}
 use borrow.Author.Tests.{leb-true, leb-false, le-leb, lt-leb}
-use Rattle.basics.specs.Limits.{mostNames, mostClass, mostGrower}
+use Rattle.numbers.specs.Numbers.{mostNames, mostClass, mostGrower, wrongValue, noRoom}
 use Rattle.basics.specs.Laws.{never}
 use Rattle.basics.specs.Stores.{sets-append}
 use Rattle.sheet_format.specs.Job.{Job, encode}
 use Rattle.sheet_format.specs.Write.{jobOf, listPlace, classPlace, growerPlace, Fault, faultOf, Written, written}
 use Rattle.sheet_format.specs.Write.{writeJudged, writeEntry}
-use Rattle.sheet_format.specs.Decode.{offLimits, noRoom}
 use Rattle.sheet_format.specs.NumberLaws.{length-spelt}
 use Rattle.sheet_format.specs.EntryTrip.{length-list, length-optional}
 use Rattle.sheet_format.specs.WriteTrip.{Words, Limits, faultless, entry-done}
@@ -192,18 +191,18 @@ within-no-room e out start within short = rw (faultless e within, lt-leb _ _ sho
 
 -- writing is refused by 14 at a place exactly if the first field off its limits has that place
 pub refused-place : (e : Entry) (out : List ℕ) (start place : ℕ) → Words e
-    → writeEntry e out start .answer ≡ Wrote.Refused offLimits place → FirstOff e place
+    → writeEntry e out start .answer ≡ Wrote.Refused wrongValue place → FirstOff e place
 unfolding writeEntry
 refused-place e out start place words h = by-fault (faultOf e) refl h
   where
-    by-fault : (f : Fault) → faultOf e ≡ f → writeJudged f (jobOf e) out start .answer ≡ Wrote.Refused offLimits place
+    by-fault : (f : Fault) → faultOf e ≡ f → writeJudged f (jobOf e) out start .answer ≡ Wrote.Refused wrongValue place
         → FirstOff e place
     by-fault (Fault.at p) q h′ = let same : p ≡ place = cc in fault-place e place words (rw same at q)
     by-fault Fault.none q h′ =
-        picked (λ (w : Written). w .answer ≡ Wrote.Refused offLimits place → FirstOff e place)
+        picked (λ (w : Written). w .answer ≡ Wrote.Refused wrongValue place → FirstOff e place)
         (leb (start + length (encode (jobOf e))) (length out)) _ _ (λ k. never (cc)) (λ k. never (cc)) h′
 
 pub place-refused : (e : Entry) (out : List ℕ) (start place : ℕ) → Words e → FirstOff e place
-    → writeEntry e out start ≡ written (Wrote.Refused offLimits place) out
+    → writeEntry e out start ≡ written (Wrote.Refused wrongValue place) out
 unfolding writeEntry
 place-refused e out start place words off = rw (place-fault e place words off)

@@ -5,9 +5,10 @@ use mathlib.Core.Path.{_≡_, refl}
 use mathlib.Core.List.{List, map}
 use lib.ListN.{length}
 use lib.Dec.{leb, eqb}
+use Rattle.numbers.specs.Numbers.{entryWords}
 use Rattle.basics.specs.Laws.{never}
 use Rattle.sheet_format.specs.Job.{Job, encode, encodeSheet}
-use Rattle.sheet_format.specs.Decode.{Sheet, jobs, broken, rowWords, SheetRows, readSheet}
+use Rattle.sheet_format.specs.Decode.{Sheet, jobs, broken, SheetRows, readSheet}
 use Rattle.sheet_format.specs.Write.{jobOf, Fault, faultOf, Written, writeJudged, writeEntry, entriesOf}
 use Rattle.sheet_format.specs.Write.{SheetFault, sheetFault, SheetWritten, writeSheetJudged, writeSheet}
 use Rattle.sheet_format.specs.Choice.{picked}
@@ -33,7 +34,7 @@ pub sheet-refused : (rows out : List ℕ) (c i a : ℕ) → writeSheet rows out 
     → writeSheet rows out .out ≡ out
 unfolding writeSheet
 sheet-refused rows out c i a h =
-    picked Kept (eqb (length rows % rowWords) 0) _ _ (by-fault (sheetFault 0 (entriesOf rows))) (λ h′. refl) h
+    picked Kept (eqb (length rows % entryWords) 0) _ _ (by-fault (sheetFault 0 (entriesOf rows))) (λ h′. refl) h
   where
     Kept : SheetWritten → Type 0
     Kept w = w .answer ≡ SheetWrote.Refused c i a → w .out ≡ out
@@ -50,7 +51,7 @@ pub rows-refused : (sheet : Sheet) (rows : List ℕ) (c a : ℕ) → readSheet s
     → readSheet sheet rows .rows ≡ rows
 rows-refused (broken n at) rows c a h = refl
 rows-refused (jobs js) rows c a h =
-    picked Kept (leb (rowWords * length js) (length rows)) _ _ (λ h′. never (cc)) (λ h′. refl) h
+    picked Kept (leb (entryWords * length js) (length rows)) _ _ (λ h′. never (cc)) (λ h′. refl) h
   where
     Kept : SheetRows → Type 0
     Kept r = r .answer ≡ SheetRead.Refused c a → r .rows ≡ rows

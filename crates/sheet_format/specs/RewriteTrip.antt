@@ -10,10 +10,9 @@ use lib.ListN.{length, getD, take, drop, replicate, length-append, length-replic
 use lib.Seq.{sets, take-at, drop-at, take-all, drop-drop, getD-drop, length-sets}
 use lib.Dec.{eqb}
 use borrow.Author.Tests.{le-leb, eq-eqb}
-use Rattle.basics.specs.Limits.{mostNames}
+use Rattle.numbers.specs.Numbers.{mostNames, entryWords}
 use Rattle.sheet_format.specs.Job.{Job, Valid, encode, encodeSheet}
-use Rattle.sheet_format.specs.Decode.{job, decode, jobs, decodeSheet, padded, entryOf, rowOf, rowsOf, rowWords}
-use Rattle.sheet_format.specs.Decode.{readSheet}
+use Rattle.sheet_format.specs.Decode.{job, decode, jobs, decodeSheet, padded, entryOf, rowOf, rowsOf, readSheet}
 use Rattle.sheet_format.specs.Write.{jobOf, Fault, faultOf, written, writeEntry, entryAt, entriesFrom, entriesOf}
 use Rattle.sheet_format.specs.Write.{SheetFault, sheetFault, sheetWritten, writeSheet}
 use Rattle.sheet_format.specs.NumberLaws.{Bytes}
@@ -64,10 +63,10 @@ valid-short : (js : List Job) → Each Valid js → Each Short js
 valid-short [] valid = Each.none
 valid-short (j ∷ js) (Each.more v vs) = Each.more (v .count) (valid-short js vs)
 
-pub length-rowOf : (j : Job) → Short j → length (rowOf j) ≡ rowWords
+pub length-rowOf : (j : Job) → Short j → length (rowOf j) ≡ entryWords
 length-rowOf j short = let k = length-padded (j .list) short in omega arith
 
-pub length-rowsOf : (js : List Job) → Each Short js → length (rowsOf js) ≡ rowWords * length js
+pub length-rowsOf : (js : List Job) → Each Short js → length (rowsOf js) ≡ entryWords * length js
 unfolding rowsOf
 length-rowsOf [] short = refl
 length-rowsOf (j ∷ js) (Each.more h hs) =
@@ -76,25 +75,25 @@ length-rowsOf (j ∷ js) (Each.more h hs) =
     omega (arith, length-append (rowOf j) (rowsOf js))
 
 -- the rows of jobs hold the entries of those jobs
-row-there : (j : Job) (rows rest : List ℕ) (i : ℕ) → Short j → drop (rowWords * i) rows ≡ rowOf j ++ rest
+row-there : (j : Job) (rows rest : List ℕ) (i : ℕ) → Short j → drop (entryWords * i) rows ≡ rowOf j ++ rest
     → entryAt rows i ≡ entryOf j
 row-there j rows rest i short h =
-    let word : (k : ℕ) → getD rows (rowWords * i + k) 0 ≡ getD (rowOf j ++ rest) k 0 =
-    λ k. sym (getD-drop (rowWords * i) rows k 0) ∙ ap (λ (l : List ℕ). getD l k 0) h in
-    let first : getD rows (rowWords * i) 0 ≡ j .name = rw add-zero at (word 0) in
-    let names : drop (rowWords * i + 4) rows ≡ padded (j .list) ++ rest =
-    sym (drop-drop 4 (rowWords * i) rows) ∙ ap (λ (l : List ℕ). drop 4 l) h in
+    let word : (k : ℕ) → getD rows (entryWords * i + k) 0 ≡ getD (rowOf j ++ rest) k 0 =
+    λ k. sym (getD-drop (entryWords * i) rows k 0) ∙ ap (λ (l : List ℕ). getD l k 0) h in
+    let first : getD rows (entryWords * i) 0 ≡ j .name = rw add-zero at (word 0) in
+    let names : drop (entryWords * i + 4) rows ≡ padded (j .list) ++ rest =
+    sym (drop-drop 4 (entryWords * i) rows) ∙ ap (λ (l : List ℕ). drop 4 l) h in
     rw (first, word 1, word 2, word 3, names, take-at (padded (j .list)) rest mostNames (length-padded (j .list) short))
 
-pub rows-there : (js : List Job) (rows : List ℕ) (i : ℕ) → Each Short js → drop (rowWords * i) rows ≡ rowsOf js
+pub rows-there : (js : List Job) (rows : List ℕ) (i : ℕ) → Each Short js → drop (entryWords * i) rows ≡ rowsOf js
     → entriesFrom rows i (length js) ≡ map entryOf js
 unfolding entriesFrom rowsOf
 rows-there [] rows i short h = refl
 rows-there (j ∷ js) rows i (Each.more short shorts) h =
-    let q : rowWords * (i + 1) ≡ rowWords * i + rowWords = omega arith in
-    let rest : drop (rowWords * (i + 1)) rows ≡ rowsOf js =
-    rw q (sym (drop-drop rowWords (rowWords * i) rows) ∙ ap (λ (l : List ℕ). drop rowWords l) h
-    ∙ drop-at (rowOf j) (rowsOf js) rowWords (length-rowOf j short)) in
+    let q : entryWords * (i + 1) ≡ entryWords * i + entryWords = omega arith in
+    let rest : drop (entryWords * (i + 1)) rows ≡ rowsOf js =
+    rw q (sym (drop-drop entryWords (entryWords * i) rows) ∙ ap (λ (l : List ℕ). drop entryWords l) h
+    ∙ drop-at (rowOf j) (rowsOf js) entryWords (length-rowOf j short)) in
     rw (row-there j rows (rowsOf js) i short h, rows-there js rows (i + 1) shorts rest)
 
 jobs-entries : (js : List Job) → map jobOf (map entryOf js) ≡ js
@@ -113,34 +112,35 @@ unfolding writeSheet
 rows-rewritten js out valid room =
     let short = valid-short js valid in
     let k = length-rowsOf js short in
-    let whole : eqb (length (rowsOf js) % rowWords) 0 ≡ true = eq-eqb (length (rowsOf js) % rowWords) 0 (omega arith) in
-    let number : length (rowsOf js) / rowWords ≡ length js = omega arith in
+    let whole : eqb (length (rowsOf js) % entryWords) 0 ≡ true =
+    eq-eqb (length (rowsOf js) % entryWords) 0 (omega arith) in
+    let number : length (rowsOf js) / entryWords ≡ length js = omega arith in
     let entries : entriesOf (rowsOf js) ≡ map entryOf js = rw number (rows-there js (rowsOf js) 0 short refl) in
     rw (whole, entries, no-faults js 0 valid, jobs-entries js, le-leb _ _ room)
 
 -- the rows that a sheet's jobs filled, written again, are the sheet
 pub sheet-rewritten : (s : List ℕ) (js : List Job) (rows out : List ℕ) → Bytes s → decodeSheet s ≡ jobs js
-    → rowWords * length js ≤ length rows → length s ≤ length out
-    → writeSheet (take (rowWords * length js) (readSheet (decodeSheet s) rows .rows)) out
+    → entryWords * length js ≤ length rows → length s ≤ length out
+    → writeSheet (take (entryWords * length js) (readSheet (decodeSheet s) rows .rows)) out
     ≡ sheetWritten (SheetWrote.Done (length js) (length s)) (sets out 0 s)
 sheet-rewritten s js rows out all h fits room =
     let d = sheet-back s js all h in
     let k = length-rowsOf js (valid-short js (d .1)) in
     let e = d .0 in
     let enough : length (rowsOf js) ≤ length rows = omega arith in
-    let front : take (rowWords * length js) (sets rows 0 (rowsOf js)) ≡ rowsOf js =
+    let front : take (entryWords * length js) (sets rows 0 (rowsOf js)) ≡ rowsOf js =
     rw (← k) (sets-front (rowsOf js) rows enough) in
     let again = rows-rewritten js out (d .1) (rw e room) in
     rw (h, le-leb _ _ fits, front) (rw e at again)
 
 -- the same where the rows fit exactly
 pub sheet-rewritten-exactly : (s : List ℕ) (js : List Job) (rows out : List ℕ) → Bytes s → decodeSheet s ≡ jobs js
-    → rowWords * length js ≡ length rows → length s ≤ length out
+    → entryWords * length js ≡ length rows → length s ≤ length out
     → writeSheet (readSheet (decodeSheet s) rows .rows) out
     ≡ sheetWritten (SheetWrote.Done (length js) (length s)) (sets out 0 s)
 sheet-rewritten-exactly s js rows out all h fits room =
     let w = sheet-rewritten s js rows out all h (omega arith) room in
     let l = length-sets rows 0 (rowsOf js) in
-    let enough : rowWords * length js ≤ length rows = omega arith in
+    let enough : entryWords * length js ≤ length rows = omega arith in
     let r : readSheet (decodeSheet s) rows .rows ≡ sets rows 0 (rowsOf js) = rw (h, le-leb _ _ enough) in
-    rw (take-all (rowWords * length js) (readSheet (decodeSheet s) rows .rows) (rw r (omega arith))) at w
+    rw (take-all (entryWords * length js) (readSheet (decodeSheet s) rows .rows) (rw r (omega arith))) at w

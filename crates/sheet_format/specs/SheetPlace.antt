@@ -11,12 +11,11 @@ use lib.ListN.{length, take, drop, length-append, length-map}
 use lib.Seq.{sets, sets-eq, drop-at, take-at}
 use lib.Dec.{leb, eqb}
 use borrow.Author.Tests.{eq-eqb, ne-eqb, eqb-true, eqb-false, le-leb, lt-leb}
+use Rattle.numbers.specs.Numbers.{entryWords, wrongValue, noRoom, wrongSize}
 use Rattle.basics.specs.Laws.{never}
 use Rattle.sheet_format.specs.Job.{Job, Below, encode, encodeSheet}
-use Rattle.sheet_format.specs.Decode.{rowWords, offLimits, noRoom}
 use Rattle.sheet_format.specs.Write.{jobOf, Fault, faultOf, entryAt, entriesFrom, entriesOf, SheetFault, orElse}
-use Rattle.sheet_format.specs.Write.{sheetFault, cutTable, SheetWritten, sheetWritten, writeSheetJudged}
-use Rattle.sheet_format.specs.Write.{writeSheet}
+use Rattle.sheet_format.specs.Write.{sheetFault, SheetWritten, sheetWritten, writeSheetJudged, writeSheet}
 use Rattle.sheet_format.specs.WriteTrip.{Words, Limits, faultless, entry-words, sheet-done}
 use Rattle.sheet_format.specs.Choice.{picked}
 use Rattle.sheet_format.specs.CodeLaws.{length-entriesFrom}
@@ -29,11 +28,11 @@ abbrev pub sheetSoFar : List ℕ → ℕ → List ℕ
 sheetSoFar rows i = encodeSheet (map jobOf (entriesFrom rows 0 i))
 
 abbrev pub sheetBytes : List ℕ → List ℕ
-sheetBytes rows = sheetSoFar rows (length rows / rowWords)
+sheetBytes rows = sheetSoFar rows (length rows / entryWords)
 
 -- where a sheet is refused by 14: its first entry that has a field off its limits, and that field's place
 pub record FirstWrong (rows : List ℕ) (i place : ℕ) : Type 0 where
-  pub inside : i < length rows / rowWords
+  pub inside : i < length rows / entryWords
   pub wrong : FirstOff (entryAt rows i) place
   pub first : (k at : ℕ) → k < i → FirstOff (entryAt rows k) at → ⊥
 
@@ -68,16 +67,16 @@ module _ (rows : List ℕ) where
       let q : n ≡ i + suc (n - (i + 1)) = omega arith in
       ap (bytesFrom 0) q ∙ (split 0 i (suc (n - (i + 1))) ∙ rw (zero-add i))
 
-  pub entry-stands-there : (out : List ℕ) (i n bytes : ℕ) → i < length rows / rowWords
+  pub entry-stands-there : (out : List ℕ) (i n bytes : ℕ) → i < length rows / entryWords
       → writeSheet rows out .answer ≡ SheetWrote.Done n bytes
       → take (length (encode (jobOf (entryAt rows i)))) (drop (length (sheetSoFar rows i)) (writeSheet rows out .out))
       ≡ encode (jobOf (entryAt rows i))
   entry-stands-there out i n bytes inside h =
       let e = encode (jobOf (entryAt rows i)) in
       let d = sheet-done rows out n bytes h in
-      let all = bytesFrom 0 (length rows / rowWords) in
+      let all = bytesFrom 0 (length rows / entryWords) in
       let rest = drop (0 + length all) out in
-      let after = bytesFrom (i + 1) (length rows / rowWords - (i + 1)) in
+      let after = bytesFrom (i + 1) (length rows / entryWords - (i + 1)) in
       let whole : writeSheet rows out .out ≡ sheetSoFar rows i ++ (e ++ (after ++ rest)) =
       d .left ∙ (sets-eq all out 0 (omega (arith, d .room)) ∙ rw (around i _ inside) (simp append-assoc)) in
       rw (whole, drop-at (sheetSoFar rows i) (e ++ (after ++ rest)) _ refl) (take-at e (after ++ rest) _ refl)
@@ -147,13 +146,13 @@ module _ (rows : List ℕ) where
 
   -- rows of 32-bit words
   module _ (words : Below (2 ^ 32) rows) where
-    words-at : (i : ℕ) → i < length rows / rowWords → Words (entryAt rows i)
+    words-at : (i : ℕ) → i < length rows / entryWords → Words (entryAt rows i)
     words-at i inside = entry-words rows i words (omega arith)
 
     first-wrong : (i place : ℕ) → sheetFault 0 (entriesOf rows) ≡ SheetFault.at i place → FirstWrong rows i place
     first-wrong i place h =
-        let a = fault-at 0 (length rows / rowWords) i place h in
-        let under : i < length rows / rowWords = omega (arith, a .under) in
+        let a = fault-at 0 (length rows / entryWords) i place h in
+        let under : i < length rows / entryWords = omega (arith, a .under) in
         record {
           inside = under;
           wrong = fault-place (entryAt rows i) place (words-at i under) (a .fault);
@@ -165,7 +164,7 @@ module _ (rows : List ℕ) where
 
     wrong-first : (i place : ℕ) → FirstWrong rows i place → sheetFault 0 (entriesOf rows) ≡ SheetFault.at i place
     wrong-first i place w =
-        at-fault 0 (length rows / rowWords) i place (record {
+        at-fault 0 (length rows / entryWords) i place (record {
           from = omega arith;
           under = omega (arith, w .inside);
           fault = place-fault (entryAt rows i) place (words-at i (w .inside)) (w .wrong);
@@ -179,14 +178,14 @@ module _ (rows : List ℕ) where
 
     -- a sheet is refused by 14 exactly at its first wrong entry
     pub refused-first : (out : List ℕ) (i place : ℕ)
-        → writeSheet rows out .answer ≡ SheetWrote.Refused offLimits i place → FirstWrong rows i place
+        → writeSheet rows out .answer ≡ SheetWrote.Refused wrongValue i place → FirstWrong rows i place
     unfolding writeSheet
     refused-first out i place h =
-        picked Told (eqb (length rows % rowWords) 0) _ _ (by-fault (sheetFault 0 (entriesOf rows)) refl)
+        picked Told (eqb (length rows % entryWords) 0) _ _ (by-fault (sheetFault 0 (entriesOf rows)) refl)
         (λ h′. never (cc)) h
       where
         Told : SheetWritten → Type 0
-        Told w = w .answer ≡ SheetWrote.Refused offLimits i place → FirstWrong rows i place
+        Told w = w .answer ≡ SheetWrote.Refused wrongValue i place → FirstWrong rows i place
 
         js : List Job
         js = map jobOf (entriesOf rows)
@@ -199,36 +198,36 @@ module _ (rows : List ℕ) where
         by-fault SheetFault.none e =
             picked Told (leb (length (encodeSheet js)) (length out)) _ _ (λ h′. never (cc)) (λ h′. never (cc))
 
-    pub first-refused : (out : List ℕ) (i place : ℕ) → length rows % rowWords ≡ 0 → FirstWrong rows i place
-        → writeSheet rows out ≡ sheetWritten (SheetWrote.Refused offLimits i place) out
+    pub first-refused : (out : List ℕ) (i place : ℕ) → length rows % entryWords ≡ 0 → FirstWrong rows i place
+        → writeSheet rows out ≡ sheetWritten (SheetWrote.Refused wrongValue i place) out
     unfolding writeSheet
     first-refused out i place whole w = rw (eq-eqb _ _ whole, wrong-first i place w)
 
   -- rows that are cut are refused before anything else is judged
-  pub cut-refused : (out : List ℕ) → length rows % rowWords ≢ 0
-      → writeSheet rows out ≡ sheetWritten (SheetWrote.Refused cutTable 0 0) out
+  pub cut-refused : (out : List ℕ) → length rows % entryWords ≢ 0
+      → writeSheet rows out ≡ sheetWritten (SheetWrote.Refused wrongSize 0 0) out
   unfolding writeSheet
   cut-refused out cut = rw (ne-eqb _ _ cut)
 
   -- WITHIN THE LIMITS
 
-  module _ (within : (i : ℕ) → i < length rows / rowWords → Limits (entryAt rows i)) where
+  module _ (within : (i : ℕ) → i < length rows / entryWords → Limits (entryAt rows i)) where
     no-fault : (f : SheetFault) → sheetFault 0 (entriesOf rows) ≡ f → sheetFault 0 (entriesOf rows) ≡ SheetFault.none
     no-fault (SheetFault.at k p) e =
-        let a = fault-at 0 (length rows / rowWords) k p e in
+        let a = fault-at 0 (length rows / entryWords) k p e in
         let q = sym (faultless (entryAt rows k) (within k (omega (arith, a .under)))) ∙ a .fault in
         never (cc)
     no-fault SheetFault.none e = e
 
     -- a sheet is written where there is room, and else refused by 15
-    module _ (out : List ℕ) (whole : length rows % rowWords ≡ 0) where
+    module _ (out : List ℕ) (whole : length rows % entryWords ≡ 0) where
       pub sheet-fits : length (sheetBytes rows) ≤ length out
           → writeSheet rows out
-          ≡ sheetWritten (SheetWrote.Done (length rows / rowWords) (length (sheetBytes rows)))
+          ≡ sheetWritten (SheetWrote.Done (length rows / entryWords) (length (sheetBytes rows)))
           (sets out 0 (sheetBytes rows))
       unfolding writeSheet
       sheet-fits room =
-          let k = length-map (entriesOf rows) jobOf ∙ length-entriesFrom rows 0 (length rows / rowWords) in
+          let k = length-map (entriesOf rows) jobOf ∙ length-entriesFrom rows 0 (length rows / entryWords) in
           rw (eq-eqb _ _ whole, no-fault _ refl, le-leb _ _ room, k)
 
       pub sheet-no-room : length out < length (sheetBytes rows)

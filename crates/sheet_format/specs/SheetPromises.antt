@@ -9,14 +9,14 @@ use mathlib.Core.Logic.{_↔_, _≢_}
 use mathlib.Core.List.{List, _++_, map}
 use lib.ListN.{length, take, drop}
 use lib.Seq.{sets}
-use Rattle.basics.specs.Limits.{mostNames, mostClass, mostGrower}
+use Rattle.numbers.specs.Numbers.{mostNames, mostClass, mostGrower, nameBytes, countBytes, classBytes, growerBytes}
+use Rattle.numbers.specs.Numbers.{entryWords, cut, wrongMap, wrongValue, noRoom, wrongSize}
 use Rattle.sheet_format.specs.Number.{spelt}
-use Rattle.sheet_format.specs.Job.{Job, Below, Valid, encode, encodeSheet, nameBytes, countBytes, classBytes}
-use Rattle.sheet_format.specs.Job.{growerBytes}
+use Rattle.sheet_format.specs.Job.{Job, Below, Valid, encode, encodeSheet}
 use Rattle.sheet_format.specs.Decode.{Decoded, job, refused, decode, Sheet, jobs, decodeSheet, entryOf, readingOf}
-use Rattle.sheet_format.specs.Decode.{scanSheet, SheetRows, readSheet, rowWords, cut, wrongMap, offLimits, noRoom}
+use Rattle.sheet_format.specs.Decode.{scanSheet, SheetRows, readSheet}
 use Rattle.sheet_format.specs.Write.{jobOf, entryAt, entriesOf, Written, written, writeEntry, SheetWritten}
-use Rattle.sheet_format.specs.Write.{sheetWritten, cutTable, writeSheet}
+use Rattle.sheet_format.specs.Write.{sheetWritten, writeSheet}
 use Rattle.sheet_format.specs.SheetCases.{Hold, FaultsHold, case-8, whole-sheets, rules, second-entries, faults}
 use Rattle.sheet_format.specs.SheetCases.{cases-hold}
 use Rattle.sheet_format.specs.NumberLaws.{Bytes, NumberRead, NumberSpelt, number-there, number-back}
@@ -140,8 +140,8 @@ pub a-job-is-spelt-by-numerals : (j : Job) → Fits j → encode j ≡ spelling 
 a-job-is-spelt-by-numerals = spelt-by-numerals
 
 -- The refusals, the words of a row, the limits and the bytes of the fields that they name.
-pub the-numbers-are : (cut ≡ 12) × (wrongMap ≡ 13) × (offLimits ≡ 14) × (noRoom ≡ 15) × (cutTable ≡ 1)
-    × (rowWords ≡ 36)
+pub the-numbers-are : (cut ≡ 12) × (wrongMap ≡ 13) × (wrongValue ≡ 14) × (noRoom ≡ 15) × (wrongSize ≡ 1)
+    × (entryWords ≡ 36)
     × (mostNames ≡ 32)
     × (mostClass ≡ 15)
     × (mostGrower ≡ 65535)
@@ -225,11 +225,11 @@ each-part-stands-at-its-place = part-there
 
 -- An entry is refused by 14 exactly if a field is off its limits, at the place of the first such field.
 pub a-refusal-is-at-the-first-fields-place : (e : Entry) (out : List ℕ) (start place : ℕ) → Words e
-    → writeEntry e out start .answer ≡ Wrote.Refused offLimits place → FirstOff e place
+    → writeEntry e out start .answer ≡ Wrote.Refused wrongValue place → FirstOff e place
 a-refusal-is-at-the-first-fields-place = refused-place
 
 pub the-first-field-off-its-limits-refuses : (e : Entry) (out : List ℕ) (start place : ℕ) → Words e → FirstOff e place
-    → writeEntry e out start ≡ written (Wrote.Refused offLimits place) out
+    → writeEntry e out start ≡ written (Wrote.Refused wrongValue place) out
 the-first-field-off-its-limits-refuses = place-refused
 
 -- Within its limits it is written where there is room, and else refused by 15.
@@ -269,51 +269,52 @@ a-written-sheet-is-read = sheet-written
 -- A sheet that was read into rows, the filled rows written again where there is room, is the same bytes.
 pub a-read-sheet-is-written-the-same : (s : List ℕ) (js : List Job) (rows out : List ℕ) → Bytes s
     → decodeSheet s ≡ jobs js
-    → rowWords * length js ≤ length rows → length s ≤ length out
-    → writeSheet (take (rowWords * length js) (readSheet (decodeSheet s) rows .rows)) out
+    → entryWords * length js ≤ length rows → length s ≤ length out
+    → writeSheet (take (entryWords * length js) (readSheet (decodeSheet s) rows .rows)) out
     ≡ sheetWritten (SheetWrote.Done (length js) (length s)) (sets out 0 s)
 a-read-sheet-is-written-the-same = sheet-rewritten
 
 -- The same for rows that the jobs fill exactly.
 pub a-read-sheet-is-written-the-same-exactly : (s : List ℕ) (js : List Job) (rows out : List ℕ) → Bytes s
-    → decodeSheet s ≡ jobs js → rowWords * length js ≡ length rows → length s ≤ length out
+    → decodeSheet s ≡ jobs js → entryWords * length js ≡ length rows → length s ≤ length out
     → writeSheet (readSheet (decodeSheet s) rows .rows) out
     ≡ sheetWritten (SheetWrote.Done (length js) (length s)) (sets out 0 s)
 a-read-sheet-is-written-the-same-exactly = sheet-rewritten-exactly
 
 -- Each entry of a written sheet stands in the output behind the bytes of those before it.
-pub each-entry-stands-at-its-place : (rows out : List ℕ) (i n bytes : ℕ) → i < length rows / rowWords
+pub each-entry-stands-at-its-place : (rows out : List ℕ) (i n bytes : ℕ) → i < length rows / entryWords
     → writeSheet rows out .answer ≡ SheetWrote.Done n bytes
     → take (length (encode (jobOf (entryAt rows i)))) (drop (length (sheetSoFar rows i)) (writeSheet rows out .out))
     ≡ encode (jobOf (entryAt rows i))
 each-entry-stands-at-its-place = entry-stands-there
 
 -- Words that are no whole number of rows are refused by 1, before anything else is judged.
-pub cut-rows-are-1 : (rows out : List ℕ) → length rows % rowWords ≢ 0
-    → writeSheet rows out ≡ sheetWritten (SheetWrote.Refused cutTable 0 0) out
+pub cut-rows-are-1 : (rows out : List ℕ) → length rows % entryWords ≢ 0
+    → writeSheet rows out ≡ sheetWritten (SheetWrote.Refused wrongSize 0 0) out
 cut-rows-are-1 = cut-refused
 
 -- Whole rows are refused by 14 exactly if an entry has a field off its limits, at the first such entry.
 pub a-sheet-is-refused-at-its-first-wrong-entry : (rows : List ℕ) → Below (2 ^ 32) rows → (out : List ℕ) (i place : ℕ)
-    → writeSheet rows out .answer ≡ SheetWrote.Refused offLimits i place → FirstWrong rows i place
+    → writeSheet rows out .answer ≡ SheetWrote.Refused wrongValue i place → FirstWrong rows i place
 a-sheet-is-refused-at-its-first-wrong-entry = refused-first
 
 pub the-first-wrong-entry-refuses-a-sheet : (rows : List ℕ) → Below (2 ^ 32) rows → (out : List ℕ) (i place : ℕ)
-    → length rows % rowWords ≡ 0 → FirstWrong rows i place
-    → writeSheet rows out ≡ sheetWritten (SheetWrote.Refused offLimits i place) out
+    → length rows % entryWords ≡ 0 → FirstWrong rows i place
+    → writeSheet rows out ≡ sheetWritten (SheetWrote.Refused wrongValue i place) out
 the-first-wrong-entry-refuses-a-sheet = first-refused
 
 -- Whole rows with every entry within its limits are written where there is room, and else refused by 15.
 pub a-sheet-within-its-limits-is-written : (rows : List ℕ)
-    → ((i : ℕ) → i < length rows / rowWords → Limits (entryAt rows i))
-    → (out : List ℕ) → length rows % rowWords ≡ 0 → length (sheetBytes rows) ≤ length out
+    → ((i : ℕ) → i < length rows / entryWords → Limits (entryAt rows i))
+    → (out : List ℕ) → length rows % entryWords ≡ 0 → length (sheetBytes rows) ≤ length out
     → writeSheet rows out
-    ≡ sheetWritten (SheetWrote.Done (length rows / rowWords) (length (sheetBytes rows))) (sets out 0 (sheetBytes rows))
+    ≡ sheetWritten (SheetWrote.Done (length rows / entryWords) (length (sheetBytes rows)))
+    (sets out 0 (sheetBytes rows))
 a-sheet-within-its-limits-is-written = sheet-fits
 
 pub a-sheet-without-room-is-15 : (rows : List ℕ)
-    → ((i : ℕ) → i < length rows / rowWords → Limits (entryAt rows i))
-    → (out : List ℕ) → length rows % rowWords ≡ 0 → length out < length (sheetBytes rows)
+    → ((i : ℕ) → i < length rows / entryWords → Limits (entryAt rows i))
+    → (out : List ℕ) → length rows % entryWords ≡ 0 → length out < length (sheetBytes rows)
     → writeSheet rows out ≡ sheetWritten (SheetWrote.Refused noRoom 0 0) out
 a-sheet-without-room-is-15 = sheet-no-room
 

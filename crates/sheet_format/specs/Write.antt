@@ -5,11 +5,10 @@ use mathlib.Core.List.{List, [], _∷_, map}
 use lib.ListN.{length, getD, take, drop}
 use lib.Seq.{sets}
 use lib.Dec.{leb, eqb}
-use Rattle.basics.specs.Limits.{mostNames, mostClass, mostGrower}
+use Rattle.numbers.specs.Numbers.{mostNames, mostClass, mostGrower, nameBytes, countBytes, classBytes, wrongValue}
+use Rattle.numbers.specs.Numbers.{noRoom, entryWords, wrongSize}
 use Rattle.basics.specs.Base.{pick}
-use Rattle.sheet_format.specs.Job.{Job, bitOf, nameBytes, countBytes}
-use Rattle.sheet_format.specs.Job.{classBytes, encode, encodeSheet}
-use Rattle.sheet_format.specs.Decode.{offLimits, noRoom, rowWords}
+use Rattle.sheet_format.specs.Job.{Job, bitOf, encode, encodeSheet}
 use Rattle.sheet_format.specs.declared.Entry.{Entry}
 use Rattle.sheet_format.specs.declared.Wrote.{Wrote}
 use Rattle.sheet_format.specs.declared.SheetWrote.{SheetWrote}
@@ -55,7 +54,7 @@ written a o = record { answer = a; out = o }
 
 -- "On writing 14 comes before 15"; a refusal leaves the output as it was
 abbrev pub writeJudged : Fault → Job → List ℕ → ℕ → Written
-writeJudged (at place) j out start = written (Wrote.Refused offLimits place) out
+writeJudged (at place) j out start = written (Wrote.Refused wrongValue place) out
 writeJudged none j out start =
     pick (leb (start + length (encode j)) (length out))
     (written (Wrote.Done (start + length (encode j))) (sets out start (encode j)))
@@ -70,11 +69,11 @@ writeEntry e out start = writeJudged (faultOf e) (jobOf e) out start
 abbrev pub entryAt : List ℕ → ℕ → Entry
 entryAt rows i =
     record {
-      name = getD rows (rowWords * i) 0;
-      count = getD rows (rowWords * i + 1) 0;
-      class = getD rows (rowWords * i + 2) 0;
-      grower = getD rows (rowWords * i + 3) 0;
-      names = take mostNames (drop (rowWords * i + 4) rows);
+      name = getD rows (entryWords * i) 0;
+      count = getD rows (entryWords * i + 1) 0;
+      class = getD rows (entryWords * i + 2) 0;
+      grower = getD rows (entryWords * i + 3) 0;
+      names = take mostNames (drop (entryWords * i + 4) rows);
     }
 
 -- n entries from row i on
@@ -83,7 +82,7 @@ entriesFrom rows i zero = []
 entriesFrom rows i (suc n) = entryAt rows i ∷ entriesFrom rows (i + 1) n
 
 abbrev pub entriesOf : List ℕ → List Entry
-entriesOf rows = entriesFrom rows 0 (length rows / rowWords)
+entriesOf rows = entriesFrom rows 0 (length rows / entryWords)
 
 -- the first entry with a fault, by its number, and the fault's place
 pub data SheetFault : Type 0 where
@@ -106,19 +105,15 @@ abbrev pub sheetWritten : SheetWrote → List ℕ → SheetWritten
 sheetWritten a o = record { answer = a; out = o }
 
 abbrev pub writeSheetJudged : SheetFault → List Job → List ℕ → SheetWritten
-writeSheetJudged (at i place) js out = sheetWritten (SheetWrote.Refused offLimits i place) out
+writeSheetJudged (at i place) js out = sheetWritten (SheetWrote.Refused wrongValue i place) out
 writeSheetJudged none js out =
     pick (leb (length (encodeSheet js)) (length out))
     (sheetWritten (SheetWrote.Done (length js) (length (encodeSheet js))) (sets out 0 (encodeSheet js)))
     (sheetWritten (SheetWrote.Refused noRoom 0 0) out)
 
--- number 1, a table shorter than its records need: the last row is cut
-abbrev pub cutTable : ℕ
-cutTable = 1
-
--- 14 at any entry comes before 15
+-- 1, where the last row is cut; then 14 at any entry, which comes before 15
 unfoldable pub writeSheet : List ℕ → List ℕ → SheetWritten
 writeSheet rows out =
-    pick (eqb (length rows % rowWords) 0)
+    pick (eqb (length rows % entryWords) 0)
     (writeSheetJudged (sheetFault 0 (entriesOf rows)) (map jobOf (entriesOf rows)) out)
-    (sheetWritten (SheetWrote.Refused cutTable 0 0) out)
+    (sheetWritten (SheetWrote.Refused wrongSize 0 0) out)

@@ -9,11 +9,11 @@ use lib.ListN.{length, getD, take, drop, replicate, length-drop}
 use lib.Seq.{sets, sets-eq, drop-at, take-at, length-take-le}
 use lib.Dec.{leb, eqb}
 use borrow.Author.Tests.{leb-true, le-leb}
-use Rattle.basics.specs.Limits.{mostNames, mostClass, mostGrower}
+use Rattle.numbers.specs.Numbers.{mostNames, mostClass, mostGrower, entryWords}
 use Rattle.basics.specs.Base.{pick}
 use Rattle.basics.specs.Laws.{never}
 use Rattle.sheet_format.specs.Job.{Job, Below, none, more, Valid, encode, encodeSheet}
-use Rattle.sheet_format.specs.Decode.{job, jobs, decode, decodeSheet, readingOf, rowWords}
+use Rattle.sheet_format.specs.Decode.{job, jobs, decode, decodeSheet, readingOf}
 use Rattle.sheet_format.specs.Write.{jobOf, Fault, faultOf, Written, writeJudged, writeEntry, entryAt}
 use Rattle.sheet_format.specs.Write.{entriesFrom, entriesOf, SheetFault, orElse, sheetFault, SheetWritten}
 use Rattle.sheet_format.specs.Write.{writeSheetJudged, writeSheet}
@@ -148,20 +148,20 @@ entry-reading e out start n w h =
 
 -- A SHEET
 
-pub entry-words : (rows : List ℕ) (i : ℕ) → Below (2 ^ 32) rows → rowWords * (i + 1) ≤ length rows
+pub entry-words : (rows : List ℕ) (i : ℕ) → Below (2 ^ 32) rows → entryWords * (i + 1) ≤ length rows
     → Words (entryAt rows i)
 entry-words rows i b whole =
     record {
-      name = below-getD _ (rowWords * i) rows (omega arith) b;
-      count = below-getD _ (rowWords * i + 1) rows (omega arith) b;
-      class = below-getD _ (rowWords * i + 2) rows (omega arith) b;
-      grower = below-getD _ (rowWords * i + 3) rows (omega arith) b;
-      names = below-take _ mostNames _ (below-drop _ (rowWords * i + 4) rows b);
-      size = length-take-le mostNames (drop (rowWords * i + 4) rows)
-          (omega (arith, length-drop (rowWords * i + 4) rows));
+      name = below-getD _ (entryWords * i) rows (omega arith) b;
+      count = below-getD _ (entryWords * i + 1) rows (omega arith) b;
+      class = below-getD _ (entryWords * i + 2) rows (omega arith) b;
+      grower = below-getD _ (entryWords * i + 3) rows (omega arith) b;
+      names = below-take _ mostNames _ (below-drop _ (entryWords * i + 4) rows b);
+      size = length-take-le mostNames (drop (entryWords * i + 4) rows)
+          (omega (arith, length-drop (entryWords * i + 4) rows));
     }
 
-pub rows-words : (rows : List ℕ) (i n : ℕ) → Below (2 ^ 32) rows → rowWords * (i + n) ≤ length rows
+pub rows-words : (rows : List ℕ) (i n : ℕ) → Below (2 ^ 32) rows → entryWords * (i + n) ≤ length rows
     → Each Words (entriesFrom rows i n)
 unfolding entriesFrom
 rows-words rows i zero b whole = Each.none
@@ -206,7 +206,7 @@ pub sheet-done : (rows out : List ℕ) (k n : ℕ) → writeSheet rows out .answ
     → SheetDone rows out n
 unfolding writeSheet
 sheet-done rows out k n h =
-    let p = held (λ (w : SheetWritten). w .answer) (SheetWrote.Done k n) (eqb (length rows % rowWords) 0) _ _
+    let p = held (λ (w : SheetWritten). w .answer) (SheetWrote.Done k n) (eqb (length rows % entryWords) 0) _ _
     (λ other. never (cc)) h in
     let d = sheet-judged (sheetFault 0 (entriesOf rows)) (map jobOf (entriesOf rows)) out k n (p .1) in
     record { fault = d .0; room = leb-true _ _ (d .1); ends = d .2; left = rw (p .0, d .0, d .1) }
@@ -216,7 +216,7 @@ pub sheet-written : (rows out : List ℕ) (k n : ℕ) → Below (2 ^ 32) rows
     → decodeSheet (take n (writeSheet rows out .out)) ≡ jobs (map jobOf (entriesOf rows))
 sheet-written rows out k n b h =
     let d = sheet-done rows out k n h in
-    let words = rows-words rows 0 (length rows / rowWords) b (omega arith) in
+    let words = rows-words rows 0 (length rows / entryWords) b (omega arith) in
     let front = sets-front (encodeSheet (map jobOf (entriesOf rows))) out (d .room) in
     rw (d .left, d .ends, front) (sheet-there (map jobOf (entriesOf rows))
     (valid-jobs 0 (entriesOf rows) words (d .fault)))

@@ -3,8 +3,8 @@
 // and arguments.
 ghost use mathlib.Core.Path.{_≡_};
 ghost use lib.Dec.{leb, eqb};
+ghost use Rattle.numbers.specs.Numbers.{mostEntries, tooManyEntries, halfDone};
 ghost use Rattle.basics.specs.Base.{pick};
-ghost use Rattle.terms.specs.Terms.{mostEntries, tooManyEntries, halfDone};
 ghost use Rattle.words.specs.Columns.{columns};
 ghost use Rattle.words.specs.Layout.{workerShape, PHASE, IDLE, atEntry};
 ghost use Rattle.whole_words.specs.Sheet.{judgedSheet};
@@ -12,8 +12,8 @@ ghost use Rattle.sheet_rows.specs.SheetRows.{numberOf, placeOf, turnedAway};
 use graph_own::own_ok;
 use graph_sizes::sizes_fit;
 use graph_words::layout::*;
-use graph_words::numbers::*;
 use graph_words::worker_word;
+use numbers::*;
 use sheet_rows::SheetAdded;
 use terms::Answer;
 use terms::Sizes;
@@ -59,7 +59,7 @@ pub fn judge_sheet(
             NO_SUCH_WORKER
         }
     } else {
-        WRONG_SIZES
+        WRONG_SIZE
     }
 }
 

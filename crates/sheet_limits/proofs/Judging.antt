@@ -6,7 +6,7 @@ use mathlib.Core.Bool.{Bool, true, false}
 use lib.ListN.{length}
 use lib.Dec.{leb}
 use borrow.Author.Tests.{leb-true}
-use Rattle.basics.specs.Limits.{mostNames}
+use Rattle.numbers.specs.Numbers.{mostNames}
 use Rattle.basics.specs.Base.{pick}
 use Rattle.sheet_format.specs.Job.{encode, encodeSheet}
 use Rattle.sheet_format.specs.Write.{Fault, jobOf, faultOf, listPlace, SheetFault, sheetFault}

@@ -5,9 +5,8 @@ use mathlib.Core.List.{List, [], _∷_, _++_, map}
 use native.Mathlib.Omega.{arith}
 use lib.ListN.{length, getD, drop, length-append, length-drop}
 use lib.Seq.{length-take-le, take-take}
-use Rattle.basics.specs.Limits.{mostNames}
-use Rattle.sheet_format.specs.Job.{bitOf, nameBytes, encode, encodeSheet}
-use Rattle.sheet_format.specs.Decode.{rowWords}
+use Rattle.numbers.specs.Numbers.{mostNames, nameBytes, entryWords}
+use Rattle.sheet_format.specs.Job.{bitOf, encode, encodeSheet}
 use Rattle.sheet_format.specs.Write.{Fault, faultOf, listBytes, jobOf, entryAt, entriesFrom, SheetFault, sheetFault}
 use Rattle.sheet_format.specs.Write.{orElse}
 use Rattle.sheet_format.specs.declared.Entry.{Entry}
@@ -17,7 +16,7 @@ use Rattle.sheet_limits.proofs.Judging.{few}
 
 -- the bytes of a row of words
 abbrev pub rowBytes : ℕ
-rowBytes = 4 * rowWords
+rowBytes = 4 * entryWords
 
 bit-small : (n : ℕ) → bitOf n ≤ 1
 bit-small zero = omega arith
@@ -49,15 +48,15 @@ no-fault i (Fault.at place) others h = (cc, cc)
 no-fault i Fault.none others h = (refl, h)
 
 module _ (rows : List ℕ) where
-  pub names-all : (i : ℕ) → rowWords * (i + 1) ≤ length rows → length (entryAt rows i .names) ≡ mostNames
+  pub names-all : (i : ℕ) → entryWords * (i + 1) ≤ length rows → length (entryAt rows i .names) ≡ mostNames
   names-all i h =
-      length-take-le mostNames (drop (rowWords * i + 4) rows) (simp length-drop (omega arith))
+      length-take-le mostNames (drop (entryWords * i + 4) rows) (simp length-drop (omega arith))
 
   -- the names of a row, read where they stand
-  pub job-at : (i : ℕ) → getD rows (rowWords * i + 1) 0 ≤ mostNames
-      → jobOf (entryAt rows i) ≡ jobWith (getD rows (rowWords * i) 0) rows (rowWords * i + 4)
-      (getD rows (rowWords * i + 1) 0) (getD rows (rowWords * i + 2) 0) (getD rows (rowWords * i + 3) 0)
-  job-at i few = rw (take-take (getD rows (rowWords * i + 1) 0) mostNames (drop (rowWords * i + 4) rows) few)
+  pub job-at : (i : ℕ) → getD rows (entryWords * i + 1) 0 ≤ mostNames
+      → jobOf (entryAt rows i) ≡ jobWith (getD rows (entryWords * i) 0) rows (entryWords * i + 4)
+      (getD rows (entryWords * i + 1) 0) (getD rows (entryWords * i + 2) 0) (getD rows (entryWords * i + 3) 0)
+  job-at i few = rw (take-take (getD rows (entryWords * i + 1) 0) mostNames (drop (entryWords * i + 4) rows) few)
 
   module _ (i n : ℕ) (more : i < n) where
     next-entry : rest rows i n ≡ entryAt rows i ∷ rest rows (i + 1) n

@@ -8,9 +8,9 @@ use lib.Dec.{leb}
 use lib.ListN.{length, take, drop, length-append, length-drop}
 use lib.Seq.{length-take-le}
 use borrow.Author.Tests.{leb-true, leb-false, le-leb, lt-leb}
+use Rattle.numbers.specs.Numbers.{nameBytes, countBytes, classBytes, growerBytes}
 use Rattle.sheet_format.specs.Number.{spelt}
-use Rattle.sheet_format.specs.Job.{bitOf, nameBytes, countBytes, classBytes, growerBytes, speltUnlessZero, speltNames}
-use Rattle.sheet_format.specs.Job.{speltList, encode}
+use Rattle.sheet_format.specs.Job.{bitOf, speltUnlessZero, speltNames, speltList, encode}
 use Rattle.sheet_format.specs.Write.{listPlace, listBytes}
 use Rattle.sheet_format.specs.NumberLaws.{length-spelt}
 use Rattle.sheet_format.specs.EntryTrip.{length-list, length-optional}

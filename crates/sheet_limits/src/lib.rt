@@ -5,37 +5,27 @@ ghost use mathlib.Core.List.{List};
 ghost use Prim.Native.Nat.{ℕ, _+_, _*_, _≤_};
 ghost use lib.ListN.{length};
 ghost use lib.Dec.{leb};
-ghost use Rattle.basics.specs.Limits.{mostNames};
-ghost use Rattle.sheet_format.specs.Job.{nameBytes, countBytes, bitOf, mapByte};
-ghost use Rattle.sheet_format.specs.Decode.{rowWords};
+ghost use Rattle.numbers.specs.Numbers.{mostNames, nameBytes, countBytes, entryWords};
+ghost use Rattle.sheet_format.specs.Job.{bitOf, mapByte};
 ghost use Rattle.sheet_format.specs.Write.{listBytes, entryAt, entriesFrom, entriesOf};
 ghost use Rattle.sheet_limits.specs.Jobs.{entryWith, jobOn};
 ghost use Rattle.sheet_limits.specs.Judge.{judged, sheetJudged};
+use numbers::CLASS_BYTES;
+use numbers::COUNT_BYTES;
+use numbers::ENTRY_WORDS;
+use numbers::GROWER_BYTES;
+use numbers::MOST_CLASS;
+use numbers::MOST_GROWER;
+use numbers::MOST_NAMES;
+use numbers::NAME_BYTES;
 
-// The most names of a list, the highest class and the highest grower.
-pub const MOST_NAMES: u32 = 32;
-
-pub const MOST_CLASS: u32 = 15;
-
-pub const MOST_GROWER: u32 = 65535;
-
-// Bytes of the map, a name, a list's count, a class and a grower.
+// The bytes of the map.
 pub const MAP_BYTES: usize = 1;
-
-pub const NAME_BYTES: usize = 4;
-
-pub const COUNT_BYTES: usize = 1;
-
-pub const CLASS_BYTES: usize = 1;
-
-pub const GROWER_BYTES: usize = 2;
 
 // Where the list stands, from the entry's start.
 pub const LIST_PLACE: usize = MAP_BYTES + NAME_BYTES;
 
-// The row of words that holds an entry: its name, and from these words on its count, class, grower and names.
-pub const ROW_WORDS: usize = 36;
-
+// A row of words holds an entry: its name, and from these words on its count, class, grower and names.
 pub const COUNT_WORD: usize = 1;
 
 pub const CLASS_WORD: usize = 2;
@@ -115,10 +105,10 @@ pub fn has_room(end: usize, at: usize, bytes: usize) -> bool
 
 // The entry in row i, judged.
 fn judge_row(rows: &[u32], i: usize) -> Judged
-    requires { ⌜ rowWords * (i + 1) ≤ length (now rows) ⌝ }
+    requires { ⌜ entryWords * (i + 1) ≤ length (now rows) ⌝ }
     ensures { λ r. ⌜ r ≡ judged (entryAt (now (rows .entry)) i) ⌝ }
 {
-    let row = ROW_WORDS * i;
+    let row = ENTRY_WORDS * i;
     judge(
         rows[row + COUNT_WORD],
         rows[row + CLASS_WORD],
@@ -128,7 +118,7 @@ fn judge_row(rows: &[u32], i: usize) -> Judged
 
 // The entries of the first n rows, judged.
 fn judge_rows(rows: &[u32], n: usize) -> SheetJudged
-    requires { ⌜ rowWords * n ≤ length (now rows) ⌝ }
+    requires { ⌜ entryWords * n ≤ length (now rows) ⌝ }
     ensures { λ r. ⌜ r ≡ sheetJudged (entriesFrom (now (rows .entry)) 0 n) ⌝ }
 {
     let mut sum: usize = 0;
@@ -151,5 +141,5 @@ fn judge_rows(rows: &[u32], n: usize) -> SheetJudged
 pub fn judge_sheet(rows: &[u32]) -> SheetJudged
     ensures { λ r. ⌜ r ≡ sheetJudged (entriesOf (now (rows .entry))) ⌝ }
 {
-    judge_rows(rows, rows.len() / ROW_WORDS)
+    judge_rows(rows, rows.len() / ENTRY_WORDS)
 }

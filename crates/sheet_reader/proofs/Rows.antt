@@ -6,12 +6,12 @@ use native.Mathlib.Omega.{arith}
 use lib.ListN.{length, length-append, length-replicate, replicate}
 use lib.Seq.{sets, length-sets}
 use borrow.Author.Tests.{le-leb, lt-leb}
-use Rattle.basics.specs.Limits.{mostNames}
+use Rattle.numbers.specs.Numbers.{mostNames, entryWords, noRoom}
 use Rattle.basics.specs.Laws.{never}
 use Rattle.basics.specs.Stores.{sets-append}
 use Rattle.sheet_format.specs.Job.{Job}
 use Rattle.sheet_format.specs.Decode.{job, end, refused, decode, Sheet, jobs, broken, before, decodeSheet, scanSheet}
-use Rattle.sheet_format.specs.Decode.{rowWords, rowOf, rowsOf, sheetRows, readSheet, noRoom}
+use Rattle.sheet_format.specs.Decode.{rowOf, rowsOf, sheetRows, readSheet}
 use Rattle.sheet_format.specs.declared.SheetRead.{SheetRead}
 use Rattle.entry_scan.proofs.Entries.{stands}
 use Rattle.sheet_scan.proofs.Sheets.{rest, rest-start, rest-on}
@@ -28,10 +28,10 @@ pub read-refused : (t : Sheet) (rows : List ℕ) (c a : ℕ) → scanSheet t ≡
 read-refused (jobs js) rows c a h = never (cc)
 read-refused (broken c′ a′) rows c a h = ap (λ (r : SheetRead). sheetRows r rows) (sym h)
 
-pub read-no-room : (t : Sheet) (rows : List ℕ) (n : ℕ) → scanSheet t ≡ SheetRead.Whole n → length rows < rowWords * n
+pub read-no-room : (t : Sheet) (rows : List ℕ) (n : ℕ) → scanSheet t ≡ SheetRead.Whole n → length rows < entryWords * n
     → sheetRows (SheetRead.Refused noRoom 0) rows ≡ readSheet t rows
 read-no-room t rows n h few =
-    counted-jobs t n h λ js e k. rw (e, lt-leb (rowWords * length js) (length rows) (omega arith))
+    counted-jobs t n h λ js e k. rw (e, lt-leb (entryWords * length js) (length rows) (omega arith))
 
 -- the jobs of the sheet, and those whose rows are still to be stored
 pub record Left (s rows₀ rows : List ℕ) (at from : ℕ) : Type 0 where
@@ -40,12 +40,12 @@ pub record Left (s rows₀ rows : List ℕ) (at from : ℕ) : Type 0 where
   pub left : List Job
   pub behind : rest s at ≡ jobs left
   pub inside : at ≤ length s
-  pub room : from + rowWords * length left ≤ length rows
+  pub room : from + entryWords * length left ≤ length rows
   pub same : length rows ≡ length rows₀
   pub stored : sets rows from (rowsOf left) ≡ sets rows₀ 0 (rowsOf all)
 
-pub left-start : (s rows : List ℕ) (n : ℕ) → scanSheet (decodeSheet s) ≡ SheetRead.Whole n → rowWords * n ≤ length rows
-    → Left s rows rows 0 0
+pub left-start : (s rows : List ℕ) (n : ℕ) → scanSheet (decodeSheet s) ≡ SheetRead.Whole n
+    → entryWords * n ≤ length rows → Left s rows rows 0 0
 left-start s rows n h room =
     counted-jobs (decodeSheet s) n h λ js e k.
     record {
@@ -65,7 +65,7 @@ first : (j : Job) (t : Sheet) (js : List Job) {P : Type 0} → before j t ≡ jo
 first j (jobs ks) js h onward = onward ks (cc) refl
 first j (broken c a) js h onward = never (cc)
 
-row-length : (j : Job) → length (j .list) ≤ mostNames → length (rowOf j) ≡ rowWords
+row-length : (j : Job) → length (j .list) ≤ mostNames → length (rowOf j) ≡ entryWords
 row-length j h =
     let a = length-append (j .list) (replicate (mostNames - length (j .list)) 0) in
     let b = length-replicate {A = ℕ} (mostNames - length (j .list)) 0 in
@@ -76,11 +76,11 @@ module _ {s rows₀ rows : List ℕ} {at from : ℕ} (l : Left s rows₀ rows at
     on : before j (rest s n) ≡ jobs (l .left)
     on = rw e at (sym (rest-on s at) ∙ l .behind)
 
-    pub left-room : from + rowWords ≤ length rows
+    pub left-room : from + entryWords ≤ length rows
     left-room = first j (rest s n) (l .left) on λ ks k b. omega (arith, ap length k, l .room)
 
     pub left-more : {rows′ : List ℕ} → length (j .list) ≤ mostNames → rows′ ≡ sets rows from (rowOf j)
-        → Left s rows₀ rows′ n (from + rowWords)
+        → Left s rows₀ rows′ n (from + entryWords)
     unfolding rowsOf
     left-more {rows′} c e′ =
         first j (rest s n) (l .left) on λ ks k b.
@@ -98,13 +98,13 @@ module _ {s rows₀ rows : List ℕ} {at from : ℕ} (l : Left s rows₀ rows at
           room = omega arith;
           same = omega arith;
           stored =
-              rw e′ (sets-append rows (rowOf j) (rowsOf ks) from (from + rowWords) (omega arith)
+              rw e′ (sets-append rows (rowOf j) (rowsOf ks) from (from + entryWords) (omega arith)
               ∙ (rw k at (l .stored)));
         }
 
   -- the whole is stored where nothing is left
   pub left-none : {n : ℕ} → decode s at ≡ end → scanSheet (decodeSheet s) ≡ SheetRead.Whole n
-      → rowWords * n ≤ length rows₀ → sheetRows (SheetRead.Whole n) rows ≡ readSheet (decodeSheet s) rows₀
+      → entryWords * n ≤ length rows₀ → sheetRows (SheetRead.Whole n) rows ≡ readSheet (decodeSheet s) rows₀
   unfolding rowsOf
   left-none {n} e h room =
       let r : jobs [] ≡ jobs (l .left) = rw e at (sym (rest-on s at) ∙ l .behind) in
@@ -112,7 +112,7 @@ module _ {s rows₀ rows : List ℕ} {at from : ℕ} (l : Left s rows₀ rows at
       let g : SheetRead.Whole (length (l .all)) ≡ SheetRead.Whole n = rw (l .sheet) at h in
       let q : length (l .all) ≡ n = cc in
       let x : rows ≡ sets rows₀ 0 (rowsOf (l .all)) = rw k at (l .stored) in
-      rw (l .sheet, le-leb (rowWords * length (l .all)) (length rows₀) (omega arith), q, ← x)
+      rw (l .sheet, le-leb (entryWords * length (l .all)) (length rows₀) (omega arith), q, ← x)
 
   -- a sheet of jobs has no refusal
   pub left-refused : {c a : ℕ} → decode s at ≡ refused c a → ⊥

@@ -1,11 +1,13 @@
 // The reader of job sheets: an entry with its names, and a whole sheet as rows of words (docs/SHEETS.md and numbers 12
 // to 15). Each answer is the one that the definitions of sheet_format give. Assumes nothing of the bytes, and nothing
 // of the offset.
-use entry_scan::MOST_NAMES;
-use entry_scan::NAME_BYTES;
 use entry_scan::NAMES_FROM;
 use entry_scan::scan;
 use entry_scan::spelt4;
+use numbers::ENTRY_WORDS;
+use numbers::MOST_NAMES;
+use numbers::NAME_BYTES;
+use numbers::NO_ROOM;
 use sheet_format::Entry;
 use sheet_format::Read;
 use sheet_format::Reading;
@@ -18,17 +20,12 @@ ghost use mathlib.Core.List.{_∷_};
 ghost use Prim.Native.Nat.{_+_, _*_, _-_, _≤_};
 ghost use lib.ListN.{length, replicate};
 ghost use lib.Seq.{sets};
-ghost use Rattle.basics.specs.Limits.{mostNames};
-ghost use Rattle.sheet_format.specs.Job.{nameBytes};
+ghost use Rattle.numbers.specs.Numbers.{mostNames, nameBytes, entryWords};
 ghost use Rattle.sheet_format.specs.Decode.{namesAt, padded, decode, blank, readingOf};
-ghost use Rattle.sheet_format.specs.Decode.{decodeSheet, scanSheet, rowWords, sheetRows, readSheet};
+ghost use Rattle.sheet_format.specs.Decode.{decodeSheet, scanSheet, sheetRows, readSheet};
 
-// the refusal for want of room
-const NO_ROOM: u32 = 15;
-
-// the words of a row: four numbers and the places of the names
-const ROW_WORDS: usize = 36;
-
+// the places of an entry's names
+const PLACES: usize = MOST_NAMES as usize;
 // Stores so many names from an offset on.
 fn store_names(s: &[u8], at: usize, count: usize, words: &mut [u32], from: usize)
     requires { ⌜ (at + nameBytes * count ≤ length (now s) + (1 - count)) × (from + count ≤ length (now words)) ⌝ }
@@ -44,11 +41,11 @@ fn store_names(s: &[u8], at: usize, count: usize, words: &mut [u32], from: usize
 }
 
 // So many names from an offset on, and 0 in the places that are left.
-fn names(s: &[u8], at: usize, count: usize) -> [u32; MOST_NAMES]
+fn names(s: &[u8], at: usize, count: usize) -> [u32; PLACES]
     requires { ⌜ (count ≤ mostNames) × (at + nameBytes * count ≤ length (now s) + (1 - count)) ⌝ }
     ensures { λ r. ⌜ r ≡ padded (namesAt nameBytes (now (s .entry)) at count) ⌝ }
 {
-    let mut names = [0u32; MOST_NAMES];
+    let mut names = [0u32; PLACES];
     store_names(s, at, count, &mut names, 0);
     names
 }
@@ -57,7 +54,7 @@ fn names(s: &[u8], at: usize, count: usize) -> [u32; MOST_NAMES]
 fn without_entry(answer: Read) -> Reading
     ensures { λ r. ⌜ r ≡ record { answer = answer; entry = blank } ⌝ }
 {
-    let names = [0u32; MOST_NAMES];
+    let names = [0u32; PLACES];
     let entry = Entry {
         name: 0,
         count: 0,
@@ -104,7 +101,7 @@ fn clear_names(words: &mut [u32], from: usize)
     ensures { λ _. ⌜ now (words .exit) ≡ sets (now (words .entry)) from (replicate mostNames 0) ⌝ }
 {
     let mut i = 0;
-    while i < MOST_NAMES {
+    while i < PLACES {
         words[from + i] = 0;
         i += 1;
     }
@@ -122,7 +119,7 @@ fn store_row(
     from: usize,
 )
     requires { ⌜ (count ≤ mostNames) × (at + nameBytes * count ≤ length (now s) + (1 - count))
-        × (from + rowWords ≤ length (now rows)) ⌝ }
+        × (from + entryWords ≤ length (now rows)) ⌝ }
     ensures { λ _. ⌜ now (rows .exit)
         ≡ sets (now (rows .entry)) from
         (name ∷ count ∷ class ∷ grower ∷ padded (namesAt nameBytes (now (s .entry)) at count)) ⌝ }
@@ -138,7 +135,7 @@ fn store_row(
 // Stores the rows of a sheet that was counted whole.
 fn store_sheet(s: &[u8], entries: usize, rows: &mut [u32])
     requires { ⌜ (scanSheet (decodeSheet (now s)) ≡ SheetRead.Whole entries)
-        × (rowWords * entries ≤ length (now rows)) ⌝ }
+        × (entryWords * entries ≤ length (now rows)) ⌝ }
     ensures { λ _. ⌜ sheetRows (SheetRead.Whole entries) (now (rows .exit))
         ≡ readSheet (decodeSheet (now (s .entry))) (now (rows .entry)) ⌝ }
 {
@@ -155,7 +152,7 @@ fn store_sheet(s: &[u8], entries: usize, rows: &mut [u32])
             } => {
                 store_row(s, at + NAMES_FROM, name, count, class, grower, rows, from);
                 at = next;
-                from += ROW_WORDS;
+                from += ENTRY_WORDS;
             }
             Scan::End => return,
             Scan::Refused { number: _, at: _ } => return,
@@ -170,7 +167,7 @@ pub fn read_sheet(s: &[u8], rows: &mut [u32]) -> SheetRead
     match scan_sheet(s) {
         SheetRead::Refused { number, at } => SheetRead::Refused { number, at },
         SheetRead::Whole { entries } => {
-            if entries <= rows.len() / ROW_WORDS {
+            if entries <= rows.len() / ENTRY_WORDS {
                 store_sheet(s, entries, rows);
                 SheetRead::Whole { entries }
             } else {

@@ -6,13 +6,13 @@ use Prim.Native.Nat.{ℕ, _%_}
 use lib.Dec.{eqb}
 use lib.ListN.{length, replicate}
 use lib.Seq.{sets}
+use Rattle.numbers.specs.Numbers.{mostEntries, wrongSize, entryWords}
 use Rattle.basics.specs.Base.{pick}
-use Rattle.terms.specs.Terms.{Arguments, mostEntries, wrongSizes}
+use Rattle.terms.specs.Terms.{Arguments}
 use Rattle.terms.specs.Cases.{ifRefused}
 use Rattle.terms.specs.declared.Sizes.{Sizes}
 use Rattle.terms.specs.declared.Answer.{Answer}
 use Rattle.words.specs.Layout.{Tables}
-use Rattle.sheet_format.specs.Decode.{rowWords}
 use Rattle.sheet_format.specs.Write.{entriesOf}
 use Rattle.whole_words.specs.Sheet.{SheetOutcome, sheetOutcome, sheetWords}
 use Rattle.sheet_rows.specs.Arguments.{argumentsOf}
@@ -25,7 +25,7 @@ addsOf rows = map argumentsOf (entriesOf rows)
 -- the sheet of all rows; words that make no whole rows are a table shorter than its records need: 1
 unfoldable pub rowsWords : Sizes → Tables → ℕ → List ℕ → SheetOutcome
 rowsWords s t w rows =
-    pick (eqb (length rows % rowWords) 0) (sheetWords s t w (addsOf rows)) (sheetOutcome wrongSizes [] t)
+    pick (eqb (length rows % entryWords) 0) (sheetWords s t w (addsOf rows)) (sheetOutcome wrongSize [] t)
 
 -- an add that is run whole ends, or is refused by a number, of which 6 has a place
 abbrev pub numberOf : Answer → ℕ

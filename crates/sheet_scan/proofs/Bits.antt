@@ -9,19 +9,19 @@ use native.Mathlib.Omega.{arith}
 use lib.ListN.{length, getD}
 use lib.Dec.{ltb, leb, eqb}
 use borrow.Author.Tests.{leb-true, le-leb, lt-ltb}
-use Rattle.basics.specs.Limits.{mostNames, mostClass, mostGrower}
+use Rattle.numbers.specs.Numbers.{mostNames, mostClass, mostGrower, nameBytes, countBytes, classBytes, growerBytes}
+use Rattle.numbers.specs.Numbers.{mostEntryBytes}
 use Rattle.basics.specs.Laws.{never}
 use Rattle.sheet_format.specs.Number.{numberAt}
 use Rattle.sheet_format.specs.Choice.{both}
-use Rattle.sheet_format.specs.Job.{Job, nameBytes, countBytes, classBytes}
-use Rattle.sheet_format.specs.Job.{growerBytes}
+use Rattle.sheet_format.specs.Job.{Job}
 use Rattle.sheet_format.specs.Decode.{mapAt, nameAt, limitedAt, listAt, ifBit, namesAt, Decoded, job, end, refused}
 use Rattle.sheet_format.specs.Decode.{thenDecoded, decode, scanOf}
 use Rattle.sheet_format.specs.declared.Field.{Field}
 use Rattle.sheet_format.specs.declared.Field.the-variants.{Got, Refused}
 use Rattle.sheet_format.specs.declared.Scan.{Scan}
 use Rattle.entry_scan.specs.Stages.{judgedThen, fromGrower, fromClass}
-use Rattle.sheet_scan.specs.Places.{longestEntry, classPlace, growerPlace}
+use Rattle.sheet_scan.specs.Places.{classPlace, growerPlace}
 use Rattle.entry_scan.proofs.Fields.{got, through, limited-got, from-class-is}
 use Rattle.sheet_format.specs.NumberLaws.{length-namesAt}
 use Rattle.entry_scan.proofs.Entries.{decoded, inside, stands}
@@ -117,7 +117,7 @@ ends-by-bits s at map name list h c g =
 
 -- the whole entry
 module _ (s : List ℕ) (at : ℕ) where
-  pub sure : at + longestEntry ≤ length s → (ltb (map s at) 16 && eqb (map s at % 2) 1) ≡ true
+  pub sure : at + mostEntryBytes ≤ length s → (ltb (map s at) 16 && eqb (map s at % 2) 1) ≡ true
       → within (map s at / 2 % 2) (count s at) mostNames ≡ true
       → within (map s at / 4 % 2) (class s at) mostClass ≡ true
       → within (map s at / 8 % 2) (grower s at) mostGrower ≡ true
@@ -141,7 +141,7 @@ module _ (s : List ℕ) (at : ℕ) where
 
 -- A NAME ALONE, AND A NAME WITH A LIST
 
-module _ (s : List ℕ) (at : ℕ) (fits : at + longestEntry ≤ length s) where
+module _ (s : List ℕ) (at : ℕ) (fits : at + mostEntryBytes ≤ length s) where
   pub name-alone : map s at ≡ 1 → Scan.Fields (numberAt nameBytes s (at + 1)) 0 0 0 (at + 5) ≡ scanOf (decode s at)
   unfolding decode mapAt nameAt
   name-alone m =

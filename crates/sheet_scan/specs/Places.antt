@@ -1,11 +1,6 @@
--- How long an entry can be, and where its last fields stand (docs/SHEETS.md). Assumes nothing.
+-- Where the last fields of an entry stand (docs/SHEETS.md). Assumes nothing.
 use Prim.Native.Nat.{ℕ, _+_, _*_, _/_, _%_}
-use Rattle.basics.specs.Limits.{mostNames}
-use Rattle.sheet_format.specs.Job.{nameBytes, countBytes, classBytes, growerBytes}
-
--- the most bytes of an entry
-abbrev pub longestEntry : ℕ
-longestEntry = 1 + nameBytes + (countBytes + nameBytes * mostNames) + classBytes + growerBytes
+use Rattle.numbers.specs.Numbers.{nameBytes, countBytes, classBytes}
 
 -- where the class and the grower of the entry at an offset stand, by its map byte and its count
 abbrev pub classPlace : ℕ → ℕ → ℕ → ℕ

@@ -1,28 +1,26 @@
 // The scan of a whole job sheet, which counts its entries (docs/SHEETS.md and numbers 12 to 14). Where the longest
 // entry would fit, the fields are read with no test of their ends. Assumes nothing of the bytes.
 use entry_scan::LIST_PLACE;
-use entry_scan::MOST_CLASS;
-use entry_scan::MOST_GROWER;
-use entry_scan::MOST_NAMES;
-use entry_scan::NAME_BYTES;
 use entry_scan::NAMES_FROM;
 use entry_scan::scan;
 use entry_scan::spelt2;
 use entry_scan::spelt4;
 use entry_scan::wide;
 use entry_scan::within_if;
+use numbers::MOST_CLASS;
+use numbers::MOST_ENTRY_BYTES;
+use numbers::MOST_GROWER;
+use numbers::MOST_NAMES;
+use numbers::NAME_BYTES;
 use sheet_format::Scan;
 use sheet_format::SheetRead;
 ghost use mathlib.Core.Path.{_≡_};
 ghost use Prim.Native.Nat.{ℕ, _+_, _*_, _/_, _%_, _≤_};
 ghost use lib.ListN.{length, getD};
-ghost use Rattle.basics.specs.Limits.{mostNames};
+ghost use Rattle.numbers.specs.Numbers.{mostNames, mostEntryBytes};
 ghost use Rattle.sheet_format.specs.Number.{numberAt};
 ghost use Rattle.sheet_format.specs.Decode.{decode, refused, scanOf, decodeSheet, scanSheet};
-ghost use Rattle.sheet_scan.specs.Places.{longestEntry, classPlace, growerPlace};
-
-// the most bytes of an entry: the map byte, a name, a full list, a class and a grower
-const LONGEST_ENTRY: usize = 137;
+ghost use Rattle.sheet_scan.specs.Places.{classPlace, growerPlace};
 
 // map bytes: of a name alone, and of a name with a list
 const NAME_ALONE: u32 = 1;
@@ -63,7 +61,7 @@ struct LastFields {
 // The last fields of the entry at an offset, each multiplied by its bit: in a sheet of many kinds of entry a jump on a
 // bit is guessed wrong half the time.
 fn last_fields(s: &[u8], at: usize, map: u32, count: u32) -> LastFields
-    requires { ⌜ (at + longestEntry ≤ length (now s)) × (count ≤ mostNames) ⌝ }
+    requires { ⌜ (at + mostEntryBytes ≤ length (now s)) × (count ≤ mostNames) ⌝ }
     ensures { λ r. ⌜ (r .class ≡ (map / 4 % 2) * numberAt 1 (now (s .entry)) (classPlace at map count))
         × (r .grower ≡ (map / 8 % 2) * numberAt 2 (now (s .entry)) (growerPlace at map count))
         × (r .next ≡ growerPlace at map count + 2 * (map / 8 % 2)) ⌝ }
@@ -84,13 +82,13 @@ fn last_fields(s: &[u8], at: usize, map: u32, count: u32) -> LastFields
 
 // The numbers of an entry, by its map byte, where the longest entry would fit: no field's end is tested.
 fn scan_by_bits(s: &[u8], at: usize, map: u32) -> Scan
-    requires { ⌜ (at + longestEntry ≤ length (now s)) × (map ≡ getD (now s) at 0) ⌝ }
+    requires { ⌜ (at + mostEntryBytes ≤ length (now s)) × (map ≡ getD (now s) at 0) ⌝ }
     ensures { λ r. ⌜ r ≡ scanOf (decode (now (s .entry)) at) ⌝ }
 {
     let list_bit = map / 2 % 2;
     let count = list_bit * number1(s, at + LIST_PLACE);
     let right = (map < 16) & (map % 2 == 1);
-    if right & within_if(list_bit, count, MOST_NAMES as u32) {
+    if right & within_if(list_bit, count, MOST_NAMES) {
         let last = last_fields(s, at, map, count);
         if within_if(map / 4 % 2, last.class, MOST_CLASS)
             & within_if(map / 8 % 2, last.grower, MOST_GROWER)
@@ -113,7 +111,7 @@ fn scan_next(s: &[u8], at: usize) -> Scan
     requires { ⌜ at ≤ length (now s) ⌝ }
     ensures { λ r. ⌜ r ≡ scanOf (decode (now (s .entry)) at) ⌝ }
 {
-    if s.len() < at + LONGEST_ENTRY {
+    if s.len() < at + MOST_ENTRY_BYTES {
         return scan(s, at);
     }
     let map = wide(s[at]);
@@ -127,7 +125,7 @@ fn scan_next(s: &[u8], at: usize) -> Scan
         };
     }
     let count = number1(s, at + LIST_PLACE);
-    let listed = (1 <= count) & (count <= MOST_NAMES as u32);
+    let listed = (1 <= count) & (count <= MOST_NAMES);
     if (map == NAME_AND_LIST) & listed {
         return Scan::Fields {
             name: number4(s, at + 1),
@@ -146,12 +144,12 @@ pub fn scan_again(s: &[u8], at: usize) -> Scan
     ensures { λ r. ⌜ (((number place : ℕ) → decode (now (s .entry)) at ≡ refused number place → ⊥)
         → r ≡ scanOf (decode (now (s .entry)) at)) ⌝ }
 {
-    if LONGEST_ENTRY <= s.len() {
-        if at <= s.len() - LONGEST_ENTRY {
+    if MOST_ENTRY_BYTES <= s.len() {
+        if at <= s.len() - MOST_ENTRY_BYTES {
             let map = wide(s[at]);
             let list_bit = map / 2 % 2;
             let count = list_bit * number1(s, at + LIST_PLACE);
-            if count <= MOST_NAMES as u32 {
+            if count <= MOST_NAMES {
                 let last = last_fields(s, at, map, count);
                 return Scan::Fields {
                     name: number4(s, at + 1),

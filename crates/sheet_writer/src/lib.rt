@@ -1,19 +1,22 @@
 // Writes entries and whole sheets of jobs (docs/SHEETS.md, numbers 14 and 15): judged first, then stored field after
 // field at a running place. A refusal leaves the output as it was. Assumes nothing.
+use numbers::CLASS_BYTES;
+use numbers::COUNT_BYTES;
+use numbers::ENTRY_WORDS;
+use numbers::GROWER_BYTES;
+use numbers::NAME_BYTES;
+use numbers::NO_ROOM;
+use numbers::WRONG_SIZE;
+use numbers::WRONG_VALUE;
 use sheet_format::Entry;
 use sheet_format::SheetWrote;
 use sheet_format::Wrote;
-use sheet_limits::CLASS_BYTES;
 use sheet_limits::CLASS_WORD;
-use sheet_limits::COUNT_BYTES;
 use sheet_limits::COUNT_WORD;
-use sheet_limits::GROWER_BYTES;
 use sheet_limits::GROWER_WORD;
 use sheet_limits::Judged;
 use sheet_limits::MAP_BYTES;
-use sheet_limits::NAME_BYTES;
 use sheet_limits::NAMES_WORD;
-use sheet_limits::ROW_WORDS;
 use sheet_limits::SheetJudged;
 use sheet_limits::has_room;
 use sheet_limits::judge;
@@ -22,21 +25,14 @@ use sheet_limits::map_byte;
 ghost use mathlib.Core.Path.{_≡_};
 ghost use Prim.Native.Nat.{_+_, _*_, _≤_};
 ghost use lib.ListN.{length, take, drop};
+ghost use Rattle.numbers.specs.Numbers.{nameBytes, entryWords};
 ghost use Rattle.sheet_format.specs.Number.{spelt};
-ghost use Rattle.sheet_format.specs.Job.{nameBytes, speltNames, encode};
-ghost use Rattle.sheet_format.specs.Decode.{rowWords};
+ghost use Rattle.sheet_format.specs.Job.{speltNames, encode};
 ghost use Rattle.sheet_format.specs.Write.{Fault, faultOf, jobOf, entryAt, entriesFrom};
 ghost use Rattle.sheet_format.specs.Write.{SheetFault, sheetFault, written, writeEntry, sheetWritten, writeSheet};
 ghost use Rattle.sheet_format.specs.Place.{Part, running, put, upTo};
 ghost use Rattle.sheet_format.specs.SheetPlace.{sheetSoFar};
 ghost use Rattle.sheet_writer.specs.Put.{Put, jobIn, Fits, Due};
-
-// Refusals: a table shorter than its records need, a field off its limits, an output without room.
-const CUT_TABLE: u32 = 1;
-
-const OFF_LIMITS: u32 = 14;
-
-const NO_ROOM: u32 = 15;
 
 // A name, least byte first.
 fn put_name(out: &mut [u8], place: usize, name: u32) -> usize
@@ -177,7 +173,7 @@ pub fn write(out: &mut [u8], at: usize, entry: Entry) -> Wrote
 {
     match judge(entry.count, entry.class, entry.grower) {
         Judged::Refused { at: place } => Wrote::Refused {
-            number: OFF_LIMITS,
+            number: WRONG_VALUE,
             at: place,
         },
         Judged::Takes { bytes } => {
@@ -197,13 +193,13 @@ pub fn write(out: &mut [u8], at: usize, entry: Entry) -> Wrote
 // The entry in row i, which is within its limits and for which there is room, behind the entries before it. Its names
 // are read where they stand.
 fn put_row(out: &mut [u8], start: usize, rows: &[u32], i: usize) -> usize
-    requires { ⌜ (rowWords * (i + 1) ≤ length (now rows)) × (faultOf (entryAt (now rows) i) ≡ Fault.none)
+    requires { ⌜ (entryWords * (i + 1) ≤ length (now rows)) × (faultOf (entryAt (now rows) i) ≡ Fault.none)
         × (start ≡ length (sheetSoFar (now rows) i))
         × (start + length (encode (jobOf (entryAt (now rows) i))) ≤ length (now out)) ⌝ }
     ensures { λ r. ⌜ Put (encode (jobOf (entryAt (now (rows .entry)) i))) (now (out .entry)) start
         (now (out .exit)) r ⌝ }
 {
-    let row = ROW_WORDS * i;
+    let row = ENTRY_WORDS * i;
     let fields = Fields {
         start,
         name: rows[row],
@@ -217,7 +213,7 @@ fn put_row(out: &mut [u8], start: usize, rows: &[u32], i: usize) -> usize
 
 // The entries of the first n rows, which are within their limits and for which there is room.
 fn put_rows(out: &mut [u8], rows: &[u32], n: usize) -> usize
-    requires { ⌜ (rowWords * n ≤ length (now rows)) × (sheetFault 0 (entriesFrom (now rows) 0 n) ≡ SheetFault.none)
+    requires { ⌜ (entryWords * n ≤ length (now rows)) × (sheetFault 0 (entriesFrom (now rows) 0 n) ≡ SheetFault.none)
         × (length (sheetSoFar (now rows) n) ≤ length (now out)) ⌝ }
     ensures { λ r. ⌜ Put (sheetSoFar (now (rows .entry)) n) (now (out .entry)) 0 (now (out .exit)) r ⌝ }
 {
@@ -234,17 +230,17 @@ fn put_rows(out: &mut [u8], rows: &[u32], n: usize) -> usize
 pub fn write_sheet(rows: &[u32], out: &mut [u8]) -> SheetWrote
     ensures { λ r. ⌜ sheetWritten r (now (out .exit)) ≡ writeSheet (now (rows .entry)) (now (out .entry)) ⌝ }
 {
-    let n = rows.len() / ROW_WORDS;
-    if rows.len() % ROW_WORDS != 0 {
+    let n = rows.len() / ENTRY_WORDS;
+    if rows.len() % ENTRY_WORDS != 0 {
         return SheetWrote::Refused {
-            number: CUT_TABLE,
+            number: WRONG_SIZE,
             entry: 0,
             at: 0,
         };
     }
     match judge_sheet(rows) {
         SheetJudged::Refused { entry, at } => SheetWrote::Refused {
-            number: OFF_LIMITS,
+            number: WRONG_VALUE,
             entry,
             at,
         },

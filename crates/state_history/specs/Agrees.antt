@@ -9,10 +9,11 @@ use Prim.Native.Nat.{ℕ, _≤_, _<_}
 use native.Mathlib.Omega.{arith}
 use lib.Dec.{ltb, leb, eqb}
 use borrow.Author.Tests.{eq-eqb, ne-eqb, lt-ltb, eqb-true}
+use Rattle.numbers.specs.Numbers.{wrongSize, noSuchWorker, halfDone, workerIdle, damaged, alreadyHolding, notHeld}
+use Rattle.numbers.specs.Numbers.{goodForSpoiled}
 use Rattle.basics.specs.Base.{pick}
 use Rattle.basics.specs.Laws.{never}
-use Rattle.terms.specs.Terms.{wrongSizes, noSuchWorker, halfDone, nothingToStep, damaged, alreadyHolding, notHeld}
-use Rattle.terms.specs.Terms.{goodForSpoiled, Finish}
+use Rattle.terms.specs.Terms.{Finish}
 use Rattle.terms.specs.declared.Sizes.{Sizes}
 use Rattle.terms.specs.declared.HandOut.{HandOut}
 use Rattle.terms.specs.declared.Answer.{Answer}
@@ -65,9 +66,9 @@ refuted {n = n} (not-by e) f =
 
 -- ---- no step of a call half done is refused by 4
 abbrev Not4 : Plan → Type 0
-Not4 = Not nothingToStep answerOf
+Not4 = Not workerIdle answerOf
 
-on : (b : Bool) → by nothingToStep (goingUnless b) ≡ false
+on : (b : Bool) → by workerIdle (goingUnless b) ≡ false
 on true = refl
 on false = refl
 
@@ -162,7 +163,7 @@ module _ (s : Sizes) (t : Tables) (w : ℕ) where
       (λ d. let z : _≡_ {A = ℕ} damaged 0 = rw (a, b, c, d) at e in absurd (omega arith)))
       (λ c. let z : _≡_ {A = ℕ} damaged 0 = rw (a, b, c) at e in absurd (omega arith)))
       (λ b. let z : _≡_ {A = ℕ} noSuchWorker 0 = rw (a, b) at e in absurd (omega arith)))
-      (λ a. let z : _≡_ {A = ℕ} wrongSizes 0 = rw a at e in absurd (omega arith))
+      (λ a. let z : _≡_ {A = ℕ} wrongSize 0 = rw a at e in absurd (omega arith))
 
   told : Served → heldWords s t w ≡ holdingOf v w
   unfolding heldWords admitted counted
@@ -183,12 +184,12 @@ module _ (s : Sizes) (t : Tables) (w : ℕ) where
   rests S e = call-told S ∙ rw e
 
   -- ---- a step
-  step-is : Served → stepWords s t w .answer ≡ pick atRest (Refused nothingToStep 0) (answerOf (planCall s v w))
+  step-is : Served → stepWords s t w .answer ≡ pick atRest (Refused workerIdle 0) (answerOf (planCall s v w))
   unfolding stepWords admitted planPhase
   step-is S = rw (S .fits, S .known, S .own, S .counters) (test atRest (λ e. rw e) (λ e. rw e))
 
   pub step-by-4 : heldWords s t w .number ≡ 0
-      → (heldWords s t w .call ≡ 0) ↔ (stepWords s t w .answer ≡ Refused nothingToStep 0)
+      → (heldWords s t w .call ≡ 0) ↔ (stepWords s t w .answer ≡ Refused workerIdle 0)
   step-by-4 e =
       let S = served e in (
         (λ c. rw (step-is S, idle S c)),
@@ -305,7 +306,7 @@ module _ (s : Sizes) (t : Tables) (w : ℕ) where
       (λ i. no-post halfDone (rw (a, b, c, i) at e)))
       (λ c. no-post damaged (rw (a, b, c) at e)))
       (λ b. no-post noSuchWorker (rw (a, b) at e)))
-      (λ a. no-post wrongSizes (rw a at e))
+      (λ a. no-post wrongSize (rw a at e))
 
   pub finish-taken : (f : Finish) → Holds f ↔ (finishWords s t w f .answer ≡ Posted)
   finish-taken f = (posts f, posted-holds f)
@@ -351,7 +352,7 @@ module _ (s : Sizes) (t : Tables) (w : ℕ) where
       (λ i. no-none halfDone (rw (a, b, c, i) at e)))
       (λ c. no-none damaged (rw (a, b, c) at e)))
       (λ b. no-none noSuchWorker (rw (a, b) at e)))
-      (λ a. no-none wrongSizes (rw a at e))
+      (λ a. no-none wrongSize (rw a at e))
 
   bare-none : Bare → getWords s t w .answer ≡ NoneReady
   unfolding getWords admitted planGet planQueue

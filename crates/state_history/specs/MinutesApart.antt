@@ -4,9 +4,8 @@ use mathlib.Core.Path.{_≡_}
 use mathlib.Core.List.{List}
 use Prim.Native.Nat.{ℕ}
 use lib.ListN.{length}
+use Rattle.numbers.specs.Numbers.{classes, wrongSize, damaged}
 use Rattle.basics.specs.Base.{pick}
-use Rattle.minutes.specs.Minutes.{classes}
-use Rattle.terms.specs.Terms.{wrongSizes, damaged}
 use Rattle.terms.specs.declared.Sizes.{Sizes}
 use Rattle.words.specs.Layout.{Tables}
 use Rattle.words.specs.Words.{loaded}
@@ -27,4 +26,4 @@ unfolding drainedWords
 drained-apart s t m e i =
     let ok = fit-apart t m e s i in
     let v = view-apart t m e i in
-    pick ok (pick (wordsOk s v) (judged (isDrained s v)) (refuses damaged)) (refuses wrongSizes)
+    pick ok (pick (wordsOk s v) (judged (isDrained s v)) (refuses damaged)) (refuses wrongSize)

@@ -8,8 +8,8 @@ use mathlib.Core.List.{[], _∷_}
 use Prim.Native.Nat.{ℕ, _≤_}
 use native.Mathlib.Omega.{arith}
 use lib.Dec.{ltb}
+use Rattle.numbers.specs.Numbers.{wrongSize, noSuchWorker, damaged}
 use Rattle.basics.specs.Base.{pick, contains}
-use Rattle.terms.specs.Terms.{wrongSizes, noSuchWorker, damaged}
 use Rattle.terms.specs.declared.Sizes.{Sizes}
 use Rattle.words.specs.Layout.{HELD, Tables, view, sizesFit}
 use Rattle.words.specs.Words.{isPlace, countersOk, markOk, ownOk, admitted}
@@ -34,21 +34,21 @@ answers false c x y e f = told f
 -- the two questions, by the outcome of each test
 abbrev asked : Bool → Bool → Bool → Bool → Holding → Holding
 asked a b c d h =
-    pick a (pick b (pick c (pick d h (refused damaged)) (refused damaged)) (refused noSuchWorker)) (refused wrongSizes)
+    pick a (pick b (pick c (pick d h (refused damaged)) (refused damaged)) (refused noSuchWorker)) (refused wrongSize)
 
 abbrev stopped : Bool → Bool → Bool → Drained
-stopped a b c = pick a (pick b (judged c) (drained.refused damaged)) (drained.refused wrongSizes)
+stopped a b c = pick a (pick b (judged c) (drained.refused damaged)) (drained.refused wrongSize)
 
 -- served, or turned away by a number of the list
 module _ (s : Sizes) (t : Tables) where
-  pub held-number : (w : ℕ) → contains (heldWords s t w .number) (0 ∷ wrongSizes ∷ noSuchWorker ∷ damaged ∷ []) ≡ true
+  pub held-number : (w : ℕ) → contains (heldWords s t w .number) (0 ∷ wrongSize ∷ noSuchWorker ∷ damaged ∷ []) ≡ true
   unfolding heldWords admitted counted holdingOf contains
   held-number w =
       go (sizesFit s t) (ltb w (s .workers)) (ownOk s (view t) w) (countersOk s (view t)) (holdingOf (view t) w)
       (answers (isPlace (view t .worker HELD w)) (markOk (view t) (view t .worker HELD w)) _ _ refl refl)
     where
       go : (a b c d : Bool) (h : Holding) → Answers h
-          → contains (asked a b c d h .number) (0 ∷ wrongSizes ∷ noSuchWorker ∷ damaged ∷ []) ≡ true
+          → contains (asked a b c d h .number) (0 ∷ wrongSize ∷ noSuchWorker ∷ damaged ∷ []) ≡ true
       go true true true true h (told e) = rw e
       go true true true true h off = refl
       go true true true false h e = refl
@@ -56,11 +56,11 @@ module _ (s : Sizes) (t : Tables) where
       go true false c d h e = refl
       go false b c d h e = refl
 
-  pub drained-number : contains (drainedWords s t .number) (0 ∷ wrongSizes ∷ damaged ∷ []) ≡ true
+  pub drained-number : contains (drainedWords s t .number) (0 ∷ wrongSize ∷ damaged ∷ []) ≡ true
   unfolding drainedWords contains
   drained-number = go (sizesFit s t) (wordsOk s (view t)) (isDrained s (view t))
     where
-      go : (a b c : Bool) → contains (stopped a b c .number) (0 ∷ wrongSizes ∷ damaged ∷ []) ≡ true
+      go : (a b c : Bool) → contains (stopped a b c .number) (0 ∷ wrongSize ∷ damaged ∷ []) ≡ true
       go true true c = refl
       go true false c = refl
       go false b c = refl

@@ -12,9 +12,10 @@ use native.Mathlib.Decide.{decLt}
 use lib.Dec.{ltb, leb, eqb}
 use lib.ListN.{length}
 use borrow.Author.Tests.{eq-eqb, le-leb, ltb-true, eqb-true}
+use Rattle.numbers.specs.Numbers.{damaged}
 use Rattle.basics.specs.Base.{pick}
 use Rattle.basics.specs.Laws.{never}
-use Rattle.terms.specs.Terms.{sameSizes, damaged, bit}
+use Rattle.terms.specs.Terms.{sameSizes, bit}
 use Rattle.terms.specs.Runs.{Item, after, events}
 use Rattle.terms.specs.Seen.{JobSeen, Same}
 use Rattle.terms.specs.declared.Sizes.{Sizes}

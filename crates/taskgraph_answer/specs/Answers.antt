@@ -4,40 +4,13 @@ use mathlib.Core.Path.{_≡_}
 use mathlib.Core.Bool.{not}
 use Prim.Native.Nat.{ℕ}
 use lib.Dec.{eqb}
+use Rattle.numbers.specs.Numbers.{accepted, kindRefused, kindLaidOut, kindPosted, kindGoingOn, kindEnded, kindNoneReady}
+use Rattle.numbers.specs.Numbers.{kindHandedOut, kindLoaded}
 use Rattle.terms.specs.Terms.{bit, Finish, finishOf}
 use Rattle.terms.specs.Runs.{Outcome}
 use Rattle.terms.specs.declared.Answer.{Answer}
 use Rattle.words.specs.Layout.{Tables}
 use Rattle.taskgraph_answer.specs.declared.GraphAnswer.{GraphAnswer}
-
--- the list of refusals starts at 1, so 0 says that nothing was refused
-abbrev pub accepted : ℕ
-accepted = 0
-
--- the kinds of answers of a call or a step of the graph
-abbrev pub kindRefused : ℕ
-kindRefused = 0
-
-abbrev pub kindLaidOut : ℕ
-kindLaidOut = 1
-
-abbrev pub kindPosted : ℕ
-kindPosted = 2
-
-abbrev pub kindGoingOn : ℕ
-kindGoingOn = 3
-
-abbrev pub kindEnded : ℕ
-kindEnded = 4
-
-abbrev pub kindNoneReady : ℕ
-kindNoneReady = 5
-
-abbrev pub kindHandedOut : ℕ
-kindHandedOut = 6
-
-abbrev pub kindLoaded : ℕ
-kindLoaded = 7
 
 -- an answer that has nothing but its kind
 abbrev pub plain : ℕ → GraphAnswer

@@ -4,8 +4,8 @@ use mathlib.Core.Path.{_≡_, refl, _∙_}
 use mathlib.Core.Logic.{_≢_}
 use mathlib.Core.Bool.{Bool, true, false}
 use Prim.Native.Nat.{ℕ}
+use Rattle.numbers.specs.Numbers.{damaged, kindStopped}
 use Rattle.basics.specs.Base.{pick}
-use Rattle.terms.specs.Terms.{damaged}
 use Rattle.terms.specs.Runs.{Outcome}
 use Rattle.terms.specs.declared.Answer.{Answer}
 use Rattle.terms.specs.declared.Answer.the-variants.{Laid, Loaded, Posted, Going, Ended, NoneReady, Handed, Refused}
@@ -25,9 +25,6 @@ pub data Whole : Type 0 where
 -- of a call of worker w on the tables t that has this outcome
 abbrev pub wholeOf : Tables → ℕ → Outcome Tables → Whole
 wholeOf t w o = pick (stoppedBy t w o) stopped (answered (o .answer))
-
-abbrev pub kindStopped : ℕ
-kindStopped = 8
 
 abbrev pub stoppedAnswer : GraphAnswer
 stoppedAnswer = record { kind = kindStopped; number = damaged; place = 0; job = 0; name = 0; spoiled = 0 }

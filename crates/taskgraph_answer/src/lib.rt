@@ -4,30 +4,18 @@ ghost use mathlib.Core.Path.{_≡_};
 ghost use Rattle.basics.specs.Base.{pick};
 ghost use Rattle.taskgraph_answer.specs.Answers.{plain, graphAnswer};
 ghost use Rattle.taskgraph_answer.specs.WholeAnswers.{stoppedAnswer};
+use numbers::DAMAGED;
+use numbers::KIND_ENDED;
+use numbers::KIND_GOING_ON;
+use numbers::KIND_HANDED_OUT;
+use numbers::KIND_LAID_OUT;
+use numbers::KIND_LOADED;
+use numbers::KIND_NONE_READY;
+use numbers::KIND_POSTED;
+use numbers::KIND_REFUSED;
+use numbers::KIND_STOPPED;
 use terms::Answer;
 use terms::bit;
-
-// The kinds of answers.
-const REFUSED: u32 = 0;
-
-const LAID_OUT: u32 = 1;
-
-const POSTED: u32 = 2;
-
-const GOING_ON: u32 = 3;
-
-const ENDED: u32 = 4;
-
-const NONE_READY: u32 = 5;
-
-const HANDED_OUT: u32 = 6;
-
-const LOADED: u32 = 7;
-
-const STOPPED: u32 = 8;
-
-// Number 9.
-const DAMAGED: u32 = 9;
 
 // What a call or a step answers. A refusal has its number, 6 also the place in the list; a job handed out has its place
 // and its name, and 1 where it is spoiled. A whole call that damage stopped half done has number 9. What does not
@@ -61,14 +49,14 @@ pub fn answered(answer: Answer) -> GraphAnswer
     ensures { λ r. ⌜ r ≡ graphAnswer answer ⌝ }
 {
     match answer {
-        Answer::Laid => plain(LAID_OUT),
-        Answer::Loaded => plain(LOADED),
-        Answer::Posted => plain(POSTED),
-        Answer::Going => plain(GOING_ON),
-        Answer::Ended => plain(ENDED),
-        Answer::NoneReady => plain(NONE_READY),
+        Answer::Laid => plain(KIND_LAID_OUT),
+        Answer::Loaded => plain(KIND_LOADED),
+        Answer::Posted => plain(KIND_POSTED),
+        Answer::Going => plain(KIND_GOING_ON),
+        Answer::Ended => plain(KIND_ENDED),
+        Answer::NoneReady => plain(KIND_NONE_READY),
         Answer::Handed { out } => GraphAnswer {
-            kind: HANDED_OUT,
+            kind: KIND_HANDED_OUT,
             number: 0,
             place: 0,
             job: out.job,
@@ -76,7 +64,7 @@ pub fn answered(answer: Answer) -> GraphAnswer
             spoiled: bit(out.spoiled),
         },
         Answer::Refused { number, place } => GraphAnswer {
-            kind: REFUSED,
+            kind: KIND_REFUSED,
             number,
             place,
             job: 0,
@@ -92,7 +80,7 @@ pub fn whole_answered(answer: GraphAnswer, stopped: bool) -> GraphAnswer
 {
     if stopped {
         GraphAnswer {
-            kind: STOPPED,
+            kind: KIND_STOPPED,
             number: DAMAGED,
             place: 0,
             job: 0,

@@ -10,9 +10,9 @@ use Prim.Native.Nat.{ℕ}
 use lib.Dec.{eqb, leb}
 use lib.ListN.{length}
 use borrow.Author.Tests.{eqb-true, eqb-false}
+use Rattle.numbers.specs.Numbers.{mostWorkers}
 use Rattle.basics.specs.Base.{pick}
 use Rattle.basics.specs.Laws.{pick-by}
-use Rattle.terms.specs.Terms.{mostWorkers}
 use Rattle.day_format.specs.Day.{dayText, Printing, dayList}
 use Rattle.day_format.specs.declared.DayAnswer.{DayAnswer}
 use Rattle.day_format.specs.declared.DayAnswer.the-variants.{Printed, Refused}

@@ -8,9 +8,7 @@ ghost use mathlib.Core.Path.{_≡_};
 ghost use Rattle.day_format.specs.Day.{dayList};
 ghost use Rattle.taskgraph_day.specs.Answers.{dayPrinted};
 use day_format::DayAnswer;
-
-// The number where nothing was refused.
-const ACCEPTED: u32 = 0;
+use numbers::ACCEPTED;
 
 // How many bytes the day list printed, or a refusal.
 #[repr(C)]

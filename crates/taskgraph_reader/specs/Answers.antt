@@ -2,14 +2,11 @@
 -- docs/RULES.md, "Turned-away calls" and "Job sheets", has for it. What does not belong to a case is 0. Assumes
 -- nothing.
 use Prim.Native.Nat.{ℕ}
+use Rattle.numbers.specs.Numbers.{accepted}
 use Rattle.sheet_format.specs.Decode.{Decoded, job, end, refused, entryOf, blank, Sheet, scanSheet}
 use Rattle.sheet_format.specs.declared.SheetRead.{SheetRead}
 use Rattle.taskgraph_reader.specs.declared.EntryRead.{EntryRead}
 use Rattle.taskgraph_reader.specs.declared.SheetScanned.{SheetScanned}
-
--- the list of refusals starts at 1, so 0 says that nothing was refused
-abbrev pub accepted : ℕ
-accepted = 0
 
 -- what stands at an offset of a sheet. 12 to 14: "nothing handed out for that entry", so it is blank, and the byte
 -- offset of the field. At the end of the sheet the offset is the one asked for.

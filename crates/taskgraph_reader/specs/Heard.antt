@@ -13,14 +13,15 @@ use lib.Dec.{eqb, leb, ltb}
 use lib.ListN.{length, getD, take, drop, replicate, length-append, take-append-drop}
 use lib.Seq.{length-take-le}
 use borrow.Author.Tests.{eqb-true, eqb-false}
+use Rattle.numbers.specs.Numbers.{mostNames, mostClass, mostGrower, nameBytes, countBytes, classBytes, growerBytes}
+use Rattle.numbers.specs.Numbers.{entryWords, cut}
 use Rattle.basics.specs.Base.{pick}
 use Rattle.basics.specs.Laws.{never, pick-by}
-use Rattle.basics.specs.Limits.{mostNames, mostClass, mostGrower}
 use Rattle.sheet_format.specs.Number.{numberAt}
-use Rattle.sheet_format.specs.Job.{Job, nameBytes, countBytes, classBytes, growerBytes}
+use Rattle.sheet_format.specs.Job.{Job}
 use Rattle.sheet_format.specs.Decode.{Decoded, job, end, refused, decode, Sheet, jobs, broken, decodeFrom, decodeSheet}
-use Rattle.sheet_format.specs.Decode.{onward, before, entryOf, blank, scanSheet, readSheet, rowWords, SheetRows}
-use Rattle.sheet_format.specs.Decode.{thenDecoded, mapAt, nameAt, limitedAt, listAt, ifBit, then, cut}
+use Rattle.sheet_format.specs.Decode.{onward, before, entryOf, blank, scanSheet, readSheet, SheetRows}
+use Rattle.sheet_format.specs.Decode.{thenDecoded, mapAt, nameAt, limitedAt, listAt, ifBit, then}
 use Rattle.sheet_format.specs.CodeLaws.{entry-bounds}
 use Rattle.sheet_format.specs.declared.Entry.{Entry}
 use Rattle.sheet_format.specs.declared.Field.{Field}
@@ -393,6 +394,6 @@ how-read s rows = go (decodeSheet s) (how-scanned s)
   where
     go : (x : Sheet) → Scanned (scanSheet x) → ReadIn (readSheet x rows .answer)
     go (jobs js) h =
-        pick-by (λ (r : SheetRows). ReadIn (r .answer)) (leb (rowWords * length js) (length rows))
+        pick-by (λ (r : SheetRows). ReadIn (r .answer)) (leb (entryWords * length js) (length rows))
         (λ e. scanned whole) (λ e. ReadIn.by-15)
     go (broken c a) h = scanned h

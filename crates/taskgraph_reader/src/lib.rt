@@ -4,12 +4,10 @@
 ghost use mathlib.Core.Path.{_≡_};
 ghost use Rattle.sheet_format.specs.Decode.{decode, decodeSheet, readSheet};
 ghost use Rattle.taskgraph_reader.specs.Answers.{entryRead, sheetScanned, sheetRead};
+use numbers::ACCEPTED;
 use sheet_format::Entry;
 use sheet_format::Read;
 use sheet_format::SheetRead;
-
-// The number where nothing was refused.
-const ACCEPTED: u32 = 0;
 
 // What stands at an offset of a sheet: found is 1 for a job, at the offset past it; number and found are 0 at the end
 // of the sheet.

@@ -5,9 +5,9 @@ ghost use mathlib.Core.Path.{_≡_};
 ghost use Rattle.minutes.specs.Minutes.{fixedMinutes};
 ghost use Rattle.totals.specs.Board.{totalsOf, totalsBy, totalsOfWords};
 use minutes::judged;
+use numbers::WRONG_MINUTES;
 use totals::JobRecord;
 use totals::Totals;
-use totals::WRONG_MINUTES;
 
 // The board on words: a label and a class for each record.
 #[no_mangle]

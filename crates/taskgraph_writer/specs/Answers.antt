@@ -2,14 +2,11 @@
 -- docs/RULES.md, "Turned-away calls" and "Job sheets", has for it. What does not belong to a case is 0. Assumes
 -- nothing.
 use Prim.Native.Nat.{ℕ}
+use Rattle.numbers.specs.Numbers.{accepted}
 use Rattle.sheet_format.specs.declared.Wrote.{Wrote}
 use Rattle.sheet_format.specs.declared.SheetWrote.{SheetWrote}
 use Rattle.taskgraph_writer.specs.declared.EntryWritten.{EntryWritten}
 use Rattle.taskgraph_writer.specs.declared.SheetWritten.{SheetWritten}
-
--- the list of refusals starts at 1, so 0 says that nothing was refused
-abbrev pub accepted : ℕ
-accepted = 0
 
 -- the offset past the entry in the output. 14: the offset "of the first such field, from the entry's start"; 15 has
 -- none, and 0 stands there

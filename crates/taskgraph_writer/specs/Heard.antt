@@ -8,10 +8,10 @@ use Prim.Native.Nat.{ℕ, _+_, _%_}
 use lib.Dec.{eqb, leb}
 use lib.ListN.{length}
 use borrow.Author.Tests.{eqb-true, eqb-false}
+use Rattle.numbers.specs.Numbers.{entryWords}
 use Rattle.basics.specs.Base.{pick}
 use Rattle.basics.specs.Laws.{pick-by}
 use Rattle.sheet_format.specs.Job.{Job, encode, encodeSheet}
-use Rattle.sheet_format.specs.Decode.{rowWords}
 use Rattle.sheet_format.specs.Write.{jobOf, Fault, faultOf, Written, writeJudged, writeEntry, entriesOf, SheetFault}
 use Rattle.sheet_format.specs.Write.{sheetFault, writeSheetJudged, writeSheet}
 use Rattle.sheet_format.specs.Write as writing
@@ -138,7 +138,7 @@ sheets-told-one-way told h x t = sheet-back (told x) ∙ ap sheetWritten (h .hea
 pub how-all-written : (rows out : List ℕ) → WritesAll (writeSheet rows out .answer)
 unfolding writeSheet
 how-all-written rows out =
-    pick-by (λ (r : writing.SheetWritten). WritesAll (r .answer)) (eqb (length rows % rowWords) 0)
+    pick-by (λ (r : writing.SheetWritten). WritesAll (r .answer)) (eqb (length rows % entryWords) 0)
     (λ e. go (sheetFault 0 (entriesOf rows)) (map jobOf (entriesOf rows))) (λ e. WritesAll.by-1)
   where
     go : (f : SheetFault) (js : List Job) → WritesAll (writeSheetJudged f js out .answer)

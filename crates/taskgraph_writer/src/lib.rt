@@ -4,12 +4,10 @@
 ghost use mathlib.Core.Path.{_≡_};
 ghost use Rattle.sheet_format.specs.Write.{writeEntry, writeSheet};
 ghost use Rattle.taskgraph_writer.specs.Answers.{entryWritten, sheetWritten};
+use numbers::ACCEPTED;
 use sheet_format::Entry;
 use sheet_format::SheetWrote;
 use sheet_format::Wrote;
-
-// The number where nothing was refused.
-const ACCEPTED: u32 = 0;
 
 // Where the entry ends in the output, or a refusal with the place of its field from the entry's start.
 #[repr(C)]

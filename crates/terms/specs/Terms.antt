@@ -1,29 +1,12 @@
--- The terms of docs/RULES.md that every level shares: limits, refusals, labels, and the arguments of an add. Assumes
--- nothing.
+-- The terms of docs/RULES.md that every level shares: sizes within their limits, labels, and the arguments of an add.
+-- Assumes nothing.
 use mathlib.Core.Bool.{Bool, true, false, _&&_, _||_}
 use mathlib.Core.List.{List, []}
 use Prim.Native.Nat.{ℕ, suc}
 use lib.Dec.{ltb, leb, eqb}
-use Rattle.basics.specs.Limits.{mostNames, mostClass, mostGrower}
+use Rattle.numbers.specs.Numbers.{mostNames, mostClass, mostGrower, mostJobs, mostArcs, mostBits, mostWorkers}
 use Rattle.basics.specs.Base.{contains, repeats, prefix}
 use Rattle.terms.specs.declared.Sizes.{Sizes}
-
--- ---- limits ("Tables and their measures")
-abbrev pub mostJobs : ℕ
-mostJobs = 4096
-
-abbrev pub mostArcs : ℕ
-mostArcs = 32768
-
-abbrev pub mostBits : ℕ
-mostBits = 8
-
-abbrev pub mostWorkers : ℕ
-mostWorkers = 16
-
--- "One call takes up to 64 entries"
-abbrev pub mostEntries : ℕ
-mostEntries = 64
 
 -- "R jobs 1 to 4,096; A arcs 0 to 32,768; b bucket bits 1 to 8; P workers 1 to 16"
 unfoldable pub withinLimits : Sizes → Bool
@@ -36,53 +19,6 @@ withinLimits s =
 unfoldable pub sameSizes : Sizes → Sizes → Bool
 sameSizes s t =
     eqb (s .jobs) (t .jobs) && eqb (s .arcs) (t .arcs) && eqb (s .bits) (t .bits) && eqb (s .workers) (t .workers)
-
--- ---- refusals ("Turned-away calls")
-abbrev pub wrongSizes : ℕ
-wrongSizes = 1
-
-abbrev pub noSuchWorker : ℕ
-noSuchWorker = 2
-
-abbrev pub halfDone : ℕ
-halfDone = 3
-
-abbrev pub nothingToStep : ℕ
-nothingToStep = 4
-
-abbrev pub wrongArguments : ℕ
-wrongArguments = 5
-
-abbrev pub unknownName : ℕ
-unknownName = 6
-
-abbrev pub namePresent : ℕ
-namePresent = 7
-
-abbrev pub tablesFull : ℕ
-tablesFull = 8
-
-abbrev pub damaged : ℕ
-damaged = 9
-
-abbrev pub alreadyHolding : ℕ
-alreadyHolding = 10
-
-abbrev pub notHeld : ℕ
-notHeld = 11
-
-abbrev pub tooManyEntries : ℕ
-tooManyEntries = 16
-
-abbrev pub wrongMinutes : ℕ
-wrongMinutes = 17
-
-abbrev pub jobsEntered : ℕ
-jobsEntered = 18
-
--- "good for a spoiled job"
-abbrev pub goodForSpoiled : ℕ
-goodForSpoiled = 19
 
 -- ---- a job's label
 pub data Label : Type 0 where

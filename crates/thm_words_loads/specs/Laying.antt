@@ -11,10 +11,10 @@ use lib.Dec.{leb}
 use lib.ListN.{length, getD, drop, length-append, length-replicate, List·getD-append}
 use lib.Seq.{sets, sets-eq, length-sets}
 use borrow.Author.Tests.{leb-true}
+use Rattle.numbers.specs.Numbers.{wrongSize}
 use Rattle.basics.specs.Base.{pick}
 use Rattle.basics.specs.Laws.{fails}
 use Rattle.minutes.specs.Minutes.{fixedMinutes}
-use Rattle.terms.specs.Terms.{wrongSizes}
 use Rattle.terms.specs.Runs.{Outcome, outcome}
 use Rattle.terms.specs.declared.Sizes.{Sizes}
 use Rattle.terms.specs.declared.Answer.the-variants.{Laid, Refused}
@@ -57,7 +57,7 @@ lay-fresh s t h i =
 
 -- laying out: where there is room for the sizes, a fresh graph, the rest as it was; else number 1, and nothing changed
 pub laid-out : (s : Sizes) (t : Tables)
-    → layOut s t ≡ pick (roomFor s t) (outcome Laid (joined (fresh s) (rest s t))) (outcome (Refused wrongSizes 0) t)
+    → layOut s t ≡ pick (roomFor s t) (outcome Laid (joined (fresh s) (rest s t))) (outcome (Refused wrongSize 0) t)
 unfolding layOut
 laid-out s t = test (roomFor s t)
     (λ e. let h : longEnough s t ≡ true = search parts in rw (e, lay-fresh s t (long h)))
@@ -65,7 +65,7 @@ laid-out s t = test (roomFor s t)
 
 -- ---- the same of any laying-out, in two cases, by the words alone
 pub record LaysOut (lay : Sizes → Tables → Outcome Tables) (s : Sizes) (t : Tables) : Type 0 where
-  pub by-1 : (Roomy s t → ⊥) → lay s t ≡ outcome (Refused wrongSizes 0) t
+  pub by-1 : (Roomy s t → ⊥) → lay s t ≡ outcome (Refused wrongSize 0) t
   pub lays : Roomy s t → lay s t ≡ outcome Laid (joined (fresh s) (rest s t))
   pub lengths : lengths (lay s t .state) ≡ lengths t
   pub minutes : Roomy s t → (c : ℕ) → c < 16 → getD (lay s t .state .jobs) (5 + c) 0 ≡ getD fixedMinutes c 0

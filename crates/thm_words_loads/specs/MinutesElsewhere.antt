@@ -9,10 +9,10 @@ use native.Mathlib.Decide.{decLt}
 use lib.Dec.{ltb, eqb}
 use lib.ListN.{length, getD, set}
 use lib.Seq.{sets, set-comm, length-sets, getD-set-other, ext-getD}
+use Rattle.numbers.specs.Numbers.{classes}
 use Rattle.basics.specs.Base.{pick}
 use Rattle.basics.specs.Laws.{never}
 use Rattle.basics.specs.Stores.{sets-off}
-use Rattle.minutes.specs.Minutes.{classes}
 use Rattle.terms.specs.Terms.{bit}
 use Rattle.terms.specs.Runs.{Outcome, outcome, Item, postAdd, postFinish, step, get, load, isLoad}
 use Rattle.terms.specs.declared.Sizes.{Sizes}

@@ -6,13 +6,12 @@ use Prim.Native.Nat.{ℕ, zero, suc, _+_, _-_, _^_, _≤_, _<_}
 use native.Mathlib.Omega.{arith}
 use lib.Dec.{ltb, leb, eqb}
 use borrow.Author.Tests.{leb-true, leb-false, eqb-true, eqb-false, lt-ltb}
-use Rattle.basics.specs.Limits.{mostNames}
+use Rattle.numbers.specs.Numbers.{mostNames, wrongSize, noSuchWorker, unknownName, namePresent, tablesFull, damaged}
 use Rattle.basics.specs.Base.{pick}
 use Rattle.basics.specs.Laws.{and-right, or-left}
 use Rattle.bucket.specs.Bucket.{bucketOf}
 use Rattle.bucket.specs.Laws.{below}
-use Rattle.terms.specs.Terms.{settles, wrongSizes, noSuchWorker, unknownName, namePresent, tablesFull, damaged}
-use Rattle.terms.specs.Terms.{Arguments, argumentsWrong, Finish}
+use Rattle.terms.specs.Terms.{settles, Arguments, argumentsWrong, Finish}
 use Rattle.terms.specs.declared.Sizes.{Sizes}
 use Rattle.words.specs.Layout.{none, NAME, LABEL, COUNT, FIRST, LAST, NEXT, DEPENDENT, AFTER, PHASE, HELD, OWN-NAME}
 use Rattle.words.specs.Layout.{LIST-COUNT, PLACE, OWN-JOB, OWN-ARC, IDLE, LOOKING, LINKING, MARKING, Tables, View, view}
@@ -302,7 +301,7 @@ unfolding admitted
 admit P s t w refuse x f g = go (sizesFit s t) refl (ltb w (s .workers)) refl (ownOk s (view t) w) refl
   where
     go : (a : Bool) → sizesFit s t ≡ a → (b : Bool) → ltb w (s .workers) ≡ b → (c : Bool) → ownOk s (view t) w ≡ c
-        → P (pick a (pick b (pick c x (refuse damaged)) (refuse noSuchWorker)) (refuse wrongSizes))
+        → P (pick a (pick b (pick c x (refuse damaged)) (refuse noSuchWorker)) (refuse wrongSize))
     go true d true e true h = g d e h
     go true d true e false h = f _ refl
     go true d false e c h = f _ refl

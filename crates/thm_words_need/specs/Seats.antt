@@ -6,7 +6,7 @@ use Prim.Native.Nat.{ℕ, _-_, _≤_, _<_}
 use native.Mathlib.Omega.{arith}
 use lib.Dec.{ltb, leb, eqb}
 use borrow.Author.Tests.{ltb-true, lt-ltb, le-leb}
-use Rattle.basics.specs.Limits.{mostClass}
+use Rattle.numbers.specs.Numbers.{mostClass}
 use Rattle.heap.specs.Sift.{siftUp, siftDown}
 use Rattle.heap.specs.Same.{RestsBelow, down-below, Matches, up-same, down-same}
 use Rattle.heap.specs.Way.{WayUp, WayFirst, up-weaker, first-weaker, way-up, Raised, down-leads}

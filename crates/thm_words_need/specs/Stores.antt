@@ -10,11 +10,11 @@ use lib.Dec.{ltb, eqb, lit≤, lit<}
 use lib.ListN.{length, set, length-set}
 use lib.Seq.{sets, set-append-left, getD-set-other}
 use borrow.Author.Tests.{ltb-true, leb-true, lt-ltb}
+use Rattle.numbers.specs.Numbers.{classes}
 use Rattle.basics.specs.Base.{pick, update}
 use Rattle.basics.specs.Laws.{pick-by}
 use Rattle.heap.specs.Sift.{above}
 use Rattle.heap.specs.Way.{WayUp, WayFirst, up-weaker, first-weaker}
-use Rattle.minutes.specs.Minutes.{classes}
 use Rattle.terms.specs.declared.Sizes.{Sizes}
 use Rattle.words.specs.Columns.{Shape, place, Rows, rows, columns, header, put, putHeader, inside, rows-put}
 use Rattle.words.specs.Columns.{columns-put}

@@ -8,11 +8,11 @@ use Prim.Native.Nat.{ℕ, zero, suc}
 use lib.Dec.{ltb}
 use lib.ListN.{length}
 use borrow.Author.Tests.{eqb-true}
-use Rattle.basics.specs.Limits.{mostNames}
+use Rattle.numbers.specs.Numbers.{mostNames, wrongSize}
 use Rattle.basics.specs.Base.{pick}
 use Rattle.basics.specs.Laws.{length-prefix}
 use Rattle.minutes.specs.Rising.{isRising, SixteenRising, rising-means}
-use Rattle.terms.specs.Terms.{Arguments, listed, withinLimits, wrongSizes, bit}
+use Rattle.terms.specs.Terms.{Arguments, listed, withinLimits, bit}
 use Rattle.terms.specs.Runs.{Item, postAdd, postFinish, step, get, load, Outcome, outcome, Event, after, events}
 use Rattle.terms.specs.Runs.{sizesOf}
 use Rattle.terms.specs.declared.Sizes.{Sizes}
@@ -49,7 +49,7 @@ module _ (s : Sizes) (t r : Tables) (e : longEnough s t ≡ true) where
       let own-same : ltb w (s .workers) ≡ true → ownOk s (view (joined t r)) w ≡ ownOk s (view t) w = λ k.
       own-alike s (view (joined t r)) w k ∙ ap (λ v. ownOk s v w) same ∙ sym (own-alike s (view t) w k) in
       rw (long-joined s t r e, e, kept-joined s t r (long e))
-      (ap (λ z. pick (withinLimits s && true && sizesKept s (t .jobs)) z (refuse wrongSizes)) (test (ltb w (s .workers))
+      (ap (λ z. pick (withinLimits s && true && sizesKept s (t .jobs)) z (refuse wrongSize)) (test (ltb w (s .workers))
       (λ k. rw (k, own-same k) (test (ownOk s (view t) w)
       (λ o. rw o (f (view (joined t r)) k (own-same k ∙ o) ∙ ap x same ∙ sym (f (view t) k o)))
       (λ o. rw o)))
@@ -150,7 +150,7 @@ frame t r (load s m) e = load-framed s t r e m
 
 -- ---- number 1, for items: other sizes than those laid out, sizes off their limits, a table too short
 pub turned-away : (t : Tables) (i : Item) → sizesFit (sizesOf i) t ≡ false
-    → perform t i ≡ outcome (Refused wrongSizes 0) t
+    → perform t i ≡ outcome (Refused wrongSize 0) t
 unfolding perform addWords finishWords stepWords getWords loadWords admitted posted applied appliedGet loading
 turned-away t (postAdd s w a) e = rw e
 turned-away t (postFinish s w f) e = rw e

@@ -13,7 +13,7 @@ use lib.Dec.{ltb, leb, eqb}
 use lib.ListN.{length, getD, set, length-set}
 use lib.Seq.{getD-set-same, getD-set-other, set-out}
 use borrow.Author.Tests.{ltb-true, le-leb}
-use Rattle.basics.specs.Limits.{mostClass}
+use Rattle.numbers.specs.Numbers.{mostClass}
 use Rattle.basics.specs.Base.{pick}
 use Rattle.heap.specs.Sift.{siftDown}
 use Rattle.heap.specs.Compared.{pairsDown, Alike, AgreeOn, same-down}

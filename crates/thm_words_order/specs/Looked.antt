@@ -12,15 +12,15 @@ use lib.Dec.{ltb, leb, eqb}
 use lib.ListN.{length}
 use lib.Pow.{pow-pos}
 use borrow.Author.Tests.{leb-true, le-leb, le-ltb}
+use Rattle.numbers.specs.Numbers.{mostClass, mostJobs, damaged}
 use Rattle.basics.specs.Base.{pick}
-use Rattle.basics.specs.Limits.{mostClass}
 use Rattle.heap.specs.Sift.{siftUp, siftDown}
 use Rattle.heap.specs.Looked.{rests, eachSound, slotsUp, slotsDown, exact-up, exact-down, trusted-up, trusted-down}
 use Rattle.heap.specs.Looked.{few-slots-up, few-slots-down}
 use Rattle.heap.specs.Logarithm.{log-slots-up, log-slots-down}
 use Rattle.heap.specs.declared.Sifted.{Sifted}
 use Rattle.heap.specs.declared.Sifted.the-variants.{Rests, Astray}
-use Rattle.terms.specs.Terms.{mostJobs, withinLimits, damaged}
+use Rattle.terms.specs.Terms.{withinLimits}
 use Rattle.terms.specs.Runs.{outcome}
 use Rattle.terms.specs.declared.Sizes.{Sizes}
 use Rattle.terms.specs.declared.Answer.the-variants.{Refused}

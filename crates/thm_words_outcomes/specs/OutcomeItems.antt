@@ -10,12 +10,12 @@ use native.Mathlib.Decide.{ℕ-discrete}
 use lib.Dec.{ltb}
 use lib.ListN.{length, getD}
 use borrow.Author.Tests.{lt-ltb, lt-leb}
-use Rattle.basics.specs.Limits.{mostNames}
+use Rattle.numbers.specs.Numbers.{mostNames, damaged}
 use Rattle.basics.specs.Base.{pick}
 use Rattle.basics.specs.Laws.{never, length-prefix}
 use Rattle.basics.specs.Stores.{sets-off}
 use Rattle.minutes.specs.Rising.{isRising, SixteenRising, rising-means}
-use Rattle.terms.specs.Terms.{damaged, listed, bit}
+use Rattle.terms.specs.Terms.{listed, bit}
 use Rattle.terms.specs.Runs.{Item, postAdd, postFinish, step, get, load, Outcome, outcome}
 use Rattle.terms.specs.declared.Sizes.{Sizes}
 use Rattle.terms.specs.declared.Answer.the-variants.{Ended, Refused}

@@ -12,9 +12,9 @@ use lib.Dec.{ltb, leb, eqb}
 use lib.ListN.{length}
 use lib.Pow.{pow-pos}
 use borrow.Author.Tests.{ltb-true}
+use Rattle.numbers.specs.Numbers.{mostClass}
 use Rattle.basics.specs.Base.{update}
 use Rattle.basics.specs.Laws.{never, pick-by}
-use Rattle.basics.specs.Limits.{mostClass}
 use Rattle.heap.specs.Sift.{above, siftUp, siftDown, shiftDown, shiftUp, positionsDown, positionsUp}
 use Rattle.heap.specs.Heap.{Below, Leads}
 use Rattle.heap.specs.Same.{RestsBelow, down-below}

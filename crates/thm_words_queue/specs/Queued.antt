@@ -9,10 +9,10 @@ use Prim.Native.Nat.{ℕ, _+_, _-_, _≤_, _<_}
 use native.Mathlib.Omega.{arith}
 use lib.Dec.{leb, eqb}
 use borrow.Author.Tests.{eqb-true, leb-true, leb-false, le-ltb, le-leb, ne-eqb}
-use Rattle.basics.specs.Limits.{mostNames}
+use Rattle.numbers.specs.Numbers.{mostNames, damaged}
 use Rattle.basics.specs.Base.{pick}
 use Rattle.basics.specs.Laws.{pick-by}
-use Rattle.terms.specs.Terms.{settles, damaged}
+use Rattle.terms.specs.Terms.{settles}
 use Rattle.terms.specs.Runs.{Outcome, outcome}
 use Rattle.terms.specs.declared.Sizes.{Sizes}
 use Rattle.terms.specs.declared.Answer.the-variants.{Ended, Refused}

@@ -5,7 +5,7 @@ use mathlib.Core.Logic.{_↔_}
 use mathlib.Core.Bool.{true}
 use Prim.Native.Nat.{ℕ, _≤_, _<_}
 use borrow.Author.Tests.{ltb-true, leb-true, eqb-true, lt-ltb, le-leb, eq-eqb}
-use Rattle.basics.specs.Limits.{mostClass}
+use Rattle.numbers.specs.Numbers.{mostClass}
 use Rattle.words.specs.Layout.{CLASS, CELL, POSITION, View}
 use Rattle.words.specs.Index.{placeIn, waits}
 use Rattle.thm_words_tests.specs.Tests.{parts}

@@ -8,11 +8,11 @@ use Prim.Native.Nat.{ℕ, _<_}
 use native.Mathlib.Omega.{arith}
 use lib.Dec.{ltb, leb}
 use borrow.Author.Tests.{ltb-true, leb-true}
-use Rattle.basics.specs.Limits.{mostNames}
+use Rattle.numbers.specs.Numbers.{mostNames, wrongSize, noSuchWorker, halfDone, workerIdle, wrongArguments, unknownName}
+use Rattle.numbers.specs.Numbers.{namePresent, tablesFull, damaged, alreadyHolding, notHeld, wrongMinutes, jobsEntered}
+use Rattle.numbers.specs.Numbers.{goodForSpoiled}
 use Rattle.basics.specs.Base.{pick, contains}
-use Rattle.terms.specs.Terms.{Arguments, wrongSizes, noSuchWorker, halfDone, nothingToStep, wrongArguments}
-use Rattle.terms.specs.Terms.{unknownName, namePresent, tablesFull, damaged, alreadyHolding, notHeld, wrongMinutes}
-use Rattle.terms.specs.Terms.{jobsEntered, goodForSpoiled, Finish, bit}
+use Rattle.terms.specs.Terms.{Arguments, Finish, bit}
 use Rattle.terms.specs.Runs.{Item, postAdd, postFinish, step, get, load, isLoad}
 use Rattle.terms.specs.declared.Sizes.{Sizes}
 use Rattle.terms.specs.declared.HandOut.{HandOut}
@@ -41,7 +41,7 @@ use Rattle.thm_words_tests.specs.Tests.{parts}
 abbrev pub kindNumbers : Item → List ℕ
 kindNumbers (postAdd s w a) = halfDone ∷ wrongArguments ∷ []
 kindNumbers (postFinish s w f) = halfDone ∷ notHeld ∷ goodForSpoiled ∷ []
-kindNumbers (step s w) = nothingToStep ∷ namePresent ∷ tablesFull ∷ []
+kindNumbers (step s w) = workerIdle ∷ namePresent ∷ tablesFull ∷ []
 kindNumbers (get s w) = halfDone ∷ alreadyHolding ∷ []
 kindNumbers (load s m) = wrongMinutes ∷ jobsEntered ∷ []
 
@@ -49,7 +49,7 @@ kindNumbers (load s m) = wrongMinutes ∷ jobsEntered ∷ []
 -- none, and "the order is 1, 17, 9, 18"
 abbrev pub numbers : Item → List ℕ
 numbers i =
-    pick (isLoad i) (wrongSizes ∷ damaged ∷ kindNumbers i) (wrongSizes ∷ noSuchWorker ∷ damaged ∷ kindNumbers i)
+    pick (isLoad i) (wrongSize ∷ damaged ∷ kindNumbers i) (wrongSize ∷ noSuchWorker ∷ damaged ∷ kindNumbers i)
 
 -- served, or turned away: the column "Returned" says that 6 alone, "a look-up finds no such name", comes with a "place
 -- in the list from 0", and a list has at most 32 names; every other number's place is 0

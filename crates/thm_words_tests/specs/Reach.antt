@@ -4,8 +4,8 @@ use mathlib.Core.Path.{_≡_, refl}
 use mathlib.Core.Bool.{Bool, true, false, _&&_}
 use Prim.Native.Nat.{ℕ}
 use lib.Dec.{ltb, leb, eqb}
+use Rattle.numbers.specs.Numbers.{wrongSize, noSuchWorker, halfDone, damaged, alreadyHolding}
 use Rattle.basics.specs.Base.{pick}
-use Rattle.terms.specs.Terms.{wrongSizes, noSuchWorker, halfDone, damaged, alreadyHolding}
 use Rattle.terms.specs.declared.Sizes.{Sizes}
 use Rattle.words.specs.Layout.{none, PHASE, HELD, IDLE, Tables, View, view, sizesFit}
 use Rattle.words.specs.Index.{firstSeat}
@@ -60,7 +60,7 @@ plan-by-reach s t w =
         (early halfDone))
         (early damaged))
         (early noSuchWorker))
-        (early wrongSizes)) p
+        (early wrongSize)) p
         ≡ pick fit
         (pick known
         (pick own
@@ -69,7 +69,7 @@ plan-by-reach s t w =
         (RefuseGet halfDone))
         (RefuseGet damaged))
         (RefuseGet noSuchWorker))
-        (RefuseGet wrongSizes)
+        (RefuseGet wrongSize)
     go false b c d e f g = refl
     go true false c d e f g = refl
     go true true false d e f g = refl

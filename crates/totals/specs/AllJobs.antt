@@ -8,8 +8,9 @@ use native.Mathlib.Omega.{arith}
 use borrow.Author.Tests.{leb-true}
 use lib.Dec.{leb, ltb}
 use lib.ListN.{length}
+use Rattle.numbers.specs.Numbers.{mostRecords, accepted}
 use Rattle.totals.specs.declared.JobRecord.{JobRecord}
-use Rattle.totals.specs.Board.{unexecuted, executing, finished, mostRecords, served, sumOver, under, oneJob}
+use Rattle.totals.specs.Board.{unexecuted, executing, finished, sumOver, under, oneJob}
 use Rattle.totals.specs.Board.{itsMinutes, minutesOfAll, wellFormed, allWellFormed, counted, totalsOf}
 
 -- the three entries of the totals, together
@@ -48,7 +49,7 @@ one-each (r ∷ rows) = omega (arith, one-each rows)
 
 -- of a board that is served, the three counts are together the number of its records, and the three sums the minutes of
 -- them all
-pub all-jobs : (table : List ℕ) (rows : List JobRecord) → totalsOf table rows .number ≡ served → AllJobs table rows
+pub all-jobs : (table : List ℕ) (rows : List JobRecord) → totalsOf table rows .number ≡ accepted → AllJobs table rows
 unfolding totalsOf counted
 all-jobs table rows is-served = cases (ltb mostRecords (length rows)) (allWellFormed rows) refl refl
   where

@@ -6,9 +6,9 @@ use mathlib.Core.List.{List, [], _∷_}
 use Prim.Native.Nat.{ℕ, zero, suc, _+_, _*_, _%_}
 use lib.Dec.{eqb, leb, ltb}
 use lib.ListN.{length, getD}
-use Rattle.terms.specs.Terms.{wrongSizes, damaged, wrongMinutes}
+use Rattle.numbers.specs.Numbers.{wrongSize, damaged, wrongMinutes, classes, mostRecords, accepted}
 use Rattle.basics.specs.Base.{pick}
-use Rattle.minutes.specs.Minutes.{classes, minutesIn}
+use Rattle.minutes.specs.Minutes.{minutesIn}
 use Rattle.minutes.specs.Rising.{isRising}
 use Rattle.totals.specs.declared.JobRecord.{JobRecord}
 use Rattle.totals.specs.declared.Totals.{Totals}
@@ -22,14 +22,6 @@ executing = 1
 
 abbrev pub finished : ℕ
 finished = 2
-
--- number 1: "more than 4,096 board records"
-abbrev pub mostRecords : ℕ
-mostRecords = 4096
-
--- how the board was answered: served, or the number of the refusal
-abbrev pub served : ℕ
-served = 0
 
 -- what the records of a row count for, together
 unfoldable pub sumOver : (JobRecord → ℕ) → List JobRecord → ℕ
@@ -73,7 +65,7 @@ refused number = record { number = number; jobs = 0 ∷ 0 ∷ 0 ∷ []; minutes 
 -- the totals of well-formed records, each list in the order of the labels
 unfoldable pub counted : List ℕ → List JobRecord → Totals
 counted table rows = record {
-  number = served;
+  number = accepted;
   jobs = jobsUnder unexecuted rows ∷ jobsUnder executing rows ∷ jobsUnder finished rows ∷ [];
   minutes = minutesUnder table unexecuted rows ∷ minutesUnder table executing rows ∷ minutesUnder table finished rows
       ∷ [];
@@ -82,13 +74,13 @@ counted table rows = record {
 -- what the board answers of a lent row of job records; number 1 comes before number 9
 unfoldable pub totalsOf : List ℕ → List JobRecord → Totals
 totalsOf table rows =
-    pick (ltb mostRecords (length rows)) (refused wrongSizes)
+    pick (ltb mostRecords (length rows)) (refused wrongSize)
     (pick (allWellFormed rows) (counted table rows) (refused damaged))
 
 -- the board of a row by minutes that a host gives: the order is 1, 17, 9
 unfoldable pub totalsBy : List ℕ → List JobRecord → Totals
 totalsBy table rows =
-    pick (ltb mostRecords (length rows)) (refused wrongSizes)
+    pick (ltb mostRecords (length rows)) (refused wrongSize)
     (pick (isRising table) (totalsOf table rows) (refused wrongMinutes))
 
 -- the same row as words, a label and a class for each record
@@ -123,8 +115,8 @@ unfoldable pub totalsOfTable : List ℕ → (head width label class : ℕ) → L
 totalsOfTable table head width label class words count =
     pick (standsInTable head width label class words count)
     (totalsOf table (rowsOfTable head width label class words count))
-    (refused wrongSizes)
+    (refused wrongSize)
 
 -- an odd number of words is no row of records: number 1
 unfoldable pub totalsOfWords : List ℕ → List ℕ → Totals
-totalsOfWords table words = pick (eqb (length words % 2) 0) (totalsOf table (rowsOfWords words)) (refused wrongSizes)
+totalsOfWords table words = pick (eqb (length words % 2) 0) (totalsOf table (rowsOfWords words)) (refused wrongSize)

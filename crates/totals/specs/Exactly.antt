@@ -9,17 +9,16 @@ use native.Mathlib.Omega.{arith}
 use lib.Dec.{leb, ltb, eqb}
 use lib.ListN.{length, getD}
 use borrow.Author.Tests.{leb-true, ltb-true, le-leb, le-ltb, lt-ltb}
+use Rattle.numbers.specs.Numbers.{wrongSize, damaged, wrongMinutes, mostRecords}
 use Rattle.basics.specs.Base.{pick}
 use Rattle.basics.specs.Laws.{fails}
-use Rattle.terms.specs.Terms.{wrongSizes, damaged, wrongMinutes}
 use Rattle.minutes.specs.Minutes.{minutesIn, fixedMinutes}
 use Rattle.minutes.specs.Rising.{isRising, SixteenRising, rising-means}
 use Rattle.minutes.specs.Judged.{fixed-passes}
 use Rattle.totals.specs.declared.JobRecord.{JobRecord}
 use Rattle.totals.specs.declared.Totals.{Totals}
 use Rattle.totals.specs.Board.{sumOver, under, oneJob, itsMinutes, jobsUnder, minutesUnder, wellFormed}
-use Rattle.totals.specs.Board.{mostRecords, allWellFormed, refused, counted, totalsOf, totalsBy, rowsOfWords}
-use Rattle.totals.specs.Board.{totalsOfWords}
+use Rattle.totals.specs.Board.{allWellFormed, refused, counted, totalsOf, totalsBy, rowsOfWords, totalsOfWords}
 
 pub unrising : (m : List ℕ) → (SixteenRising m → ⊥) → isRising m ≡ false
 unrising m f = fails (isRising m) (rising-means m .0) f
@@ -52,7 +51,7 @@ minutesAt table rows l =
 -- the minutes under each label, by the values
 pub record RowsExactly (board : List ℕ → List JobRecord → Totals) (table : List ℕ) (rows : List JobRecord)
     : Type 0 where
-  pub by-1 : 4096 < length rows → board table rows ≡ refused wrongSizes
+  pub by-1 : 4096 < length rows → board table rows ≡ refused wrongSize
   pub by-17 : length rows ≤ 4096 → (SixteenRising table → ⊥) → board table rows ≡ refused wrongMinutes
   pub by-9 : length rows ≤ 4096 → SixteenRising table → (k : ℕ) → k < length rows
       → (RightRecord (getD rows k noRecord) → ⊥)
@@ -147,9 +146,9 @@ fixed-rows rows = rw fixed-passes (by (ltb mostRecords (length rows)))
   where
     given : Bool → Totals
     given many =
-        pick many (refused wrongSizes) (pick (allWellFormed rows) (counted fixedMinutes rows) (refused damaged))
+        pick many (refused wrongSize) (pick (allWellFormed rows) (counted fixedMinutes rows) (refused damaged))
 
-    by : (many : Bool) → given many ≡ pick many (refused wrongSizes) (given many)
+    by : (many : Bool) → given many ≡ pick many (refused wrongSize) (given many)
     by true = refl
     by false = refl
 
@@ -175,6 +174,6 @@ unfolding totalsOfWords
 words-exactly table rows = rw (words-even rows, words-back rows)
 
 -- and words that make no whole records are 1
-pub odd-words : (table words : List ℕ) → length words % 2 ≡ 1 → totalsOfWords table words ≡ refused wrongSizes
+pub odd-words : (table words : List ℕ) → length words % 2 ≡ 1 → totalsOfWords table words ≡ refused wrongSize
 unfolding totalsOfWords
 odd-words table words e = rw e

@@ -10,11 +10,11 @@ use native.Mathlib.Omega.{arith}
 use lib.Dec.{eqb, ltb}
 use lib.ListN.{length, getD}
 use borrow.Author.Tests.{eqb-true, eqb-false}
+use Rattle.numbers.specs.Numbers.{mostRecords}
 use Rattle.basics.specs.Base.{pick}
 use Rattle.basics.specs.Laws.{pick-by}
 use Rattle.minutes.specs.Rising.{isRising}
-use Rattle.totals.specs.Board.{mostRecords, allWellFormed, counted, totalsOf, totalsBy, rowsOfWords}
-use Rattle.totals.specs.Board.{totalsOfWords}
+use Rattle.totals.specs.Board.{allWellFormed, counted, totalsOf, totalsBy, rowsOfWords, totalsOfWords}
 use Rattle.totals.specs.declared.JobRecord.{JobRecord}
 use Rattle.totals.specs.declared.Totals.{Totals}
 

@@ -3,18 +3,6 @@
 ghost use mathlib.Core.Path.{_≡_};
 ghost use Rattle.totals.specs.Board.{refused};
 
-// The numbers of a board: a row is served, or refused as docs/RULES.md, "Turned-away calls", has it.
-pub const SERVED: u32 = 0;
-
-pub const OFF_LIMITS: u32 = 1;
-
-pub const DAMAGED: u32 = 9;
-
-pub const WRONG_MINUTES: u32 = 17;
-
-// The most records of a row.
-pub const MOST_RECORDS: usize = 4096;
-
 #[repr(C)]
 pub struct JobRecord {
     pub label: u32,

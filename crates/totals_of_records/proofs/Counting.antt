@@ -10,13 +10,13 @@ use borrow.Author.Tests.{le-ltb, lt-ltb, eqb-true}
 use lib.Dec.{eqb}
 use lib.ListN.{length, getD, take}
 use lib.Seq.{take-all}
+use Rattle.numbers.specs.Numbers.{wrongSize, accepted, mostRecords}
 use Rattle.basics.specs.Base.{pick}
-use Rattle.terms.specs.Terms.{wrongSizes}
 use Rattle.minutes.specs.Rising.{rising}
 use Rattle.minutes.specs.declared.GraphMinutes.{GraphMinutes}
 use Rattle.totals.specs.declared.JobRecord.{JobRecord}
 use Rattle.totals.specs.declared.Totals.{Totals}
-use Rattle.totals.specs.Board.{served, mostRecords, refused, totalsOf}
+use Rattle.totals.specs.Board.{refused, totalsOf}
 use Rattle.totals_step.specs.Step.{withRecord}
 use Rattle.totals_step.proofs.Running.{Running, start as starts, next as adds}
 use Rattle.totals_of_records.specs.By.{Judged, unlessRefused, totalsWith}
@@ -33,7 +33,7 @@ module _ (by : GraphMinutes) (rows : List JobRecord) where
       go : (b : Bool) → eqb (by .number) 0 ≡ b
           → t ≡ pick b (totalsOf (by .minutes) (take 0 rows)) (refused (by .number))
       go true h =
-          let first : t ≡ refused served = rw (eqb-true (by .number) 0 h) at e in
+          let first : t ≡ refused accepted = rw (eqb-true (by .number) 0 h) at e in
           starts {table = by .minutes} {rows = rows} few first .totals
       go false h = e
 
@@ -61,6 +61,6 @@ module _ (by : GraphMinutes) (rows : List JobRecord) where
       rw (le-ltb mostRecords (length rows) (run .few)) (rw (take-all i rows h) at (run .totals judged))
 
 pub too-many : (by : GraphMinutes) (rows : List JobRecord) {t : Totals} → mostRecords < length rows
-    → t ≡ refused wrongSizes → Judged by → t ≡ totalsWith by rows
+    → t ≡ refused wrongSize → Judged by → t ≡ totalsWith by rows
 unfolding totalsWith
 too-many by rows h e judged = rw (lt-ltb mostRecords (length rows) h) e

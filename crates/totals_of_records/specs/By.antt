@@ -7,15 +7,15 @@ use Prim.Native.Nat.{ℕ}
 use lib.Dec.{eqb, ltb}
 use lib.ListN.{length}
 use native.Mathlib.Omega.{arith}
+use Rattle.numbers.specs.Numbers.{wrongSize, wrongMinutes, mostRecords}
 use Rattle.basics.specs.Base.{pick}
-use Rattle.terms.specs.Terms.{wrongSizes, wrongMinutes}
 use Rattle.minutes.specs.Minutes.{fixedMinutes}
 use Rattle.minutes.specs.Rising.{isRising}
 use Rattle.minutes.specs.Judged.{allMinutes, judgedAs, judgedMinutes, fixed-passes}
 use Rattle.minutes.specs.declared.GraphMinutes.{GraphMinutes}
 use Rattle.totals.specs.declared.JobRecord.{JobRecord}
 use Rattle.totals.specs.declared.Totals.{Totals}
-use Rattle.totals.specs.Board.{mostRecords, refused, totalsOf, totalsBy}
+use Rattle.totals.specs.Board.{refused, totalsOf, totalsBy}
 
 -- minutes that are served rise
 abbrev pub Judged : GraphMinutes → Type 0
@@ -26,7 +26,7 @@ abbrev pub unlessRefused : GraphMinutes → List JobRecord → Totals
 unlessRefused by rows = pick (eqb (by .number) 0) (totalsOf (by .minutes) rows) (refused (by .number))
 
 unfoldable pub totalsWith : GraphMinutes → List JobRecord → Totals
-totalsWith by rows = pick (ltb mostRecords (length rows)) (refused wrongSizes) (unlessRefused by rows)
+totalsWith by rows = pick (ltb mostRecords (length rows)) (refused wrongSize) (unlessRefused by rows)
 
 -- the fixed minutes
 pub with-fixed : (by : GraphMinutes) (rows : List JobRecord) {t : Totals} → by ≡ allMinutes fixedMinutes
@@ -38,7 +38,7 @@ with-fixed by rows {t} is said = e ∙ go (ltb mostRecords (length rows)) _
     e = rw is at (said (λ z. rw is fixed-passes))
 
     go : (many : Bool) (rest : Totals)
-        → pick many (refused wrongSizes) (pick many (refused wrongSizes) rest) ≡ pick many (refused wrongSizes) rest
+        → pick many (refused wrongSize) (pick many (refused wrongSize) rest) ≡ pick many (refused wrongSize) rest
     go true rest = refl
     go false rest = refl
 
@@ -49,7 +49,7 @@ unfolding totalsWith totalsBy judgedMinutes
 with-table by table rows {t} is said = go (isRising table) refl is
   where
     go : (b : Bool) → isRising table ≡ b → by ≡ judgedAs b wrongMinutes table
-        → t ≡ pick (ltb mostRecords (length rows)) (refused wrongSizes)
+        → t ≡ pick (ltb mostRecords (length rows)) (refused wrongSize)
         (pick b (totalsOf table rows) (refused wrongMinutes))
     go true passes e = rw e at (said (λ z. rw e passes))
     go false fails e = rw e at (said (λ z. absurd (let w : _≡_ {A = ℕ} 0 17 = cc in omega arith)))

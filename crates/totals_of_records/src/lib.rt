@@ -3,9 +3,9 @@
 ghost use mathlib.Core.Path.{_≡_};
 ghost use Rattle.totals_of_records.specs.By.{Judged, totalsWith};
 use minutes::GraphMinutes;
+use numbers::MOST_RECORDS;
+use numbers::WRONG_SIZE;
 use totals::JobRecord;
-use totals::MOST_RECORDS;
-use totals::OFF_LIMITS;
 use totals::Totals;
 use totals::blank;
 use totals_step::with_record;
@@ -16,7 +16,7 @@ pub fn of_records(records: &[JobRecord], by: GraphMinutes) -> Totals
     ensures { λ r. ⌜ (Judged by → r ≡ totalsWith by (now (records .entry))) ⌝ }
 {
     if MOST_RECORDS < records.len() {
-        return blank(OFF_LIMITS);
+        return blank(WRONG_SIZE);
     }
     let mut t = blank(by.number);
     let mut i = 0;

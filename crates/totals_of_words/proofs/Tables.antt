@@ -10,12 +10,12 @@ use borrow.Author.Tests.{eq-eqb, ne-eqb, le-leb, lt-ltb, ltb-true, leb-true, leb
 use lib.Dec.{leb, ltb}
 use lib.ListN.{length, getD}
 use lib.Seq.{ext-getD}
-use Rattle.terms.specs.Terms.{wrongSizes, damaged}
+use Rattle.numbers.specs.Numbers.{wrongSize, damaged, accepted, mostRecords}
 use Rattle.basics.specs.Base.{pick}
 use Rattle.minutes.specs.Rising.{Rising}
 use Rattle.totals.specs.declared.JobRecord.{JobRecord}
 use Rattle.totals.specs.declared.Totals.{Totals}
-use Rattle.totals.specs.Board.{served, mostRecords, wellFormed, refused, totalsOf, recordsFrom, recordAt}
+use Rattle.totals.specs.Board.{wellFormed, refused, totalsOf, recordsFrom, recordAt}
 use Rattle.totals.specs.Board.{rowsOfTable, standsInTable, totalsOfTable, rowsOfWords, totalsOfWords}
 use Rattle.totals_step.specs.Step.{withRecord}
 use Rattle.totals_of_words.specs.Standing.{standing}
@@ -42,8 +42,8 @@ product width n h k = mul-le-mul {n₂ = 4294967295} {m₂ = mostRecords} (omega
 
 -- ---- whether there is a row
 module _ (table : List ℕ) (head width label class : ℕ) (words : List ℕ) (count : ℕ) {t : Totals} where
-  refused-if : (few stand : Bool) → leb count mostRecords ≡ few → (few && stand) ≡ false → t ≡ refused wrongSizes
-      → t ≡ pick stand (totalsOf table (rowsOfTable head width label class words count)) (refused wrongSizes)
+  refused-if : (few stand : Bool) → leb count mostRecords ≡ few → (few && stand) ≡ false → t ≡ refused wrongSize
+      → t ≡ pick stand (totalsOf table (rowsOfTable head width label class words count)) (refused wrongSize)
   refused-if true false h k e = e
   refused-if true true h k e = let z : true ≡ false = k in cc
   refused-if false false h k e = e
@@ -54,7 +54,7 @@ module _ (table : List ℕ) (head width label class : ℕ) (words : List ℕ) (c
 
   -- no row: number 1
   pub none-stands : {b : Bool} → b ≡ standing head width label class (length words) count → b ≡ false
-      → t ≡ refused wrongSizes → t ≡ totalsOfTable table head width label class words count
+      → t ≡ refused wrongSize → t ≡ totalsOfTable table head width label class words count
   unfolding totalsOfTable
   none-stands is left e =
       refused-if (leb count mostRecords) (standsInTable head width label class words count) refl (sym is ∙ left) e
@@ -93,7 +93,7 @@ pub record Passed (table : List ℕ) (head width label class : ℕ) (words : Lis
   pub so-far : Running table (rowsOfTable head width label class words count) t i
 
 module _ {table : List ℕ} {head width label class : ℕ} {words : List ℕ} {count : ℕ} {t : Totals} where
-  pub start-table : Stands head width label class (length words) count → t ≡ refused served
+  pub start-table : Stands head width label class (length words) count → t ≡ refused accepted
       → Passed table head width label class words count t 0
   start-table row e = record {
     row = row;
@@ -170,7 +170,7 @@ even-words table words n h k e =
     rw (eq-eqb (length words % 2) 0 h, ← (words-table words n (omega (arith, rows-length words h))))
     (rw (two-each words n k) at e)
 
-pub odd-words : (table words : List ℕ) {t : Totals} → (length words % 2 ≡ 0 → ⊥) → t ≡ refused wrongSizes
+pub odd-words : (table words : List ℕ) {t : Totals} → (length words % 2 ≡ 0 → ⊥) → t ≡ refused wrongSize
     → t ≡ totalsOfWords table words
 unfolding totalsOfWords
 odd-words table words h e = rw (ne-eqb (length words % 2) 0 h) e

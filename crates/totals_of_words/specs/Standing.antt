@@ -2,7 +2,7 @@
 use mathlib.Core.Bool.{Bool, _&&_}
 use Prim.Native.Nat.{ℕ, _+_, _*_}
 use lib.Dec.{leb, ltb}
-use Rattle.totals.specs.Board.{mostRecords}
+use Rattle.numbers.specs.Numbers.{mostRecords}
 
 abbrev pub standing : (head width label class length count : ℕ) → Bool
 standing head width label class length count =

@@ -7,14 +7,14 @@ ghost use Rattle.minutes.specs.Rising.{isRising};
 ghost use Rattle.totals.specs.Board.{totalsOfWords, totalsOfTable};
 ghost use Rattle.totals_of_words.specs.Standing.{standing};
 use minutes::GraphMinutes;
-use totals::DAMAGED;
-use totals::MOST_RECORDS;
-use totals::OFF_LIMITS;
-use totals::SERVED;
+use numbers::ACCEPTED;
+use numbers::DAMAGED;
+use numbers::MOST_CLASS;
+use numbers::MOST_RECORDS;
+use numbers::WRONG_SIZE;
 use totals::Totals;
 use totals::blank;
 use totals_step::FINISHED;
-use totals_step::HIGHEST_CLASS;
 
 // Whether `count` records of `width` words stand in a table of `length` words after its first `head`, and the places
 // `label` and `class` lie inside a record.
@@ -47,9 +47,9 @@ pub fn of_table(
 {
     let stand = stands(words.len(), head, width, label, class, count);
     if stand {} else {
-        return blank(OFF_LIMITS);
+        return blank(WRONG_SIZE);
     }
-    let mut t = blank(SERVED);
+    let mut t = blank(ACCEPTED);
     let mut i = 0;
     while i < count {
         let at = (head as usize) + (width as usize) * i;
@@ -58,7 +58,7 @@ pub fn of_table(
         if FINISHED < its_label {
             return blank(DAMAGED);
         }
-        if HIGHEST_CLASS < its_class {
+        if MOST_CLASS < its_class {
             return blank(DAMAGED);
         }
         let under = its_label as usize;
@@ -75,7 +75,7 @@ pub fn of_words(words: &[u32]) -> Totals
     ensures { λ r. ⌜ r ≡ totalsOfWords fixedMinutes (now (words .entry)) ⌝ }
 {
     if words.len() % 2 != 0 {
-        return blank(OFF_LIMITS);
+        return blank(WRONG_SIZE);
     }
     of_table(minutes::fixed_minutes(), words, 0, 2, 0, 1, words.len() / 2)
 }

@@ -9,13 +9,12 @@ use native.Mathlib.Omega.{arith}
 use borrow.Author.Tests.{eq-eqb, le-leb, lt-ltb}
 use lib.ListN.{length, getD, take}
 use lib.Seq.{take-suc, take-all, length-take-le}
-use Rattle.terms.specs.Terms.{wrongSizes, damaged}
-use Rattle.minutes.specs.Minutes.{classes, minutesIn}
+use Rattle.numbers.specs.Numbers.{wrongSize, damaged, classes, accepted, mostRecords}
+use Rattle.minutes.specs.Minutes.{minutesIn}
 use Rattle.minutes.specs.Rising.{Rising}
 use Rattle.totals.specs.declared.JobRecord.{JobRecord}
 use Rattle.totals.specs.declared.Totals.{Totals}
-use Rattle.totals.specs.Board.{finished, served, mostRecords, sumOver, wellFormed, allWellFormed, refused, counted}
-use Rattle.totals.specs.Board.{totalsOf}
+use Rattle.totals.specs.Board.{finished, sumOver, wellFormed, allWellFormed, refused, counted, totalsOf}
 use Rattle.totals_step.specs.Step.{raised, withRecord}
 use Rattle.totals_step.proofs.Sums.{few-totals, with-record-totals}
 
@@ -25,7 +24,7 @@ pub record Running (table : List ℕ) (rows : List JobRecord) (t : Totals) (i : 
   pub totals : t ≡ totalsOf table (take i rows)
 
 module _ {table : List ℕ} {rows : List JobRecord} where
-  pub start : {t : Totals} → length rows ≤ mostRecords → t ≡ refused served → Running table rows t 0
+  pub start : {t : Totals} → length rows ≤ mostRecords → t ≡ refused accepted → Running table rows t 0
   unfolding totalsOf counted sumOver allWellFormed
   start few e = record { upto = zero-le; few = few; totals = e }
 
@@ -44,12 +43,12 @@ module _ {table : List ℕ} {rows : List JobRecord} where
   last {t} {i} run h = rw (take-all i rows h) at (run .totals)
 
 pub too-many : (table : List ℕ) (rows : List JobRecord) {t : Totals} → mostRecords < length rows
-    → t ≡ refused wrongSizes → t ≡ totalsOf table rows
+    → t ≡ refused wrongSize → t ≡ totalsOf table rows
 unfolding totalsOf
 too-many table rows h e = rw (lt-ltb mostRecords (length rows) h) e
 
 -- ---- a loop that raises its sums in place, and leaves at the first wrong record
-pub raises : (table : List ℕ) (t : Totals) (label class : ℕ) {u : Totals} → t .number ≡ served → label ≤ finished
+pub raises : (table : List ℕ) (t : Totals) (label class : ℕ) {u : Totals} → t .number ≡ accepted → label ≤ finished
     → class < classes
     → u ≡ record {
       number = t .number;
@@ -58,7 +57,7 @@ pub raises : (table : List ℕ) (t : Totals) (label class : ℕ) {u : Totals} �
     } → u ≡ withRecord table t label class
 unfolding withRecord
 raises table t label class still labelled classed e =
-    rw (eq-eqb (t .number) served still, le-leb label finished labelled, lt-ltb class classes classed) e
+    rw (eq-eqb (t .number) accepted still, le-leb label finished labelled, lt-ltb class classes classed) e
 
 one-wrong : (rows : List JobRecord) (i : ℕ) (d : JobRecord) → i < length rows → wellFormed (getD rows i d) ≡ false
     → allWellFormed rows ≡ false

@@ -9,12 +9,12 @@ use native.Mathlib.Omega.{arith}
 use borrow.Author.Tests.{ltb-true, ltb-false, le-ltb, lt-leb}
 use lib.Dec.{eqb, ltb}
 use lib.ListN.{length, getD, set, length-append}
-use Rattle.terms.specs.Terms.{damaged}
+use Rattle.numbers.specs.Numbers.{damaged, classes, mostMinutes, accepted, mostRecords}
 use Rattle.basics.specs.Base.{pick}
-use Rattle.minutes.specs.Minutes.{classes, minutesIn}
-use Rattle.minutes.specs.Rising.{Rising, mostMinutes}
+use Rattle.minutes.specs.Minutes.{minutesIn}
+use Rattle.minutes.specs.Rising.{Rising}
 use Rattle.totals.specs.declared.JobRecord.{JobRecord}
-use Rattle.totals.specs.Board.{finished, served, mostRecords, sumOver, under, oneJob, itsMinutes}
+use Rattle.totals.specs.Board.{finished, sumOver, under, oneJob, itsMinutes}
 use Rattle.totals.specs.Board.{wellFormed, allWellFormed, refused, counted, totalsOf}
 use Rattle.totals_step.specs.Step.{raised, withRecord, Room}
 
@@ -105,7 +105,7 @@ counted-snoc : (table : List ℕ) (rows : List JobRecord) (label class : ℕ)
     → wellFormed (record { label = label; class = class }) ≡ true
     → counted table (rows ++ (record { label = label; class = class } ∷ []))
     ≡ record {
-      number = served;
+      number = accepted;
       jobs = lifted (counted table rows .jobs) label 1;
       minutes = lifted (counted table rows .minutes) label (minutesIn table class);
     }

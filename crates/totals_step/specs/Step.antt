@@ -4,12 +4,11 @@ use mathlib.Core.List.{List}
 use Prim.Native.Nat.{ℕ, _+_, _*_, _%_, _^_, _<_}
 use lib.Dec.{eqb}
 use lib.ListN.{getD, set}
-use Rattle.terms.specs.Terms.{damaged}
+use Rattle.numbers.specs.Numbers.{damaged, mostMinutes, accepted, mostRecords}
 use Rattle.basics.specs.Base.{pick}
 use Rattle.minutes.specs.Minutes.{minutesIn}
-use Rattle.minutes.specs.Rising.{mostMinutes}
 use Rattle.totals.specs.declared.Totals.{Totals}
-use Rattle.totals.specs.Board.{served, refused, wellFormed, mostRecords}
+use Rattle.totals.specs.Board.{refused, wellFormed}
 
 -- a sum with one entry raised, at 32 bits
 abbrev pub raised : List ℕ → ℕ → ℕ → List ℕ
@@ -18,7 +17,7 @@ raised sums at by = set sums at ((getD sums at 0 + by) % 2 ^ 32)
 -- the totals of a refused row stay refused
 unfoldable pub withRecord : List ℕ → Totals → ℕ → ℕ → Totals
 withRecord table t label class =
-    pick (eqb (t .number) served)
+    pick (eqb (t .number) accepted)
     (pick (wellFormed (record { label = label; class = class }))
     (record {
       number = t .number;

@@ -3,31 +3,30 @@
 ghost use mathlib.Core.Path.{_≡_};
 ghost use Rattle.totals_step.specs.Step.{withRecord};
 use minutes::GraphMinutes;
-use totals::DAMAGED;
-use totals::SERVED;
+use numbers::ACCEPTED;
+use numbers::DAMAGED;
+use numbers::MOST_CLASS;
 use totals::Totals;
 use totals::blank;
 
-// The labels and the last class.
+// The labels.
 const UNEXECUTED: u32 = 0;
 
 const EXECUTING: u32 = 1;
 
 pub const FINISHED: u32 = 2;
 
-pub const HIGHEST_CLASS: u32 = 15;
-
 // Running totals with one record more. Once a record is refused, so are the totals, whatever follows.
 pub fn with_record(by: GraphMinutes, t: Totals, label: u32, class: u32) -> Totals
     ensures { λ r. ⌜ r ≡ withRecord (by .minutes) t label class ⌝ }
 {
-    if t.number != SERVED {
+    if t.number != ACCEPTED {
         return t;
     }
     if FINISHED < label {
         return blank(DAMAGED);
     }
-    if HIGHEST_CLASS < class {
+    if MOST_CLASS < class {
         return blank(DAMAGED);
     }
     let minutes = by.minutes[class as usize];

@@ -7,7 +7,7 @@ ghost use Rattle.sheet_rows.specs.Arguments.{argumentsOf};
 use fused_add::add_if_idle;
 use graph_own::own_ok;
 use graph_sizes::sizes_fit;
-use graph_words::numbers::*;
+use numbers::*;
 use sheet_format::Entry;
 use terms::Answer;
 use terms::Sizes;
@@ -47,7 +47,7 @@ pub fn add_whole(
         }
     } else {
         Answer::Refused {
-            number: WRONG_SIZES,
+            number: WRONG_SIZE,
             place: 0,
         }
     }

@@ -8,10 +8,11 @@ use Prim.Native.Nat.{ℕ, suc, _+_, _-_, _<_}
 use native.Mathlib.Omega.{arith}
 use lib.Dec.{ltb, leb, eqb}
 use lib.ListN.{length}
+use Rattle.numbers.specs.Numbers.{halfDone, wrongArguments, unknownName, namePresent, tablesFull, damaged, wrongSize}
+use Rattle.numbers.specs.Numbers.{noSuchWorker}
 use Rattle.basics.specs.Base.{contains}
 use Rattle.basics.specs.Laws.{never, pick-by, length-prefix}
-use Rattle.terms.specs.Terms.{settles, Arguments, listed, argumentsWrong, halfDone, wrongArguments, unknownName}
-use Rattle.terms.specs.Terms.{namePresent, tablesFull, damaged, wrongSizes, noSuchWorker}
+use Rattle.terms.specs.Terms.{settles, Arguments, listed, argumentsWrong}
 use Rattle.terms.specs.Runs.{Outcome, outcome}
 use Rattle.terms.specs.declared.Sizes.{Sizes}
 use Rattle.terms.specs.declared.Answer.{Answer}
@@ -40,7 +41,7 @@ use Rattle.whole_answers.specs.Worker.{Back, back, busy, orderNumbers, b
 
 -- the numbers that turn an add away before its first step
 abbrev pub addAway : List ℕ
-addAway = wrongSizes ∷ noSuchWorker ∷ damaged ∷ halfDone ∷ wrongArguments ∷ []
+addAway = wrongSize ∷ noSuchWorker ∷ damaged ∷ halfDone ∷ wrongArguments ∷ []
 
 -- 7 and 8, which like 6 "worker idle, nothing else changed" follows
 abbrev pub addUnfit : List ℕ

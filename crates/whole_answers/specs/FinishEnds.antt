@@ -6,9 +6,10 @@ use mathlib.Core.Bool.{true, false, _&&_, not}
 use mathlib.Core.List.{List, [], _∷_}
 use Prim.Native.Nat.{ℕ, zero, suc}
 use lib.Dec.{eqb}
+use Rattle.numbers.specs.Numbers.{wrongSize, noSuchWorker, halfDone, notHeld, damaged, goodForSpoiled}
 use Rattle.basics.specs.Base.{contains}
 use Rattle.basics.specs.Laws.{pick-by}
-use Rattle.terms.specs.Terms.{wrongSizes, noSuchWorker, halfDone, notHeld, damaged, goodForSpoiled, Finish, bit}
+use Rattle.terms.specs.Terms.{Finish, bit}
 use Rattle.terms.specs.Runs.{Outcome}
 use Rattle.terms.specs.declared.Sizes.{Sizes}
 use Rattle.terms.specs.declared.Answer.{Answer}
@@ -27,7 +28,7 @@ use Rattle.whole_answers.specs.Worker.{Back, back, busy, orderNumbers, b
 
 -- the numbers that turn a finish away before its mark
 abbrev pub finishAway : List ℕ
-finishAway = wrongSizes ∷ noSuchWorker ∷ damaged ∷ halfDone ∷ notHeld ∷ goodForSpoiled ∷ []
+finishAway = wrongSize ∷ noSuchWorker ∷ damaged ∷ halfDone ∷ notHeld ∷ goodForSpoiled ∷ []
 
 -- a finish by worker w, from the tables t: its answer, and the tables left; "the mark frees the worker's hold"
 pub data FinishEnds (t : Tables) (w : ℕ) : Answer → Tables → Type 0 where

@@ -13,6 +13,7 @@ use lib.Dec.{eqb}
 use lib.ListN.{length, getD, take, length-map, List·getD-map, List·getD-eq-default}
 use lib.Seq.{sets, length-sets, ext-getD}
 use borrow.Author.Tests.{eqb-true, eqb-false}
+use Rattle.numbers.specs.Numbers.{entryWords}
 use Rattle.basics.specs.Base.{pick, contains}
 use Rattle.basics.specs.Laws.{never, pick-by}
 use Rattle.terms.specs.Terms.{Arguments, Finish, noArguments}
@@ -20,7 +21,6 @@ use Rattle.terms.specs.declared.Sizes.{Sizes}
 use Rattle.terms.specs.declared.Answer.{Answer}
 use Rattle.terms.specs.declared.Answer.the-variants.{Laid, Going, Ended, Refused}
 use Rattle.words.specs.Layout.{Tables}
-use Rattle.sheet_format.specs.Decode.{rowWords}
 use Rattle.whole_words.specs.Whole.{wholeAdd, wholeFinish}
 use Rattle.whole_words.specs.Sheet.{SheetOutcome, sheetWords}
 use Rattle.sheet_rows.specs.SheetRows.{addsOf, rowsWords, numberOf, placeOf, noEntries, sheetAdded}
@@ -215,7 +215,7 @@ Away n = n ≢ 0 → Adds n []
 
 pub how-added : (s : Sizes) (t : Tables) (w : ℕ) (rows : List ℕ)
     → Adds (rowsWords s t w rows .number) (rowsWords s t w rows .answers)
-how-added s t w rows = elim (ℕ-discrete (length rows % rowWords) 0) [
+how-added s t w rows = elim (ℕ-discrete (length rows % entryWords) 0) [
   | yes e ↦ rw (rows-whole s t w rows e) (whole-rows (addsOf rows))
   | no d ↦ rw (rows-cut s t w rows d) Adds.by-1
 ]

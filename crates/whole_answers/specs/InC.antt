@@ -11,14 +11,14 @@ use lib.ListN.{length, getD, take, drop, replicate, length-replicate, length-map
 use lib.ListN.{List·getD-append, List·getD-map}
 use lib.Seq.{sets, sets-eq}
 use borrow.Author.Tests.{eq-eqb, ne-eqb}
+use Rattle.numbers.specs.Numbers.{mostEntries, wrongSize, entryWords}
 use Rattle.basics.specs.Laws.{pick-by}
 use Rattle.basics.specs.Stores.{sets-off}
-use Rattle.terms.specs.Terms.{Arguments, noArguments, mostEntries, wrongSizes}
+use Rattle.terms.specs.Terms.{Arguments, noArguments}
 use Rattle.terms.specs.declared.Sizes.{Sizes}
 use Rattle.terms.specs.declared.Answer.{Answer}
 use Rattle.terms.specs.declared.Answer.the-variants.{Laid, Loaded, Posted, Going, Ended, NoneReady, Handed, Refused}
 use Rattle.words.specs.Layout.{Tables}
-use Rattle.sheet_format.specs.Decode.{rowWords}
 use Rattle.whole_words.specs.Whole.{wholeAdd}
 use Rattle.whole_words.specs.Sheet.{SheetOutcome, sheetOutcome, sheetWords}
 use Rattle.sheet_rows.specs.SheetRows.{addsOf, rowsWords, numberOf, placeOf, sheetAdded}
@@ -91,18 +91,18 @@ few s t w l = elim (ℕ-discrete (sheetWords s t w l .number) 0) [
 
 module _ (s : Sizes) (t : Tables) (w : ℕ) (rows : List ℕ) where
   -- "Words that make no whole rows are 1", with nothing changed
-  pub rows-cut : length rows % rowWords ≢ 0 → rowsWords s t w rows ≡ sheetOutcome wrongSizes [] t
+  pub rows-cut : length rows % entryWords ≢ 0 → rowsWords s t w rows ≡ sheetOutcome wrongSize [] t
   unfolding rowsWords
-  rows-cut d = rw (ne-eqb (length rows % rowWords) 0 d)
+  rows-cut d = rw (ne-eqb (length rows % entryWords) 0 d)
 
-  pub rows-whole : length rows % rowWords ≡ 0 → rowsWords s t w rows ≡ sheetWords s t w (addsOf rows)
+  pub rows-whole : length rows % entryWords ≡ 0 → rowsWords s t w rows ≡ sheetWords s t w (addsOf rows)
   unfolding rowsWords
-  rows-whole e = rw (eq-eqb (length rows % rowWords) 0 e)
+  rows-whole e = rw (eq-eqb (length rows % entryWords) 0 e)
 
   -- a sheet that was not turned away has whole rows; each of them is an entry
   pub rows-served : rowsWords s t w rows .number ≡ 0
-      → (length rows % rowWords ≡ 0) × (rowsWords s t w rows ≡ sheetWords s t w (addsOf rows))
-  rows-served z = elim (ℕ-discrete (length rows % rowWords) 0) [
+      → (length rows % entryWords ≡ 0) × (rowsWords s t w rows ≡ sheetWords s t w (addsOf rows))
+  rows-served z = elim (ℕ-discrete (length rows % entryWords) 0) [
     | yes e ↦ (e, rows-whole e)
     | no d ↦ let o = ap (λ (o : SheetOutcome). o .number) (rows-cut d) in absurd (omega arith)
   ]
@@ -110,7 +110,7 @@ module _ (s : Sizes) (t : Tables) (w : ℕ) (rows : List ℕ) where
   few-rows : length (rowsWords s t w rows .answers) ≤ mostEntries
   unfolding rowsWords
   few-rows =
-      pick-by (λ (o : SheetOutcome). length (o .answers) ≤ mostEntries) (eqb (length rows % rowWords) 0)
+      pick-by (λ (o : SheetOutcome). length (o .answers) ≤ mostEntries) (eqb (length rows % entryWords) 0)
       (λ _. few s t w (addsOf rows)) (λ _. omega arith)
 
   pub rows-told : (i : ℕ) → EntryTold (rowsAdded s t w rows) i (getD (rowsWords s t w rows .answers) i Laid)

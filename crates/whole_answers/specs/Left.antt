@@ -7,10 +7,11 @@ use mathlib.Core.List.{List, [], _∷_}
 use Prim.Native.Nat.{ℕ}
 use lib.Dec.{eqb}
 use borrow.Author.Tests.{eqb-true}
+use Rattle.numbers.specs.Numbers.{wrongSize, noSuchWorker, halfDone, wrongArguments, unknownName, namePresent}
+use Rattle.numbers.specs.Numbers.{tablesFull, damaged, notHeld, goodForSpoiled}
 use Rattle.basics.specs.Base.{contains}
 use Rattle.basics.specs.Laws.{never, or-left, or-right}
-use Rattle.terms.specs.Terms.{Arguments, wrongSizes, noSuchWorker, halfDone, wrongArguments, unknownName, namePresent}
-use Rattle.terms.specs.Terms.{tablesFull, damaged, notHeld, goodForSpoiled, Finish}
+use Rattle.terms.specs.Terms.{Arguments, Finish}
 use Rattle.terms.specs.declared.Sizes.{Sizes}
 use Rattle.terms.specs.declared.Answer.{Answer}
 use Rattle.terms.specs.declared.Answer.the-variants.{Going, Ended, Refused}
@@ -47,7 +48,7 @@ clash n m i j l k s c d e = apart m l k s (subst (λ x. contains x l ≡ true) {
 
 -- ---- an add
 abbrev pub addKeeps : List ℕ
-addKeeps = wrongSizes ∷ noSuchWorker ∷ halfDone ∷ wrongArguments ∷ []
+addKeeps = wrongSize ∷ noSuchWorker ∷ halfDone ∷ wrongArguments ∷ []
 
 abbrev pub addIdles : List ℕ
 addIdles = unknownName ∷ namePresent ∷ tablesFull ∷ []
@@ -106,7 +107,7 @@ module _ (s : Sizes) (t : Tables) (w : ℕ) (a : Arguments) where
 
 -- ---- a finish
 abbrev pub finishKeeps : List ℕ
-finishKeeps = wrongSizes ∷ noSuchWorker ∷ halfDone ∷ notHeld ∷ goodForSpoiled ∷ []
+finishKeeps = wrongSize ∷ noSuchWorker ∷ halfDone ∷ notHeld ∷ goodForSpoiled ∷ []
 
 module _ (s : Sizes) (t : Tables) (w : ℕ) (f : Finish) where
   -- 1, 2, 3, 11 and 19: "nothing changed"

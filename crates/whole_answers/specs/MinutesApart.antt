@@ -6,9 +6,9 @@ use mathlib.Core.List.{List, [], _∷_}
 use Prim.Native.Nat.{ℕ, zero, suc, _+_, _*_}
 use lib.Dec.{leb, eqb}
 use lib.ListN.{length}
+use Rattle.numbers.specs.Numbers.{classes, mostEntries, tooManyEntries, halfDone}
 use Rattle.basics.specs.Base.{pick}
-use Rattle.minutes.specs.Minutes.{classes}
-use Rattle.terms.specs.Terms.{Arguments, Finish, mostEntries, tooManyEntries, halfDone}
+use Rattle.terms.specs.Terms.{Arguments, Finish}
 use Rattle.terms.specs.Runs.{Item, postAdd, postFinish, step, isLoad, Outcome, outcome}
 use Rattle.terms.specs.declared.Sizes.{Sizes}
 use Rattle.terms.specs.declared.Answer.{Answer}

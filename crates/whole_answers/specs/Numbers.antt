@@ -7,10 +7,11 @@ use mathlib.Core.List.{List, [], _∷_, _++_}
 use Prim.Native.Nat.{ℕ, zero, suc, _<_}
 use lib.Dec.{leb}
 use lib.ListN.{length}
+use Rattle.numbers.specs.Numbers.{mostEntries, wrongSize, noSuchWorker, halfDone, wrongArguments, unknownName}
+use Rattle.numbers.specs.Numbers.{namePresent, tablesFull, damaged, notHeld, tooManyEntries, goodForSpoiled}
 use Rattle.basics.specs.Base.{contains}
 use Rattle.basics.specs.Laws.{never, pick-by}
-use Rattle.terms.specs.Terms.{Arguments, mostEntries, wrongSizes, noSuchWorker, halfDone, wrongArguments, unknownName}
-use Rattle.terms.specs.Terms.{namePresent, tablesFull, damaged, notHeld, tooManyEntries, goodForSpoiled, Finish}
+use Rattle.terms.specs.Terms.{Arguments, Finish}
 use Rattle.terms.specs.declared.Sizes.{Sizes}
 use Rattle.terms.specs.declared.Answer.{Answer}
 use Rattle.terms.specs.declared.Answer.the-variants.{Going, Ended, Refused}
@@ -29,7 +30,7 @@ use Rattle.whole_answers.specs.FinishEnds.{FinishEnds, finish-ends}
 -- ---- an add
 -- its numbers but 6, which alone has a place
 abbrev pub addPlaceless : List ℕ
-addPlaceless = wrongSizes ∷ noSuchWorker ∷ damaged ∷ halfDone ∷ wrongArguments ∷ namePresent ∷ tablesFull ∷ []
+addPlaceless = wrongSize ∷ noSuchWorker ∷ damaged ∷ halfDone ∷ wrongArguments ∷ namePresent ∷ tablesFull ∷ []
 
 -- "answers how the add ended"; the place of 6 is one of its list
 pub data AddAnswer (a : Arguments) : Answer → Type 0 where
@@ -60,7 +61,7 @@ add-accepted s t w a = (go (add-answer s t w a), λ e. ap numberOf e)
 
 -- ---- a finish
 abbrev pub finishNumbers : List ℕ
-finishNumbers = wrongSizes ∷ noSuchWorker ∷ damaged ∷ halfDone ∷ notHeld ∷ goodForSpoiled ∷ []
+finishNumbers = wrongSize ∷ noSuchWorker ∷ damaged ∷ halfDone ∷ notHeld ∷ goodForSpoiled ∷ []
 
 -- "going on" where a list of arcs runs in a circle
 pub data FinishAnswer : Answer → Type 0 where
@@ -80,7 +81,7 @@ finish-answer s t w f = go (finish-ends s t w f)
 
 -- ---- a sheet
 abbrev pub sheetNumbers : List ℕ
-sheetNumbers = 0 ∷ wrongSizes ∷ noSuchWorker ∷ damaged ∷ halfDone ∷ tooManyEntries ∷ []
+sheetNumbers = 0 ∷ wrongSize ∷ noSuchWorker ∷ damaged ∷ halfDone ∷ tooManyEntries ∷ []
 
 abbrev Of : ℕ → Type 0
 Of n = contains n sheetNumbers ≡ true

@@ -6,12 +6,13 @@ use Prim.Native.Nat.{ℕ, _*_, _/_, _%_, _≤_}
 use native.Mathlib.Omega.{arith}
 use lib.ListN.{length, take}
 use borrow.Author.Tests.{le-leb}
+use Rattle.numbers.specs.Numbers.{entryWords}
 use Rattle.basics.specs.Base.{prefix}
 use Rattle.terms.specs.Seen.{request}
 use Rattle.terms.specs.declared.Sizes.{Sizes}
 use Rattle.words.specs.Layout.{Tables}
 use Rattle.sheet_format.specs.Job.{Job, Valid}
-use Rattle.sheet_format.specs.Decode.{jobs, decodeSheet, readSheet, entryOf, rowWords, rowsOf}
+use Rattle.sheet_format.specs.Decode.{jobs, decodeSheet, readSheet, entryOf, rowsOf}
 use Rattle.sheet_format.specs.NumberLaws.{Bytes}
 use Rattle.sheet_format.specs.SheetTrip.{Each, sheet-back}
 use Rattle.sheet_format.specs.WriteTrip.{sets-front}
@@ -48,37 +49,37 @@ short (j ∷ js) (Each.more v vs) = Each.more (v .count) (short js vs)
 
 -- the rows that a sheet of bytes was read into
 module _ (bytes : List ℕ) (js : List Job) (rows : List ℕ) (all : Bytes bytes) (read : decodeSheet bytes ≡ jobs js)
-    (room : rowWords * length js ≤ length rows) where
+    (room : entryWords * length js ≤ length rows) where
   abbrev filled : List ℕ
-  filled = take (rowWords * length js) (readSheet (decodeSheet bytes) rows .rows)
+  filled = take (entryWords * length js) (readSheet (decodeSheet bytes) rows .rows)
 
   shorts : Each Short js
   shorts = short js (sheet-back bytes js all read .1)
 
-  filled-rows : take (rowWords * length js) (readSheet (decodeSheet bytes) rows .rows) ≡ rowsOf js
+  filled-rows : take (entryWords * length js) (readSheet (decodeSheet bytes) rows .rows) ≡ rowsOf js
   filled-rows =
       let k = length-rowsOf js shorts in
       let enough : length (rowsOf js) ≤ length rows = omega arith in
       rw (read, le-leb _ _ room, ← k) (sets-front (rowsOf js) rows enough)
 
   -- the adds of the rows are those of the jobs' entries: name, count, class, grower, and the names, 0 past the count
-  pub read-adds : addsOf (take (rowWords * length js) (readSheet (decodeSheet bytes) rows .rows))
+  pub read-adds : addsOf (take (entryWords * length js) (readSheet (decodeSheet bytes) rows .rows))
       ≡ map row.argumentsOf (map entryOf js)
   read-adds =
       let k = length-rowsOf js shorts in
-      let number : length (rowsOf js) / rowWords ≡ length js = omega arith in
+      let number : length (rowsOf js) / entryWords ≡ length js = omega arith in
       rw (filled-rows, number, rows-there js (rowsOf js) 0 shorts refl)
 
   -- they request what the day list's adds of those jobs request
-  pub read-requests : map request (addsOf (take (rowWords * length js) (readSheet (decodeSheet bytes) rows .rows)))
+  pub read-requests : map request (addsOf (take (entryWords * length js) (readSheet (decodeSheet bytes) rows .rows)))
       ≡ map request (map argumentsOf js)
   read-requests = ap (map request) read-adds ∙ requests-same js
 
   -- and so the sheet in one call is the sheet of those adds
   pub read-sheet : (s : Sizes) (t : Tables) (w : ℕ)
-      → rowsWords s t w (take (rowWords * length js) (readSheet (decodeSheet bytes) rows .rows))
+      → rowsWords s t w (take (entryWords * length js) (readSheet (decodeSheet bytes) rows .rows))
       ≡ sheetWords s t w (map argumentsOf js)
   read-sheet s t w =
       let k = length-rowsOf js shorts in
-      let whole : length filled % rowWords ≡ 0 = rw filled-rows (omega arith) in
+      let whole : length filled % entryWords ≡ 0 = rw filled-rows (omega arith) in
       rows-whole s t w filled whole ∙ sheet-by-requests s t w (addsOf filled) (map argumentsOf js) read-requests

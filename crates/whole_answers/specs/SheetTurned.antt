@@ -9,10 +9,11 @@ use native.Mathlib.Omega.{arith}
 use lib.Dec.{ltb, leb}
 use lib.ListN.{length}
 use borrow.Author.Tests.{leb-false}
+use Rattle.numbers.specs.Numbers.{mostEntries, wrongSize, noSuchWorker, halfDone, damaged, tooManyEntries}
+use Rattle.numbers.specs.Numbers.{wrongArguments}
 use Rattle.basics.specs.Base.{pick, contains}
 use Rattle.basics.specs.Laws.{never, pick-by}
-use Rattle.terms.specs.Terms.{Arguments, argumentsWrong, mostEntries, wrongSizes, noSuchWorker, halfDone, damaged}
-use Rattle.terms.specs.Terms.{tooManyEntries, wrongArguments}
+use Rattle.terms.specs.Terms.{Arguments, argumentsWrong}
 use Rattle.terms.specs.declared.Sizes.{Sizes}
 use Rattle.terms.specs.declared.Answer.the-variants.{Refused}
 use Rattle.words.specs.Layout.{Tables, view, sizesFit, HELD}
@@ -32,13 +33,13 @@ module _ (s : Sizes) (t : Tables) (w n : ℕ) where
       (pick (argumentsWrong a) wrongArguments (judgedCounters s (view t))) h k
     where
       go : (x y z i e : Bool) (m : ℕ)
-          → pick x (pick y (pick z (pick i (pick e 0 tooManyEntries) halfDone) damaged) noSuchWorker) wrongSizes ≢ 0
-          → pick x (pick y (pick z (pick i (pick e 0 tooManyEntries) halfDone) damaged) noSuchWorker) wrongSizes
+          → pick x (pick y (pick z (pick i (pick e 0 tooManyEntries) halfDone) damaged) noSuchWorker) wrongSize ≢ 0
+          → pick x (pick y (pick z (pick i (pick e 0 tooManyEntries) halfDone) damaged) noSuchWorker) wrongSize
           ≢ tooManyEntries
-          → posted (pick x (pick y (pick z (pick i m halfDone) damaged) noSuchWorker) wrongSizes) t w
+          → posted (pick x (pick y (pick z (pick i m halfDone) damaged) noSuchWorker) wrongSize) t w
           (addingWorker (view t .worker HELD w) a) .answer
           ≡ Refused
-          (pick x (pick y (pick z (pick i (pick e 0 tooManyEntries) halfDone) damaged) noSuchWorker) wrongSizes) 0
+          (pick x (pick y (pick z (pick i (pick e 0 tooManyEntries) halfDone) damaged) noSuchWorker) wrongSize) 0
       go true true true true true m h k = absurd (h refl)
       go true true true true false m h k = absurd (k refl)
       go true true true false e m h k = refl

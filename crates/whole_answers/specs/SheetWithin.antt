@@ -7,9 +7,10 @@ use mathlib.Core.List.{List, [], _∷_}
 use Prim.Native.Nat.{ℕ, zero, suc}
 use lib.Dec.{ltb, leb, eqb}
 use lib.ListN.{length}
+use Rattle.numbers.specs.Numbers.{mostEntries, tooManyEntries, wrongArguments, halfDone, damaged, noSuchWorker}
+use Rattle.numbers.specs.Numbers.{wrongSize}
 use Rattle.basics.specs.Base.{pick}
-use Rattle.terms.specs.Terms.{Arguments, argumentsWrong, mostEntries, tooManyEntries, wrongArguments, halfDone, damaged}
-use Rattle.terms.specs.Terms.{noSuchWorker, wrongSizes}
+use Rattle.terms.specs.Terms.{Arguments, argumentsWrong}
 use Rattle.terms.specs.Runs.{postAdd}
 use Rattle.terms.specs.declared.Sizes.{Sizes}
 use Rattle.terms.specs.declared.Answer.{Answer}
@@ -67,8 +68,8 @@ judged-by-post s t w n = go (sizesFit s t) (ltb w (s .workers)) (ownOk s (view t
 
     go : (a b c d : Bool)
         → pick a (pick b (pick c (pick d (pick (leb n mostEntries) 0 tooManyEntries) halfDone) damaged) noSuchWorker)
-        wrongSizes
-        ≡ J (pick a (pick b (pick c (pick d wrongArguments halfDone) damaged) noSuchWorker) wrongSizes)
+        wrongSize
+        ≡ J (pick a (pick b (pick c (pick d wrongArguments halfDone) damaged) noSuchWorker) wrongSize)
     go true true true true = refl
     go true true true false = refl
     go true true false d = refl

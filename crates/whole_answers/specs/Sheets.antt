@@ -11,9 +11,10 @@ use lib.Dec.{leb}
 use lib.ListN.{length, getD, take, drop, replicate, take-append-drop, length-drop}
 use lib.Seq.{drop-at, length-take-le}
 use borrow.Author.Tests.{leb-true, le-leb}
+use Rattle.numbers.specs.Numbers.{mostEntries, halfDone}
 use Rattle.basics.specs.Base.{contains}
 use Rattle.basics.specs.Laws.{never, pick-by}
-use Rattle.terms.specs.Terms.{Arguments, noArguments, mostEntries, halfDone}
+use Rattle.terms.specs.Terms.{Arguments, noArguments}
 use Rattle.terms.specs.Runs.{outcome}
 use Rattle.terms.specs.declared.Sizes.{Sizes}
 use Rattle.terms.specs.declared.Answer.the-variants.{Laid, Refused}

@@ -9,9 +9,10 @@ use Prim.Native.Nat.{ℕ}
 use native.Mathlib.Omega.{arith}
 use lib.Dec.{eqb}
 use borrow.Author.Tests.{eqb-true, eq-eqb}
+use Rattle.numbers.specs.Numbers.{damaged}
 use Rattle.basics.specs.Base.{pick, contains}
 use Rattle.basics.specs.Laws.{never}
-use Rattle.terms.specs.Terms.{Arguments, Finish, damaged}
+use Rattle.terms.specs.Terms.{Arguments, Finish}
 use Rattle.terms.specs.Runs.{Outcome, outcome}
 use Rattle.terms.specs.declared.Sizes.{Sizes}
 use Rattle.terms.specs.declared.Answer.{Answer}

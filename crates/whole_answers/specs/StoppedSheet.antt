@@ -12,7 +12,7 @@ use lib.ListN.{length, getD, take}
 use borrow.Author.Tests.{eqb-true, eq-eqb, ne-eqb}
 use Rattle.basics.specs.Base.{pick, contains}
 use Rattle.basics.specs.Laws.{never, pick-by}
-use Rattle.terms.specs.Terms.{Arguments, noArguments, unknownName}
+use Rattle.terms.specs.Terms.{Arguments, noArguments}
 use Rattle.terms.specs.Runs.{Outcome}
 use Rattle.terms.specs.declared.Sizes.{Sizes}
 use Rattle.terms.specs.declared.Answer.{Answer}

@@ -7,9 +7,9 @@ use Prim.Native.Nat.{ℕ}
 use lib.Dec.{ltb, eqb}
 use lib.ListN.{length, getD}
 use borrow.Author.Tests.{lt-ltb, ltb-true}
+use Rattle.numbers.specs.Numbers.{wrongSize, noSuchWorker, damaged}
 use Rattle.basics.specs.Base.{contains}
 use Rattle.basics.specs.Laws.{never, pick-by}
-use Rattle.terms.specs.Terms.{wrongSizes, noSuchWorker, damaged}
 use Rattle.terms.specs.declared.Sizes.{Sizes}
 use Rattle.words.specs.Layout.{Tables, view, workerShape, PHASE, HELD, IDLE, bareWorker, sizesFit}
 use Rattle.words.specs.Words.{putWorker, ownOk, admitted}
@@ -49,7 +49,7 @@ module _ (s : Sizes) (t : Tables) (w : ℕ) (A : Admitted s t w) (u : Tables) (s
 
 -- "Order: 1, 2, 9 for the worker's own words": what holds of these refusals, and of an admitted worker
 abbrev pub orderNumbers : List ℕ
-orderNumbers = wrongSizes ∷ noSuchWorker ∷ damaged ∷ []
+orderNumbers = wrongSize ∷ noSuchWorker ∷ damaged ∷ []
 
 pub by-admission : {A : Type 0} (Q : A → Type 0) (s : Sizes) (t : Tables) (w : ℕ) (refuse : ℕ → A) (x : A)
     → ((n : ℕ) → contains n orderNumbers ≡ true → Q (refuse n)) → (Admitted s t w → Q x)
@@ -62,7 +62,7 @@ by-admission Q s t w refuse x away on =
     (λ g. on (record { sizes = e; worker = ltb-true w (s .workers) f; own = g }))
     (λ _. away damaged refl))
     (λ _. away noSuchWorker refl))
-    (λ _. away wrongSizes refl)
+    (λ _. away wrongSize refl)
 
 -- ---- a number in a longer list
 pub contains-left : (n : ℕ) (l m : List ℕ) → contains n l ≡ true → contains n (l ++ m) ≡ true

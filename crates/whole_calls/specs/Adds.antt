@@ -5,7 +5,8 @@ use mathlib.Core.List.{[], _∷_}
 use Prim.Native.Nat.{ℕ, zero, suc, _+_, _≤_, _<_}
 use native.Mathlib.Omega.{arith}
 use lib.ListN.{length, length-append}
-use Rattle.terms.specs.Terms.{Arguments, wrongArguments, unknownName, namePresent, tablesFull, noTally}
+use Rattle.numbers.specs.Numbers.{wrongArguments, unknownName, namePresent, tablesFull}
+use Rattle.terms.specs.Terms.{Arguments, noTally}
 use Rattle.terms.specs.Runs.{postAdd, step, Outcome, outcome, after, events}
 use Rattle.terms.specs.declared.Sizes.{Sizes}
 use Rattle.terms.specs.declared.Answer.{Answer}

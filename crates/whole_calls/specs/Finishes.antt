@@ -8,8 +8,9 @@ use Prim.Native.Nat.{ℕ, suc, _-_, _<_}
 use native.Mathlib.Omega.{arith}
 use lib.ListN.{length, length-set}
 use lib.Seq.{getD-set-same, getD-set-other}
+use Rattle.numbers.specs.Numbers.{notHeld, goodForSpoiled}
 use Rattle.basics.specs.Laws.{never, update-same, update-other}
-use Rattle.terms.specs.Terms.{Finish, notHeld, goodForSpoiled}
+use Rattle.terms.specs.Terms.{Finish}
 use Rattle.terms.specs.Runs.{postFinish, step, Outcome, outcome, after, events}
 use Rattle.terms.specs.declared.Sizes.{Sizes}
 use Rattle.terms.specs.declared.Answer.{Answer}

@@ -8,8 +8,8 @@ use mathlib.Core.List.{List, [], _∷_, _++_, map}
 use mathlib.Core.Option.{none, some}
 use Prim.Native.Nat.{ℕ, zero, suc, _+_, _*_, _<_}
 use lib.ListN.{length, replicate}
-use Rattle.terms.specs.Terms.{Arguments, finished, wrongArguments, unknownName, namePresent, tablesFull, notHeld}
-use Rattle.terms.specs.Terms.{goodForSpoiled, Finish}
+use Rattle.numbers.specs.Numbers.{wrongArguments, unknownName, namePresent, tablesFull, notHeld, goodForSpoiled}
+use Rattle.terms.specs.Terms.{Arguments, finished, Finish}
 use Rattle.terms.specs.Runs.{Item, postAdd, postFinish, step, Event, after, events}
 use Rattle.terms.specs.declared.Sizes.{Sizes}
 use Rattle.terms.specs.declared.Answer.{Answer}

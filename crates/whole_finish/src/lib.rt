@@ -7,7 +7,7 @@ ghost use Rattle.whole_words.specs.Whole.{wholeFinish};
 use fused_finish::finish_if_idle;
 use graph_own::own_ok;
 use graph_sizes::sizes_fit;
-use graph_words::numbers::*;
+use numbers::*;
 use terms::Answer;
 use terms::Sizes;
 
@@ -57,7 +57,7 @@ pub fn finish_whole(
         }
     } else {
         Answer::Refused {
-            number: WRONG_SIZES,
+            number: WRONG_SIZE,
             place: 0,
         }
     }

@@ -3,7 +3,7 @@
 use mathlib.Core.Bool.{Bool, _&&_, not}
 use Prim.Native.Nat.{ℕ}
 use lib.Dec.{eqb}
-use Rattle.terms.specs.Terms.{damaged}
+use Rattle.numbers.specs.Numbers.{damaged}
 use Rattle.terms.specs.Runs.{Outcome}
 use Rattle.words.specs.Layout.{Tables, view, PHASE, IDLE}
 use Rattle.sheet_rows.specs.SheetRows.{numberOf}

@@ -2,7 +2,7 @@
 -- Assumes nothing.
 use mathlib.Core.List.{List, [], _∷_}
 use Prim.Native.Nat.{ℕ, _≤_}
-use Rattle.terms.specs.Terms.{wrongArguments, tablesFull, notHeld, goodForSpoiled}
+use Rattle.numbers.specs.Numbers.{wrongArguments, tablesFull, notHeld, goodForSpoiled}
 use Rattle.terms.specs.declared.Answer.{Answer}
 use Rattle.terms.specs.declared.Answer.the-variants.{Ended, Refused}
 

@@ -4,13 +4,12 @@ use mathlib.Core.Bool.{Bool, _&&_}
 use mathlib.Core.List.{List, []}
 use Prim.Native.Nat.{ℕ, zero, suc, _+_, _*_, _-_}
 use lib.Dec.{ltb, leb, eqb}
-use Rattle.basics.specs.Limits.{mostClass}
+use Rattle.numbers.specs.Numbers.{mostClass, mostJobs}
 use Rattle.basics.specs.Base.{pick}
 use Rattle.heap.specs.Compared.{pairsDown}
 use Rattle.heap.specs.Sift.{above, siftUp, siftDown}
 use Rattle.heap.specs.declared.Sifted.{Sifted}
 use Rattle.heap.specs.declared.Sifted.the-variants.{Rests, Astray}
-use Rattle.terms.specs.Terms.{mostJobs}
 use Rattle.terms.specs.declared.Sizes.{Sizes}
 use Rattle.words.specs.Columns.{columns, put, header, putHeader}
 use Rattle.words.specs.Layout.{none, CLASS, queueShape, TAKEN, PUT, CELL, SLOT, POSITION, View}

@@ -8,8 +8,8 @@ use lib.ListN.{length, replicate}
 use lib.Seq.{sets}
 use denote.Ref.{RefT, now}
 use denote.Triple.Both.{Both}
-use Rattle.basics.specs.Limits.{mostNames}
-use Rattle.minutes.specs.Minutes.{classes, fixedMinutes}
+use Rattle.numbers.specs.Numbers.{mostNames, classes}
+use Rattle.minutes.specs.Minutes.{fixedMinutes}
 use Rattle.terms.specs.Terms.{withinLimits}
 use Rattle.terms.specs.declared.Sizes.{Sizes}
 use Rattle.words.specs.Columns.{Shape, columns, header, cells}

@@ -6,13 +6,13 @@ use mathlib.Core.List.{List, [], _∷_}
 use Prim.Native.Nat.{ℕ, zero, suc, _+_, _-_}
 use lib.Dec.{ltb, leb, eqb}
 use lib.Seq.{sets}
-use Rattle.basics.specs.Limits.{mostNames, mostClass, mostGrower}
+use Rattle.numbers.specs.Numbers.{mostNames, mostClass, mostGrower, wrongSize, noSuchWorker, halfDone, workerIdle}
+use Rattle.numbers.specs.Numbers.{wrongArguments, unknownName, namePresent, tablesFull, damaged, alreadyHolding}
+use Rattle.numbers.specs.Numbers.{notHeld, wrongMinutes, jobsEntered, goodForSpoiled}
 use Rattle.basics.specs.Base.{pick, prefix}
 use Rattle.bucket.specs.Bucket.{bucketOf}
 use Rattle.minutes.specs.Rising.{isRising}
-use Rattle.terms.specs.Terms.{settles, Arguments, listed, argumentsWrong, wrongSizes, noSuchWorker, halfDone}
-use Rattle.terms.specs.Terms.{nothingToStep, wrongArguments, unknownName, namePresent, tablesFull, damaged}
-use Rattle.terms.specs.Terms.{alreadyHolding, notHeld, wrongMinutes, jobsEntered, goodForSpoiled, Finish, bit}
+use Rattle.terms.specs.Terms.{settles, Arguments, listed, argumentsWrong, Finish, bit}
 use Rattle.terms.specs.Runs.{Item, postAdd, postFinish, step, get, load, Outcome, outcome}
 use Rattle.terms.specs.declared.Sizes.{Sizes}
 use Rattle.terms.specs.declared.HandOut.{HandOut}
@@ -171,7 +171,7 @@ planCall s v w =
 
 unfoldable pub planPhase : Sizes → View → ℕ → Plan
 planPhase s v w =
-    pick (eqb (v .worker PHASE w) IDLE) (Refuse nothingToStep)
+    pick (eqb (v .worker PHASE w) IDLE) (Refuse workerIdle)
     (pick (countersOk s v) (planCall s v w) (Refuse damaged))
 
 -- "Order: 1, 2, 9 for the worker's own words"
@@ -179,7 +179,7 @@ unfoldable pub admitted : {A : Type 0} → Sizes → Tables → ℕ → (ℕ →
 admitted s t w refuse plan =
     pick (sizesFit s t)
     (pick (ltb w (s .workers)) (pick (ownOk s (view t) w) plan (refuse damaged)) (refuse noSuchWorker))
-    (refuse wrongSizes)
+    (refuse wrongSize)
 
 abbrev pub planStep : Sizes → Tables → ℕ → Plan
 planStep s t w = admitted s t w Refuse (planPhase s (view t) w)
@@ -403,7 +403,7 @@ finishWords s t w f =
 
 -- ---- laying out
 unfoldable pub layOut : Sizes → Tables → Outcome Tables
-layOut s t = pick (roomFor s t) (outcome Laid (freshTables s t)) (outcome (Refused wrongSizes 0) t)
+layOut s t = pick (roomFor s t) (outcome Laid (freshTables s t)) (outcome (Refused wrongSize 0) t)
 
 -- ---- a load: "the order is 1, 17, 9, 18". It reads how many jobs were made, and none of the minutes that it replaces
 abbrev pub loaded : Tables → List ℕ → Tables
@@ -415,7 +415,7 @@ judgedLoad s t m =
     (pick (isRising m)
     (pick (leb (view t .made) (s .jobs)) (pick (eqb (view t .made) 0) 0 jobsEntered) damaged)
     wrongMinutes)
-    wrongSizes
+    wrongSize
 
 unfoldable pub loading : ℕ → Tables → List ℕ → Outcome Tables
 loading zero t m = outcome Loaded (loaded t m)

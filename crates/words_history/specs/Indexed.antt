@@ -10,12 +10,12 @@ use native.Mathlib.Omega.{arith}
 use native.Mathlib.Decide.{ℕ-discrete, decLt}
 use lib.ListN.{length}
 use borrow.Author.Tests.{lt-ltb}
+use Rattle.numbers.specs.Numbers.{mostJobs}
 use Rattle.basics.specs.Base.{occurrences}
 use Rattle.basics.specs.Counting.{hit, hit-same, hit-other, sum, sum-same, sum-zero, sum-plus, sum-at, sum-first}
 use Rattle.basics.specs.Counting.{occurrences-nil, occurrences-cons}
 use Rattle.heap.specs.Sift.{above}
 use Rattle.heap.specs.Heap.{count}
-use Rattle.terms.specs.Terms.{mostJobs}
 use Rattle.terms.specs.Runs.{Item, after}
 use Rattle.terms.specs.declared.Sizes.{Sizes}
 use Rattle.terms.specs.declared.Answer.the-variants.{Laid}

@@ -8,7 +8,7 @@ use mathlib.Core.Option.{none}
 use Prim.Native.Nat.{ℕ, _+_, _^_, _≤_, _<_}
 use native.Mathlib.Omega.{arith}
 use lib.ListN.{length, getD, length-append}
-use Rattle.basics.specs.Limits.{mostNames}
+use Rattle.numbers.specs.Numbers.{mostNames}
 use Rattle.basics.specs.Base.{contains, occurrences}
 use Rattle.basics.specs.Counting.{occurrences-nil}
 use Rattle.basics.specs.Laws.{getD-prefix}

@@ -5,8 +5,8 @@ use mathlib.Core.Bool.{Bool, true, false}
 use mathlib.Core.List.{List}
 use Prim.Native.Nat.{ℕ}
 use native.Mathlib.Omega.{arith}
+use Rattle.numbers.specs.Numbers.{damaged, wrongSize}
 use Rattle.basics.specs.Base.{pick}
-use Rattle.terms.specs.Terms.{damaged, wrongSizes}
 use Rattle.terms.specs.Runs.{Item, Outcome, outcome, after, events}
 use Rattle.terms.specs.declared.Sizes.{Sizes}
 use Rattle.terms.specs.declared.Answer.the-variants.{Laid, Refused}
@@ -55,7 +55,7 @@ module _ (s : Sizes) where
     room = go (roomFor s t) laid
       where
         go : (b : Bool)
-            → pick {A = Outcome Tables} b (outcome Laid (freshTables s t)) (outcome (Refused wrongSizes 0) t) .answer
+            → pick {A = Outcome Tables} b (outcome Laid (freshTables s t)) (outcome (Refused wrongSize 0) t) .answer
             ≡ Laid → b ≡ true
         go true e = refl
         go false e = let z : _≡_ {A = ℕ} 0 1 = cc in absurd (omega arith)

@@ -7,8 +7,9 @@ use mathlib.Core.Bool.{Bool, true, false}
 use Prim.Native.Nat.{ℕ, _<_}
 use lib.Dec.{ltb, eqb}
 use borrow.Author.Tests.{ltb-true}
+use Rattle.numbers.specs.Numbers.{wrongSize, noSuchWorker, halfDone, damaged}
 use Rattle.basics.specs.Base.{pick, update}
-use Rattle.terms.specs.Terms.{sameSizes, wrongSizes, noSuchWorker, halfDone, damaged}
+use Rattle.terms.specs.Terms.{sameSizes}
 use Rattle.terms.specs.Runs.{Outcome, outcome}
 use Rattle.terms.specs.declared.Sizes.{Sizes}
 use Rattle.terms.specs.declared.Answer.the-variants.{Refused}
@@ -49,7 +50,7 @@ module _ (s : Sizes) (t : Tables) (g : Graph) (G : Ghost) (S : Stands s t g G) (
 
   -- ---- numbers 1 and 2, and 9 for the own words
   module _ {A : Type 0} (w : ℕ) (refuse : ℕ → A) (plan : Sizes → A) (F : A → Outcome Tables) (o : Outcome Graph)
-      (sizes : F (refuse wrongSizes) ≡ outcome (Refused wrongSizes 0) t)
+      (sizes : F (refuse wrongSize) ≡ outcome (Refused wrongSize 0) t)
       (worker : F (refuse noSuchWorker) ≡ outcome (Refused noSuchWorker 0) t)
       (own : w < s .workers → Agrees s (F (plan s)) o) where
     admit-laid : sameSizes s s ≡ true → Agrees s (F (words.admitted s t w refuse (plan s))) (rules.admitted s s g w o)
@@ -69,7 +70,7 @@ module _ (s : Sizes) (t : Tables) (g : Graph) (G : Ghost) (S : Stands s t g G) (
         go : (b : Bool) → sameSizes r s ≡ b
             → Agrees s (F (words.admitted r t w refuse (plan r))) (rules.admitted s r g w o)
         go true e = let z = same-sizes r s e in rw z (admit-laid (rw z at e))
-        go false e = rw (e, sizes-decide s t g G S r ∙ e, sizes) (refused wrongSizes)
+        go false e = rw (e, sizes-decide s t g G S r ∙ e, sizes) (refused wrongSize)
 
   module _ (w : ℕ) (hw : w < s .workers) where
     -- ---- number 3

@@ -7,10 +7,11 @@ use Prim.Native.Nat.{ℕ, _<_}
 use lib.Dec.{leb, eqb}
 use lib.ListN.{length}
 use borrow.Author.Tests.{le-leb}
+use Rattle.numbers.specs.Numbers.{workerIdle, halfDone, wrongArguments, alreadyHolding, notHeld, wrongSize, damaged}
+use Rattle.numbers.specs.Numbers.{wrongMinutes, jobsEntered}
 use Rattle.basics.specs.Base.{pick}
 use Rattle.minutes.specs.Rising.{isRising}
-use Rattle.terms.specs.Terms.{Arguments, argumentsWrong, nothingToStep, halfDone, wrongArguments, alreadyHolding}
-use Rattle.terms.specs.Terms.{notHeld, sameSizes, wrongSizes, damaged, wrongMinutes, jobsEntered, Finish, bit}
+use Rattle.terms.specs.Terms.{Arguments, argumentsWrong, sameSizes, Finish, bit}
 use Rattle.terms.specs.Runs.{Item, postAdd, postFinish, step, get, load, outcome}
 use Rattle.terms.specs.declared.Sizes.{Sizes}
 use Rattle.terms.specs.declared.Answer.the-variants.{Loaded, Refused}
@@ -43,7 +44,7 @@ module _ (s : Sizes) (t : Tables) (g : Graph) (G : Ghost) (S : Stands s t g G) (
         → CallRep (view t .worker) G w c
         → Agrees s (done (planPhase s (view t) w) t w) (stepCall s g w c)
     unfolding planPhase applied stepCall
-    step-call idle e o r = rw (r .phase) (refused s t g G S O nothingToStep)
+    step-call idle e o r = rw (r .phase) (refused s t g G S O workerIdle)
     step-call (looking a i) e o r = looking-agrees s t g G S O w hw a i o r
     step-call (linking a j i u) e o r = linking-agrees s t g G S O w hw a j i u e o r
     step-call (marking fa) e o r = marking-agrees s t g G S O w hw fa (g .workers w .held) refl o r
@@ -114,7 +115,7 @@ module _ (s : Sizes) (t : Tables) (g : Graph) (G : Ghost) (S : Stands s t g G) (
     where
       go : (b : Bool) → sameSizes r s ≡ b → Agrees s (loadWords r t m) (rules.perform s g (load r m))
       go true e = rw (e, sizes-decide s t g G S r ∙ e, same-sizes r s e) (load-judged m)
-      go false e = rw (e, sizes-decide s t g G S r ∙ e) (refused s t g G S O wrongSizes)
+      go false e = rw (e, sizes-decide s t g G S r ∙ e) (refused s t g G S O wrongSize)
 
   -- ---- an item
   pub item : (i : Item) → Agrees s (words.perform t i) (rules.perform s g i)

@@ -8,11 +8,11 @@ use native.Mathlib.Omega.{arith}
 use lib.Dec.{ltb, leb}
 use lib.ListN.{length, getD}
 use borrow.Author.Tests.{ltb-true, ltb-false, leb-false}
-use Rattle.basics.specs.Limits.{mostNames}
+use Rattle.numbers.specs.Numbers.{mostNames, unknownName, namePresent, tablesFull}
 use Rattle.basics.specs.Base.{pick}
 use Rattle.basics.specs.Laws.{update-same}
 use Rattle.bucket.specs.Bucket.{bucketOf}
-use Rattle.terms.specs.Terms.{Arguments, listed, noTally, unknownName, namePresent, tablesFull}
+use Rattle.terms.specs.Terms.{Arguments, listed, noTally}
 use Rattle.terms.specs.Runs.{outcome}
 use Rattle.terms.specs.declared.Sizes.{Sizes}
 use Rattle.terms.specs.declared.Answer.the-variants.{Going, Refused}

@@ -10,7 +10,7 @@ use native.Mathlib.Decide.{ℕ-discrete}
 use lib.Dec.{ltb, leb, eqb}
 use lib.ListN.{length, getD}
 use borrow.Author.Tests.{eq-eqb, ne-eqb, lt-ltb, le-leb, eqb-true, eqb-false, ltb-false}
-use Rattle.basics.specs.Limits.{mostNames, mostClass, mostGrower}
+use Rattle.numbers.specs.Numbers.{mostNames, mostClass, mostGrower}
 use Rattle.basics.specs.Base.{pick, contains, repeats}
 use Rattle.basics.specs.Laws.{length-prefix}
 use Rattle.terms.specs.Terms.{Arguments, listed, argumentsWrong, sameSizes, bit, Tally, noTally}

@@ -10,10 +10,10 @@ use native.Mathlib.Omega.{arith}
 use lib.Dec.{eqb}
 use lib.ListN.{length}
 use borrow.Author.Tests.{eq-eqb, ne-eqb, le-leb}
+use Rattle.numbers.specs.Numbers.{wrongArguments, alreadyHolding, notHeld, goodForSpoiled}
 use Rattle.basics.specs.Base.{pick}
 use Rattle.basics.specs.Laws.{update-same}
-use Rattle.terms.specs.Terms.{labelNumber, Arguments, argumentsWrong, wrongArguments, alreadyHolding, notHeld, Finish}
-use Rattle.terms.specs.Terms.{goodForSpoiled, bit}
+use Rattle.terms.specs.Terms.{labelNumber, Arguments, argumentsWrong, Finish, bit}
 use Rattle.terms.specs.Runs.{Outcome, outcome}
 use Rattle.terms.specs.Order.{without, firstBy}
 use Rattle.terms.specs.declared.Sizes.{Sizes}

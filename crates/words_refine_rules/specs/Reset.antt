@@ -7,7 +7,7 @@ use mathlib.Core.Bool.{false}
 use Prim.Native.Nat.{ℕ, zero, suc, _+_, _≤_, _<_}
 use native.Mathlib.Omega.{arith}
 use lib.ListN.{getD, getD-replicate, List·getD-eq-default}
-use Rattle.basics.specs.Limits.{mostNames}
+use Rattle.numbers.specs.Numbers.{mostNames}
 use Rattle.basics.specs.Laws.{length-prefix}
 use Rattle.terms.specs.Terms.{Arguments, listed, Tally}
 use Rattle.terms.specs.declared.Sizes.{Sizes}

@@ -9,7 +9,7 @@ use native.Mathlib.Omega.{arith}
 use lib.Dec.{ltb}
 use lib.ListN.{length, getD, length-replicate, take}
 use borrow.Author.Tests.{ne-eqb, ltb-true}
-use Rattle.basics.specs.Limits.{mostNames}
+use Rattle.numbers.specs.Numbers.{mostNames}
 use Rattle.basics.specs.Base.{prefix}
 use Rattle.basics.specs.Laws.{update-same, length-prefix, getD-prefix, getD-past}
 use Rattle.terms.specs.Terms.{Arguments, listed, bit, Tally, noTally, tallyOne}

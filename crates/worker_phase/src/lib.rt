@@ -8,8 +8,8 @@ ghost use Rattle.words.specs.Layout.{workerShape, PHASE};
 ghost use Rattle.whole_stops.specs.Stopped.{stoppedAs};
 use graph_words::layout::IDLE;
 use graph_words::layout::PHASE;
-use graph_words::numbers::DAMAGED;
 use graph_words::worker_word;
+use numbers::DAMAGED;
 
 // The phase of a worker below a number of workers; no word is read for any other.
 pub fn phase_of(workers: &[u32], most: u32, worker: u32) -> u32

@@ -3,8 +3,8 @@
 use mathlib.Core.Bool.{Bool, true, _&&_}
 use Prim.Native.Nat.{ℕ, zero, suc}
 use lib.Dec.{leb, eqb}
+use Rattle.numbers.specs.Numbers.{wrongSize, damaged}
 use Rattle.basics.specs.Base.{pick}
-use Rattle.terms.specs.Terms.{wrongSizes, damaged}
 use Rattle.terms.specs.declared.Sizes.{Sizes}
 use Rattle.words.specs.Layout.{none, PHASE, HELD, IDLE, Tables, View, view, sizesFit}
 use Rattle.words.specs.Words.{countersOk, ownOk}
@@ -41,4 +41,4 @@ judged b = record { number = 0; drained = pick b 1 0 }
 unfoldable pub drainedWords : Sizes → Tables → Drained
 drainedWords s t =
     pick (sizesFit s t) (pick (wordsOk s (view t)) (judged (isDrained s (view t))) (refused damaged))
-    (refused wrongSizes)
+    (refused wrongSize)

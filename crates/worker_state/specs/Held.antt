@@ -3,30 +3,20 @@
 use mathlib.Core.Bool.{_||_}
 use Prim.Native.Nat.{ℕ}
 use lib.Dec.{eqb}
+use Rattle.numbers.specs.Numbers.{damaged, callNone, callAdd, callFinish}
 use Rattle.basics.specs.Base.{pick}
-use Rattle.terms.specs.Terms.{damaged}
 use Rattle.terms.specs.declared.Sizes.{Sizes}
 use Rattle.words.specs.Layout.{NAME, MARK, PHASE, HELD, OWN-NAME, IDLE, LOOKING, LINKING, Tables, View, view}
 use Rattle.words.specs.Words.{isPlace, countersOk, markOk, admitted}
 use Rattle.worker_state.specs.declared.Holding.{Holding}
 
--- the call half done: none, an add, or a finish
-abbrev pub noCall : ℕ
-noCall = 0
-
-abbrev pub anAdd : ℕ
-anAdd = 1
-
-abbrev pub aFinish : ℕ
-aFinish = 2
-
--- by the phase: an add looks up or links, a finish marks or notifies
+-- the call half done, by the phase: an add looks up or links, a finish marks or notifies
 abbrev pub callOf : ℕ → ℕ
-callOf phase = pick (eqb phase IDLE) noCall (pick (eqb phase LOOKING || eqb phase LINKING) anAdd aFinish)
+callOf phase = pick (eqb phase IDLE) callNone (pick (eqb phase LOOKING || eqb phase LINKING) callAdd callFinish)
 
 -- the name of the add half done
 abbrev pub addsOf : ℕ → ℕ → ℕ
-addsOf call name = pick (eqb call anAdd) name 0
+addsOf call name = pick (eqb call callAdd) name 0
 
 -- a refusal has its number, and 0 elsewhere
 abbrev pub refused : ℕ → Holding

@@ -6,8 +6,9 @@ use Prim.Native.Nat.{ℕ, zero, suc, _-_, _<_}
 use native.Mathlib.Omega.{arith}
 use lib.Dec.{ltb, leb}
 use borrow.Author.Tests.{ltb-true, ltb-false, lt-leb}
+use Rattle.numbers.specs.Numbers.{mostJobs, mostArcs, mostBits, mostWorkers, wrongSize}
 use Rattle.basics.specs.Base.{pick}
-use Rattle.terms.specs.Terms.{mostJobs, mostArcs, mostBits, mostWorkers, withinLimits, wrongSizes}
+use Rattle.terms.specs.Terms.{withinLimits}
 use Rattle.terms.specs.Runs.{outcome}
 use Rattle.terms.specs.declared.Sizes.{Sizes}
 use Rattle.terms.specs.declared.Answer.{Answer}
@@ -53,7 +54,7 @@ second-false true b e = e
 second-false false b e = refl
 
 refused-get : (s : Sizes) (t : Tables) (w : ℕ) → withinLimits s ≡ false
-    → getWords s t w ≡ outcome (Refused wrongSizes 0) t
+    → getWords s t w ≡ outcome (Refused wrongSize 0) t
 unfolding getWords admitted appliedGet
 refused-get s t w e = rw e
 

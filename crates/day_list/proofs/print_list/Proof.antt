@@ -4,8 +4,9 @@ use denote.Ref.{now}
 use borrow.Author.Needs.{needs}
 use borrow.Author.Tests.{le-leb, lt-leb}
 use lib.ListN.{length}
+use Rattle.numbers.specs.Numbers.{mostDaySheet}
 use Rattle.sheet_format.specs.Decode.{decodeSheet}
-use Rattle.day_format.specs.Day.{mostBytes, dayText}
+use Rattle.day_format.specs.Day.{dayText}
 use Rattle.day_list.proofs.Days.{whole-day, whole-scanned, broken-scanned}
 use Rattle.day_list.proofs.print_list.Statement.{statement}
 use Rattle.day_list.proofs.print_list.Tie as tie
@@ -21,7 +22,7 @@ unfolding dayText
 returns c =
     let c4 = c .before .before .before .before in
     let a = c4 .before .before .before .args in
-    rw (lt-leb (length (now (a .sheet))) mostBytes (c4 .if1 .taken))
+    rw (lt-leb (length (now (a .sheet))) mostDaySheet (c4 .if1 .taken))
     (c .before .before .broken-line .ensures)
 
 scan-sheet-requires : tie.Need-scan-sheet-requires
@@ -53,7 +54,7 @@ returns-2 c =
     (sym (c4 .before .before .scan-sheet .ensures)
     ∙ c4 .enum-told .given .1) in
     let h = c4 .before .before .before .if1 .left in
-    rw (le-leb (length (now (a .sheet))) mostBytes h, w)
+    rw (le-leb (length (now (a .sheet))) mostDaySheet h, w)
     (whole-day (a .workers) (q .0) (q .1) (a .limit) (now (a .out)) (now (a .sheet)) _ _ w h
     (c .before .before .print-day .ensures))
 
@@ -70,7 +71,7 @@ returns-3 c =
     (sym (c4 .before .before .before .scan-sheet .ensures)
     ∙ c4 .before .number .given .1) in
     rw (
-      le-leb (length (now (a .sheet))) mostBytes
+      le-leb (length (now (a .sheet))) mostDaySheet
           (c8 .if1 .left),
       w,
     )

@@ -5,7 +5,7 @@ use mathlib.Core.Path.{_≡_, refl, sym, _∙_}
 use native.Mathlib.Omega.{arith}
 use borrow.Author.Needs.{needs}
 use lib.ListN.{length}
-use Rattle.terms.specs.Terms.{mostWorkers}
+use Rattle.numbers.specs.Numbers.{mostWorkers}
 use Rattle.words.specs.Layout.{tables}
 use Rattle.day_rounds.specs.Rounds.{rounds, runDay}
 use Rattle.day_rounds.specs.Rows.{length-holders}

@@ -3,7 +3,7 @@ use Prim.Native.Nat.{_/_, _%_}
 use mathlib.Core.Path.{sym, ap, _∙_}
 use borrow.Author.Tests.{lt-ltb, le-ltb}
 use borrow.Author.Needs.{needs}
-use Rattle.sheet_format.specs.Job.{nameBytes}
+use Rattle.numbers.specs.Numbers.{nameBytes}
 use Rattle.sheet_format.specs.NumberLaws.{length-namesAt}
 use Rattle.sheet_format.specs.Decode.{mapAt, decode, scanOf}
 use Rattle.entry_scan.proofs.Fields.{number-passed, listed, from-class-is}

@@ -5,12 +5,13 @@ use Prim.Native.Nat.{ℕ}
 use native.Mathlib.Omega.{arith}
 use lib.Dec.{leb}
 use lib.ListN.{length, getD, length-append}
+use Rattle.numbers.specs.Numbers.{damaged, wrongSize}
 use Rattle.basics.specs.Base.{pick}
 use Rattle.minutes.specs.Minutes.{minutesIn, fixedMinutes}
 use Rattle.minutes.specs.Rising.{isRising, risesAbove, SixteenRising, rising-means}
 use Rattle.minutes.specs.Judged.{allMinutes, noMinutes}
 use Rattle.minutes.specs.declared.GraphMinutes.{GraphMinutes}
-use Rattle.terms.specs.Terms.{Arguments, damaged, wrongSizes, withinLimits}
+use Rattle.terms.specs.Terms.{Arguments, withinLimits}
 use Rattle.terms.specs.declared.Sizes.{Sizes}
 use Rattle.words.specs.Columns.{columns, header, cells}
 use Rattle.words.specs.Layout.{sizesKept, storedMinutes, MADE}
@@ -68,7 +69,7 @@ abbrev pub keepsFixed : Board
 keepsFixed s jobs =
     pick (jobsFit s jobs)
     (pick (leb (header jobs MADE) (s .jobs)) (totalsOf fixedMinutes (graphRows jobs)) (refused damaged))
-    (refused wrongSizes)
+    (refused wrongSize)
 
 -- `under-labels`, by the district's minutes: the job counts for 2 minutes, and not for its 4
 pub keeps-fixed : (adds : List Arguments) → Accounted keepsFixed district sizes (oneJob district) adds → ⊥
@@ -97,7 +98,7 @@ abbrev pub trustsMinutes : Board
 trustsMinutes s jobs =
     pick (jobsFit s jobs)
     (pick (leb (header jobs MADE) (s .jobs)) (totalsOf (storedMinutes jobs) (graphRows jobs)) (refused damaged))
-    (refused wrongSizes)
+    (refused wrongSize)
 
 -- classes 0 and 1 have equal minutes, or the last class 1,441, or the first none
 abbrev pub equals : List ℕ
@@ -155,7 +156,7 @@ trusts-nought b =
 abbrev pub tellsFixed : Sizes → List ℕ → GraphMinutes
 tellsFixed s jobs = pick (jobsFit s jobs)
     (pick (isRising (storedMinutes jobs)) (allMinutes fixedMinutes) (noMinutes damaged))
-    (noMinutes wrongSizes)
+    (noMinutes wrongSize)
 
 district-rises : SixteenRising (storedMinutes (oneJob district))
 unfolding header cells isRising risesAbove
@@ -169,7 +170,7 @@ tells-fixed b =
 
 -- ---- the stored minutes, even if they do not rise
 abbrev pub tellsAny : Sizes → List ℕ → GraphMinutes
-tellsAny s jobs = pick (jobsFit s jobs) (allMinutes (storedMinutes jobs)) (noMinutes wrongSizes)
+tellsAny s jobs = pick (jobsFit s jobs) (allMinutes (storedMinutes jobs)) (noMinutes wrongSize)
 
 -- `by-9`: each is to be 9
 pub tells-equals : MinutesExactly tellsAny sizes (oneJob equals) → ⊥

@@ -6,11 +6,12 @@ use Prim.Native.Nat.{ℕ, zero, suc, _+_, _*_, _<_}
 use native.Mathlib.Omega.{arith}
 use lib.Dec.{eqb}
 use lib.ListN.{getD}
+use Rattle.numbers.specs.Numbers.{damaged}
 use Rattle.basics.specs.Base.{pick}
 use Rattle.minutes.specs.Minutes.{minutesIn, fixedMinutes}
 use Rattle.minutes.specs.Rising.{isRising, risesAbove}
 use Rattle.minutes.specs.Judged.{judgedMinutes}
-use Rattle.terms.specs.Terms.{damaged, withinLimits}
+use Rattle.terms.specs.Terms.{withinLimits}
 use Rattle.words.specs.Columns.{columns, header, cells}
 use Rattle.words.specs.Layout.{sizesKept}
 use Rattle.totals.specs.Board.{sumOver, allWellFormed, counted, totalsOf, totalsBy, refused}

@@ -7,7 +7,7 @@ use native.Mathlib.Omega.{arith}
 use borrow.Author.Needs.{needs}
 use lib.ListN.{length, drop}
 use lib.Seq.{sets}
-use Rattle.basics.specs.Limits.{mostNames}
+use Rattle.numbers.specs.Numbers.{mostNames}
 use Rattle.basics.specs.Base.{prefix}
 use Rattle.graph_posted_add.proofs.Laws.{names-one, names-rest}
 use Rattle.graph_posted_add.proofs.put_names.Statement.{statement}

@@ -6,9 +6,9 @@ use mathlib.Core.List.{List}
 use Prim.Native.Nat.{ℕ}
 use lib.Dec.{ltb, leb}
 use lib.ListN.{length}
+use Rattle.numbers.specs.Numbers.{mostEntries, wrongSize, noSuchWorker, halfDone, tooManyEntries}
 use Rattle.basics.specs.Base.{pick}
-use Rattle.terms.specs.Terms.{Arguments, Finish, sameSizes, mostEntries, wrongSizes, noSuchWorker, halfDone}
-use Rattle.terms.specs.Terms.{tooManyEntries}
+use Rattle.terms.specs.Terms.{Arguments, Finish, sameSizes}
 use Rattle.terms.specs.Runs.{Item, Outcome, after}
 use Rattle.terms.specs.Starred.{S}
 use Rattle.terms.specs.declared.Sizes.{Sizes}
@@ -47,7 +47,7 @@ turning g s w l =
     (pick (ltb w (S .workers))
     (ofIdle (g .workers w .call) (pick (leb (length l) mostEntries) 0 tooManyEntries))
     noSuchWorker)
-    wrongSizes
+    wrongSize
 
 -- a machine that does what it should, given that number
 abbrev pub rightly : Turning → Answering

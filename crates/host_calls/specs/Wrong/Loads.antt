@@ -4,8 +4,8 @@ use mathlib.Core.Path.{_≡_, refl}
 use mathlib.Core.List.{List, [], _∷_}
 use Prim.Native.Nat.{ℕ}
 use lib.ListN.{getD}
+use Rattle.numbers.specs.Numbers.{halfDone}
 use Rattle.minutes.specs.Minutes.{fixedMinutes}
-use Rattle.terms.specs.Terms.{halfDone}
 use Rattle.terms.specs.Runs.{Item, postAdd, postFinish, step, get, load}
 use Rattle.terms.specs.Starred.{S, job}
 use Rattle.terms.specs.declared.Sizes.{Sizes}

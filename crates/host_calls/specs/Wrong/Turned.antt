@@ -5,8 +5,9 @@ use mathlib.Core.List.{List, [], _∷_, map}
 use Prim.Native.Nat.{ℕ, zero, suc}
 use lib.Dec.{ltb, leb}
 use lib.ListN.{length, take}
+use Rattle.numbers.specs.Numbers.{mostEntries, wrongSize, noSuchWorker, tooManyEntries}
 use Rattle.basics.specs.Base.{pick}
-use Rattle.terms.specs.Terms.{Arguments, sameSizes, mostEntries, wrongSizes, noSuchWorker, tooManyEntries}
+use Rattle.terms.specs.Terms.{Arguments, sameSizes}
 use Rattle.terms.specs.Runs.{postAdd}
 use Rattle.terms.specs.Starred.{S, job}
 use Rattle.terms.specs.declared.Sizes.{Sizes}
@@ -25,7 +26,7 @@ countsFirst g s w l =
     (pick (ltb w (S .workers))
     (pick (leb (length l) mostEntries) (ofIdle (g .workers w .call) 0) tooManyEntries)
     noSuchWorker)
-    wrongSizes
+    wrongSize
 
 -- `turns-away`: worker 0 has posted an add
 pub counts-first : Lacks countsFirst (rightly countsFirst) (single (postAdd S 0 (job 1 [])) ∷ []) turns-away

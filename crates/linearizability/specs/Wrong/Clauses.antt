@@ -9,10 +9,11 @@ use native.Mathlib.Omega.{arith}
 use lib.Dec.{eqb}
 use lib.ListN.{length, getD, take}
 use borrow.Author.Tests.{eqb-false}
+use Rattle.numbers.specs.Numbers.{alreadyHolding}
 use Rattle.basics.specs.Base.{update, contains, repeats, occurrences, prefix}
 use Rattle.minutes.specs.Minutes.{minutesIn, fixedMinutes}
 use Rattle.minutes.specs.Rising.{risesAbove, isRising}
-use Rattle.terms.specs.Terms.{Arguments, Tally, bit, argumentsWrong, sameSizes, alreadyHolding}
+use Rattle.terms.specs.Terms.{Arguments, Tally, bit, argumentsWrong, sameSizes}
 use Rattle.terms.specs.Runs.{Item, postAdd, postFinish, step, get, load, Outcome, outcome, Event, after, events}
 use Rattle.terms.specs.Runs.{entries}
 use Rattle.terms.specs.Order.{earliest, firstBy, without}

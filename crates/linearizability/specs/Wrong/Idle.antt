@@ -9,8 +9,9 @@ use Prim.Native.Nat.{ℕ, zero, suc, _<_}
 use native.Mathlib.Omega.{arith}
 use lib.Dec.{ltb, eqb, eqb·suc-zero}
 use lib.ListN.{length}
+use Rattle.numbers.specs.Numbers.{halfDone, namePresent, tablesFull, notHeld}
 use Rattle.basics.specs.Base.{pick}
-use Rattle.terms.specs.Terms.{halfDone, namePresent, tablesFull, notHeld, finishOf}
+use Rattle.terms.specs.Terms.{finishOf}
 use Rattle.terms.specs.Runs.{Item, postAdd, postFinish, step, get, Outcome, outcome, after}
 use Rattle.terms.specs.Starred.{S, job, steps, add}
 use Rattle.terms.specs.declared.Answer.{Answer}

@@ -6,10 +6,11 @@ use mathlib.Core.List.{List, [], _∷_, _++_}
 use Prim.Native.Nat.{ℕ}
 use lib.Dec.{ltb, leb, eqb}
 use lib.ListN.{length, getD, drop}
+use Rattle.numbers.specs.Numbers.{classes, mostMinutes, wrongSize, wrongMinutes, jobsEntered}
 use Rattle.basics.specs.Base.{pick}
-use Rattle.minutes.specs.Minutes.{classes, fixedMinutes}
-use Rattle.minutes.specs.Rising.{mostMinutes, risesAbove, isRising}
-use Rattle.terms.specs.Terms.{sameSizes, wrongSizes, wrongMinutes, jobsEntered}
+use Rattle.minutes.specs.Minutes.{fixedMinutes}
+use Rattle.minutes.specs.Rising.{risesAbove, isRising}
+use Rattle.terms.specs.Terms.{sameSizes}
 use Rattle.terms.specs.Runs.{Item, postAdd, postFinish, step, get, load, Outcome, outcome, after, events}
 use Rattle.terms.specs.Starred.{S, sizes, job, added, answersOf, hands}
 use Rattle.terms.specs.declared.Answer.the-variants.{Loaded, Refused}
@@ -26,7 +27,7 @@ loading onLoad g (postAdd s w a) = perform S g (postAdd s w a)
 loading onLoad g (postFinish s w f) = perform S g (postFinish s w f)
 loading onLoad g (step s w) = perform S g (step s w)
 loading onLoad g (get s w) = perform S g (get s w)
-loading onLoad g (load s m) = pick (sameSizes s S) (onLoad g m) (outcome (Refused wrongSizes 0) g)
+loading onLoad g (load s m) = pick (sameSizes s S) (onLoad g m) (outcome (Refused wrongSize 0) g)
 
 -- with the rules' own load it is the rules
 pub own-load : (g : Graph) (i : Item) → loading loadMinutes g i ≡ perform S g i

@@ -8,8 +8,9 @@ use Prim.Native.Nat.{ℕ, zero, suc, _*_, _<_}
 use native.Mathlib.Omega.{arith}
 use lib.Dec.{ltb, eqb}
 use lib.ListN.{length, getD, set}
+use Rattle.numbers.specs.Numbers.{goodForSpoiled}
 use Rattle.basics.specs.Base.{pick}
-use Rattle.terms.specs.Terms.{listed, Finish, finishOf, bit, goodForSpoiled}
+use Rattle.terms.specs.Terms.{listed, Finish, finishOf, bit}
 use Rattle.terms.specs.Runs.{Item, postAdd, postFinish, step, get, load, Outcome, outcome, after}
 use Rattle.terms.specs.Seen.{Seen}
 use Rattle.terms.specs.Starred.{S, job, steps, add, added, answersOf, hands}

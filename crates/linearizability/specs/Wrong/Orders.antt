@@ -10,10 +10,10 @@ use Prim.Native.Nat.{ℕ, zero, suc, _+_, _≤_, _<_}
 use native.Mathlib.Omega.{arith}
 use lib.Dec.{ltb, leb, eqb}
 use lib.ListN.{length, getD, take, drop}
+use Rattle.numbers.specs.Numbers.{alreadyHolding}
 use Rattle.basics.specs.Base.{occurrences}
 use Rattle.basics.specs.Laws.{never, pick-by}
 use Rattle.basics.specs.Counting.{occurrences-cons}
-use Rattle.terms.specs.Terms.{alreadyHolding}
 use Rattle.terms.specs.Runs.{Item, postAdd, postFinish, step, get, load, Outcome, outcome, after, entries}
 use Rattle.terms.specs.Order.{firstBy, without, before, ahead}
 use Rattle.terms.specs.OrderLaws.{first-out}

@@ -7,8 +7,9 @@ use Prim.Native.Nat.{ℕ, zero, suc, _-_, _<_}
 use native.Mathlib.Omega.{arith}
 use lib.Dec.{ltb, eqb}
 use lib.ListN.{length, getD, set}
+use Rattle.numbers.specs.Numbers.{unknownName, tablesFull}
 use Rattle.basics.specs.Base.{pick, update, contains}
-use Rattle.terms.specs.Terms.{labelNumber, Arguments, listed, Tally, unknownName, tablesFull, finishOf}
+use Rattle.terms.specs.Terms.{labelNumber, Arguments, listed, Tally, finishOf}
 use Rattle.terms.specs.Runs.{Item, postAdd, postFinish, step, get, load, Outcome, outcome, events}
 use Rattle.terms.specs.Order.{firstBy, without}
 use Rattle.terms.specs.Starred.{S, sizes, job, steps, add, added, answersOf, hands}

@@ -8,8 +8,9 @@ use Prim.Native.Nat.{ℕ, _<_}
 use native.Mathlib.Omega.{arith}
 use lib.Dec.{eqb}
 use lib.ListN.{length}
+use Rattle.numbers.specs.Numbers.{notHeld, goodForSpoiled}
 use Rattle.basics.specs.Base.{pick}
-use Rattle.terms.specs.Terms.{Finish, finishOf, bit, notHeld, goodForSpoiled}
+use Rattle.terms.specs.Terms.{Finish, finishOf, bit}
 use Rattle.terms.specs.Runs.{Item, postAdd, postFinish, step, get, load, Outcome, outcome}
 use Rattle.terms.specs.Starred.{S, answersOf}
 use Rattle.terms.specs.declared.Answer.the-variants.{Posted, Handed, Refused}

@@ -7,8 +7,9 @@ use Prim.Native.Nat.{ℕ, zero, suc, _-_, _*_, _≤_, _<_}
 use native.Mathlib.Omega.{arith}
 use lib.Dec.{ltb, eqb}
 use lib.ListN.{length, getD, set}
+use Rattle.numbers.specs.Numbers.{unknownName}
 use Rattle.basics.specs.Base.{pick}
-use Rattle.terms.specs.Terms.{Arguments, listed, Tally, tallyOne, unknownName, finishOf}
+use Rattle.terms.specs.Terms.{Arguments, listed, Tally, tallyOne, finishOf}
 use Rattle.terms.specs.Runs.{Item, postAdd, postFinish, step, get, Outcome, outcome, after}
 use Rattle.terms.specs.Starred.{S, job, steps, add, prepared}
 use Rattle.terms.specs.declared.Answer.the-variants.{Going, Ended, Refused}

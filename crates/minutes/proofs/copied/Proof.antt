@@ -4,7 +4,7 @@ use mathlib.Core.Path.{_≡_, refl}
 use Prim.Native.Nat.{_-_, _≤_}
 use native.Mathlib.Omega.{arith}
 use lib.ListN.{length, take, length-set}
-use Rattle.minutes.specs.Minutes.{classes}
+use Rattle.numbers.specs.Numbers.{classes}
 use Rattle.minutes.proofs.Rises.{copied-one, copied-all}
 use Rattle.minutes.proofs.copied.Statement.{statement}
 use Rattle.minutes.proofs.copied.Tie as tie

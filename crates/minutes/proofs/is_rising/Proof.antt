@@ -5,7 +5,7 @@ use mathlib.Core.Path.{_≡_, sym, _∙_}
 use Prim.Native.Nat.{_-_, _≤_}
 use native.Mathlib.Omega.{arith}
 use lib.ListN.{length, drop}
-use Rattle.minutes.specs.Minutes.{classes}
+use Rattle.numbers.specs.Numbers.{classes}
 use Rattle.minutes.specs.Rising.{risesAbove, isRising}
 use Rattle.minutes.proofs.Rises.{left-passes, left-fails, left-none, whole, wrong-length}
 use Rattle.minutes.proofs.is_rising.Statement.{statement}

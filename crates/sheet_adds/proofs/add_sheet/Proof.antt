@@ -3,7 +3,7 @@ use Prim.Native.Nat.{_/_}
 use native.Mathlib.Omega.{arith}
 use lib.ListN.{length}
 use borrow.Author.Needs.{needs}
-use Rattle.sheet_format.specs.Decode.{rowWords}
+use Rattle.numbers.specs.Numbers.{entryWords}
 use Rattle.sheet_adds.specs.Judged.{few, no-whole-rows, turned-rows, served-rows}
 use Rattle.sheet_adds.proofs.add_sheet.Statement.{statement}
 use Rattle.sheet_adds.proofs.add_sheet.Tie as tie
@@ -49,7 +49,7 @@ add-rows-requires c κs =
     let c6 = c .before .before .before .before .before .before in
     let a = c6 .before .before .before .before .before .before .before .before .before .before .before .before .before
     .args in (
-      few (a .sizes) _ (a .worker) (length (a .rows .now) / rowWords) _ (c6 .judge-sheet .ensures)
+      few (a .sizes) _ (a .worker) (length (a .rows .now) / entryWords) _ (c6 .judge-sheet .ensures)
           (c .before .before .before .before .before .if2 .left),
       omega arith,
     )

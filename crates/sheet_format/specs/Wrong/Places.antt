@@ -6,9 +6,9 @@ use mathlib.Core.Path.{_≡_, ap}
 use native.Mathlib.Omega.{arith}
 use lib.ListN.{length, getD, set, replicate}
 use lib.Seq.{sets}
-use Rattle.basics.specs.Limits.{mostNames}
+use Rattle.numbers.specs.Numbers.{mostNames, nameBytes, countBytes, classBytes}
 use Rattle.sheet_format.specs.Number.{spelt}
-use Rattle.sheet_format.specs.Job.{Job, nameBytes, countBytes, classBytes, speltNames, mapByte}
+use Rattle.sheet_format.specs.Job.{Job, speltNames, mapByte}
 use Rattle.sheet_format.specs.Place.{Part, bytesOf, soFar, Running, running, Writer, put, KeepsPlace}
 
 -- WRONG PLACES: it stores as it should, and moves on by so many bytes

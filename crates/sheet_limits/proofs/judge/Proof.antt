@@ -2,7 +2,7 @@
 use native.Mathlib.Omega.{arith}
 use borrow.Author.Tests.{le-leb, lt-leb}
 use borrow.Author.Needs.{needs}
-use Rattle.basics.specs.Limits.{mostNames, mostClass, mostGrower}
+use Rattle.numbers.specs.Numbers.{mostNames, mostClass, mostGrower}
 use Rattle.sheet_format.specs.Write.{faultOf}
 use Rattle.sheet_limits.specs.Judge.{judged}
 use Rattle.sheet_limits.proofs.Sizes.{encode-length}

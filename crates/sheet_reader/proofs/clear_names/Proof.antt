@@ -5,7 +5,7 @@ use native.Mathlib.Omega.{arith}
 use lib.Seq.{sets}
 use lib.ListN.{length, replicate, length-set}
 use borrow.Author.Needs.{needs}
-use Rattle.basics.specs.Limits.{mostNames}
+use Rattle.numbers.specs.Numbers.{mostNames}
 use Rattle.sheet_reader.proofs.Stores.{zero-more}
 use Rattle.sheet_reader.proofs.clear_names.Statement.{statement}
 use Rattle.sheet_reader.proofs.clear_names.Tie as tie

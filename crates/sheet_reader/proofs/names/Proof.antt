@@ -2,7 +2,7 @@
 use mathlib.Core.Path.{_∙_}
 use native.Mathlib.Omega.{arith}
 use borrow.Author.Needs.{needs}
-use Rattle.sheet_format.specs.Job.{nameBytes}
+use Rattle.numbers.specs.Numbers.{nameBytes}
 use Rattle.sheet_reader.proofs.Stores.{names-over}
 use Rattle.sheet_reader.proofs.names.Statement.{statement}
 use Rattle.sheet_reader.proofs.names.Tie as tie

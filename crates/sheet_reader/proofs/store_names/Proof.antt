@@ -6,8 +6,8 @@ use native.Mathlib.Omega.{arith}
 use lib.Seq.{sets}
 use lib.ListN.{length, length-set}
 use borrow.Author.Needs.{needs}
+use Rattle.numbers.specs.Numbers.{nameBytes}
 use Rattle.sheet_format.specs.Decode.{namesAt}
-use Rattle.sheet_format.specs.Job.{nameBytes}
 use Rattle.entry_scan.proofs.Fields.{number4-at}
 use Rattle.sheet_reader.proofs.Stores.{name-more}
 use Rattle.sheet_reader.proofs.store_names.Statement.{statement}

@@ -2,8 +2,7 @@
 use native.Mathlib.Omega.{arith}
 use lib.ListN.{length-set}
 use borrow.Author.Needs.{needs}
-use Rattle.basics.specs.Limits.{mostNames}
-use Rattle.sheet_format.specs.Job.{nameBytes}
+use Rattle.numbers.specs.Numbers.{mostNames, nameBytes}
 use Rattle.sheet_reader.proofs.Stores.{row-stored}
 use Rattle.sheet_reader.proofs.store_row.Statement.{statement}
 use Rattle.sheet_reader.proofs.store_row.Tie as tie

@@ -25,9 +25,6 @@ mul-count : tie.Need-mul-count
 mul-count c =
     omega (arith, bit-times (c .before .wide .result / 2 % 2) (c .number1 .result) (omega arith))
 
-cast-if3 : tie.Need-cast-if3
-cast-if3 c = search needs
-
 last-fields-requires : tie.Need-last-fields-requires
 last-fields-requires c κs = search needs
 
@@ -57,5 +54,5 @@ returns-2 c = search needs
 pub scan-again-spec : {M : Type 1} → statement M
 scan-again-spec =
     tie.close
-    (tie.spec sub-if2 shared-slice-read-wide wide-requires add-number1 number1-requires mul-count cast-if3
+    (tie.spec sub-if2 shared-slice-read-wide wide-requires add-number1 number1-requires mul-count
     last-fields-requires add-number4 number4-requires returns scan-requires returns-2)

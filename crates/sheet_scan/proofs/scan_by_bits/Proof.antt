@@ -4,7 +4,7 @@ use mathlib.Core.Path.{sym, _∙_}
 use mathlib.Core.Bool.{_&&_}
 use native.Mathlib.Omega.{arith}
 use lib.Dec.{ltb, eqb}
-use Rattle.basics.specs.Limits.{mostNames}
+use Rattle.numbers.specs.Numbers.{mostNames}
 use Rattle.sheet_format.specs.Choice.{both}
 use Rattle.sheet_scan.proofs.Bits.{bit-times, within-most, sure}
 use borrow.Author.Needs.{needs}
@@ -20,9 +20,6 @@ number1-requires c κs = search needs
 mul-count : tie.Need-mul-count
 mul-count c =
     omega (arith, bit-times (c .before .before .args .map / 2 % 2) (c .number1 .result) (omega arith))
-
-cast-within-if : tie.Need-cast-within-if
-cast-within-if c = search needs
 
 within-if-requires : tie.Need-within-if-requires
 within-if-requires c κs = search needs
@@ -78,5 +75,5 @@ returns-2 c = search needs
 pub scan-by-bits-spec : {M : Type 1} → statement M
 scan-by-bits-spec =
     tie.close
-    (tie.spec add-number1 number1-requires mul-count cast-within-if within-if-requires last-fields-requires
+    (tie.spec add-number1 number1-requires mul-count within-if-requires last-fields-requires
     within-if-requires-2 within-if-requires-3 add-number4 number4-requires returns scan-requires returns-2)

@@ -4,7 +4,7 @@ use mathlib.Core.Bool.{_&&_}
 use native.Mathlib.Omega.{arith}
 use lib.Dec.{leb, eqb}
 use borrow.Author.Tests.{eqb-true}
-use Rattle.basics.specs.Limits.{mostNames}
+use Rattle.numbers.specs.Numbers.{mostNames}
 use Rattle.sheet_format.specs.Choice.{both}
 use Rattle.sheet_scan.proofs.Bits.{name-alone, name-and-list}
 use borrow.Author.Needs.{needs}
@@ -48,26 +48,23 @@ add-number1 c = search needs
 number1-requires : tie.Need-number1-requires
 number1-requires c κs = search needs
 
-cast-listed : tie.Need-cast-listed
-cast-listed c = search needs
-
 add-number4-2 : tie.Need-add-number4-2
 add-number4-2 c = search needs
 
 number4-requires-2 : tie.Need-number4-requires-2
 number4-requires-2 c κs = search needs
 
-add-t18 : tie.Need-add-t18
-add-t18 c = search needs
+add-t17 : tie.Need-add-t17
+add-t17 c = search needs
 
-cast-t19 : tie.Need-cast-t19
-cast-t19 c = search needs
+cast-t18 : tie.Need-cast-t18
+cast-t18 c = search needs
 
-mul-t20 : tie.Need-mul-t20
-mul-t20 c = search needs
+mul-t19 : tie.Need-mul-t19
+mul-t19 c = search needs
 
-add-t21 : tie.Need-add-t21
-add-t21 c = search needs
+add-t20 : tie.Need-add-t20
+add-t20 c = search needs
 
 returns-3 : tie.Need-returns-3
 returns-3 c =
@@ -92,5 +89,5 @@ pub scan-next-spec : {M : Type 1} → statement M
 scan-next-spec =
     tie.close
     (tie.spec add-if1 scan-requires returns shared-slice-read-wide wide-requires add-number4 number4-requires add-t13
-    returns-2 add-number1 number1-requires cast-listed add-number4-2 number4-requires-2 add-t18 cast-t19 mul-t20
-    add-t21 returns-3 scan-by-bits-requires returns-4)
+    returns-2 add-number1 number1-requires add-number4-2 number4-requires-2 add-t17 cast-t18 mul-t19
+    add-t20 returns-3 scan-by-bits-requires returns-4)

@@ -1,8 +1,8 @@
 -- `put_class` stores the byte of a class, and nothing for class 0. Assumes nothing.
 use native.Mathlib.Omega.{arith}
 use native.Mathlib.Nat.{add-zero}
+use Rattle.numbers.specs.Numbers.{classBytes}
 use Rattle.sheet_format.specs.Number.{spelt}
-use Rattle.sheet_format.specs.Job.{classBytes}
 use Rattle.sheet_format.specs.EntryTrip.{length-optional}
 use Rattle.sheet_limits.proofs.Sizes.{bit-some, spelt-some}
 use Rattle.sheet_writer.proofs.Puts.{part-fits}

@@ -6,8 +6,8 @@ use native.Mathlib.Nat.{add-zero}
 use native.Mathlib.Numerals.{towards-suc}
 use lib.ListN.{length, length-set}
 use denote.Ref.{now}
+use Rattle.numbers.specs.Numbers.{growerBytes}
 use Rattle.sheet_format.specs.Number.{spelt}
-use Rattle.sheet_format.specs.Job.{growerBytes}
 use Rattle.sheet_format.specs.EntryTrip.{length-optional}
 use Rattle.sheet_limits.proofs.Sizes.{bit-some, spelt-some}
 use Rattle.sheet_writer.proofs.Puts.{part-fits}

@@ -5,8 +5,8 @@ use native.Mathlib.Omega.{arith}
 use native.Mathlib.Nat.{add-zero}
 use lib.ListN.{length, length-set, take, drop}
 use denote.Ref.{now}
+use Rattle.numbers.specs.Numbers.{nameBytes, countBytes}
 use Rattle.sheet_format.specs.Number.{spelt}
-use Rattle.sheet_format.specs.Job.{nameBytes, countBytes}
 use Rattle.sheet_limits.proofs.Sizes.{bytes-some, list-bytes, list-some, taken}
 use Rattle.sheet_writer.proofs.Puts.{one, after, part-fits, was-put}
 use borrow.Author.Needs.{needs}

@@ -8,7 +8,8 @@ use lib.ListN.{getD, length, take, drop}
 use lib.Seq.{sets}
 use borrow.Author.Needs.{needs}
 use denote.Ref.{now}
-use Rattle.sheet_format.specs.Job.{speltNames, nameBytes}
+use Rattle.numbers.specs.Numbers.{nameBytes}
+use Rattle.sheet_format.specs.Job.{speltNames}
 use Rattle.sheet_format.specs.NumberLaws.{length-spelt, length-speltNames}
 use Rattle.sheet_limits.proofs.Sizes.{taken}
 use Rattle.sheet_writer.proofs.Puts.{onward, next-name}

@@ -1,6 +1,6 @@
 -- `put_own_name` stores the job's own name. Assumes nothing.
 use native.Mathlib.Omega.{arith}
-use Rattle.sheet_format.specs.Job.{nameBytes}
+use Rattle.numbers.specs.Numbers.{nameBytes}
 use Rattle.sheet_format.specs.NumberLaws.{length-spelt}
 use Rattle.sheet_writer.proofs.Puts.{part-fits, was-put}
 use borrow.Author.Needs.{needs}

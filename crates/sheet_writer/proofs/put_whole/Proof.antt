@@ -2,7 +2,7 @@
 use mathlib.Core.Path.{_≡_}
 use native.Mathlib.Omega.{arith}
 use lib.ListN.{length}
-use Rattle.basics.specs.Limits.{mostNames}
+use Rattle.numbers.specs.Numbers.{mostNames}
 use Rattle.sheet_limits.proofs.Judging.{few}
 use Rattle.sheet_writer.proofs.Puts.{entry-put}
 use borrow.Author.Needs.{needs}

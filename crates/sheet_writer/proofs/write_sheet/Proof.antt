@@ -7,8 +7,8 @@ use lib.ListN.{length, length-map}
 use borrow.Author.Tests.{eq-eqb, ne-eqb, le-leb, lt-leb}
 use borrow.Author.Needs.{needs}
 use denote.Ref.{now}
+use Rattle.numbers.specs.Numbers.{entryWords}
 use Rattle.sheet_format.specs.Write.{SheetFault, sheetFault, writeSheet, jobOf, entriesOf}
-use Rattle.sheet_format.specs.Decode.{rowWords}
 use Rattle.sheet_format.specs.CodeLaws.{length-entriesFrom}
 use Rattle.sheet_limits.proofs.Judging.{sheet-refused, sheet-takes}
 use Rattle.sheet_format.specs.SheetPlace.{sheetSoFar}
@@ -19,7 +19,7 @@ use Rattle.sheet_writer.proofs.write_sheet.Tie as tie
 takes-at : (c : tie.After-known-told2) → let c4 = c .before .before .before .before in
     let rows = now (c4 .before .before .before .args .rows) in
     (sheetFault 0 (entriesOf rows) ≡ SheetFault.none)
-    × (length (sheetSoFar rows (length rows / rowWords)) ≡ c .before .bytes .given .0 .0)
+    × (length (sheetSoFar rows (length rows / entryWords)) ≡ c .before .bytes .given .0 .0)
 takes-at c =
     let c4 = c .before .before .before .before in
     sheet-takes
@@ -65,8 +65,8 @@ returns-3 c =
     let rows = now (a .rows) in
     let t = takes-at (c4 .before) in
     let f = c .before .before .put-rows .ensures in
-    let k = length-map (entriesOf rows) jobOf ∙ length-entriesFrom rows 0 (length rows / rowWords) in
-    let fits = le-leb (length (sheetSoFar rows (length rows / rowWords))) (length (now (a .out))) (omega arith) in
+    let k = length-map (entriesOf rows) jobOf ∙ length-entriesFrom rows 0 (length rows / entryWords) in
+    let fits = le-leb (length (sheetSoFar rows (length rows / entryWords))) (length (now (a .out))) (omega arith) in
     rw (
       eq-eqb _ _ (c8 .before .if1 .left),
       t .0,
@@ -85,7 +85,7 @@ returns-4 c =
     let a = c8 .args in
     let rows = now (a .rows) in
     let t = takes-at (c .before) in
-    let short = lt-leb (length (sheetSoFar rows (length rows / rowWords))) (length (now (a .out))) (omega arith) in
+    let short = lt-leb (length (sheetSoFar rows (length rows / entryWords))) (length (now (a .out))) (omega arith) in
     rw (eq-eqb _ _ (c4 .before .if1 .left), t .0, short)
 
 pub write-sheet-spec : {M : Type 1} → statement M

@@ -7,8 +7,9 @@ use Prim.Native.Nat.{ℕ, _≤_}
 use native.Mathlib.Omega.{arith}
 use lib.Dec.{leb, eqb, lit<}
 use lib.ListN.{replicate}
+use Rattle.numbers.specs.Numbers.{wrongSize, damaged}
 use Rattle.basics.specs.Base.{pick}
-use Rattle.terms.specs.Terms.{withinLimits, wrongSizes, damaged}
+use Rattle.terms.specs.Terms.{withinLimits}
 use Rattle.terms.specs.declared.Sizes.{Sizes}
 use Rattle.words.specs.Columns.{header, columns}
 use Rattle.words.specs.Layout.{none, PHASE, HELD, LIST-COUNT, OWN-CLASS, OWN-GROWER, TALLY, PLACE, OWN-JOB, OWN-ARC}
@@ -30,7 +31,7 @@ drainedBy own rests s t =
     let v = view t in
     pick (sizesFit s t)
     (pick (every (own s v) (s .workers) && (countersOk s v && queueOk s v)) (judged (rests s v)) (refused damaged))
-    (refused wrongSizes)
+    (refused wrongSize)
 
 -- with the words' own two tests it is the words' function
 pub own-drained : (s : Sizes) (t : Tables) → drainedBy ownOk isDrained s t ≡ drainedWords s t

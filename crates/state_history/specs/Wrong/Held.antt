@@ -7,8 +7,9 @@ use Prim.Native.Nat.{ℕ, _<_}
 use lib.Dec.{ltb, eqb, lit≤, lit<}
 use lib.ListN.{replicate}
 use borrow.Author.Tests.{eqb-false}
+use Rattle.numbers.specs.Numbers.{noSuchWorker, damaged}
 use Rattle.basics.specs.Base.{pick}
-use Rattle.terms.specs.Terms.{withinLimits, noSuchWorker, damaged}
+use Rattle.terms.specs.Terms.{withinLimits}
 use Rattle.terms.specs.declared.Sizes.{Sizes}
 use Rattle.words.specs.Columns.{header, columns}
 use Rattle.words.specs.Layout.{none, NAME, MARK, PHASE, HELD, IDLE, MARKING, Tables, tables, View, view, longEnough}

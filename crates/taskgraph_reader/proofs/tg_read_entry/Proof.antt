@@ -4,11 +4,12 @@
 use mathlib.Core.Path.{_≡_, refl, sym, ap, _∙_}
 use Prim.Native.Nat.{ℕ}
 use borrow.Author.Needs.{needs}
+use Rattle.numbers.specs.Numbers.{accepted}
 use Rattle.sheet_format.specs.Decode.{Decoded, job, end, refused, decode, readingOf}
 use Rattle.sheet_format.specs.declared.Entry.{Entry}
 use Rattle.sheet_format.specs.declared.Read.{Read}
 use Rattle.sheet_format.specs.declared.Reading.{Reading}
-use Rattle.taskgraph_reader.specs.Answers.{accepted, entryRead}
+use Rattle.taskgraph_reader.specs.Answers.{entryRead}
 use Rattle.taskgraph_reader.specs.declared.EntryRead.{EntryRead}
 use Rattle.taskgraph_reader.proofs.tg_read_entry.Statement.{statement}
 use Rattle.taskgraph_reader.proofs.tg_read_entry.Tie as tie

@@ -41,7 +41,7 @@ use denote.Triple.Table.{entered, cited}
 use denote.Triple.Walked.{says, Stays, stay-dropped, walkOf, goes-dropped, Walks, ends-at, walked, walk-meets}
 use denote.Triple.Clauses.{ensured, lasts}
 use denote.Exit.{yes}
-use Rattle.terms.specs.Terms.{wrongMinutes}
+use Rattle.numbers.specs.Numbers.{wrongMinutes}
 use Rattle.minutes.specs.Judged.{judgedMinutes}
 use Rattle.minutes.specs.declared.GraphMinutes.{GraphMinutes}
 use Rattle.minutes.proofs.GraphMinutes as B

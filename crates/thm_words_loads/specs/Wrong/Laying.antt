@@ -6,9 +6,10 @@ use Prim.Native.Nat.{ℕ}
 use lib.Dec.{lit<}
 use lib.ListN.{replicate}
 use native.Mathlib.Omega.{arith}
+use Rattle.numbers.specs.Numbers.{wrongSize}
 use Rattle.basics.specs.Base.{pick}
 use Rattle.minutes.specs.Minutes.{fixedMinutes}
-use Rattle.terms.specs.Terms.{withinLimits, wrongSizes}
+use Rattle.terms.specs.Terms.{withinLimits}
 use Rattle.terms.specs.Runs.{Outcome, outcome}
 use Rattle.terms.specs.declared.Sizes.{Sizes}
 use Rattle.terms.specs.declared.Answer.{Answer}
@@ -49,7 +50,7 @@ keeps-minutes d =
 
 -- ---- raw memory, of which the words are no table that was laid out, is refused by 1
 unfoldable pub refusesRaw : Sizes → Tables → Outcome Tables
-refusesRaw s t = pick (sizesKept s (t .jobs)) (layOut s t) (outcome (Refused wrongSizes 0) t)
+refusesRaw s t = pick (sizesKept s (t .jobs)) (layOut s t) (outcome (Refused wrongSize 0) t)
 
 -- over tables that were laid out for these sizes it is the right one
 pub refuses-elsewhere : (s : Sizes) (t : Tables) → sizesKept s (t .jobs) ≡ true → refusesRaw s t ≡ layOut s t
@@ -76,7 +77,7 @@ refuses-raw d =
 -- ---- the minutes are forgotten: words 5 to 20 are 0
 unfoldable pub forgetsMinutes : Sizes → Tables → Outcome Tables
 forgetsMinutes s t =
-    pick (roomFor s t) (outcome Laid (loaded (freshTables s t) (replicate 16 0))) (outcome (Refused wrongSizes 0) t)
+    pick (roomFor s t) (outcome Laid (loaded (freshTables s t) (replicate 16 0))) (outcome (Refused wrongSize 0) t)
 
 -- `minutes`: class 0 has none, and not 1
 pub forgets-minutes : LaysOut forgetsMinutes one unlaid → ⊥

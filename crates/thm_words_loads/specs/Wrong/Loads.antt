@@ -8,10 +8,10 @@ use Prim.Native.Nat.{ℕ, zero, suc}
 use lib.Dec.{leb, ltb, eqb, lit≤, lit<}
 use lib.ListN.{length, take, replicate}
 use borrow.Author.Tests.{eqb-false}
+use Rattle.numbers.specs.Numbers.{classes, wrongSize, damaged, wrongMinutes, jobsEntered}
 use Rattle.basics.specs.Base.{pick}
-use Rattle.minutes.specs.Minutes.{classes}
 use Rattle.minutes.specs.Rising.{risesAbove, isRising, SixteenRising, rising-means}
-use Rattle.terms.specs.Terms.{withinLimits, wrongSizes, damaged, wrongMinutes, jobsEntered}
+use Rattle.terms.specs.Terms.{withinLimits}
 use Rattle.terms.specs.Runs.{Outcome, outcome}
 use Rattle.terms.specs.declared.Sizes.{Sizes}
 use Rattle.terms.specs.declared.Answer.{Answer}
@@ -97,7 +97,7 @@ met counter s t m = not (leb (view t .made) (s .jobs))
 met entered s t m = not (eqb (view t .made) 0)
 
 abbrev pub numbered : Test → ℕ
-numbered sizes = wrongSizes
+numbered sizes = wrongSize
 numbered minutes = wrongMinutes
 numbered counter = damaged
 numbered entered = jobsEntered

@@ -5,11 +5,12 @@ use mathlib.Core.List.{List, [], _∷_}
 use Prim.Native.Nat.{ℕ}
 use native.Mathlib.Omega.{arith}
 use lib.ListN.{getD, replicate}
+use Rattle.numbers.specs.Numbers.{damaged}
 use Rattle.basics.specs.Base.{pick, prefix}
 use Rattle.bucket.specs.Bucket.{bucketOf, productOf}
 use Rattle.minutes.specs.Minutes.{fixedMinutes}
 use Rattle.minutes.specs.Rising.{isRising, risesAbove}
-use Rattle.terms.specs.Terms.{Arguments, damaged, withinLimits}
+use Rattle.terms.specs.Terms.{Arguments, withinLimits}
 use Rattle.terms.specs.Runs.{Outcome, outcome, Item, postAdd, postFinish, step, get, load}
 use Rattle.terms.specs.declared.Sizes.{Sizes}
 use Rattle.terms.specs.declared.Answer.{Answer}

@@ -8,10 +8,11 @@ use Prim.Native.Nat.{ℕ, _≤_}
 use native.Mathlib.Omega.{arith}
 use lib.Dec.{eqb, lit≤, lit<}
 use lib.ListN.{replicate}
+use Rattle.numbers.specs.Numbers.{damaged}
 use Rattle.basics.specs.Base.{pick}
 use Rattle.basics.specs.Laws.{never}
 use Rattle.bucket.specs.Bucket.{productOf, bucketOf}
-use Rattle.terms.specs.Terms.{withinLimits, damaged}
+use Rattle.terms.specs.Terms.{withinLimits}
 use Rattle.terms.specs.Runs.{Item, postAdd, postFinish, step, get, load, Outcome, outcome}
 use Rattle.words.specs.Columns.{header, columns, put, putHeader}
 use Rattle.words.specs.Layout.{none, jobShape, OUTCOME, MARK, DEPENDENT, PHASE, OWN-ARC, LOOKING, NOTIFYING, Tables}

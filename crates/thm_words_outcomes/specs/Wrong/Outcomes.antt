@@ -7,9 +7,10 @@ use Prim.Native.Nat.{ℕ, _≤_}
 use native.Mathlib.Omega.{arith}
 use lib.Dec.{eqb, lit≤, lit<}
 use lib.ListN.{getD, replicate}
+use Rattle.numbers.specs.Numbers.{damaged, halfDone, notHeld, goodForSpoiled}
 use Rattle.basics.specs.Base.{pick}
 use Rattle.heap.specs.Sift.{siftDown}
-use Rattle.terms.specs.Terms.{withinLimits, damaged, halfDone, notHeld, goodForSpoiled, Finish, finishOf, bit}
+use Rattle.terms.specs.Terms.{withinLimits, Finish, finishOf, bit}
 use Rattle.terms.specs.Runs.{Item, postAdd, postFinish, step, get, load, Outcome, outcome}
 use Rattle.terms.specs.declared.Sizes.{Sizes}
 use Rattle.terms.specs.declared.Answer.{Answer}

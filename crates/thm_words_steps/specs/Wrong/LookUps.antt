@@ -8,9 +8,10 @@ use Prim.Native.Nat.{ℕ, zero, suc, _+_, _*_, _-_, _/_, _%_, _^_}
 use lib.Dec.{ltb, leb, eqb, lit≤, lit<}
 use lib.ListN.{getD, set, replicate}
 use borrow.Author.Tests.{eqb-true, eqb-false, leb-true, ltb-true}
+use Rattle.numbers.specs.Numbers.{unknownName, damaged, namePresent, tablesFull}
 use Rattle.basics.specs.Base.{pick}
 use Rattle.bucket.specs.Bucket.{productOf, bucketOf}
-use Rattle.terms.specs.Terms.{withinLimits, unknownName, damaged, namePresent, tablesFull}
+use Rattle.terms.specs.Terms.{withinLimits}
 use Rattle.terms.specs.Runs.{Outcome, outcome}
 use Rattle.terms.specs.declared.Sizes.{Sizes}
 use Rattle.terms.specs.declared.Answer.{Answer}

@@ -7,9 +7,10 @@ use Prim.Native.Nat.{ℕ, _+_}
 use lib.Dec.{ltb, leb, eqb, lit≤, lit<}
 use lib.ListN.{replicate}
 use borrow.Author.Tests.{eqb-true}
+use Rattle.numbers.specs.Numbers.{damaged}
 use Rattle.basics.specs.Base.{pick}
 use Rattle.bucket.specs.Bucket.{productOf, bucketOf}
-use Rattle.terms.specs.Terms.{withinLimits, damaged}
+use Rattle.terms.specs.Terms.{withinLimits}
 use Rattle.terms.specs.Runs.{Outcome, outcome}
 use Rattle.terms.specs.declared.Sizes.{Sizes}
 use Rattle.words.specs.Columns.{header, columns, put}

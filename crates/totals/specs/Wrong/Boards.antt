@@ -5,13 +5,13 @@ use Prim.Native.Nat.{ℕ}
 use native.Mathlib.Omega.{arith}
 use lib.Dec.{ltb}
 use lib.ListN.{length, getD}
+use Rattle.numbers.specs.Numbers.{wrongSize, damaged, wrongMinutes, mostRecords}
 use Rattle.basics.specs.Base.{pick}
-use Rattle.terms.specs.Terms.{wrongSizes, damaged, wrongMinutes}
 use Rattle.minutes.specs.Minutes.{minutesIn, fixedMinutes}
 use Rattle.minutes.specs.Rising.{risesAbove, isRising, SixteenRising, rising-means}
 use Rattle.totals.specs.declared.JobRecord.{JobRecord}
 use Rattle.totals.specs.declared.Totals.{Totals}
-use Rattle.totals.specs.Board.{mostRecords, sumOver, allWellFormed, refused, counted, totalsOf, totalsBy}
+use Rattle.totals.specs.Board.{sumOver, allWellFormed, refused, counted, totalsOf, totalsBy}
 use Rattle.totals.specs.Exactly.{overJobs, RowsExactly}
 
 -- a district's minutes: 3 of class 0, 4 of class 1 and so on; and values of which the first two are equal
@@ -38,7 +38,7 @@ fourth = record { label = 3; class = 1 } ∷ []
 -- ---- the board keeps the fixed minutes, whatever values it is given
 abbrev pub keepsFixed : List ℕ → List JobRecord → Totals
 keepsFixed table rows =
-    pick (ltb mostRecords (length rows)) (refused wrongSizes)
+    pick (ltb mostRecords (length rows)) (refused wrongSize)
     (pick (isRising table) (totalsOf fixedMinutes rows) (refused wrongMinutes))
 
 -- `serves`: the job counts for 2 minutes, and not for its 4
@@ -53,7 +53,7 @@ keeps-fixed b =
 -- ---- the row is judged before the values: 9 comes before 17
 abbrev pub rowsFirst : List ℕ → List JobRecord → Totals
 rowsFirst table rows =
-    pick (ltb mostRecords (length rows)) (refused wrongSizes)
+    pick (ltb mostRecords (length rows)) (refused wrongSize)
     (pick (allWellFormed rows) (pick (isRising table) (counted table rows) (refused wrongMinutes)) (refused damaged))
 
 -- `by-17`: a row of a wrong label by values that do not rise is to be 17

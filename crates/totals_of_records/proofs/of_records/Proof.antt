@@ -54,11 +54,11 @@ use denote.Triple.Walked.{says, Stays, stay-none-slice, stay-dropped, walkOf, go
 use denote.Triple.Walked.{ends-at, walked, walk-meets}
 use denote.Triple.Clauses.{ensured, lasts}
 use denote.Exit.{yes}
-use Rattle.terms.specs.Terms.{wrongSizes}
+use Rattle.numbers.specs.Numbers.{wrongSize, mostRecords}
 use Rattle.minutes.specs.declared.GraphMinutes.{GraphMinutes}
 use Rattle.minutes.proofs.GraphMinutes as B
 use Rattle.minutes.proofs.GraphMinutes.Laws as B′
-use Rattle.totals.specs.Board.{mostRecords, refused}
+use Rattle.totals.specs.Board.{refused}
 use Rattle.totals_step.specs.Step.{withRecord}
 use Rattle.totals.specs.declared.JobRecord.{JobRecord}
 use Rattle.totals.specs.declared.Totals.{Totals}
@@ -386,13 +386,13 @@ module _ {M : Type 1} (𝓤 : URA M) (H : Heap 𝓤) (A : Atoms 𝓤) (W : Given
           assigns ! (bin ! limit (load ! (from ! (stop !)) (look ! 10 refl)) tt) (from ! (stop !))
           (init ! 8 refl (tt, tt)) $
           first ! $ branches ! (load ! (from ! (stop !)) (look ! 8 refl))
-          (λ many. use0 W (raw (Blank .pre (to-blank wrongSizes))) (goes-blank wrongSizes (lit< tt)) $
-          calls-at ! (fmOf 𝓤 H (W .laws) 𝓣) Blank known-blank (to-blank wrongSizes) (and-then ! (lit ! tt) (no-more !))
-          (λ v. blank-answers ! tt wrongSizes v (λ is.
-          land ! (from ! (stop !)) (init ! 22 refl (typed (refused wrongSizes) v is)) $
+          (λ many. use0 W (raw (Blank .pre (to-blank wrongSize))) (goes-blank wrongSize (lit< tt)) $
+          calls-at ! (fmOf 𝓤 H (W .laws) 𝓣) Blank known-blank (to-blank wrongSize) (and-then ! (lit ! tt) (no-more !))
+          (λ v. blank-answers ! tt wrongSize v (λ is.
+          land ! (from ! (stop !)) (init ! 22 refl (typed (refused wrongSize) v is)) $
           returns-within ! Post refl (look ! 22 refl) $ forget ! 8 refl $ forget ! 10 refl $ forget ! 18 refl $
           forget ! 20 refl $ forget ! 22 refl $ move ! (24 ∷ 25 ∷ []) $
-          ends (refused wrongSizes) v (too-many mt ys (ltb→lt mostRecords n many) refl) is)))
+          ends (refused wrongSize) v (too-many mt ys (ltb→lt mostRecords n many) refl) is)))
           (λ few. skips ! $ exec ! C Λ En Mir.t-4 (atRet En Post) $
           use0 W (raw (Blank .pre (to-blank (mt .number)))) (goes-blank (mt .number) fits) $
           calls-at ! (fmOf 𝓤 H (W .laws) 𝓣) Blank known-blank (to-blank (mt .number))

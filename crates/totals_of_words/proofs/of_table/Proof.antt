@@ -7,9 +7,10 @@ use lib.ListN.{length}
 use native.Mathlib.Omega.{arith}
 use borrow.Author.Needs.{needs}
 use borrow.Author.Tests.{lt-leb, le-leb, le-ltb}
-use Rattle.minutes.specs.Minutes.{classes, minutesIn}
+use Rattle.numbers.specs.Numbers.{classes, accepted}
+use Rattle.minutes.specs.Minutes.{minutesIn}
 use Rattle.minutes.specs.Rising.{isRising, rising}
-use Rattle.totals.specs.Board.{served, finished}
+use Rattle.totals.specs.Board.{finished}
 use Rattle.totals_step.proofs.Running.{raises}
 use Rattle.totals_of_words.proofs.Tables.{Stands, stands-as, inside, none-stands, Passed}
 use Rattle.totals_of_words.proofs.Tables.{start-table, next-table, last-table, wrong-table}
@@ -19,7 +20,7 @@ use Rattle.totals_of_words.proofs.of_table.Tie as tie
 abbrev Inv-loop : tie.InvT-loop
 Inv-loop words head width label class count by stand t₀ i₀ t i =
     Stands head width label class (length words) count
-    × (t .number ≡ served
+    × (t .number ≡ accepted
     × (isRising (by .minutes) ≡ true → Passed (by .minutes) head width label class words count t i))
 
 abbrev μ-loop : tie.MeasureT-loop

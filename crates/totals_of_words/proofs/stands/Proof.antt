@@ -3,7 +3,7 @@
 use native.Mathlib.Omega.{arith}
 use borrow.Author.Needs.{needs}
 use borrow.Author.Tests.{leb-true}
-use Rattle.totals.specs.Board.{mostRecords}
+use Rattle.numbers.specs.Numbers.{mostRecords}
 use Rattle.totals_of_words.proofs.Tables.{product}
 use Rattle.totals_of_words.proofs.stands.Statement.{statement}
 use Rattle.totals_of_words.proofs.stands.Tie as tie

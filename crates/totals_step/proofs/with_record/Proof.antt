@@ -4,7 +4,8 @@ use mathlib.Core.Path.{_≡_}
 use native.Mathlib.Omega.{arith}
 use borrow.Author.Needs.{needs}
 use borrow.Author.Tests.{eq-eqb, ne-eqb, lt-leb, le-leb, le-ltb}
-use Rattle.minutes.specs.Minutes.{classes, minutesIn}
+use Rattle.numbers.specs.Numbers.{classes}
+use Rattle.minutes.specs.Minutes.{minutesIn}
 use Rattle.totals.specs.Board.{finished}
 use Rattle.totals_step.specs.Step.{withRecord}
 use Rattle.totals_step.proofs.Running.{raises}

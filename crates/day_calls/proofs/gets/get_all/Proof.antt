@@ -7,7 +7,7 @@ use native.Mathlib.Numerals.{add-one}
 use native.Mathlib.Nat.{sub-zero}
 use borrow.Author.Needs.{needs}
 use lib.ListN.{length}
-use Rattle.terms.specs.Terms.{mostWorkers}
+use Rattle.numbers.specs.Numbers.{mostWorkers}
 use Rattle.words.specs.Layout.{tables}
 use Rattle.day_rounds.specs.Rounds.{getAll}
 use Rattle.day_rounds.specs.Rows.{holding, no-holders}
