@@ -1,6 +1,6 @@
 """Where numbers and limits are stated, and by which names: in the header, the pages, the definitions and the code.
 
-A number of the header has one definition and one constant, both in crates/numbers, and one stem: TG_HALF_DONE is
+A number of the header has one definition and one constant, both in crates/def_numbers, and one stem: TG_HALF_DONE is
 HALF_DONE in the code and halfDone in the definitions, TG_MAX_JOBS is MOST_JOBS and mostJobs.
 """
 from helper import SHARED, TOP, Cases
@@ -58,7 +58,7 @@ BEFORE = {
     "JOBS": "ENTERED",
     "KIND": "REFUSED LAID_OUT POSTED GOING_ON ENDED NONE_READY HANDED_OUT LOADED STOPPED",
 }
-# What the header has and crates/numbers has not: the version; "none", which stands with the tables' layout in `words`
+# What the header has and crates/def_numbers has not: the version; "none", which stands with the tables' layout in `words`
 # and `graph_words`; the outcomes, which are `false` and `true` in definitions and code.
 VERSION = {"TG_VERSION_MAJOR", "TG_VERSION_MINOR", "TG_VERSION_PATCH"}
 PLACES = {"TG_NONE"}

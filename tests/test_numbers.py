@@ -3,7 +3,7 @@
 The places: include/taskgraph.h, docs/NUMBERS.md, docs/SHEETS.md, docs/RULES.md, docs/TABLES.md, lib/message.c, the
 definitions in crates/*/specs, the constants in crates/*/src, and what the library answers. Each is held to the header.
 
-The header's numbers stand in crates/numbers alone, once as a definition and once as a constant; a second one of the
+The header's numbers stand in crates/def_numbers alone, once as a definition and once as a constant; a second one of the
 same name in another crate is a difference too.
 
 Passed over, so for a reader to see:
@@ -24,7 +24,7 @@ from stated import HEADER, HOSTS, NUMBERS, OUTCOMES, PLACES, RULES, SAID, SHEETS
 from stated import Stated, called, lines, number, rows
 
 UNKNOWN = "other"  # the row of docs/NUMBERS.md for all other numbers
-DEFINED, CODED = "crates/numbers/specs/Numbers.antt", "crates/numbers/src/lib.rt"
+DEFINED, CODED = "crates/def_numbers/specs/Numbers.antt", "crates/def_numbers/src/lib.rt"
 
 
 def header_values():
@@ -74,7 +74,7 @@ class Numbers(Stated):
         return self.header.get(name, ("missing", HEADER))
 
     def test_constants(self):
-        """Of each number of the header one definition and one constant, both in crates/numbers, and none of the same
+        """Of each number of the header one definition and one constant, both in crates/def_numbers, and none of the same
         name in another crate."""
         found = list(constants())
         ours = {called(name): name for name in set(self.header) - VERSION - PLACES - OUTCOMES}
@@ -170,8 +170,8 @@ class Numbers(Stated):
                     f"A {of['TG_DAY_ARCS']}, b {of['TG_DAY_BITS']}, P 2)"),
             (RULES, f"`broken {header['TG_MAX_DAY_SHEET'][0]} {header['TG_CUT'][0]}`"),
             (RULES, f"list of two workers has {of['TG_MAX_DAY_LIST']} bytes"),
-            (RULES, f"{of['TG_MAX_CLASS']} less the class of the job in the place's cell, "
-                    f"times {of['TG_MAX_JOBS']}, plus the place"),
+            (RULES, f"{of['TG_MAX_CLASS']} less the class of the job in the cell, times {of['TG_MAX_JOBS']}, plus the "
+                    "cell's number"),
             (SHEETS, f"| count | 1 | 1 | {of['TG_MAX_NAMES']} |"),
             (SHEETS, f"| class | 1 | 1 | {of['TG_MAX_CLASS']} |"),
             (SHEETS, f"| grower | 2 | 1 | {of['TG_MAX_GROWER']} |"),

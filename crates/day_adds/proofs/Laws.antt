@@ -1,24 +1,23 @@
--- Entries added one after the other: the names of an entry, the entry that a reading tells, and its lines. Assumes
--- nothing.
+-- Entries added one after the other: the names of an entry, the entry that a reading tells, and its lines.
 use mathlib.Core.Path.{_≡_, refl, sym, ap, _∙_}
 use mathlib.Core.Bool.{true, false}
 use mathlib.Core.List.{List, [], _∷_, _++_}
 use Prim.Native.Nat.{ℕ, zero, suc, _≤_, _<_}
 use native.Mathlib.Omega.{arith}
 use lib.ListN.{length, replicate}
-use Rattle.basics.specs.Base.{prefix}
-use Rattle.terms.specs.Terms.{argumentsWrong}
-use Rattle.terms.specs.declared.Sizes.{Sizes}
-use Rattle.words.specs.Layout.{Tables}
-use Rattle.words.specs.Words.{addWords}
-use Rattle.sheet_format.specs.Job.{Job}
-use Rattle.sheet_format.specs.Decode.{Decoded, job, end, refused, decode, entryOf, readingOf}
-use Rattle.sheet_format.specs.CodeLaws.{entry-bounds}
-use Rattle.sheet_format.specs.declared.Reading.{Reading}
-use Rattle.whole_words.specs.Whole.{wholeAdd}
-use Rattle.sheet_rows.specs.Arguments as row
-use Rattle.day_rounds.specs.Rounds.{Refusal, refusal, argumentsOf, addAll}
-use Rattle.day_format.specs.Day.{refusalLines}
+use Rattle.def_basics.specs.Base.{prefix}
+use Rattle.def_terms.specs.Terms.{argumentsWrong}
+use Rattle.def_terms.specs.declared.Sizes.{Sizes}
+use Rattle.def_words.specs.Layout.{Tables}
+use Rattle.def_words.specs.Words.{addWords}
+use Rattle.def_sheets.specs.Job.{Job}
+use Rattle.def_sheets.specs.Decode.{Decoded, job, end, refused, decode, entryOf, readingOf}
+use Rattle.def_sheets.specs.CodeLaws.{entry-bounds}
+use Rattle.def_sheets.specs.declared.Reading.{Reading}
+use Rattle.def_whole_calls.specs.Whole.{wholeAdd}
+use Rattle.def_sheet_rows.specs.Arguments as row
+use Rattle.def_day.specs.Rounds.{Refusal, refusal, argumentsOf, addAll}
+use Rattle.def_day_lines.specs.Day.{refusalLines}
 use Rattle.day_text.specs.Page.{Page, no-lines, lines-append}
 use Rattle.day_entry.specs.Entered.{entered, Printout, printout, wrote}
 use Rattle.day_adds.specs.Adding.{following, entriesAt, entries-on, onwardOf}

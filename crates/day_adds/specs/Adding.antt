@@ -1,16 +1,16 @@
--- The entries of a sheet, one after the other. Assumes nothing.
+-- The entries of a sheet, one after the other.
 use mathlib.Core.Path.{_≡_, refl, _∙_}
 use mathlib.Core.Bool.{true, false}
 use mathlib.Core.List.{List, [], _∷_}
 use Prim.Native.Nat.{ℕ, zero, suc, _+_, _≤_}
 use native.Mathlib.Omega.{arith}
 use lib.ListN.{length}
-use Rattle.sheet_format.specs.Job.{Job}
-use Rattle.sheet_format.specs.Decode.{Sheet, jobs, broken, before, onward, Decoded, job, end, refused, decode}
-use Rattle.sheet_format.specs.Decode.{decodeFrom, decodeSheet}
-use Rattle.sheet_format.specs.CodeLaws.{entry-bounds}
-use Rattle.sheet_format.specs.EntryTrip.{end-there}
-use Rattle.sheet_format.specs.declared.Read.{Read}
+use Rattle.def_sheets.specs.Job.{Job}
+use Rattle.def_sheets.specs.Decode.{Sheet, jobs, broken, before, onward, Decoded, job, end, refused, decode}
+use Rattle.def_sheets.specs.Decode.{decodeFrom, decodeSheet}
+use Rattle.def_sheets.specs.CodeLaws.{entry-bounds}
+use Rattle.def_sheets.specs.EntryTrip.{end-there}
+use Rattle.def_sheets.specs.declared.Read.{Read}
 use Rattle.day_adds.specs.declared.Onward.{Onward}
 
 -- ---- the entries before the first that cannot be read: all of a sheet that is not broken

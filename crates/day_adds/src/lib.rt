@@ -1,15 +1,15 @@
-// Worker 0 adds the entries of a sheet. Follows docs/RULES.md, "The board and the day list". Assumes nothing. A sheet
-// is read up to the first entry that cannot be read; no line is printed from a place past day_text's bound on.
+// Worker 0 adds the entries of a sheet. Follows docs/RULES.md, "The board and the day list". A sheet is read up to the
+// first entry that cannot be read; no line is printed from an offset past day_text's bound on.
 ghost use mathlib.Core.Path.{_≡_};
-ghost use Rattle.words.specs.Layout.{atEntry, atExit};
-ghost use Rattle.day_rounds.specs.Rounds.{addAll};
+ghost use Rattle.def_words.specs.Layout.{asLent, asLeft};
+ghost use Rattle.def_day.specs.Rounds.{addAll};
 ghost use Rattle.day_text.specs.Page.{page};
 ghost use Rattle.day_entry.specs.Entered.{printout, wrote};
 ghost use Rattle.day_adds.specs.Adding.{entriesAt, onwardOf};
 use day_entry::add_entry;
-use sheet_format::Read;
+use def_sheets::Read;
+use def_terms::Sizes;
 use sheet_reader::read;
-use terms::Sizes;
 
 // Whether an entry was read, and where the next one starts.
 struct Onward {
@@ -33,7 +33,7 @@ fn after(answer: Read) -> Onward
     }
 }
 
-// Worker 0 adds every entry. Answers the place printed up to.
+// Worker 0 adds every entry. Answers the offset printed up to.
 pub fn add_all(
     sheet: &[u8],
     sizes: Sizes,
@@ -45,23 +45,23 @@ pub fn add_all(
     out: &mut [u8],
     limit: usize,
 ) -> usize
-    ensures { λ r. ⌜ printout (atExit jobs arcs buckets queue workers) (page r (now (out .exit)))
+    ensures { λ r. ⌜ printout (asLeft jobs arcs buckets queue workers) (page r (now (out .exit)))
         ≡ wrote limit (page 0 (now (out .entry)))
-        (addAll sizes 0 (entriesAt (now (sheet .entry)) 0) (atEntry jobs arcs buckets queue workers)) ⌝ }
+        (addAll sizes 0 (entriesAt (now (sheet .entry)) 0) (asLent jobs arcs buckets queue workers)) ⌝ }
 {
     let mut at: usize = 0;
     let mut number: usize = 0;
-    let mut place: usize = 0;
+    let mut offset: usize = 0;
     loop {
         let reading = read(sheet, at);
         let answer = reading.answer;
         let on = after(answer);
         let more = on.more;
         if more {} else {
-            return place;
+            return offset;
         }
         let entry = reading.entry;
-        place = add_entry(
+        offset = add_entry(
             sizes,
             jobs,
             arcs,
@@ -70,7 +70,7 @@ pub fn add_all(
             workers,
             out,
             limit,
-            place,
+            offset,
             number,
             entry,
         );

@@ -1,14 +1,14 @@
--- The parts of the first half of a day. Assumes nothing.
+-- The parts of the first half of a day.
 use mathlib.Core.Path.{_≡_}
 use mathlib.Core.List.{List}
 use Prim.Native.Nat.{ℕ}
-use Rattle.terms.specs.declared.Sizes.{Sizes}
-use Rattle.words.specs.Columns.{header}
-use Rattle.words.specs.Layout.{Tables, MADE}
-use Rattle.words.specs.Words.{layOut}
-use Rattle.sheet_format.specs.Job.{Job}
-use Rattle.day_rounds.specs.Rounds.{addAll}
-use Rattle.day_format.specs.Text.{decimal, jobsWord, workersWord, _␣_, line}
+use Rattle.def_terms.specs.declared.Sizes.{Sizes}
+use Rattle.def_words.specs.Columns.{header}
+use Rattle.def_words.specs.Layout.{Tables, MADE}
+use Rattle.def_words.specs.Words.{layOut}
+use Rattle.def_sheets.specs.Job.{Job}
+use Rattle.def_day.specs.Rounds.{addAll}
+use Rattle.def_day_lines.specs.Text.{decimal, jobsWord, workersWord, _␣_, line}
 use Rattle.day_text.specs.Page.{Page, printLine}
 use Rattle.day_entry.specs.Entered.{Printout, printout, wrote}
 use Rattle.day_begin.specs.Begun.{begun}

@@ -1,12 +1,12 @@
--- The first half of a day on lent tables, with its lines. Assumes nothing.
+-- The first half of a day on lent tables, with its lines.
 use mathlib.Core.List.{List}
 use Prim.Native.Nat.{ℕ}
-use Rattle.terms.specs.declared.Sizes.{Sizes}
-use Rattle.words.specs.Layout.{Tables}
-use Rattle.words.specs.Words.{layOut}
-use Rattle.sheet_format.specs.Job.{Job}
-use Rattle.day_rounds.specs.Rounds.{addAll}
-use Rattle.day_format.specs.Day.{refusalLines, jobsLine}
+use Rattle.def_terms.specs.declared.Sizes.{Sizes}
+use Rattle.def_words.specs.Layout.{Tables}
+use Rattle.def_words.specs.Words.{layOut}
+use Rattle.def_sheets.specs.Job.{Job}
+use Rattle.def_day.specs.Rounds.{addAll}
+use Rattle.def_day_lines.specs.Day.{refusalLines, jobsLine}
 use Rattle.day_text.specs.Page.{Page, printLine, printLines}
 use Rattle.day_entry.specs.Entered.{Printout, printout}
 

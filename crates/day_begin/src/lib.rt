@@ -1,20 +1,19 @@
 // The first half of a day: the entries are added on a fresh graph, and the first line is printed. Follows
-// docs/RULES.md, "The board and the day list". Assumes nothing. No line is printed from a place past day_text's bound
-// on.
+// docs/RULES.md, "The board and the day list". No line is printed from an offset past day_text's bound on.
 ghost use mathlib.Core.Path.{_≡_};
-ghost use Rattle.words.specs.Layout.{atEntry, atExit};
+ghost use Rattle.def_words.specs.Layout.{asLent, asLeft};
 ghost use Rattle.day_text.specs.Page.{page};
 ghost use Rattle.day_entry.specs.Entered.{printout};
 ghost use Rattle.day_adds.specs.Adding.{entriesAt};
 ghost use Rattle.day_begin.specs.Begun.{begun};
 use day_adds::add_all;
 use day_text::jobs_line;
+use def_terms::Sizes;
 use graph_layout::lay_out;
 use graph_words::header;
 use graph_words::layout::MADE;
-use terms::Sizes;
 
-// Answers the place printed up to.
+// Answers the offset printed up to.
 pub fn begin_day(
     sheet: &[u8],
     sizes: Sizes,
@@ -26,8 +25,8 @@ pub fn begin_day(
     out: &mut [u8],
     limit: usize,
 ) -> usize
-    ensures { λ r. ⌜ printout (atExit jobs arcs buckets queue workers) (page r (now (out .exit)))
-        ≡ begun limit (page 0 (now (out .entry))) sizes (atEntry jobs arcs buckets queue workers)
+    ensures { λ r. ⌜ printout (asLeft jobs arcs buckets queue workers) (page r (now (out .exit)))
+        ≡ begun limit (page 0 (now (out .entry))) sizes (asLent jobs arcs buckets queue workers)
         (entriesAt (now (sheet .entry)) 0) ⌝ }
 {
     lay_out(sizes, jobs, arcs, buckets, queue, workers);

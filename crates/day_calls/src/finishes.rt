@@ -1,12 +1,12 @@
 // The finishes of a round: each holder finishes, run whole, in the order of the gets. Follows docs/RULES.md, "The board
-// and the day list". Assumes nothing.
+// and the day list".
 ghost use mathlib.Core.Path.{_≡_};
-ghost use Rattle.words.specs.Layout.{atEntry, atExit};
-ghost use Rattle.day_rounds.specs.Rounds.{finishAll};
-ghost use Rattle.day_rounds.specs.Rows.{holding};
-use day_rounds::Holders;
+ghost use Rattle.def_words.specs.Layout.{asLent, asLeft};
+ghost use Rattle.def_day.specs.Rounds.{finishAll};
+ghost use Rattle.def_day.specs.Rows.{holding};
+use def_day::Holders;
+use def_terms::Sizes;
 use graph_words::word;
-use terms::Sizes;
 use whole_finish::finish_whole;
 
 // Each holder finishes, and its job is good.
@@ -19,8 +19,8 @@ pub fn finish_all(
     workers: &mut [u32],
     holders: Holders,
 )
-    ensures { λ _. ⌜ (atExit jobs arcs buckets queue workers)
-        ≡ finishAll sizes (holding holders) (atEntry jobs arcs buckets queue workers) ⌝ }
+    ensures { λ _. ⌜ (asLeft jobs arcs buckets queue workers)
+        ≡ finishAll sizes (holding holders) (asLent jobs arcs buckets queue workers) ⌝ }
 {
     let by = holders.workers;
     let names = holders.names;

@@ -1,21 +1,20 @@
-// The gets of a round: every worker gets, in order. Follows docs/RULES.md, "The board and the day list". Assumes
-// nothing.
+// The gets of a round: every worker gets, in order. Follows docs/RULES.md, "The board and the day list".
 ghost use mathlib.Core.Path.{_≡_};
 ghost use mathlib.Core.List.{[], _∷_, _++_};
 ghost use Prim.Native.Nat.{_+_, _≤_, _<_};
-ghost use Rattle.numbers.specs.Numbers.{mostWorkers};
-ghost use Rattle.basics.specs.Base.{pick};
-ghost use Rattle.words.specs.Layout.{atEntry, atExit};
-ghost use Rattle.day_rounds.specs.Rounds.{holder, gets, getRound};
-ghost use Rattle.day_rounds.specs.Rows.{holding};
+ghost use Rattle.def_numbers.specs.Numbers.{mostWorkers};
+ghost use Rattle.def_basics.specs.Base.{pick};
+ghost use Rattle.def_words.specs.Layout.{asLent, asLeft};
+ghost use Rattle.def_day.specs.Rounds.{holder, gets, getRound};
+ghost use Rattle.def_day.specs.Rows.{holding};
 ghost use Rattle.day_calls.specs.Gotten.{gotten};
-use day_rounds::Holders;
-use day_rounds::MOST_HOLDERS;
 use day_told::Told;
 use day_told::tell;
+use def_day::Holders;
+use def_day::MOST_HOLDERS;
+use def_numbers::MOST_WORKERS;
+use def_terms::Sizes;
 use graph_get::get;
-use numbers::MOST_WORKERS;
-use terms::Sizes;
 
 // One holder more, if the worker was handed a job.
 fn hold(holders: Holders, worker: u32, told: Told) -> Holders
@@ -51,8 +50,8 @@ fn get_one(
     holders: Holders,
 ) -> Holders
     requires { ⌜ holders .count < mostWorkers ⌝ }
-    ensures { λ r. ⌜ (gets (atExit jobs arcs buckets queue workers) (holding r)
-        ≡ gotten sizes worker (atEntry jobs arcs buckets queue workers) (holding holders))
+    ensures { λ r. ⌜ (gets (asLeft jobs arcs buckets queue workers) (holding r)
+        ≡ gotten sizes worker (asLent jobs arcs buckets queue workers) (holding holders))
         × (r .count ≤ holders .count + 1) ⌝ }
 {
     let told = tell(get(sizes, jobs, arcs, buckets, queue, workers, worker));
@@ -68,8 +67,8 @@ pub fn get_all(
     queue: &mut [u32],
     workers: &mut [u32],
 ) -> Holders
-    ensures { λ r. ⌜ (gets (atExit jobs arcs buckets queue workers) (holding r)
-        ≡ getRound sizes (atEntry jobs arcs buckets queue workers)) × (r .count ≤ mostWorkers) ⌝ }
+    ensures { λ r. ⌜ (gets (asLeft jobs arcs buckets queue workers) (holding r)
+        ≡ getRound sizes (asLent jobs arcs buckets queue workers)) × (r .count ≤ mostWorkers) ⌝ }
 {
     let nobody = [0u32; MOST_HOLDERS];
     let mut holders = Holders {

@@ -1,4 +1,4 @@
 // The calls of a round of the day list: every worker gets, then each holder finishes. Follows docs/RULES.md, "The board
-// and the day list". Assumes nothing.
+// and the day list".
 pub mod finishes;
 pub mod gets;

@@ -1,15 +1,15 @@
--- The parts of the second half of a day. Assumes nothing.
+-- The parts of the second half of a day.
 use mathlib.Core.Path.{_≡_, _∙_}
 use mathlib.Core.List.{List}
 use Prim.Native.Nat.{ℕ}
 use native.Mathlib.Nat.{zero-add}
-use Rattle.terms.specs.declared.Sizes.{Sizes}
-use Rattle.words.specs.Columns.{columns, header}
-use Rattle.words.specs.Layout.{Tables, jobShape, LABEL, MADE}
-use Rattle.day_rounds.specs.Rounds.{runDay, unfinished}
-use Rattle.day_rounds.specs.Rows.{inRow}
-use Rattle.day_format.specs.Text.{decimal, leftWord, _␣_, line}
-use Rattle.day_format.specs.Day.{handOutLines}
+use Rattle.def_terms.specs.declared.Sizes.{Sizes}
+use Rattle.def_words.specs.Columns.{columns, header}
+use Rattle.def_words.specs.Layout.{Tables, jobShape, LABEL, MADE}
+use Rattle.def_day.specs.Rounds.{runDay, unfinished}
+use Rattle.def_day.specs.Rows.{inRow}
+use Rattle.def_day_lines.specs.Text.{decimal, leftWord, _␣_, line}
+use Rattle.def_day_lines.specs.Day.{handOutLines}
 use Rattle.day_text.specs.Page.{Page, printLine, printLines}
 use Rattle.day_run.specs.Kept.{Kept, runKept}
 use Rattle.day_end.specs.Ended.{ended}

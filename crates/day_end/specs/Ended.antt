@@ -1,12 +1,12 @@
--- The second half of a day on lent tables, with its lines: what is left, and the page. Assumes nothing.
+-- The second half of a day on lent tables, with its lines: what is left, and the page.
 use mathlib.Core.List.{List}
 use Prim.Native.Nat.{ℕ}
 use lib.ListN.{length}
-use Rattle.terms.specs.declared.Sizes.{Sizes}
-use Rattle.words.specs.Layout.{Tables}
-use Rattle.day_rounds.specs.Rounds.{runDay, handOuts}
-use Rattle.day_rounds.specs.Rows.{stored, inRow}
-use Rattle.day_format.specs.Day.{handOutLines, leftLine}
+use Rattle.def_terms.specs.declared.Sizes.{Sizes}
+use Rattle.def_words.specs.Layout.{Tables}
+use Rattle.def_day.specs.Rounds.{runDay, handOuts}
+use Rattle.def_day.specs.Rows.{stored, inRow}
+use Rattle.def_day_lines.specs.Day.{handOutLines, leftLine}
 use Rattle.day_text.specs.Page.{Page, printLine, printLines}
 
 -- the hand-outs are printed from the row in which they were stored

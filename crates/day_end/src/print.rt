@@ -1,11 +1,11 @@
 // The middle lines of the day list, from a lent row of hand-outs, and the count that its last line gives. Follows
-// docs/RULES.md, "The board and the day list". Assumes nothing.
+// docs/RULES.md, "The board and the day list".
 ghost use mathlib.Core.Path.{_≡_};
-ghost use Rattle.words.specs.Columns.{columns, header};
-ghost use Rattle.words.specs.Layout.{jobShape, LABEL, MADE};
-ghost use Rattle.day_rounds.specs.Rounds.{unfinished};
-ghost use Rattle.day_rounds.specs.Rows.{inRow};
-ghost use Rattle.day_format.specs.Day.{handOutLines};
+ghost use Rattle.def_words.specs.Columns.{columns, header};
+ghost use Rattle.def_words.specs.Layout.{jobShape, LABEL, MADE};
+ghost use Rattle.def_day.specs.Rounds.{unfinished};
+ghost use Rattle.def_day.specs.Rows.{inRow};
+ghost use Rattle.def_day_lines.specs.Day.{handOutLines};
 ghost use Rattle.day_text.specs.Page.{page, printLines};
 use day_text::handed_line;
 use graph_words::header;
@@ -16,7 +16,7 @@ use graph_words::layout::MADE;
 use graph_words::word;
 
 // "Each middle line gives the hand-out number, name and worker": so many hand-outs of a row, or none where it does not
-// hold so many. Answers the place printed up to.
+// hold so many. Answers the offset printed up to.
 pub fn print_hand_outs(out: &mut [u8], limit: usize, at: usize, row: &[u32], count: usize) -> usize
     ensures { λ r. ⌜ page r (now (out .exit))
         ≡ printLines limit (page at (now (out .entry))) (handOutLines 0 (inRow count (now (row .entry)))) ⌝ }
@@ -26,14 +26,14 @@ pub fn print_hand_outs(out: &mut [u8], limit: usize, at: usize, row: &[u32], cou
         return at;
     }
     let mut i: usize = 0;
-    let mut place = at;
+    let mut offset = at;
     while i < count {
         let name = word(row, 2 * i);
         let worker = word(row, 2 * i + 1);
-        place = handed_line(out, limit, place, i, name, worker);
+        offset = handed_line(out, limit, offset, i, name, worker);
         i += 1;
     }
-    place
+    offset
 }
 
 // The jobs that are not finished.

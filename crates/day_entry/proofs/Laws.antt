@@ -1,11 +1,11 @@
--- The line of a refused entry. Assumes nothing.
+-- The line of a refused entry.
 use mathlib.Core.Path.{_≡_, sym, ap, _∙_}
 use mathlib.Core.Bool.{true, false}
 use Prim.Native.Nat.{ℕ}
-use Rattle.terms.specs.declared.Answer.{Answer}
-use Rattle.day_rounds.specs.Rounds.{refusal}
-use Rattle.day_format.specs.Text.{decimal, refusedWord, _␣_, line}
-use Rattle.day_format.specs.Day.{refusalLines}
+use Rattle.def_terms.specs.declared.Answer.{Answer}
+use Rattle.def_day.specs.Rounds.{refusal}
+use Rattle.def_day_lines.specs.Text.{decimal, refusedWord, _␣_, line}
+use Rattle.def_day_lines.specs.Day.{refusalLines}
 use Rattle.day_text.specs.Page.{Page, printLine, printLines, no-lines, one-line}
 use Rattle.day_told.specs.Told.{toldOf, refusal-told}
 use Rattle.day_told.specs.declared.Told.{Told}

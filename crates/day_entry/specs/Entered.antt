@@ -1,11 +1,11 @@
--- An entry of a sheet, added whole, and what is printed of it. Assumes nothing.
+-- An entry of a sheet, added whole, and what is printed of it.
 use Prim.Native.Nat.{ℕ}
-use Rattle.terms.specs.Terms.{Arguments}
-use Rattle.terms.specs.declared.Sizes.{Sizes}
-use Rattle.words.specs.Layout.{Tables}
-use Rattle.whole_words.specs.Whole.{wholeAdd}
-use Rattle.day_rounds.specs.Rounds.{Added, added, refusal}
-use Rattle.day_format.specs.Day.{refusalLines}
+use Rattle.def_terms.specs.Terms.{Arguments}
+use Rattle.def_terms.specs.declared.Sizes.{Sizes}
+use Rattle.def_words.specs.Layout.{Tables}
+use Rattle.def_whole_calls.specs.Whole.{wholeAdd}
+use Rattle.def_day.specs.Rounds.{Added, added, refusal}
+use Rattle.def_day_lines.specs.Day.{refusalLines}
 use Rattle.day_text.specs.Page.{Page, printLines}
 
 -- added whole, as entry i

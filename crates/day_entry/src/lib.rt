@@ -1,17 +1,17 @@
 // Worker 0 adds an entry of a sheet, run whole, and prints a line if it is refused. Follows docs/RULES.md, "The board
-// and the day list". Assumes nothing. No line is printed from a place past day_text's bound on.
+// and the day list". No line is printed from an offset past day_text's bound on.
 ghost use mathlib.Core.Path.{_≡_};
-ghost use Rattle.words.specs.Layout.{atEntry, atExit};
-ghost use Rattle.sheet_rows.specs.Arguments.{argumentsOf};
-ghost use Rattle.day_rounds.specs.Rounds.{refusal};
-ghost use Rattle.day_format.specs.Day.{refusalLines};
+ghost use Rattle.def_words.specs.Layout.{asLent, asLeft};
+ghost use Rattle.def_sheet_rows.specs.Arguments.{argumentsOf};
+ghost use Rattle.def_day.specs.Rounds.{refusal};
+ghost use Rattle.def_day_lines.specs.Day.{refusalLines};
 ghost use Rattle.day_text.specs.Page.{page, printLines};
 ghost use Rattle.day_entry.specs.Entered.{entered, printout, wrote};
 use day_text::refused_line;
 use day_told::tell;
-use sheet_format::Entry;
-use terms::Answer;
-use terms::Sizes;
+use def_sheets::Entry;
+use def_terms::Answer;
+use def_terms::Sizes;
 use whole_add::add_whole;
 
 // "A refused entry puts refused I N before the first line."
@@ -27,7 +27,7 @@ fn print_refusal(out: &mut [u8], limit: usize, at: usize, entry: usize, answer: 
     refused_line(out, limit, at, entry, told.value)
 }
 
-// Worker 0 adds an entry, run whole. Answers the place printed up to.
+// Worker 0 adds an entry, run whole. Answers the offset printed up to.
 pub fn add_entry(
     sizes: Sizes,
     jobs: &mut [u32],
@@ -41,9 +41,9 @@ pub fn add_entry(
     number: usize,
     entry: Entry,
 ) -> usize
-    ensures { λ r. ⌜ printout (atExit jobs arcs buckets queue workers) (page r (now (out .exit)))
+    ensures { λ r. ⌜ printout (asLeft jobs arcs buckets queue workers) (page r (now (out .exit)))
         ≡ wrote limit (page at (now (out .entry)))
-        (entered sizes number (atEntry jobs arcs buckets queue workers) (argumentsOf entry)) ⌝ }
+        (entered sizes number (asLent jobs arcs buckets queue workers) (argumentsOf entry)) ⌝ }
 {
     let answer = add_whole(sizes, jobs, arcs, buckets, queue, workers, 0, entry);
     print_refusal(out, limit, at, number, answer)

@@ -1,32 +1,32 @@
 -- The halves of a day together: its lines are few and short, and its row holds every hand-out, so what is printed is
--- the day's text. Assumes nothing.
+-- the day's text.
 use mathlib.Core.Path.{_≡_, refl, sym, ap, _∙_}
 use mathlib.Core.List.{List, [], _∷_, _++_}
 use Prim.Native.Nat.{ℕ, suc, _+_, _*_, _≤_}
 use native.Mathlib.Omega.{arith}
 use lib.ListN.{length, length-append, replicate, length-replicate}
-use Rattle.numbers.specs.Numbers.{mostWorkers, mostDaySheet}
-use Rattle.basics.specs.Laws.{never}
-use Rattle.terms.specs.declared.Sizes.{Sizes}
-use Rattle.terms.specs.declared.Answer.{Answer}
-use Rattle.terms.specs.declared.Answer.the-variants.{Laid, Loaded, Posted, Going, Ended, NoneReady, Handed, Refused}
-use Rattle.words.specs.Layout.{Tables}
-use Rattle.sheet_format.specs.Job.{Job}
-use Rattle.sheet_format.specs.Decode.{Sheet, jobs, broken, decodeSheet, scanSheet}
-use Rattle.sheet_format.specs.CodeLaws.{sheet-bounds}
-use Rattle.sheet_format.specs.declared.SheetRead.{SheetRead}
-use Rattle.whole_words.specs.Whole.{wholeAdd}
-use Rattle.day_rounds.specs.Rounds.{daySizes, freshDay, Refusal, refusal, argumentsOf, addAll, addedDay}
-use Rattle.day_rounds.specs.Rounds.{Holder, runDay, handOuts}
-use Rattle.day_rounds.specs.Rows.{in-stored}
-use Rattle.day_format.specs.Day.{refusalLines, jobsLine, handOutLines, leftLine, linesBefore, dayLines, dayOf}
+use Rattle.def_numbers.specs.Numbers.{mostWorkers, mostDaySheet}
+use Rattle.def_basics.specs.Laws.{never}
+use Rattle.def_terms.specs.declared.Sizes.{Sizes}
+use Rattle.def_terms.specs.declared.Answer.{Answer}
+use Rattle.def_terms.specs.declared.Answer.the-variants.{Laid, Loaded, Posted, Going, Ended, NoneReady, Handed, Refused}
+use Rattle.def_words.specs.Layout.{Tables}
+use Rattle.def_sheets.specs.Job.{Job}
+use Rattle.def_sheets.specs.Decode.{Sheet, jobs, broken, decodeSheet, scanSheet}
+use Rattle.def_sheets.specs.CodeLaws.{sheet-bounds}
+use Rattle.def_sheets.specs.declared.SheetRead.{SheetRead}
+use Rattle.def_whole_calls.specs.Whole.{wholeAdd}
+use Rattle.def_day.specs.Rounds.{daySizes, freshDay, Refusal, refusal, argumentsOf, addAll, addedDay}
+use Rattle.def_day.specs.Rounds.{Holder, runDay, handOuts}
+use Rattle.def_day.specs.Rows.{in-stored}
+use Rattle.def_day_lines.specs.Day.{refusalLines, jobsLine, handOutLines, leftLine, linesBefore, dayLines, dayOf}
 use Rattle.day_text.specs.Page.{Page, page, print, printLine, printLines, lines-append, one-line, printed-lines}
 use Rattle.day_text.specs.Page.{short-day}
 use Rattle.day_adds.specs.Adding.{entriesAt, entries-whole}
 use Rattle.day_begin.specs.Begun.{begun}
 use Rattle.day_end.specs.Ended.{ended}
 use Rattle.day_list.specs.Pages.{dayPage}
-use Rattle.day_history.specs.Theorem.{day-limits, hand-outs-within}
+use Rattle.thm_day_history.specs.Theorem.{day-limits, hand-outs-within}
 
 -- ---- few lines
 few-refused : (i : ℕ) (a : Answer) → length (refusal i a) ≤ 1

@@ -1,4 +1,4 @@
--- A text that is measured with the limit 0, and stored where it fits. Assumes nothing.
+-- A text that is measured with the limit 0, and stored where it fits.
 use mathlib.Core.Path.{_≡_, ap, _∙_}
 use mathlib.Core.Bool.{true, false, _&&_}
 use mathlib.Core.List.{List}
@@ -8,10 +8,10 @@ use lib.Dec.{leb}
 use lib.ListN.{length}
 use lib.Seq.{sets}
 use borrow.Author.Tests.{leb-true, le-leb, lt-leb}
-use Rattle.numbers.specs.Numbers.{mostWorkers, noRoom}
-use Rattle.basics.specs.Laws.{and-left, and-right}
-use Rattle.day_format.specs.Day.{dayText, printing, dayList}
-use Rattle.day_format.specs.declared.DayAnswer.{DayAnswer}
+use Rattle.def_numbers.specs.Numbers.{mostWorkers, noRoom}
+use Rattle.def_basics.specs.Laws.{and-left, and-right}
+use Rattle.def_day_lines.specs.Day.{dayText, printing, dayList}
+use Rattle.def_day_lines.specs.declared.DayAnswer.{DayAnswer}
 use Rattle.day_text.specs.Page.{Page, page, print, emitted-none, emitted-whole}
 
 -- the test of the workers
@@ -25,7 +25,7 @@ few-workers w e = (
 measured : (n : ℕ) (left out text : List ℕ) → page n left ≡ print 0 (page 0 out) text → (n ≡ length text) × (left ≡ out)
 unfolding print
 measured n left out text e =
-    (ap (λ (p : Page). p .place) e ∙ omega arith, ap (λ (p : Page). p .out) e ∙ emitted-none out 0 text)
+    (ap (λ (p : Page). p .offset) e ∙ omega arith, ap (λ (p : Page). p .out) e ∙ emitted-none out 0 text)
 
 -- below the text's own length all of it is stored
 stored : (n m : ℕ) (left out text : List ℕ) → n ≡ length text → page m left ≡ print n (page 0 out) text

@@ -1,10 +1,10 @@
--- Both halves of a day, one after the other, on blank tables and a blank row. Assumes nothing.
+-- Both halves of a day, one after the other, on blank tables and a blank row.
 use mathlib.Core.List.{List}
 use Prim.Native.Nat.{ℕ, _*_}
 use lib.ListN.{replicate}
-use Rattle.terms.specs.declared.Sizes.{Sizes}
-use Rattle.sheet_format.specs.Job.{Job}
-use Rattle.day_rounds.specs.Rounds.{blankTables}
+use Rattle.def_terms.specs.declared.Sizes.{Sizes}
+use Rattle.def_sheets.specs.Job.{Job}
+use Rattle.def_day.specs.Rounds.{blankTables}
 use Rattle.day_text.specs.Page.{Page}
 use Rattle.day_begin.specs.Begun.{begun}
 use Rattle.day_end.specs.Ended.{ended}

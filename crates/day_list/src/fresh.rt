@@ -1,19 +1,19 @@
 // The day of a sheet, on tables of its own that just suffice for the most workers. Follows docs/RULES.md, "The board
-// and the day list". Assumes nothing. What it prints of any sheet and any number of workers is said in specs/; day_list
-// shows when that is the day list.
+// and the day list". What it prints of any sheet and any number of workers is said in specs/; day_list shows when that
+// is the day list.
 ghost use mathlib.Core.Path.{_≡_};
-ghost use Rattle.day_rounds.specs.Rounds.{daySizes};
+ghost use Rattle.def_day.specs.Rounds.{daySizes};
 ghost use Rattle.day_text.specs.Page.{page};
 ghost use Rattle.day_adds.specs.Adding.{entriesAt};
 ghost use Rattle.day_list.specs.Pages.{dayPage};
 use day_begin::begin_day;
 use day_end::end_day;
+use def_numbers::DAY_ARCS;
+use def_numbers::DAY_BITS;
+use def_numbers::DAY_JOBS;
+use def_numbers::MOST_WORKERS;
+use def_terms::Sizes;
 use graph_words::layout::*;
-use numbers::DAY_ARCS;
-use numbers::DAY_BITS;
-use numbers::DAY_JOBS;
-use numbers::MOST_WORKERS;
-use terms::Sizes;
 
 // The sizes of the day's graph, and the words that its tables need, with the most workers.
 const DAY_BUCKETS: u32 = 16;

@@ -1,22 +1,21 @@
 // The day list: from the bytes of a sheet to the bytes printed. Follows docs/RULES.md, "The board and the day list".
-// Assumes nothing.
 ghost use mathlib.Core.Path.{_≡_};
 ghost use Prim.Native.Nat.{_≤_};
-ghost use Rattle.numbers.specs.Numbers.{mostWorkers};
-ghost use Rattle.day_format.specs.Day.{dayText, printing, dayList};
+ghost use Rattle.def_numbers.specs.Numbers.{mostWorkers};
+ghost use Rattle.def_day_lines.specs.Day.{dayText, printing, dayList};
 ghost use Rattle.day_text.specs.Page.{page, print};
 
 mod fresh;
 
-use day_format::DayAnswer;
 use day_text::broken_line;
+use def_day_lines::DayAnswer;
+use def_numbers::CUT;
+use def_numbers::MOST_DAY_SHEET;
+use def_numbers::MOST_WORKERS;
+use def_numbers::NO_ROOM;
+use def_numbers::WRONG_SIZE;
+use def_sheets::SheetRead;
 use fresh::print_day;
-use numbers::CUT;
-use numbers::MOST_DAY_SHEET;
-use numbers::MOST_WORKERS;
-use numbers::NO_ROOM;
-use numbers::WRONG_SIZE;
-use sheet_format::SheetRead;
 use sheet_scan::scan_sheet;
 
 // What the day list prints, stored below a limit. "A sheet that cannot be read prints only broken O N"; a longer sheet

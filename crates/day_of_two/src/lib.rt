@@ -1,13 +1,13 @@
 // The day list of two workers, in an output that suffices for every sheet: nothing is refused. Follows docs/RULES.md,
-// "The board and the day list" (R 256, A 1,024, b 4, P 2). Assumes nothing.
+// "The board and the day list" (R 256, A 1,024, b 4, P 2).
 ghost use mathlib.Core.Path.{_≡_};
 ghost use mathlib.Core.List.{List};
 ghost use Prim.Native.Nat.{ℕ};
 ghost use lib.ListN.{length, take};
 ghost use lib.Seq.{sets};
-ghost use Rattle.day_format.specs.Day.{dayText};
-use day_format::DayAnswer;
+ghost use Rattle.def_day_lines.specs.Day.{dayText};
 use day_list::day_list;
+use def_day_lines::DayAnswer;
 
 const WORKERS: u32 = 2;
 

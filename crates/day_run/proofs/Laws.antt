@@ -1,14 +1,14 @@
--- Rounds one after the other, and what they leave. Assumes nothing.
+-- Rounds one after the other, and what they leave.
 use mathlib.Core.Path.{_≡_, refl, ap}
 use mathlib.Core.Bool.{true}
 use mathlib.Core.List.{List, [], _∷_, _++_}
 use Prim.Native.Nat.{ℕ, suc, _+_, _<_}
 use native.Mathlib.Omega.{arith}
 use lib.ListN.{length, length-append}
-use Rattle.terms.specs.declared.Sizes.{Sizes}
-use Rattle.words.specs.Layout.{Tables}
-use Rattle.day_rounds.specs.Rounds.{Holder, Gets, getRound, finishAll, finished, roundOf, anyHolder, rounds, handOuts}
-use Rattle.day_rounds.specs.Rows.{stored, stored-none, stored-append}
+use Rattle.def_terms.specs.declared.Sizes.{Sizes}
+use Rattle.def_words.specs.Layout.{Tables}
+use Rattle.def_day.specs.Rounds.{Holder, Gets, getRound, finishAll, finished, roundOf, anyHolder, rounds, handOuts}
+use Rattle.def_day.specs.Rows.{stored, stored-none, stored-append}
 use Rattle.day_run.specs.Kept.{kept, runKept}
 
 some-holder : (hs : List Holder) → 0 < length hs → anyHolder hs ≡ true

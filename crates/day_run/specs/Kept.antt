@@ -1,10 +1,10 @@
--- What the rounds leave: the tables, a lent row with the hand-outs, and how many there were. Assumes nothing.
+-- What the rounds leave: the tables, a lent row with the hand-outs, and how many there were.
 use mathlib.Core.List.{List}
 use Prim.Native.Nat.{ℕ, _+_}
 use lib.ListN.{length}
-use Rattle.words.specs.Layout.{Tables}
-use Rattle.day_rounds.specs.Rounds.{Run, handOuts}
-use Rattle.day_rounds.specs.Rows.{stored}
+use Rattle.def_words.specs.Layout.{Tables}
+use Rattle.def_day.specs.Rounds.{Run, handOuts}
+use Rattle.def_day.specs.Rows.{stored}
 
 pub record Kept : Type 0 where
   pub state : Tables

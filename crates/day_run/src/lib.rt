@@ -1,20 +1,20 @@
 // The rounds of a day: the hand-outs are stored in a lent row, two words for each, its name and its worker. Follows
-// docs/RULES.md, "The board and the day list". Assumes nothing. A hand-out past the row's end is not stored.
+// docs/RULES.md, "The board and the day list". A hand-out past the row's end is not stored.
 ghost use mathlib.Core.Path.{_≡_};
 ghost use Prim.Native.Nat.{_+_, _^_, _≤_};
-ghost use Rattle.numbers.specs.Numbers.{mostWorkers};
-ghost use Rattle.words.specs.Layout.{atEntry, atExit};
-ghost use Rattle.day_rounds.specs.Rounds.{runDay};
-ghost use Rattle.day_rounds.specs.Rows.{holding, stored};
+ghost use Rattle.def_numbers.specs.Numbers.{mostWorkers};
+ghost use Rattle.def_words.specs.Layout.{asLent, asLeft};
+ghost use Rattle.def_day.specs.Rounds.{runDay};
+ghost use Rattle.def_day.specs.Rows.{holding, stored};
 ghost use Rattle.day_run.specs.Kept.{kept, runKept};
 
 mod round;
 
-use day_rounds::Holders;
+use def_day::Holders;
+use def_terms::Sizes;
 use graph_words::put_word;
 use graph_words::word;
 use round::run_round;
-use terms::Sizes;
 
 // Stores the hand-outs of a round.
 fn store(holders: Holders, row: &mut [u32], at: usize)
@@ -26,11 +26,11 @@ fn store(holders: Holders, row: &mut [u32], at: usize)
     let count = holders.count;
     let mut i: usize = 0;
     while i < count {
-        let place = 2 * (at + i);
+        let offset = 2 * (at + i);
         let name = word(&names, i);
         let worker = word(&by, i);
-        put_word(row, place, name);
-        put_word(row, place + 1, worker);
+        put_word(row, offset, name);
+        put_word(row, offset + 1, worker);
         i += 1;
     }
 }
@@ -46,8 +46,8 @@ pub fn run_rounds(
     workers: &mut [u32],
     row: &mut [u32],
 ) -> usize
-    ensures { λ r. ⌜ kept (atExit jobs arcs buckets queue workers) (now (row .exit)) r
-        ≡ runKept 0 (now (row .entry)) (runDay sizes (atEntry jobs arcs buckets queue workers)) ⌝ }
+    ensures { λ r. ⌜ kept (asLeft jobs arcs buckets queue workers) (now (row .exit)) r
+        ≡ runKept 0 (now (row .entry)) (runDay sizes (asLent jobs arcs buckets queue workers)) ⌝ }
 {
     let mut left = (sizes.jobs as usize) + 1;
     let mut handed: usize = 0;

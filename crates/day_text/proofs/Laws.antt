@@ -1,12 +1,12 @@
--- Digits one by one, a list from a place on after a store there, and texts one after the other. Assumes nothing.
+-- Digits one by one, a list from an offset on after a store there, and texts one after the other.
 use mathlib.Core.Path.{_≡_, refl, _∙_}
 use mathlib.Core.List.{List, [], _∷_, _++_}
 use Prim.Native.Nat.{ℕ, zero, suc, _+_, _≤_, _<_, _/_, _%_}
 use native.Mathlib.Omega.{arith}
 use lib.ListN.{length, set, drop}
 use borrow.Author.Tests.{lt-ltb, le-ltb, le-leb, lt-leb}
-use Rattle.day_format.specs.Text.{digits, decimal}
-use Rattle.day_text.specs.Page.{Page, mostPlace, print, printLine, print-place, print-append, decimal-length}
+use Rattle.def_day_lines.specs.Text.{digits, decimal}
+use Rattle.day_text.specs.Page.{Page, mostOffset, print, printLine, print-offset, print-append, decimal-length}
 
 pub digits-end : (k n : ℕ) (rest : List ℕ) → n < 10 → digits (suc k) n rest ≡ (48 + n % 10) ∷ rest
 unfolding digits
@@ -26,22 +26,22 @@ drop-set (x ∷ l) zero v h = refl
 drop-set (x ∷ l) (suc i) v h = drop-set l i v (omega arith)
 
 -- where a text ends
-pub placed : (limit : ℕ) (p q : Page) (text : List ℕ) → q ≡ print limit p text → q .place ≡ p .place + length text
-placed limit p q text e = rw e (print-place limit p text)
+pub moved-on : (limit : ℕ) (p q : Page) (text : List ℕ) → q ≡ print limit p text → q .offset ≡ p .offset + length text
+moved-on limit p q text e = rw e (print-offset limit p text)
 
--- a number takes at most 20 places
-pub numbered : (limit : ℕ) (p q : Page) (n : ℕ) → q ≡ print limit p (decimal n) → q .place ≤ p .place + 20
-numbered limit p q n e = omega (arith, placed limit p q (decimal n) e, decimal-length n)
+-- a number takes at most 20 bytes
+pub numbered : (limit : ℕ) (p q : Page) (n : ℕ) → q ≡ print limit p (decimal n) → q .offset ≤ p .offset + 20
+numbered limit p q n e = omega (arith, moved-on limit p q (decimal n) e, decimal-length n)
 
 -- a text after a text
 pub next : (limit : ℕ) (p q r : Page) (a b : List ℕ) → q ≡ print limit p a → r ≡ print limit q b
     → r ≡ print limit p (a ++ b)
 next limit p q r a b e f = f ∙ rw e (print-append limit p a b)
 
--- a line that would start past the last place is left out, and any other is printed
-pub left-out : (limit : ℕ) (p : Page) (text : List ℕ) → mostPlace < p .place → p ≡ printLine limit p text
-left-out limit p text h = rw (lt-leb (p .place) mostPlace h)
+-- a line that would start past the last offset is left out, and any other is printed
+pub left-out : (limit : ℕ) (p : Page) (text : List ℕ) → mostOffset < p .offset → p ≡ printLine limit p text
+left-out limit p text h = rw (lt-leb (p .offset) mostOffset h)
 
-pub printed : (limit : ℕ) (p q r : Page) (a b : List ℕ) → p .place ≤ mostPlace → q ≡ print limit p a
+pub printed : (limit : ℕ) (p q r : Page) (a b : List ℕ) → p .offset ≤ mostOffset → q ≡ print limit p a
     → r ≡ print limit q b → r ≡ printLine limit p (a ++ b)
-printed limit p q r a b h e f = rw (le-leb (p .place) mostPlace h) (next limit p q r a b e f)
+printed limit p q r a b h e f = rw (le-leb (p .offset) mostOffset h) (next limit p q r a b e f)

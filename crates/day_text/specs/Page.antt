@@ -1,5 +1,5 @@
--- A text printed into a lent output from a place on (docs/RULES.md, "The board and the day list"): only places below a
--- limit are stored, so that a text can be measured with the limit 0 before it is stored. Assumes nothing.
+-- A text printed into a lent output from an offset on (docs/RULES.md, "The board and the day list"): only offsets below
+-- a limit are stored, so that a text can be measured with the limit 0 before it is stored.
 use mathlib.Core.Path.{_≡_, refl, sym, _∙_}
 use mathlib.Core.Bool.{Bool, true, false}
 use mathlib.Core.List.{List, [], _∷_, _++_}
@@ -9,42 +9,42 @@ use lib.Dec.{ltb, leb}
 use lib.ListN.{length, set, length-append}
 use lib.Seq.{sets}
 use borrow.Author.Tests.{lt-ltb, le-ltb, le-leb}
-use Rattle.basics.specs.Base.{pick}
-use Rattle.sheet_format.specs.SheetTrip.{Each}
-use Rattle.day_rounds.specs.Rounds.{Refusal, Holder}
-use Rattle.day_format.specs.Text.{digits, decimal, jobsWord, workersWord, leftWord, refusedWord, _␣_, line}
-use Rattle.day_format.specs.Day.{refusalLine, refusalLines, handOutLine, handOutLines, text}
+use Rattle.def_basics.specs.Base.{pick}
+use Rattle.def_sheets.specs.SheetTrip.{Each}
+use Rattle.def_day.specs.Rounds.{Refusal, Holder}
+use Rattle.def_day_lines.specs.Text.{digits, decimal, jobsWord, workersWord, leftWord, refusedWord, _␣_, line}
+use Rattle.def_day_lines.specs.Day.{refusalLine, refusalLines, handOutLine, handOutLines, text}
 
--- the output after a text: each byte whose place is below the limit is stored
+-- the output after a text: each byte whose offset is below the limit is stored
 unfoldable pub emitted : ℕ → List ℕ → ℕ → List ℕ → List ℕ
 emitted limit out at [] = out
 emitted limit out at (b ∷ bs) = emitted limit (pick (ltb at limit) (set out at b) out) (suc at) bs
 
--- an output, with the place up to which it was printed
+-- an output, with the offset up to which it was printed
 pub record Page : Type 0 where
-  pub place : ℕ
+  pub offset : ℕ
   pub out : List ℕ
 
 abbrev pub page : ℕ → List ℕ → Page
-page p o = record { place = p; out = o }
+page p o = record { offset = p; out = o }
 
 unfoldable pub print : ℕ → Page → List ℕ → Page
-print limit p text = page (p .place + length text) (emitted limit (p .out) (p .place) text)
+print limit p text = page (p .offset + length text) (emitted limit (p .out) (p .offset) text)
 
--- no line starts past this place, so that no place wraps; every day list ends long before it
-abbrev pub mostPlace : ℕ
-mostPlace = 4294967296
+-- no line starts past this offset, so that no offset wraps; every day list ends long before it
+abbrev pub mostOffset : ℕ
+mostOffset = 4294967296
 
 -- more bytes than a line takes
 abbrev pub lineRoom : ℕ
 lineRoom = 128
 
--- a line that starts within these bounds still has so many bytes at a place
+-- a line that starts within these bounds still has so many bytes at an offset
 abbrev pub Roomy : ℕ → ℕ → Type 0
-Roomy at bytes = at + bytes ≤ mostPlace + lineRoom
+Roomy at bytes = at + bytes ≤ mostOffset + lineRoom
 
 abbrev pub printLine : ℕ → Page → List ℕ → Page
-printLine limit p text = pick (leb (p .place) mostPlace) (print limit p text) p
+printLine limit p text = pick (leb (p .offset) mostOffset) (print limit p text) p
 
 -- one line after the other
 unfoldable pub printLines : ℕ → Page → List (List ℕ) → Page
@@ -67,16 +67,16 @@ emitted-append limit (x ∷ a) b out at k e =
 pub print-append : (limit : ℕ) (p : Page) (a b : List ℕ) → print limit (print limit p a) b ≡ print limit p (a ++ b)
 unfolding print
 print-append limit p a b =
-    let e : p .place + length a + length b ≡ p .place + length (a ++ b) = omega (arith, length-append a b) in
-    rw (e, emitted-append limit a b (p .out) (p .place) (p .place + length a) refl)
+    let e : p .offset + length a + length b ≡ p .offset + length (a ++ b) = omega (arith, length-append a b) in
+    rw (e, emitted-append limit a b (p .out) (p .offset) (p .offset + length a) refl)
 
-pub print-place : (limit : ℕ) (p : Page) (text : List ℕ) → print limit p text .place ≡ p .place + length text
+pub print-offset : (limit : ℕ) (p : Page) (text : List ℕ) → print limit p text .offset ≡ p .offset + length text
 unfolding print
-print-place limit p text = refl
+print-offset limit p text = refl
 
 pub print-nothing : (limit : ℕ) (p : Page) → print limit p [] ≡ p
 unfolding print emitted
-print-nothing limit p = let e : p .place + 0 ≡ p .place = omega arith in rw e
+print-nothing limit p = let e : p .offset + 0 ≡ p .offset = omega arith in rw e
 
 -- with the limit 0 the output stays
 pub emitted-none : (out : List ℕ) (at : ℕ) (text : List ℕ) → emitted 0 out at text ≡ out
@@ -126,13 +126,13 @@ pub Short : List ℕ → Type 0
 Short l = length l ≤ lineBytes
 
 pub printed-lines : (limit : ℕ) (ls : List (List ℕ)) (p : Page) → Each Short ls
-    → p .place + lineBytes * length ls ≤ mostPlace
+    → p .offset + lineBytes * length ls ≤ mostOffset
     → printLines limit p ls ≡ print limit p (text ls)
 unfolding printLines text Short
 printed-lines limit [] p e h = sym (print-nothing limit p)
 printed-lines limit (l ∷ ls) p (Each.more q e) h =
-    let z = print-place limit p l in
-    rw (le-leb (p .place) mostPlace (omega arith))
+    let z = print-offset limit p l in
+    rw (le-leb (p .offset) mostOffset (omega arith))
     (printed-lines limit ls (print limit p l) e (omega arith) ∙ print-append limit p l (text ls))
 
 -- every line of the day list is short

@@ -1,14 +1,15 @@
-// The lines of the day list, printed into a lent output from a place on. Follows docs/RULES.md, "The board and the day
-// list". Assumes nothing.
+// The lines of the day list, printed into a lent output from an offset on. Follows docs/RULES.md, "The board and the
+// day list".
 ghost use mathlib.Core.Path.{_≡_};
 ghost use mathlib.Core.List.{[], _∷_};
 ghost use Prim.Native.Nat.{_+_, _≤_, _%_};
 ghost use lib.ListN.{length, set, drop};
-ghost use Rattle.day_format.specs.Text.{decimal, jobsWord, workersWord, leftWord, refusedWord, brokenWord, _␣_, line};
+ghost use Rattle.def_day_lines.specs.Text.{decimal, jobsWord, workersWord, leftWord, refusedWord, brokenWord, _␣_};
+ghost use Rattle.def_day_lines.specs.Text.{line};
 ghost use Rattle.day_text.specs.Page.{page, print, printLine, Roomy};
 
-// No line starts past this place, so that no place wraps; every day list ends long before it.
-const MOST_PLACE: usize = 4294967296;
+// No line starts past this offset, so that no offset wraps; every day list ends long before it.
+const MOST_OFFSET: usize = 4294967296;
 
 // A word or an offset has at most so many digits.
 const MOST_DIGITS: usize = 20;
@@ -22,7 +23,7 @@ fn put(out: &mut [u8], at: usize, byte: u8)
     }
 }
 
-// A byte, stored where its place is below the limit.
+// A byte, stored where its offset is below the limit.
 fn emit(out: &mut [u8], limit: usize, at: usize, byte: u8) -> usize
     requires { ⌜ Roomy at 1 ⌝ }
     ensures { λ r. ⌜ page r (now (out .exit)) ≡ print limit (page at (now (out .entry))) (byte ∷ []) ⌝ }
@@ -110,7 +111,7 @@ pub fn jobs_line(out: &mut [u8], limit: usize, at: usize, made: u32, workers: u3
         ≡ printLine limit (page at (now (out .entry)))
         (line (jobsWord ␣ (decimal made ␣ (workersWord ␣ decimal workers)))) ⌝ }
 {
-    if MOST_PLACE < at {
+    if MOST_OFFSET < at {
         return at;
     }
     let first = emit_from(out, limit, at, b"jobs ", 0);
@@ -131,7 +132,7 @@ pub fn handed_line(
     ensures { λ r. ⌜ page r (now (out .exit))
         ≡ printLine limit (page at (now (out .entry))) (line (decimal handed ␣ (decimal name ␣ decimal worker))) ⌝ }
 {
-    if MOST_PLACE < at {
+    if MOST_OFFSET < at {
         return at;
     }
     let next = emit_number(out, limit, at, handed as u64);
@@ -144,7 +145,7 @@ pub fn left_line(out: &mut [u8], limit: usize, at: usize, left: u32) -> usize
     ensures { λ r. ⌜ page r (now (out .exit))
         ≡ printLine limit (page at (now (out .entry))) (line (leftWord ␣ decimal left)) ⌝ }
 {
-    if MOST_PLACE < at {
+    if MOST_OFFSET < at {
         return at;
     }
     let last = emit_from(out, limit, at, b"left ", 0);
@@ -156,7 +157,7 @@ pub fn refused_line(out: &mut [u8], limit: usize, at: usize, entry: usize, numbe
     ensures { λ r. ⌜ page r (now (out .exit))
         ≡ printLine limit (page at (now (out .entry))) (line (refusedWord ␣ (decimal entry ␣ decimal number))) ⌝ }
 {
-    if MOST_PLACE < at {
+    if MOST_OFFSET < at {
         return at;
     }
     let next = emit_from(out, limit, at, b"refused ", 0);
@@ -168,7 +169,7 @@ pub fn broken_line(out: &mut [u8], limit: usize, at: usize, offset: usize, numbe
     ensures { λ r. ⌜ page r (now (out .exit))
         ≡ printLine limit (page at (now (out .entry))) (line (brokenWord ␣ (decimal offset ␣ decimal number))) ⌝ }
 {
-    if MOST_PLACE < at {
+    if MOST_OFFSET < at {
         return at;
     }
     let next = emit_from(out, limit, at, b"broken ", 0);

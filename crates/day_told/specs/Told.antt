@@ -1,12 +1,12 @@
--- What an answer tells the day list, and the hand-out or the refusal that it makes. Assumes nothing.
+-- What an answer tells the day list, and the hand-out or the refusal that it makes.
 use mathlib.Core.Path.{_≡_, refl}
 use mathlib.Core.Bool.{Bool, true, false}
 use mathlib.Core.List.{[], _∷_}
 use Prim.Native.Nat.{ℕ}
-use Rattle.basics.specs.Base.{pick}
-use Rattle.terms.specs.declared.Answer.{Answer}
-use Rattle.terms.specs.declared.Answer.the-variants.{Laid, Loaded, Posted, Going, Ended, NoneReady, Handed, Refused}
-use Rattle.day_rounds.specs.Rounds.{refusal, holder, handOut}
+use Rattle.def_basics.specs.Base.{pick}
+use Rattle.def_terms.specs.declared.Answer.{Answer}
+use Rattle.def_terms.specs.declared.Answer.the-variants.{Laid, Loaded, Posted, Going, Ended, NoneReady, Handed, Refused}
+use Rattle.def_day.specs.Rounds.{refusal, holder, handOut}
 use Rattle.day_told.specs.declared.Told.{Told}
 
 abbrev pub told : Bool → Bool → ℕ → Told

@@ -1,8 +1,8 @@
 // What an answer tells the day list: the name of a job that was handed out, or the number of a refusal. Follows
-// docs/RULES.md, "The board and the day list". Assumes nothing.
+// docs/RULES.md, "The board and the day list".
 ghost use mathlib.Core.Path.{_≡_};
 ghost use Rattle.day_told.specs.Told.{toldOf};
-use terms::Answer;
+use def_terms::Answer;
 
 // The name where a job was handed out, the number where the call was refused, and else 0.
 pub struct Told {

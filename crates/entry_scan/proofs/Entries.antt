@@ -1,5 +1,5 @@
 -- Laws of a whole entry: where an entry that was read ends and where its names stand, and what a scan says of the entry
--- (docs/SHEETS.md). Assumes nothing.
+-- (docs/SHEETS.md).
 use Prim.Native.Nat.{ℕ, _+_, _*_, _-_, _/_, _%_, _≤_, _<_}
 use mathlib.Core.Path.{_≡_, refl, sym, ap, _∙_}
 use mathlib.Core.Bool.{Bool, true, false}
@@ -8,16 +8,16 @@ use native.Mathlib.Omega.{arith}
 use lib.ListN.{length}
 use lib.Dec.{ltb}
 use borrow.Author.Tests.{ltb-true}
-use Rattle.numbers.specs.Numbers.{mostNames, mostClass, mostGrower, nameBytes, countBytes, classBytes, growerBytes}
-use Rattle.basics.specs.Base.{pick}
-use Rattle.basics.specs.Laws.{never}
-use Rattle.sheet_format.specs.Job.{Job}
-use Rattle.sheet_format.specs.NumberLaws.{length-namesAt}
-use Rattle.sheet_format.specs.Decode.{mapAt, nameAt, limitedAt, listAt, ifBit, namesAt, Decoded, job, end}
-use Rattle.sheet_format.specs.Decode.{refused, thenDecoded, decode, scanOf}
-use Rattle.sheet_format.specs.declared.Field.{Field}
-use Rattle.sheet_format.specs.declared.Field.the-variants.{Got, Refused}
-use Rattle.sheet_format.specs.declared.Scan.{Scan}
+use Rattle.def_numbers.specs.Numbers.{mostNames, mostClass, mostGrower, nameBytes, countBytes, classBytes, growerBytes}
+use Rattle.def_basics.specs.Base.{pick}
+use Rattle.def_basics.specs.Laws.{never}
+use Rattle.def_sheets.specs.Job.{Job}
+use Rattle.def_sheets.specs.NumberLaws.{length-namesAt}
+use Rattle.def_sheets.specs.Decode.{mapAt, nameAt, limitedAt, listAt, ifBit, namesAt, Decoded, job, end}
+use Rattle.def_sheets.specs.Decode.{refused, thenDecoded, decode, scanOf}
+use Rattle.def_sheets.specs.declared.Field.{Field}
+use Rattle.def_sheets.specs.declared.Field.the-variants.{Got, Refused}
+use Rattle.def_sheets.specs.declared.Scan.{Scan}
 use Rattle.entry_scan.proofs.Fields.{map-next, number-passed, limited-got, number-behind, listed}
 
 -- how far an entry and its names reach: the names start six bytes in
@@ -63,7 +63,7 @@ stands s at j n h =
 -- WHAT A SCAN SAYS OF THE ENTRY
 
 -- the job that a scan's numbers make with the names of the sheet
-abbrev pub scanned : List ℕ → ℕ → ℕ → ℕ → ℕ → ℕ → Job
+abbrev pub scanned : (s : List ℕ) (at name count class grower : ℕ) → Job
 scanned s at name count class grower =
     record { name = name; list = namesAt nameBytes s (at + 6) count; class = class; grower = grower }
 

@@ -1,5 +1,5 @@
 -- Laws of single fields: what a field that was read says, and that judging a number once it is read comes to the same
--- (docs/SHEETS.md). Assumes nothing.
+-- (docs/SHEETS.md).
 use Prim.Native.Nat.{ℕ, zero, suc, _+_, _*_, _-_, _/_, _%_, _≤_}
 use mathlib.Core.Path.{_≡_, refl, ap}
 use mathlib.Core.Bool.{Bool, true, false, _&&_}
@@ -8,14 +8,14 @@ use native.Mathlib.Omega.{arith}
 use lib.ListN.{length, getD}
 use lib.Dec.{ltb, leb, eqb, eqb·suc-zero}
 use borrow.Author.Tests.{leb-true}
-use Rattle.numbers.specs.Numbers.{mostNames, mostClass, mostGrower, countBytes, classBytes, growerBytes, cut}
-use Rattle.numbers.specs.Numbers.{wrongValue}
-use Rattle.basics.specs.Base.{pick}
-use Rattle.basics.specs.Laws.{never, and-right}
-use Rattle.sheet_format.specs.Number.{numberAt}
-use Rattle.sheet_format.specs.Decode.{mapAt, nameAt, limitedAt, listAt, then, ifBit, Decoded, job, refused, thenDecoded}
-use Rattle.sheet_format.specs.declared.Field.{Field}
-use Rattle.sheet_format.specs.declared.Field.the-variants.{Got, Refused}
+use Rattle.def_numbers.specs.Numbers.{mostNames, mostClass, mostGrower, countBytes, classBytes, growerBytes, cut}
+use Rattle.def_numbers.specs.Numbers.{wrongValue}
+use Rattle.def_basics.specs.Base.{pick}
+use Rattle.def_basics.specs.Laws.{never, and-right}
+use Rattle.def_sheets.specs.Number.{numberAt}
+use Rattle.def_sheets.specs.Decode.{mapAt, nameAt, limitedAt, listAt, then, ifBit, Decoded, job, refused, thenDecoded}
+use Rattle.def_sheets.specs.declared.Field.{Field}
+use Rattle.def_sheets.specs.declared.Field.the-variants.{Got, Refused}
 use Rattle.entry_scan.specs.Stages.{judgedThen, fromGrower, fromClass}
 
 -- one, two and four bytes, by their offsets from the first

@@ -1,30 +1,30 @@
 // The entry at an offset of a job sheet, its fields read one after the other and judged (docs/SHEETS.md and numbers 12
-// to 14): each answer is the one that the definitions of sheet_format give. Assumes nothing of the bytes, and nothing
-// of the offset.
-use numbers::COUNT_BYTES;
-use numbers::CUT;
-use numbers::MOST_CLASS;
-use numbers::MOST_GROWER;
-use numbers::MOST_NAMES;
-use numbers::NAME_BYTES;
-use numbers::WRONG_MAP;
-use numbers::WRONG_VALUE;
-use sheet_format::Field;
-use sheet_format::Scan;
+// to 14): each answer is the one that the definitions of def_sheets give, for all bytes and every
+// offset.
+use def_numbers::COUNT_BYTES;
+use def_numbers::CUT;
+use def_numbers::MOST_CLASS;
+use def_numbers::MOST_GROWER;
+use def_numbers::MOST_NAMES;
+use def_numbers::NAME_BYTES;
+use def_numbers::WRONG_MAP;
+use def_numbers::WRONG_VALUE;
+use def_sheets::Field;
+use def_sheets::Scan;
 ghost use mathlib.Core.Path.{_≡_};
 ghost use mathlib.Core.Bool.{_&&_, _||_};
 ghost use mathlib.Core.List.{List};
 ghost use Prim.Native.Nat.{ℕ, _+_, _*_, _≤_};
 ghost use lib.ListN.{length};
 ghost use lib.Dec.{leb, eqb};
-ghost use Rattle.numbers.specs.Numbers.{nameBytes};
-ghost use Rattle.sheet_format.specs.Decode.{nameAt, listAt, ifBit, decode, scanOf};
+ghost use Rattle.def_numbers.specs.Numbers.{nameBytes};
+ghost use Rattle.def_sheets.specs.Decode.{nameAt, listAt, ifBit, decode, scanOf};
 ghost use Rattle.entry_scan.specs.Stages.{fromGrower, fromClass};
 
 // where the list of an entry stands: past the map byte and the name; and where its names start: past the count byte too
-pub const LIST_PLACE: usize = 1 + NAME_BYTES;
+pub const LIST_OFFSET: usize = 1 + NAME_BYTES;
 
-pub const NAMES_FROM: usize = LIST_PLACE + COUNT_BYTES;
+pub const NAMES_FROM: usize = LIST_OFFSET + COUNT_BYTES;
 
 // A byte as a number.
 pub fn wide(a: u8) -> u32

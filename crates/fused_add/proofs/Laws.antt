@@ -1,36 +1,36 @@
--- What an add comes to, by its plan. Assumes nothing.
+-- What an add comes to, by its plan.
 use mathlib.Core.Path.{_≡_, _∙_}
 use mathlib.Core.Bool.{_||_}
 use mathlib.Core.List.{List}
 use Prim.Native.Nat.{ℕ, _+_, _≤_, _<_}
 use lib.Dec.{eqb, ltb, leb}
 use borrow.Author.Tests.{ltb-false, leb-false}
-use Rattle.basics.specs.Laws.{or-left, or-right, pick-by}
-use Rattle.terms.specs.Terms.{Arguments, listed, argumentsWrong}
-use Rattle.terms.specs.Runs.{Outcome, outcome}
-use Rattle.terms.specs.declared.Sizes.{Sizes}
-use Rattle.terms.specs.declared.Answer.the-variants.{Refused}
-use Rattle.words.specs.Layout.{Tables, View, view, none, PHASE, IDLE, LOOKING}
-use Rattle.words.specs.Words.{countersOk, findOf}
-use Rattle.words.specs.declared.Found.{Found}
-use Rattle.words.specs.declared.Found.the-variants.{At, Missing, Damaged}
-use Rattle.fused_words.specs.FusedWorker.{holdOf, idledWith, addWorker, halted}
-use Rattle.fused_words.specs.FusedAdd.{lookUps, jobsFound, enteredTables, Links, links, settleIn, planOwn, planLooked}
-use Rattle.fused_words.specs.FusedAdd.{planAdd, addBy, addIfIdle}
-use Rattle.fused_words.specs.declared.LookUps.{LookUps}
-use Rattle.fused_words.specs.declared.LookUps.the-variants.{All, Unknown, Broken}
-use Rattle.fused_words.specs.declared.AddPlan.{AddPlan}
-use Rattle.fused_words.specs.declared.AddPlan.the-variants.{Reject, TurnAway, Stop, EnterJob}
+use Rattle.def_basics.specs.Laws.{or-left, or-right, pick-by}
+use Rattle.def_terms.specs.Terms.{Arguments, listed, argumentsWrong}
+use Rattle.def_terms.specs.Runs.{Result, result}
+use Rattle.def_terms.specs.declared.Sizes.{Sizes}
+use Rattle.def_terms.specs.declared.Answer.the-variants.{Refused}
+use Rattle.def_words.specs.Layout.{Tables, View, view, none, PHASE, IDLE, LOOKING}
+use Rattle.def_words.specs.Words.{countersOk, findOf}
+use Rattle.def_words.specs.declared.Found.{Found}
+use Rattle.def_words.specs.declared.Found.the-variants.{At, Missing, Damaged}
+use Rattle.def_fused.specs.FusedWorker.{holdOf, idledWith, addWorker, halted}
+use Rattle.def_fused.specs.FusedAdd.{lookUps, jobsFound, enteredTables, Links, links, settleIn, planOwn, planLooked}
+use Rattle.def_fused.specs.FusedAdd.{planAdd, addBy, addIfIdle}
+use Rattle.def_fused.specs.declared.LookUps.{LookUps}
+use Rattle.def_fused.specs.declared.LookUps.the-variants.{All, Unknown, Broken}
+use Rattle.def_fused.specs.declared.AddPlan.{AddPlan}
+use Rattle.def_fused.specs.declared.AddPlan.the-variants.{Reject, TurnAway, Stop, EnterJob}
 use Rattle.fused_plan.proofs.Plans.{not-rejected, not-away, not-stopped}
 
 -- ---- each plan
 module _ (s : Sizes) (t : Tables) (w : ℕ) (a : Arguments) {f : AddPlan} (q : f ≡ planAdd s (view t) w a) {held : ℕ}
-    (h : held ≡ holdOf t w) {o : Outcome Tables} where
-  pub rejected : {n : ℕ} → f ≡ Reject n → o ≡ outcome (Refused n 0) t → o ≡ addIfIdle s t w a
+    (h : held ≡ holdOf t w) {o : Result Tables} where
+  pub rejected : {n : ℕ} → f ≡ Reject n → o ≡ result (Refused n 0) t → o ≡ addIfIdle s t w a
   unfolding addIfIdle addBy
   rejected e p = rw (← q, e) p
 
-  pub turned-away : {n i : ℕ} → f ≡ TurnAway n i → o ≡ outcome (Refused n i) (idledWith t w held)
+  pub turned-away : {n i : ℕ} → f ≡ TurnAway n i → o ≡ result (Refused n i) (idledWith t w held)
       → o ≡ addIfIdle s t w a
   unfolding addIfIdle addBy
   turned-away e p = rw (← q, e, ← h) p
@@ -39,7 +39,7 @@ module _ (s : Sizes) (t : Tables) (w : ℕ) (a : Arguments) {f : AddPlan} (q : f
   unfolding addIfIdle addBy
   stopped e p = rw (← q, e, ← h) p
 
-  -- entry, links and settling, one after the other
+  -- entering, links and settling, one after the other
   pub entered : f ≡ EnterJob → {j x : ℕ} {r : Links} {u : Tables} {l : List ℕ} → o ≡ settleIn s w a held j x r
       → r ≡ links s j x l 0 u 0 0 → u ≡ enteredTables s t a → j ≡ view t .made → x ≡ view t .reserved
       → l ≡ jobsFound s (view t) (listed a) → o ≡ addIfIdle s t w a

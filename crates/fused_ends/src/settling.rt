@@ -1,14 +1,18 @@
 // The end of an add run in one go: its job settles, or a damaged word stops it. Follows docs/RULES.md, "Steps".
-// Nothing is required of a table; tables that a function is not lent stay, whatever they are. Assumes nothing.
+// Nothing is required of a table; tables that a function is not lent stay, whatever they are.
 ghost use mathlib.Core.Path.{_≡_};
 ghost use mathlib.Core.List.{List};
 ghost use Prim.Native.Nat.{ℕ};
-ghost use Rattle.terms.specs.Runs.{Outcome, outcome};
-ghost use Rattle.words.specs.Layout.{Tables, tables};
-ghost use Rattle.fused_words.specs.FusedAdd.{linksTo, settleIn};
+ghost use Rattle.def_terms.specs.Runs.{Result, result};
+ghost use Rattle.def_words.specs.Layout.{Tables, tables};
+ghost use Rattle.def_fused.specs.FusedAdd.{linksTo, settleIn};
 ghost use Rattle.fused_ends.specs.Settling.{orStop, settling};
-ghost use Rattle.sheet_rows.specs.Arguments.{argumentsOf};
+ghost use Rattle.def_sheet_rows.specs.Arguments.{argumentsOf};
 use crate::stops::stop;
+use def_sheets::Entry;
+use def_terms::Answer;
+use def_terms::Sizes;
+use def_words::Seating;
 use fused_job::entering::NewJob;
 use fused_job::links::Linked;
 use graph_index::seat_for;
@@ -18,10 +22,6 @@ use graph_words::layout::*;
 use graph_words::less;
 use graph_words::put_count;
 use graph_worker_words::first_arc;
-use sheet_format::Entry;
-use terms::Answer;
-use terms::Sizes;
-use words::Seating;
 
 // The job's remaining count falls by the tally, a note spoils it, and it is queued or not. Says whether it could: where
 // the links were not sound, or no seat is found, nothing is stored.
@@ -33,7 +33,7 @@ fn settle(
     count: u32,
     linked: Linked,
 ) -> bool
-    ensures { λ r. ⌜ ((arcs buckets workers : List ℕ) (w held : ℕ) (stopped : Tables → Outcome Tables)
+    ensures { λ r. ⌜ ((arcs buckets workers : List ℕ) (w held : ℕ) (stopped : Tables → Result Tables)
         → orStop r w held (tables (now (jobs .exit)) arcs buckets (now (queue .exit)) workers) stopped
         ≡ settling sizes w held job (linked .tally) count (linked .note) (linked .sound)
         (tables (now (jobs .entry)) arcs buckets (now (queue .entry)) workers) stopped) ⌝ }
@@ -75,7 +75,7 @@ pub fn settle_add(
     linked: Linked,
 ) -> Answer
     ensures { λ r. ⌜ ((arcs buckets : List ℕ)
-        → outcome r (tables (now (jobs .exit)) arcs buckets (now (queue .exit)) (now (workers .exit)))
+        → result r (tables (now (jobs .exit)) arcs buckets (now (queue .exit)) (now (workers .exit)))
         ≡ settleIn sizes worker (argumentsOf entry) held (new .job) (new .arc)
         (linksTo (tables (now (jobs .entry)) arcs buckets (now (queue .entry)) (now (workers .entry)))
         (linked .place) (linked .tally) (linked .note) (linked .sound))) ⌝ }

@@ -1,22 +1,22 @@
 // A finish of an idle worker in one go: the mark, then each notice, and the worker's words stored once, at the end.
 // Follows docs/RULES.md, "Steps" and "Turned-away calls". Nothing is required: the definition holds of all tables.
 ghost use mathlib.Core.Path.{_≡_};
-ghost use Rattle.terms.specs.Terms.{finishOf};
-ghost use Rattle.terms.specs.Runs.{outcome};
-ghost use Rattle.words.specs.Layout.{atEntry, atExit};
-ghost use Rattle.fused_words.specs.FusedFinish.{finishIfIdle};
+ghost use Rattle.def_terms.specs.Terms.{finishOf};
+ghost use Rattle.def_terms.specs.Runs.{result};
+ghost use Rattle.def_words.specs.Layout.{asLent, asLeft};
+ghost use Rattle.def_fused.specs.FusedFinish.{finishIfIdle};
 
 mod mark;
 
+use def_numbers::*;
+use def_terms::Answer;
+use def_terms::Sizes;
+use def_terms::bit;
 use graph_judge::judge_outcome;
 use graph_words::job_word;
 use graph_words::layout::*;
 use graph_words::worker_word;
 use mark::mark_and_tell;
-use numbers::*;
-use terms::Answer;
-use terms::Sizes;
-use terms::bit;
 
 // Finishes the job of a name, which the worker holds, failed or good. Of a worker that is half done it answers 3, and
 // changes nothing.
@@ -31,8 +31,8 @@ pub fn finish_if_idle(
     name: u32,
     failed: bool,
 ) -> Answer
-    ensures { λ r. ⌜ outcome r (atExit jobs arcs buckets queue workers)
-        ≡ finishIfIdle sizes (atEntry jobs arcs buckets queue workers) worker (finishOf name failed) ⌝ }
+    ensures { λ r. ⌜ result r (asLeft jobs arcs buckets queue workers)
+        ≡ finishIfIdle sizes (asLent jobs arcs buckets queue workers) worker (finishOf name failed) ⌝ }
 {
     let idle = worker_word(workers, worker, PHASE) == IDLE;
     if idle {} else {

@@ -1,24 +1,24 @@
 // The mark of a finish run in one go, with its notices and the worker's words, which are stored once, at the end.
 // Follows docs/RULES.md, "Steps". Nothing is required of a table; tables that the function is not lent stay, whatever
-// they are. Assumes nothing.
+// they are.
 ghost use mathlib.Core.Path.{_≡_};
 ghost use mathlib.Core.List.{List};
 ghost use Prim.Native.Nat.{ℕ};
-ghost use Rattle.terms.specs.Runs.{outcome};
-ghost use Rattle.words.specs.Columns.{columns};
-ghost use Rattle.words.specs.Layout.{workerShape, HELD, tables, view};
-ghost use Rattle.words.specs.Words.{planMark};
-ghost use Rattle.fused_words.specs.FusedFinish.{markIn};
+ghost use Rattle.def_terms.specs.Runs.{result};
+ghost use Rattle.def_words.specs.Columns.{columns};
+ghost use Rattle.def_words.specs.Layout.{workerShape, HELD, tables, view};
+ghost use Rattle.def_words.specs.Words.{planMark};
+ghost use Rattle.def_fused.specs.FusedFinish.{markIn};
+use def_numbers::*;
+use def_terms::Answer;
+use def_terms::Sizes;
+use def_words::Plan;
 use fused_notices::closing::close;
 use fused_notices::notices::notices;
 use graph_finish_steps::plan_mark;
 use graph_records::put_bare_worker;
 use graph_words::layout::*;
 use graph_words::put_outcome;
-use numbers::*;
-use terms::Answer;
-use terms::Sizes;
-use words::Plan;
 
 // The mark of the held job with the outcome that the note has, and its notices. A job that nothing waits for has none.
 pub fn mark_and_tell(
@@ -32,7 +32,7 @@ pub fn mark_and_tell(
     note: u32,
 ) -> Answer
     ensures { λ r. ⌜ (held ≡ columns workerShape (now (workers .entry)) HELD worker → (buckets : List ℕ)
-        → outcome r (tables (now (jobs .exit)) (now (arcs .entry)) buckets (now (queue .exit)) (now (workers .exit)))
+        → result r (tables (now (jobs .exit)) (now (arcs .entry)) buckets (now (queue .exit)) (now (workers .exit)))
         ≡ markIn sizes
         (tables (now (jobs .entry)) (now (arcs .entry)) buckets (now (queue .entry)) (now (workers .entry))) worker
         note (planMark sizes (view (tables (now (jobs .entry)) (now (arcs .entry)) buckets (now (queue .entry))

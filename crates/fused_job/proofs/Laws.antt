@@ -1,4 +1,4 @@
--- The plan of a link, by what it asks for; and the links of an add, one at a time. Assumes nothing.
+-- The plan of a link, by what it asks for; and the links of an add, one at a time.
 use mathlib.Core.Path.{_≡_, refl}
 use mathlib.Core.Bool.{true, false}
 use mathlib.Core.Logic.{inl, inr}
@@ -8,17 +8,17 @@ use native.Mathlib.Omega.{arith}
 use native.Mathlib.Numerals.{add-one}
 use lib.ListN.{getD, drop}
 use types.Run.{OneOf}
-use Rattle.basics.specs.Base.{prefix}
-use Rattle.terms.specs.declared.Sizes.{Sizes}
-use Rattle.words.specs.Layout.{Tables, view}
-use Rattle.words.specs.Words.{planLink}
-use Rattle.words.specs.declared.Found.the-variants.{At}
-use Rattle.words.specs.declared.Plan.{Plan}
-use Rattle.words.specs.declared.Plan.the-variants.{Refuse, Quit, Pass, Enter, Tally, LinkFirst, LinkAfter, Settle}
-use Rattle.words.specs.declared.Plan.the-variants.{SettleQueue, Mark, Notify, NotifyQueue}
+use Rattle.def_basics.specs.Base.{prefix}
+use Rattle.def_terms.specs.declared.Sizes.{Sizes}
+use Rattle.def_words.specs.Layout.{Tables, view}
+use Rattle.def_words.specs.Words.{planLink}
+use Rattle.def_words.specs.declared.Found.the-variants.{At}
+use Rattle.def_words.specs.declared.Plan.{Plan}
+use Rattle.def_words.specs.declared.Plan.the-variants.{Refuse, Quit, Pass, Enter, Tally, LinkFirst, LinkAfter, Settle}
+use Rattle.def_words.specs.declared.Plan.the-variants.{SettleQueue, Mark, Notify, NotifyQueue}
 use Rattle.graph_arguments.proofs.Listed.{next, none-left}
-use Rattle.fitting.specs.Kinds.{tag, apart}
-use Rattle.fused_words.specs.FusedAdd.{Links, linksTo, linkBy, links}
+use Rattle.thm_counters_fit.specs.Kinds.{tag, apart}
+use Rattle.def_fused.specs.FusedAdd.{Links, linksTo, linkBy, links}
 
 pub add-zero : (k : ℕ) → k + 0 ≡ k
 add-zero k = omega arith

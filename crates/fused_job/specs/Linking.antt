@@ -1,10 +1,10 @@
--- What follows a link. Assumes nothing.
+-- What follows a link.
 use mathlib.Core.Bool.{false}
 use Prim.Native.Nat.{ℕ, _+_}
-use Rattle.basics.specs.Base.{pick}
-use Rattle.words.specs.Layout.{Tables}
-use Rattle.words.specs.Words.{noted}
-use Rattle.fused_words.specs.FusedAdd.{Links, linksTo}
+use Rattle.def_basics.specs.Base.{pick}
+use Rattle.def_words.specs.Layout.{Tables}
+use Rattle.def_words.specs.Words.{noted}
+use Rattle.def_fused.specs.FusedAdd.{Links, linksTo}
 use Rattle.fused_job.specs.declared.links.Link.{Link}
 
 -- after the link of place i, with k tallied and the note n before it, the links go on or have ended

@@ -1,14 +1,16 @@
-// The entry of an add run in one go: the job's words at the head of its bucket, and its arcs reserved. Follows
+// The entering of an add run in one go: the job's words at the head of its bucket, and its arcs reserved. Follows
 // docs/RULES.md, "Steps" and "Tables and their measures". Nothing is required of a table; tables that the function is
-// not lent stay, whatever they are. Assumes nothing.
+// not lent stay, whatever they are.
 ghost use mathlib.Core.Path.{_≡_};
 ghost use mathlib.Core.List.{List};
 ghost use Prim.Native.Nat.{ℕ, _+_, _<_, _≤_};
-ghost use Rattle.words.specs.Columns.{header};
-ghost use Rattle.words.specs.Layout.{none, MADE, RESERVED, tables};
-ghost use Rattle.fused_words.specs.FusedAdd.{enteredTables};
-ghost use Rattle.sheet_rows.specs.Arguments.{argumentsOf};
-use bucket::bucket;
+ghost use Rattle.def_words.specs.Columns.{header};
+ghost use Rattle.def_words.specs.Layout.{none, MADE, RESERVED, tables};
+ghost use Rattle.def_fused.specs.FusedAdd.{enteredTables};
+ghost use Rattle.def_sheet_rows.specs.Arguments.{argumentsOf};
+use def_bucket::bucket;
+use def_sheets::Entry;
+use def_terms::Sizes;
 use graph_records::put_job_record;
 use graph_words::bucket_word;
 use graph_words::header;
@@ -16,8 +18,6 @@ use graph_words::layout::*;
 use graph_words::put_bucket;
 use graph_words::put_header;
 use graph_worker_words::sum;
-use sheet_format::Entry;
-use terms::Sizes;
 
 // The job that entered, and the first arc that it reserved.
 pub struct NewJob {

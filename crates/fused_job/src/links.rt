@@ -1,15 +1,18 @@
 // The links of an add in one go, by the jobs that its look-ups found: a finished prerequisite is tallied, a failed one
 // noted, and any other gets an arc. Follows docs/RULES.md, "Steps". Nothing is required of a table; tables that a
-// function is not lent stay, whatever they are. Assumes nothing.
+// function is not lent stay, whatever they are.
 ghost use mathlib.Core.Path.{_≡_};
 ghost use mathlib.Core.List.{List};
 ghost use Prim.Native.Nat.{ℕ, _≤_};
-ghost use Rattle.basics.specs.Base.{prefix};
-ghost use Rattle.words.specs.Layout.{Tables, tables, view};
-ghost use Rattle.words.specs.Words.{planLink};
-ghost use Rattle.words.specs.declared.Found.the-variants.{At};
-ghost use Rattle.fused_words.specs.FusedAdd.{Links, linksTo, linkBy, links};
+ghost use Rattle.def_basics.specs.Base.{prefix};
+ghost use Rattle.def_words.specs.Layout.{Tables, tables, view};
+ghost use Rattle.def_words.specs.Words.{planLink};
+ghost use Rattle.def_words.specs.declared.Found.the-variants.{At};
+ghost use Rattle.def_fused.specs.FusedAdd.{Links, linksTo, linkBy, links};
 ghost use Rattle.fused_job.specs.Linking.{linkedTo};
+use def_terms::Sizes;
+use def_words::Found;
+use def_words::Plan;
 use graph_link_steps::plan_link;
 use graph_lists::append_arc;
 use graph_lists::new_arc;
@@ -18,9 +21,6 @@ use graph_words::layout::*;
 use graph_words::put_job;
 use graph_words::word;
 use graph_worker_words::note_of;
-use terms::Sizes;
-use words::Found;
-use words::Plan;
 
 // What came of a link: whether its words were sound, how many finished prerequisites it met, 0 or 1, and the outcome of
 // that one, which is 0 where it met none.

@@ -1,4 +1,4 @@
--- The plan of a notice, by what it asks for; and the notices of a finish, one at a time. Assumes nothing.
+-- The plan of a notice, by what it asks for; and the notices of a finish, one at a time.
 use mathlib.Core.Path.{_≡_, refl}
 use mathlib.Core.Bool.{_&&_}
 use mathlib.Core.Logic.{inl, inr}
@@ -8,25 +8,25 @@ use native.Mathlib.Omega.{arith}
 use native.Mathlib.Numerals.{sub-one}
 use lib.Dec.{ltb, leb, eqb}
 use types.Run.{OneOf}
-use Rattle.numbers.specs.Numbers.{mostNames}
-use Rattle.basics.specs.Laws.{pick-by}
-use Rattle.terms.specs.Runs.{Outcome, outcome}
-use Rattle.terms.specs.declared.Answer.the-variants.{Going}
-use Rattle.terms.specs.declared.Sizes.{Sizes}
-use Rattle.words.specs.Layout.{Tables, View, view, COUNT, DEPENDENT, AFTER}
-use Rattle.words.specs.Words.{isPlace, placeOk, planNotify}
-use Rattle.words.specs.declared.Seat.{Seat}
-use Rattle.words.specs.declared.Plan.{Plan}
-use Rattle.words.specs.declared.Plan.the-variants.{Refuse, Quit, Pass, Enter, Tally, LinkFirst, LinkAfter, Settle}
-use Rattle.words.specs.declared.Plan.the-variants.{SettleQueue, Mark, Notify, NotifyQueue}
-use Rattle.fitting.specs.Kinds.{tag, apart}
-use Rattle.fitting.specs.Seats.{with-seat}
-use Rattle.fused_words.specs.FusedWorker.{withWorker, notifyWorker, halted}
-use Rattle.fused_words.specs.FusedFinish.{notifyBy, notifyIn}
+use Rattle.def_numbers.specs.Numbers.{mostNames}
+use Rattle.def_basics.specs.Laws.{pick-by}
+use Rattle.def_terms.specs.Runs.{Result, result}
+use Rattle.def_terms.specs.declared.Answer.the-variants.{Going}
+use Rattle.def_terms.specs.declared.Sizes.{Sizes}
+use Rattle.def_words.specs.Layout.{Tables, View, view, COUNT, DEPENDENT, AFTER}
+use Rattle.def_words.specs.Words.{isPlace, placeOk, planNotify}
+use Rattle.def_words.specs.declared.Seat.{Seat}
+use Rattle.def_words.specs.declared.Plan.{Plan}
+use Rattle.def_words.specs.declared.Plan.the-variants.{Refuse, Quit, Pass, Enter, Tally, LinkFirst, LinkAfter, Settle}
+use Rattle.def_words.specs.declared.Plan.the-variants.{SettleQueue, Mark, Notify, NotifyQueue}
+use Rattle.thm_counters_fit.specs.Kinds.{tag, apart}
+use Rattle.thm_counters_fit.specs.Seats.{with-seat}
+use Rattle.def_fused.specs.FusedWorker.{withWorker, notifyWorker, halted}
+use Rattle.def_fused.specs.FusedFinish.{notifyBy, notifyIn}
 
--- ---- a notice that queues takes a place below the number of jobs
+-- ---- a notice that queues takes a cell below the number of jobs
 abbrev Below : ℕ → Plan → Type 0
-Below n (NotifyQueue j c y e) = e .place < n
+Below n (NotifyQueue j c y e) = e .cell < n
 Below n (Notify j c y) = Unit {0}
 Below n (Refuse k) = Unit {0}
 Below n (Quit k i) = Unit {0}
@@ -52,12 +52,12 @@ below s v x =
     (λ _. tt)
 
 pub seat-below : (s : Sizes) (v : View) (x : ℕ) (p : Plan) {j c y : ℕ} {e : Seat} → p ≡ planNotify s v x
-    → p ≡ NotifyQueue j c y e → e .place < s .jobs
+    → p ≡ NotifyQueue j c y e → e .cell < s .jobs
 seat-below s v x p g f = rw (← g, f) at (below s v x)
 
 -- ---- any other plan leaves the finish half done
 pub halts : (p : Plan) → OneOf (0 ∷ 1 ∷ 2 ∷ 3 ∷ 4 ∷ 5 ∷ 6 ∷ 7 ∷ 8 ∷ 9 ∷ []) (tag p) → (o x w : ℕ) (t : Tables)
-    (next : ℕ → Tables → Outcome Tables) → halted t w (notifyWorker o x) ≡ notifyBy p o x w t next
+    (next : ℕ → Tables → Result Tables) → halted t w (notifyWorker o x) ≡ notifyBy p o x w t next
 halts (Notify j c y) k o x w t next =
     absurd (apart (10 ∷ 11 ∷ []) (0 ∷ 1 ∷ 2 ∷ 3 ∷ 4 ∷ 5 ∷ 6 ∷ 7 ∷ 8 ∷ 9 ∷ []) 10 tt (inl refl) k)
 halts (NotifyQueue j c y e) k o x w t next =
@@ -81,7 +81,7 @@ module _ (s : Sizes) (w o x : ℕ) (t : Tables) where
   notify-one zero h = absurd (omega arith)
   notify-one (suc n) h = rw sub-one
 
-  pub notify-none : (n : ℕ) → n ≤ 0 → outcome Going (withWorker t w (notifyWorker o x)) ≡ notifyIn n s w o x t
+  pub notify-none : (n : ℕ) → n ≤ 0 → result Going (withWorker t w (notifyWorker o x)) ≡ notifyIn n s w o x t
   unfolding notifyIn
   notify-none zero h = refl
   notify-none (suc n) h = absurd (omega arith)

@@ -1,20 +1,20 @@
-// How a finish run in one go ends once its notices have: what it answers, and its worker's words, which are stored once.
-// Follows docs/RULES.md, "Steps". Nothing is required of a table; tables that a function is not lent stay, whatever they
-// are. Assumes nothing.
+// How a finish run in one go ends once its notices have: what it answers, and its worker's words, which are stored
+// once. Follows docs/RULES.md, "Steps". Nothing is required of a table; tables that a function is not lent stay,
+// whatever they are.
 ghost use mathlib.Core.Path.{_≡_};
 ghost use mathlib.Core.List.{List};
 ghost use Prim.Native.Nat.{ℕ};
-ghost use Rattle.terms.specs.Runs.{outcome};
-ghost use Rattle.words.specs.Layout.{tables};
-ghost use Rattle.words.specs.Words.{putWorker};
-ghost use Rattle.fused_words.specs.FusedWorker.{notifyWorker};
+ghost use Rattle.def_terms.specs.Runs.{result};
+ghost use Rattle.def_words.specs.Layout.{tables};
+ghost use Rattle.def_words.specs.Words.{putWorker};
+ghost use Rattle.def_fused.specs.FusedWorker.{notifyWorker};
 ghost use Rattle.fused_notices.specs.Notices.{closed};
 use crate::notices::Ending;
+use def_numbers::*;
+use def_terms::Answer;
 use graph_posted_add::put_call;
 use graph_records::put_bare_worker;
 use graph_words::layout::*;
-use numbers::*;
-use terms::Answer;
 
 // A finish that has marked and is left half done at an arc: its note is its outcome, and it has no list.
 fn put_notifying(workers: &mut [u32], worker: u32, note: u32, arc: u32)
@@ -42,7 +42,7 @@ fn put_notifying(workers: &mut [u32], worker: u32, note: u32, arc: u32)
 // The notices have ended: what the finish answers, and its worker's words.
 pub fn close(workers: &mut [u32], worker: u32, note: u32, ending: Ending) -> Answer
     ensures { λ r. ⌜ ((jobs arcs buckets queue : List ℕ)
-        → outcome r (tables jobs arcs buckets queue (now (workers .exit)))
+        → result r (tables jobs arcs buckets queue (now (workers .exit)))
         ≡ closed ending note worker (tables jobs arcs buckets queue (now (workers .entry)))) ⌝ }
 {
     match ending {

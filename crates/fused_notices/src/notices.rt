@@ -1,21 +1,20 @@
 // The notices of a finish in one go: along each arc of the marked job, oldest first, the dependent's remaining count
 // falls by 1, and a failed finish spoils it. The worker's words are neither read nor stored. Follows docs/RULES.md,
-// "Steps". Assumes nothing: each definition holds of all tables, and tables that a function is not lent stay, whatever
-// they are.
+// "Steps". Each definition holds of all tables, and tables that a function is not lent stay, whatever they are.
 ghost use mathlib.Core.Path.{_≡_};
 ghost use mathlib.Core.List.{List};
 ghost use Prim.Native.Nat.{ℕ};
-ghost use Rattle.terms.specs.Runs.{Outcome};
-ghost use Rattle.words.specs.Layout.{Tables, tables, view};
-ghost use Rattle.words.specs.Words.{planNotify};
-ghost use Rattle.fused_words.specs.FusedFinish.{notifyBy, notifyIn};
+ghost use Rattle.def_terms.specs.Runs.{Result};
+ghost use Rattle.def_words.specs.Layout.{Tables, tables, view};
+ghost use Rattle.def_words.specs.Words.{planNotify};
+ghost use Rattle.def_fused.specs.FusedFinish.{notifyBy, notifyIn};
 ghost use Rattle.fused_notices.specs.Notices.{toldTo, closed};
+use def_terms::Sizes;
+use def_words::Plan;
 use graph_finish_steps::plan_notify;
 use graph_queue::put_seat;
 use graph_words::layout::*;
 use graph_words::put_count;
-use terms::Sizes;
-use words::Plan;
 
 // What came of a notice: the next arc or none, or a damaged word, for which nothing was stored.
 pub enum Told {
@@ -40,7 +39,7 @@ fn tell(
     note: u32,
     arc: u32,
 ) -> Told
-    ensures { λ r. ⌜ ((buckets workers : List ℕ) (w : ℕ) (next : ℕ → Tables → Outcome Tables)
+    ensures { λ r. ⌜ ((buckets workers : List ℕ) (w : ℕ) (next : ℕ → Tables → Result Tables)
         → toldTo r note arc w (tables (now (jobs .exit)) (now (arcs .entry)) buckets (now (queue .exit)) workers)
         next
         ≡ notifyBy (planNotify sizes (view (tables (now (jobs .entry)) (now (arcs .entry)) buckets (now (queue .entry))

@@ -1,4 +1,4 @@
--- The look-ups of a list, one name at a time, and the jobs that they found. Assumes nothing.
+-- The look-ups of a list, one name at a time, and the jobs that they found.
 use mathlib.Core.Path.{_≡_, refl, sym, ap, _∙_}
 use mathlib.Core.List.{List, [], _∷_}
 use Prim.Native.Nat.{ℕ, zero, suc, _+_, _≤_, _<_}
@@ -7,15 +7,15 @@ use native.Mathlib.Numerals.{add-one}
 use native.Mathlib.Decide.{decLt}
 use lib.ListN.{length, getD, set, drop}
 use lib.Seq.{getD-set-same, getD-set-other}
-use Rattle.basics.specs.Base.{prefix}
-use Rattle.terms.specs.declared.Sizes.{Sizes}
-use Rattle.words.specs.Layout.{View}
-use Rattle.words.specs.Words.{findOf}
-use Rattle.words.specs.declared.Found.{Found}
-use Rattle.words.specs.declared.Found.the-variants.{At, Missing, Damaged}
+use Rattle.def_basics.specs.Base.{prefix}
+use Rattle.def_terms.specs.declared.Sizes.{Sizes}
+use Rattle.def_words.specs.Layout.{View}
+use Rattle.def_words.specs.Words.{findOf}
+use Rattle.def_words.specs.declared.Found.{Found}
+use Rattle.def_words.specs.declared.Found.the-variants.{At, Missing, Damaged}
 use Rattle.graph_arguments.proofs.Listed.{next, none-left}
-use Rattle.fused_words.specs.FusedAdd.{lookUps, jobFound, jobsFound}
-use Rattle.fused_words.specs.declared.LookUps.the-variants.{All, Unknown, Broken}
+use Rattle.def_fused.specs.FusedAdd.{lookUps, jobFound, jobsFound}
+use Rattle.def_fused.specs.declared.LookUps.the-variants.{All, Unknown, Broken}
 
 -- what the code found of the name x that it read
 pub told : (s : Sizes) (v : View) {x y : ℕ} {r f : Found} → x ≡ y → r ≡ findOf s v x → r ≡ f → f ≡ findOf s v y

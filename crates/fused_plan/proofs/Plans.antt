@@ -1,24 +1,24 @@
--- The plan of an add, by what the code finds. Assumes nothing.
+-- The plan of an add, by what the code finds.
 use mathlib.Core.Path.{_≡_, sym, _∙_}
 use mathlib.Core.Bool.{Bool, true, false, _||_}
 use Prim.Native.Nat.{ℕ, _+_, _≤_}
 use native.Mathlib.Omega.{arith}
 use lib.Dec.{eqb, ltb, leb}
 use borrow.Author.Tests.{ltb-false}
-use Rattle.numbers.specs.Numbers.{mostNames, mostClass, mostGrower, unknownName, namePresent, tablesFull}
-use Rattle.basics.specs.Base.{contains, repeats}
-use Rattle.basics.specs.Laws.{or-left, or-right}
-use Rattle.terms.specs.Terms.{Arguments, listed, argumentsWrong}
-use Rattle.terms.specs.declared.Sizes.{Sizes}
-use Rattle.words.specs.Layout.{View, PHASE, IDLE}
-use Rattle.words.specs.Words.{countersOk, findOf}
-use Rattle.words.specs.declared.Found.{Found}
-use Rattle.words.specs.declared.Found.the-variants.{At, Missing, Damaged}
-use Rattle.fused_words.specs.FusedAdd.{lookUps, planOwn, planLooked, planAdd}
-use Rattle.fused_words.specs.declared.LookUps.{LookUps}
-use Rattle.fused_words.specs.declared.LookUps.the-variants.{All, Unknown, Broken}
-use Rattle.fused_words.specs.declared.AddPlan.{AddPlan}
-use Rattle.fused_words.specs.declared.AddPlan.the-variants.{Reject, TurnAway, Stop, EnterJob}
+use Rattle.def_numbers.specs.Numbers.{mostNames, mostClass, mostGrower, unknownName, namePresent, tablesFull}
+use Rattle.def_basics.specs.Base.{contains, repeats}
+use Rattle.def_basics.specs.Laws.{or-left, or-right}
+use Rattle.def_terms.specs.Terms.{Arguments, listed, argumentsWrong}
+use Rattle.def_terms.specs.declared.Sizes.{Sizes}
+use Rattle.def_words.specs.Layout.{View, PHASE, IDLE}
+use Rattle.def_words.specs.Words.{countersOk, findOf}
+use Rattle.def_words.specs.declared.Found.{Found}
+use Rattle.def_words.specs.declared.Found.the-variants.{At, Missing, Damaged}
+use Rattle.def_fused.specs.FusedAdd.{lookUps, planOwn, planLooked, planAdd}
+use Rattle.def_fused.specs.declared.LookUps.{LookUps}
+use Rattle.def_fused.specs.declared.LookUps.the-variants.{All, Unknown, Broken}
+use Rattle.def_fused.specs.declared.AddPlan.{AddPlan}
+use Rattle.def_fused.specs.declared.AddPlan.the-variants.{Reject, TurnAway, Stop, EnterJob}
 
 -- ---- by the look-up of the add's own name
 module _ (s : Sizes) (v : View) (d : ℕ) {f g : Found} (q : f ≡ g) where

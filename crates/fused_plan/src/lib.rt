@@ -1,22 +1,26 @@
 // What an add is to do, read from the tables before anything is stored: what its post is refused by, then its look-ups,
-// its own name and the room. Follows docs/RULES.md, "Steps" and "Turned-away calls". Assumes nothing: each definition
-// holds of all tables and arguments.
+// its own name and the room. Follows docs/RULES.md, "Steps" and "Turned-away calls". Each definition holds of all
+// tables and arguments.
 ghost use mathlib.Core.Path.{_≡_};
 ghost use mathlib.Core.List.{List};
 ghost use Prim.Native.Nat.{ℕ, _≤_};
 ghost use lib.ListN.{length};
-ghost use Rattle.numbers.specs.Numbers.{mostNames};
-ghost use Rattle.basics.specs.Base.{prefix};
-ghost use Rattle.words.specs.Layout.{tables, view};
-ghost use Rattle.words.specs.Words.{findOf};
-ghost use Rattle.fused_words.specs.FusedAdd.{jobsFound, planOwn, planAdd};
-ghost use Rattle.fused_words.specs.declared.AddPlan.the-variants.{EnterJob};
-ghost use Rattle.sheet_rows.specs.Arguments.{argumentsOf};
+ghost use Rattle.def_numbers.specs.Numbers.{mostNames};
+ghost use Rattle.def_basics.specs.Base.{prefix};
+ghost use Rattle.def_words.specs.Layout.{tables, view};
+ghost use Rattle.def_words.specs.Words.{findOf};
+ghost use Rattle.def_fused.specs.FusedAdd.{jobsFound, planOwn, planAdd};
+ghost use Rattle.def_fused.specs.declared.AddPlan.the-variants.{EnterJob};
+ghost use Rattle.def_sheet_rows.specs.Arguments.{argumentsOf};
 
 mod look_ups;
 
-use fused_words::AddPlan;
-use fused_words::LookUps;
+use def_fused::AddPlan;
+use def_fused::LookUps;
+use def_numbers::*;
+use def_sheets::Entry;
+use def_terms::Sizes;
+use def_words::Found;
 use graph_arguments::arguments_wrong;
 use graph_find::find;
 use graph_own::counters_ok;
@@ -24,10 +28,6 @@ use graph_words::header;
 use graph_words::layout::*;
 use graph_words::worker_word;
 use look_ups::look_ups;
-use numbers::*;
-use sheet_format::Entry;
-use terms::Sizes;
-use words::Found;
 
 // After the look-ups: the add's own name is to be new, and the tables are to have room. The queue and the workers are
 // not read: it holds with any.

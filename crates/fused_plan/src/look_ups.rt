@@ -1,19 +1,19 @@
 // The look-ups of an add in one go: each name's job is kept, so that no name is looked up twice. Follows docs/RULES.md,
-// "Steps". Assumes nothing: each definition holds of all tables.
+// "Steps". Each definition holds of all tables.
 ghost use mathlib.Core.Path.{_≡_};
 ghost use mathlib.Core.List.{List};
 ghost use Prim.Native.Nat.{ℕ, _≤_};
 ghost use lib.ListN.{length};
-ghost use Rattle.basics.specs.Base.{prefix};
-ghost use Rattle.words.specs.Layout.{tables, view};
-ghost use Rattle.fused_words.specs.FusedAdd.{lookUps, jobsFound};
-ghost use Rattle.fused_words.specs.declared.LookUps.the-variants.{All};
-use fused_words::LookUps;
+ghost use Rattle.def_basics.specs.Base.{prefix};
+ghost use Rattle.def_words.specs.Layout.{tables, view};
+ghost use Rattle.def_fused.specs.FusedAdd.{lookUps, jobsFound};
+ghost use Rattle.def_fused.specs.declared.LookUps.the-variants.{All};
+use def_fused::LookUps;
+use def_terms::Sizes;
+use def_words::Found;
 use graph_find::find;
 use graph_words::put_word;
 use graph_words::word;
-use terms::Sizes;
-use words::Found;
 
 // The jobs of the first `count` names, up to the first that has none, are kept in `found`, as far as it reaches. The
 // arcs, the queue and the workers are not read: it holds with any.

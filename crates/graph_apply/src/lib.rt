@@ -4,10 +4,11 @@
 ghost use mathlib.Core.Path.{_≡_};
 ghost use mathlib.Core.List.{List};
 ghost use Prim.Native.Nat.{ℕ};
-ghost use Rattle.words.specs.Layout.{tables, atEntry, atExit, view};
-ghost use Rattle.words.specs.Words.{applied};
-ghost use Rattle.fitting.specs.Fitting.{Fitting};
-ghost use Rattle.fitting.specs.Kinds.{Own, Stored};
+ghost use Rattle.def_words.specs.Layout.{tables, asLent, asLeft, view};
+ghost use Rattle.def_words.specs.Words.{applied};
+ghost use Rattle.thm_counters_fit.specs.Fitting.{Fitting};
+ghost use Rattle.thm_counters_fit.specs.Kinds.{Own, Stored};
+use def_words::Plan;
 use graph_step_stores::adding::apply_link;
 use graph_step_stores::adding::apply_settle;
 use graph_step_stores::entering::enter;
@@ -15,7 +16,6 @@ use graph_step_stores::finishing::apply_finish;
 use graph_worker_words::count_place;
 use graph_worker_words::count_tally;
 use graph_worker_words::idle_worker;
-use words::Plan;
 
 // The plans that store in the worker's record alone.
 fn apply_own(workers: &mut [u32], worker: u32, plan: Plan)
@@ -44,9 +44,9 @@ pub fn apply(
     plan: Plan,
 )
     ensures { λ _. ⌜ (Fitting plan
-        (view (atEntry jobs arcs buckets queue workers)) worker →
-        atExit jobs arcs buckets queue workers
-        ≡ applied plan (atEntry jobs arcs buckets queue workers) worker) ⌝ }
+        (view (asLent jobs arcs buckets queue workers)) worker →
+        asLeft jobs arcs buckets queue workers
+        ≡ applied plan (asLent jobs arcs buckets queue workers) worker) ⌝ }
 {
     match plan {
         Plan::Refuse { .. } => {}

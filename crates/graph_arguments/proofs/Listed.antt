@@ -1,4 +1,4 @@
--- The first names of a list, one at a time: whether a name is among them, and whether one comes again. Assumes nothing.
+-- The first names of a list, one at a time: whether a name is among them, and whether one comes again.
 use mathlib.Core.Path.{_≡_, ap, sym, _∙_}
 use mathlib.Core.Bool.{true, false}
 use mathlib.Core.List.{List, [], _∷_}
@@ -8,8 +8,8 @@ use native.Mathlib.Numerals.{add-one}
 use lib.ListN.{length, getD, drop}
 use lib.Seq.{drop-cons, drop-length}
 use borrow.Author.Tests.{eq-eqb, ne-eqb}
-use Rattle.basics.specs.Base.{contains, repeats, prefix}
-use Rattle.basics.specs.Laws.{length-prefix, getD-prefix}
+use Rattle.def_basics.specs.Base.{contains, repeats, prefix}
+use Rattle.def_basics.specs.Laws.{length-prefix, getD-prefix}
 
 module _ (count : ℕ) (names : List ℕ) (i : ℕ) where
   pub next : i < count → drop i (prefix count names) ≡ getD names i 0 ∷ drop (i + 1) (prefix count names)

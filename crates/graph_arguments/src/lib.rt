@@ -1,14 +1,13 @@
 // The arguments of an add: whether they are turned away with number 5. Follows docs/RULES.md, "Turned-away calls".
-// Assumes nothing.
 ghost use mathlib.Core.Path.{_≡_};
 ghost use Prim.Native.Nat.{_≤_};
 ghost use lib.ListN.{drop};
-ghost use Rattle.numbers.specs.Numbers.{mostNames};
-ghost use Rattle.basics.specs.Base.{contains, repeats, prefix};
-ghost use Rattle.terms.specs.Terms.{argumentsWrong};
-use numbers::MOST_CLASS;
-use numbers::MOST_GROWER;
-use numbers::MOST_NAMES;
+ghost use Rattle.def_numbers.specs.Numbers.{mostNames};
+ghost use Rattle.def_basics.specs.Base.{contains, repeats, prefix};
+ghost use Rattle.def_terms.specs.Terms.{argumentsWrong};
+use def_numbers::MOST_CLASS;
+use def_numbers::MOST_GROWER;
+use def_numbers::MOST_NAMES;
 
 // A name is among the first `count` names, from `start` on.
 fn listed_from(names: &[u32; 32], start: usize, count: usize, name: u32) -> bool

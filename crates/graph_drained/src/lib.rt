@@ -1,20 +1,20 @@
 // Whether the graph is drained: it reads the tables, and stores nothing.
-// Follows docs/RULES.md, "Tables and their measures" and "Turned-away calls". Assumes nothing.
+// Follows docs/RULES.md, "Tables and their measures" and "Turned-away calls".
 ghost use mathlib.Core.Path.{_≡_};
 ghost use mathlib.Core.Bool.{true};
-ghost use Rattle.words.specs.Columns.{columns};
-ghost use Rattle.words.specs.Layout.{workerShape, lent, atEntry, view, sizesFit};
-ghost use Rattle.words.specs.Words.{ownOk};
-ghost use Rattle.worker_state.specs.Drained.{every, free, judged, drainedWords};
+ghost use Rattle.def_words.specs.Columns.{columns};
+ghost use Rattle.def_words.specs.Layout.{workerShape, lent, asLent, view, sizesFit};
+ghost use Rattle.def_words.specs.Words.{ownOk};
+ghost use Rattle.def_worker_state.specs.Drained.{every, free, judged, drainedWords};
+use def_numbers::*;
+use def_terms::Sizes;
+use def_worker_state::Drained;
 use graph_own::counters_ok;
 use graph_own::own_ok;
 use graph_sizes::sizes_fit;
 use graph_words::header;
 use graph_words::layout::*;
 use graph_words::worker_word;
-use numbers::*;
-use terms::Sizes;
-use worker_state::Drained;
 
 // Every worker's own words are sound. No worker is passed over, so that there is one way through.
 fn all_sound(
@@ -26,7 +26,7 @@ fn all_sound(
     workers: &[u32],
 ) -> bool
     requires { ⌜ sizesFit sizes (lent jobs arcs buckets queue workers) ≡ true ⌝ }
-    ensures { λ r. ⌜ r ≡ every (ownOk sizes (view (atEntry jobs arcs buckets queue workers))) (sizes .workers) ⌝ }
+    ensures { λ r. ⌜ r ≡ every (ownOk sizes (view (asLent jobs arcs buckets queue workers))) (sizes .workers) ⌝ }
 {
     let mut sound = true;
     let mut worker = 0;
@@ -77,7 +77,7 @@ pub fn drained(
     queue: &[u32],
     workers: &[u32],
 ) -> Drained
-    ensures { λ r. ⌜ r ≡ drainedWords sizes (atEntry jobs arcs buckets queue workers) ⌝ }
+    ensures { λ r. ⌜ r ≡ drainedWords sizes (asLent jobs arcs buckets queue workers) ⌝ }
 {
     let fit = sizes_fit(sizes, jobs, arcs, buckets, queue, workers);
     if fit {

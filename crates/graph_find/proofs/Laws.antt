@@ -1,13 +1,12 @@
--- The walk along a bucket, one job at a time, for a number of jobs that is known only to be above 0 or not. Assumes
--- nothing.
+-- The walk along a bucket, one job at a time, for a number of jobs that is known only to be above 0 or not.
 use mathlib.Core.Path.{_≡_}
 use Prim.Native.Nat.{ℕ, zero, suc, _≤_, _<_, _-_}
 use native.Mathlib.Omega.{arith}
 use native.Mathlib.Numerals.{sub-one}
 use borrow.Author.Tests.{eq-eqb, ne-eqb, lt-ltb, le-ltb}
-use Rattle.words.specs.Layout.{none, NAME, NEXT}
-use Rattle.words.specs.Words.{walk}
-use Rattle.words.specs.declared.Found.the-variants.{At, Missing, Damaged}
+use Rattle.def_words.specs.Layout.{none, NAME, NEXT}
+use Rattle.def_words.specs.Words.{walk}
+use Rattle.def_words.specs.declared.Found.the-variants.{At, Missing, Damaged}
 
 module _ (f : ℕ → ℕ → ℕ) (made name at : ℕ) where
   pub ends : (n : ℕ) → at ≡ none → Missing ≡ walk n f made name at

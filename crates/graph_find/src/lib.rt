@@ -4,10 +4,12 @@
 ghost use mathlib.Core.Path.{_≡_};
 ghost use mathlib.Core.List.{List};
 ghost use Prim.Native.Nat.{ℕ};
-ghost use Rattle.words.specs.Columns.{columns};
-ghost use Rattle.words.specs.Layout.{jobShape, tables, view};
-ghost use Rattle.words.specs.Words.{walk, findOf};
-use bucket::bucket;
+ghost use Rattle.def_words.specs.Columns.{columns};
+ghost use Rattle.def_words.specs.Layout.{jobShape, tables, view};
+ghost use Rattle.def_words.specs.Words.{walk, findOf};
+use def_bucket::bucket;
+use def_terms::Sizes;
+use def_words::Found;
 use graph_words::bucket_word;
 use graph_words::header;
 use graph_words::job_word;
@@ -15,8 +17,6 @@ use graph_words::layout::MADE;
 use graph_words::layout::NAME;
 use graph_words::layout::NEXT;
 use graph_words::layout::NONE;
-use terms::Sizes;
-use words::Found;
 
 fn walk_from(jobs: &[u32], made: u32, name: u32, newest: u32) -> Found
     ensures { λ r. ⌜ r ≡ walk made (columns jobShape (now (jobs .entry))) made name newest ⌝ }

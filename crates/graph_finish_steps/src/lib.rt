@@ -1,11 +1,14 @@
 // What the steps of a finish plan: the mark, and the notice along each arc. Follows docs/RULES.md, "Steps" and
-// "Turned-away calls". Assumes nothing: each definition holds of all tables, and where a table is not read the contract
-// holds with any.
+// "Turned-away calls". Each definition holds of all tables, and where a table is not read the contract holds with any.
 ghost use mathlib.Core.Path.{_≡_};
 ghost use mathlib.Core.List.{List};
 ghost use Prim.Native.Nat.{ℕ};
-ghost use Rattle.words.specs.Layout.{tables, view};
-ghost use Rattle.words.specs.Words.{planMark, planNotify, withSeat};
+ghost use Rattle.def_words.specs.Layout.{tables, view};
+ghost use Rattle.def_words.specs.Words.{planMark, planNotify, withSeat};
+use def_numbers::*;
+use def_terms::Sizes;
+use def_words::Plan;
+use def_words::Seating;
 use graph_index::seat_for;
 use graph_own::place_ok;
 use graph_words::arc_word;
@@ -13,10 +16,6 @@ use graph_words::header;
 use graph_words::job_word;
 use graph_words::layout::*;
 use graph_words::less;
-use numbers::*;
-use terms::Sizes;
-use words::Plan;
-use words::Seating;
 
 // The job's words are read only where it is one: a read of none would lie past the table.
 pub fn plan_mark(sizes: Sizes, jobs: &[u32], arcs: &[u32], job: u32) -> Plan

@@ -1,17 +1,17 @@
 // A get over five lent tables: planned, stored, answered. Follows docs/RULES.md, "Steps" and "Turned-away calls".
 // Nothing is required: a get answers for all tables.
 ghost use mathlib.Core.Path.{_≡_};
-ghost use Rattle.terms.specs.Runs.{outcome};
-ghost use Rattle.words.specs.Layout.{atEntry, atExit};
-ghost use Rattle.words.specs.Words.{answerGet, getWords};
+ghost use Rattle.def_terms.specs.Runs.{result};
+ghost use Rattle.def_words.specs.Layout.{asLent, asLeft};
+ghost use Rattle.def_words.specs.Words.{answerGet, getWords};
 
 mod stores;
 
+use def_terms::Answer;
+use def_terms::Sizes;
+use def_words::GetPlan;
 use graph_plan_get::plan_get;
 use stores::apply_get;
-use terms::Answer;
-use terms::Sizes;
-use words::GetPlan;
 
 // What a get answers.
 fn answer_get(plan: GetPlan) -> Answer
@@ -34,8 +34,8 @@ pub fn get(
     workers: &mut [u32],
     worker: u32,
 ) -> Answer
-    ensures { λ r. ⌜ outcome r (atExit jobs arcs buckets queue workers)
-        ≡ getWords sizes (atEntry jobs arcs buckets queue workers) worker ⌝ }
+    ensures { λ r. ⌜ result r (asLeft jobs arcs buckets queue workers)
+        ≡ getWords sizes (asLent jobs arcs buckets queue workers) worker ⌝ }
 {
     let plan = plan_get(sizes, jobs, arcs, buckets, queue, workers, worker);
     apply_get(jobs, queue, workers, worker, plan);

@@ -1,23 +1,22 @@
 // What the plan of a get stores in the tables. Follows docs/RULES.md, "Steps" and "Tables and their measures". Nothing
-// is required of a table, a worker or a plan; tables that a function is not lent stay, whatever they are. Assumes
-// nothing.
+// is required of a table, a worker or a plan; tables that a function is not lent stay, whatever they are.
 ghost use mathlib.Core.Path.{_≡_};
 ghost use mathlib.Core.List.{List};
 ghost use Prim.Native.Nat.{ℕ, _<_};
-ghost use Rattle.words.specs.Columns.{header};
-ghost use Rattle.words.specs.Layout.{none, TAKEN, tables, view};
-ghost use Rattle.words.specs.Words.{appliedGet};
-ghost use Rattle.words.specs.declared.GetPlan.the-variants.{Take};
-ghost use Rattle.fitting.specs.Fitting.{FittingGet};
+ghost use Rattle.def_words.specs.Columns.{header};
+ghost use Rattle.def_words.specs.Layout.{none, TAKEN, tables, view};
+ghost use Rattle.def_words.specs.Words.{appliedGet};
+ghost use Rattle.def_words.specs.declared.GetPlan.the-variants.{Take};
+ghost use Rattle.thm_counters_fit.specs.Fitting.{FittingGet};
+use def_terms::HandOut;
+use def_words::GetPlan;
+use def_words::Seat;
 use graph_queue::take_seat;
 use graph_words::layout::*;
 use graph_words::put_job;
 use graph_words::put_worker;
-use terms::HandOut;
-use words::GetPlan;
-use words::Seat;
 
-// The job of the index's first place is handed to the worker.
+// The job of the index's first cell is handed to the worker.
 fn take(
     jobs: &mut [u32],
     queue: &mut [u32],

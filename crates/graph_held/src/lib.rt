@@ -1,19 +1,19 @@
 // What a worker holds, and the call that it has half done: it reads the tables, and stores nothing.
-// Follows docs/RULES.md, "Tables and their measures" and "Turned-away calls". Assumes nothing.
+// Follows docs/RULES.md, "Tables and their measures" and "Turned-away calls".
 ghost use mathlib.Core.Path.{_≡_};
 ghost use mathlib.Core.List.{List};
 ghost use Prim.Native.Nat.{ℕ};
-ghost use Rattle.words.specs.Layout.{tables, atEntry, view};
-ghost use Rattle.worker_state.specs.Held.{callOf, addsOf, refused, holdingOf, counted, heldWords};
+ghost use Rattle.def_words.specs.Layout.{tables, asLent, view};
+ghost use Rattle.def_worker_state.specs.Held.{callOf, addsOf, refused, holdingOf, counted, heldWords};
+use def_numbers::*;
+use def_terms::Sizes;
+use def_worker_state::Holding;
 use graph_own::counters_ok;
 use graph_own::own_ok;
 use graph_sizes::sizes_fit;
 use graph_words::job_word;
 use graph_words::layout::*;
 use graph_words::worker_word;
-use numbers::*;
-use terms::Sizes;
-use worker_state::Holding;
 
 // The call of a phase.
 fn call_of(phase: u32) -> u32
@@ -49,7 +49,7 @@ fn refused(number: u32) -> Holding
     }
 }
 
-// The held job's name and mark are read only where there is one.
+// The held job's name and spoiled word are read only where there is one.
 fn holding_of(jobs: &[u32], workers: &[u32], worker: u32) -> Holding
     ensures { λ r. ⌜ ((arcs buckets queue : List ℕ)
         → r ≡ holdingOf (view (tables (now (jobs .entry)) arcs buckets queue (now (workers .entry)))) worker) ⌝ }
@@ -69,9 +69,9 @@ fn holding_of(jobs: &[u32], workers: &[u32], worker: u32) -> Holding
             spoiled: 0,
         };
     }
-    let mark = job_word(jobs, held, MARK);
-    let marked = mark <= 1;
-    if marked {
+    let spoiled = job_word(jobs, held, SPOILED);
+    let within = spoiled <= 1;
+    if within {
         Holding {
             number: 0,
             holds: 1,
@@ -79,7 +79,7 @@ fn holding_of(jobs: &[u32], workers: &[u32], worker: u32) -> Holding
             name: job_word(jobs, held, NAME),
             call,
             adds,
-            spoiled: mark,
+            spoiled,
         }
     } else {
         refused(DAMAGED)
@@ -110,7 +110,7 @@ pub fn held(
     workers: &[u32],
     worker: u32,
 ) -> Holding
-    ensures { λ r. ⌜ r ≡ heldWords sizes (atEntry jobs arcs buckets queue workers) worker ⌝ }
+    ensures { λ r. ⌜ r ≡ heldWords sizes (asLent jobs arcs buckets queue workers) worker ⌝ }
 {
     let fit = sizes_fit(sizes, jobs, arcs, buckets, queue, workers);
     if fit {

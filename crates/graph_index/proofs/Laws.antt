@@ -1,5 +1,5 @@
 -- A number that moves through a heap, one level at a time, for a number of levels that is known only to be above 0 or
--- not. Assumes nothing.
+-- not.
 use mathlib.Core.Path.{_≡_, refl}
 use mathlib.Core.List.{List, [], _∷_, _++_}
 use mathlib.Core.Bool.{Bool, true, false, _&&_, _||_}
@@ -8,11 +8,11 @@ use native.Mathlib.Omega.{arith}
 use lib.Dec.{ltb, leb, eqb}
 use lib.ListN.{length}
 use borrow.Author.Tests.{lt-ltb, le-ltb, leb-true, leb-false}
-use Rattle.basics.specs.Base.{pick}
-use Rattle.heap.specs.Compared.{pairsDown}
-use Rattle.heap.specs.Sift.{above, left, right, lesser, soundBelow, siftUp, siftDown}
-use Rattle.heap.specs.declared.Sifted.{Sifted}
-use Rattle.heap.specs.declared.Sifted.the-variants.{Rests, Astray}
+use Rattle.def_basics.specs.Base.{pick}
+use Rattle.def_heap.specs.Compared.{pairsDown}
+use Rattle.def_heap.specs.Sift.{above, left, right, lesser, soundBelow, siftUp, siftDown}
+use Rattle.def_heap.specs.declared.Sifted.{Sifted}
+use Rattle.def_heap.specs.declared.Sifted.the-variants.{Rests, Astray}
 use Rattle.graph_index.specs.Met.{meets, earlier, looked, met}
 use Rattle.graph_index.specs.declared.Met.{Met}
 use Rattle.graph_index.specs.declared.Looked.{Looked}
@@ -50,7 +50,7 @@ module _ (rank : ℕ → ℕ) (sound : ℕ → Bool) (slot : ℕ → ℕ) where
   down-none (suc n) m r i h = absurd (omega arith)
 
   -- and down
-  abbrev pub downward : ℕ → ℕ → ℕ → ℕ → Looked → Sifted
+  abbrev pub downward : (most filled itsRank from : ℕ) → Looked → Sifted
   downward n m r i (Ranked k by) = pick (ltb by r) (siftDown rank sound slot n m r k) (Rests i)
   downward n m r i Damaged = Astray
 
@@ -91,7 +91,7 @@ module _ (rank : ℕ → ℕ) (sound : ℕ → Bool) (slot : ℕ → ℕ) where
   down-one (suc n) m r i h = let z : suc n - 1 ≡ n = omega arith in rw (z, ← met-downward n m r i)
 
   -- how many pairs are compared from there on, by the rank r of the number x that moves
-  abbrev pub onward : ℕ → ℕ → ℕ → ℕ → Looked → ℕ
+  abbrev pub onward : (most filled number itsRank : ℕ) → Looked → ℕ
   onward n m x r (Ranked k by) = 1 + pick (ltb by r) (length (pairsDown rank sound slot n m x k)) 0
   onward n m x r Damaged = 0
 

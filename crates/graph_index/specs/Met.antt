@@ -1,10 +1,9 @@
 -- What a way through a heap meets in the slots, as the code looks, and how many pairs of ranks it compares there.
--- Assumes nothing.
 use mathlib.Core.Bool.{Bool}
 use Prim.Native.Nat.{ℕ}
 use lib.Dec.{ltb, leb}
-use Rattle.basics.specs.Base.{pick}
-use Rattle.heap.specs.Sift.{left, right}
+use Rattle.def_basics.specs.Base.{pick}
+use Rattle.def_heap.specs.Sift.{left, right}
 use Rattle.graph_index.specs.declared.Looked.{Looked}
 use Rattle.graph_index.specs.declared.Looked.the-variants.{Ranked, Damaged}
 use Rattle.graph_index.specs.declared.Met.{Met}

@@ -1,27 +1,27 @@
-// The index beside the queue, read: where a place comes to rest in it, and how many pairs of ranks a get compares for
-// that. Follows docs/RULES.md, "Tables and their measures". Assumes nothing: each definition holds of all tables, and
-// where a table is not read the contract holds with any.
+// The index beside the queue, read: where a cell comes to rest in it, and how many pairs of ranks a get compares for
+// that. Follows docs/RULES.md, "Tables and their measures". Each definition holds of all tables, and where a table is
+// not read the contract holds with any.
 ghost use mathlib.Core.Path.{_≡_};
 ghost use mathlib.Core.List.{List};
 ghost use Prim.Native.Nat.{ℕ, _≤_, _<_};
 ghost use lib.ListN.{length};
-ghost use Rattle.heap.specs.Compared.{pairsDown};
-ghost use Rattle.heap.specs.Sift.{left, siftUp, siftDown};
-ghost use Rattle.words.specs.Layout.{tables, view};
-ghost use Rattle.words.specs.Index.{rank, rankOf, waits, placeIn, seated, seatFor, firstSeat, comparedPlaces, levels};
+ghost use Rattle.def_heap.specs.Compared.{pairsDown};
+ghost use Rattle.def_heap.specs.Sift.{left, siftUp, siftDown};
+ghost use Rattle.def_words.specs.Layout.{tables, view};
+ghost use Rattle.def_words.specs.Index.{rank, rankOf, waits, cellIn, seated, seatFor, firstSeat, comparedCells, levels};
 ghost use Rattle.graph_index.specs.Met.{looked, earlier, met};
+use def_heap::Sifted;
+use def_numbers::*;
+use def_terms::Sizes;
+use def_words::Seat;
+use def_words::Seating;
 use graph_words::header;
 use graph_words::job_word;
 use graph_words::layout::*;
 use graph_words::less;
 use graph_words::queue_word;
-use heap::Sifted;
-use numbers::*;
-use terms::Sizes;
-use words::Seat;
-use words::Seating;
 
-// A slot that is looked at: the rank of its place, or that it holds no waiting job's.
+// A slot that is looked at: the rank of its cell, or that it holds no waiting job's.
 enum Looked {
     Ranked { slot: u32, rank: u64 },
     Damaged,
@@ -45,30 +45,30 @@ pub struct FirstSeat {
     pub compared: u32,
 }
 
-// The order of hand-outs, as one number of a class and a place: the lower first.
-fn rank(class: u32, place: u32) -> u64
-    ensures { λ r. ⌜ r ≡ rank class place ⌝ }
+// The order of hand-outs, as one number of a class and a cell: the lower first.
+fn rank(class: u32, cell: u32) -> u64
+    ensures { λ r. ⌜ r ≡ rank class cell ⌝ }
 {
-    (less(MOST_CLASS, class) as u64) * (MOST_JOBS as u64) + (place as u64)
+    (less(MOST_CLASS, class) as u64) * (MOST_JOBS as u64) + (cell as u64)
 }
 
-// The position and the cell are read only of a place that was put, and the class only of a job: other reads could lie
+// The position and the job are read only of a cell that was put, and the class only of a job: other reads could lie
 // past the tables.
 fn look(jobs: &[u32], queue: &[u32], slot: u32) -> Looked
     ensures { λ r. ⌜ ((arcs buckets workers : List ℕ)
         → let v = view (tables (now (jobs .entry)) arcs buckets (now (queue .entry)) workers) in
-        r ≡ looked (rankOf v) (waits v) (placeIn v) slot) ⌝ }
+        r ≡ looked (rankOf v) (waits v) (cellIn v) slot) ⌝ }
 {
-    let place = queue_word(queue, slot, SLOT);
-    let put = place < header(queue, PUT);
+    let cell = queue_word(queue, slot, SLOT);
+    let put = cell < header(queue, PUT);
     if put {} else {
         return Looked::Damaged;
     }
-    let there = queue_word(queue, place, POSITION) == slot;
+    let there = queue_word(queue, cell, POSITION) == slot;
     if there {} else {
         return Looked::Damaged;
     }
-    let job = queue_word(queue, place, CELL);
+    let job = queue_word(queue, cell, QUEUED);
     let made = job < header(jobs, MADE);
     if made {} else {
         return Looked::Damaged;
@@ -78,18 +78,18 @@ fn look(jobs: &[u32], queue: &[u32], slot: u32) -> Looked
     if limited {
         Looked::Ranked {
             slot,
-            rank: rank(class, place),
+            rank: rank(class, cell),
         }
     } else {
         Looked::Damaged
     }
 }
 
-// Up from the slot, past each place of a higher rank.
+// Up from the slot, past each cell of a higher rank.
 fn sift_up(jobs: &[u32], queue: &[u32], rank: u64, slot: u32) -> Sifted
     ensures { λ r. ⌜ ((arcs buckets workers : List ℕ)
         → let v = view (tables (now (jobs .entry)) arcs buckets (now (queue .entry)) workers) in
-        r ≡ siftUp (rankOf v) (waits v) (placeIn v) levels rank slot) ⌝ }
+        r ≡ siftUp (rankOf v) (waits v) (cellIn v) levels rank slot) ⌝ }
 {
     let mut at = slot;
     let mut levels = LEVELS;
@@ -117,7 +117,7 @@ fn sift_up(jobs: &[u32], queue: &[u32], rank: u64, slot: u32) -> Sifted
     Sifted::Rests { slot: at }
 }
 
-// Of two slots the one whose place is handed out earlier.
+// Of two slots the one whose cell is handed out earlier.
 fn earlier(left: Looked, right: Looked) -> Met
     ensures { λ r. ⌜ (r ≡ earlier left right) × (r .compared ≤ 1) ⌝ }
 {
@@ -167,7 +167,7 @@ fn lesser(jobs: &[u32], queue: &[u32], filled: u32, at: u32) -> Met
     requires { ⌜ left at < filled ⌝ }
     ensures { λ r. ⌜ ((arcs buckets workers : List ℕ)
         → let v = view (tables (now (jobs .entry)) arcs buckets (now (queue .entry)) workers) in
-        r ≡ met (rankOf v) (waits v) (placeIn v) filled at)
+        r ≡ met (rankOf v) (waits v) (cellIn v) filled at)
         × (r .compared ≤ 1) ⌝ }
 {
     let left = look(jobs, queue, 2 * at + 1);
@@ -182,14 +182,14 @@ fn lesser(jobs: &[u32], queue: &[u32], filled: u32, at: u32) -> Met
     earlier(left, right)
 }
 
-// Down from the first slot, past each place of a lower rank. The pairs compared are those of any place that has the
+// Down from the first slot, past each cell of a lower rank. The pairs compared are those of any cell that has the
 // rank.
 fn sift_down(jobs: &[u32], queue: &[u32], filled: u32, rank: u64) -> Moved
     ensures { λ r. ⌜ ((arcs buckets workers : List ℕ)
         → let v = view (tables (now (jobs .entry)) arcs buckets (now (queue .entry)) workers) in
-        (r .sifted ≡ siftDown (rankOf v) (waits v) (placeIn v) levels filled rank 0)
+        (r .sifted ≡ siftDown (rankOf v) (waits v) (cellIn v) levels filled rank 0)
         × ((moved : ℕ) → rankOf v moved ≡ rank
-        → r .compared ≡ length (pairsDown (rankOf v) (waits v) (placeIn v) levels filled moved 0))) ⌝ }
+        → r .compared ≡ length (pairsDown (rankOf v) (waits v) (cellIn v) levels filled moved 0))) ⌝ }
 {
     let mut at = 0;
     let mut compared = 0;
@@ -233,12 +233,12 @@ fn sift_down(jobs: &[u32], queue: &[u32], filled: u32, rank: u64) -> Moved
     }
 }
 
-fn seated(sifted: Sifted, place: u32, last: u32) -> Seating
-    ensures { λ r. ⌜ r ≡ seated sifted place last ⌝ }
+fn seated(sifted: Sifted, cell: u32, last: u32) -> Seating
+    ensures { λ r. ⌜ r ≡ seated sifted cell last ⌝ }
 {
     match sifted {
         Sifted::Rests { slot } => Seating::Seated {
-            seat: Seat { place, last, slot },
+            seat: Seat { cell, last, slot },
         },
         Sifted::Astray => Seating::Unseated,
     }
@@ -268,7 +268,7 @@ pub fn seat_for(sizes: Sizes, jobs: &[u32], queue: &[u32], job: u32) -> Seating
 pub fn first_seat_counted(jobs: &[u32], queue: &[u32]) -> FirstSeat
     ensures { λ r. ⌜ ((arcs buckets workers : List ℕ)
         → let v = view (tables (now (jobs .entry)) arcs buckets (now (queue .entry)) workers) in
-        (r .seating ≡ firstSeat v) × (r .compared ≡ length (comparedPlaces v))) ⌝ }
+        (r .seating ≡ firstSeat v) × (r .compared ≡ length (comparedCells v))) ⌝ }
 {
     let put = header(queue, PUT);
     let taken = header(queue, TAKEN);
@@ -281,9 +281,9 @@ pub fn first_seat_counted(jobs: &[u32], queue: &[u32]) -> FirstSeat
             match last {
                 Looked::Ranked { rank: by, .. } => {
                     let moved = sift_down(jobs, queue, slot, by);
-                    let place = queue_word(queue, 0, SLOT);
+                    let cell = queue_word(queue, 0, SLOT);
                     let sifted = moved.sifted;
-                    let seating = seated(sifted, place, slot);
+                    let seating = seated(sifted, cell, slot);
                     FirstSeat {
                         seating,
                         compared: moved.compared,

@@ -1,17 +1,20 @@
 // What turns the posts of an add and of a finish away: it reads and judges, and stores nothing. Follows docs/RULES.md,
-// "Turned-away calls". Assumes nothing: each definition holds of all tables and arguments. The tests that come first
-// stand in both as in a step: docs/DECISIONS.md, 43.
+// "Turned-away calls". Each definition holds of all tables and arguments. The tests that come first stand in both as in
+// a step: docs/DECISIONS.md, 43.
 ghost use mathlib.Core.Path.{_≡_};
 ghost use mathlib.Core.List.{List};
 ghost use Prim.Native.Nat.{ℕ};
 ghost use lib.Dec.{eqb};
-ghost use Rattle.numbers.specs.Numbers.{halfDone, wrongArguments, damaged};
-ghost use Rattle.basics.specs.Base.{pick};
-ghost use Rattle.terms.specs.Terms.{argumentsWrong, finishOf};
-ghost use Rattle.words.specs.Columns.{columns};
-ghost use Rattle.words.specs.Layout.{workerShape, PHASE, IDLE, tables, atEntry, view};
-ghost use Rattle.words.specs.Words.{admitted, refusal, judgedAdd, judgedOutcome, judgedFinish};
-ghost use Rattle.sheet_rows.specs.Arguments.{argumentsOf};
+ghost use Rattle.def_numbers.specs.Numbers.{halfDone, wrongArguments, damaged};
+ghost use Rattle.def_basics.specs.Base.{pick};
+ghost use Rattle.def_terms.specs.Terms.{argumentsWrong, finishOf};
+ghost use Rattle.def_words.specs.Columns.{columns};
+ghost use Rattle.def_words.specs.Layout.{workerShape, PHASE, IDLE, tables, asLent, view};
+ghost use Rattle.def_words.specs.Words.{admitted, refusal, judgedAdd, judgedOutcome, judgedFinish};
+ghost use Rattle.def_sheet_rows.specs.Arguments.{argumentsOf};
+use def_numbers::*;
+use def_sheets::Entry;
+use def_terms::Sizes;
 use graph_arguments::arguments_wrong;
 use graph_own::counters_ok;
 use graph_own::own_ok;
@@ -19,9 +22,6 @@ use graph_sizes::sizes_fit;
 use graph_words::job_word;
 use graph_words::layout::*;
 use graph_words::worker_word;
-use numbers::*;
-use sheet_format::Entry;
-use terms::Sizes;
 
 // What turns a post away whose other tests are passed: counters that are off their range.
 fn judge_counters(counted: bool) -> u32
@@ -65,8 +65,8 @@ pub fn judge_add(
     worker: u32,
     entry: Entry,
 ) -> u32
-    ensures { λ r. ⌜ r ≡ admitted sizes (atEntry jobs arcs buckets queue workers) worker refusal
-        (judgedAdd sizes (view (atEntry jobs arcs buckets queue workers)) worker (argumentsOf entry)) ⌝ }
+    ensures { λ r. ⌜ r ≡ admitted sizes (asLent jobs arcs buckets queue workers) worker refusal
+        (judgedAdd sizes (view (asLent jobs arcs buckets queue workers)) worker (argumentsOf entry)) ⌝ }
 {
     let fit = sizes_fit(sizes, jobs, arcs, buckets, queue, workers);
     if fit {
@@ -87,17 +87,17 @@ pub fn judge_add(
     }
 }
 
-// What turns a finish of the held job away, failed or good: the counters or the job's mark off their range, and then
-// good for a spoiled job.
+// What turns a finish of the held job away, failed or good: the counters or the job's spoiled word off their range, and
+// then good for a spoiled job.
 pub fn judge_outcome(sizes: Sizes, jobs: &[u32], arcs: &[u32], job: u32, failed: bool) -> u32
     ensures { λ r. ⌜ ((buckets queue workers : List ℕ)
         → r ≡ judgedOutcome sizes (view (tables (now (jobs .entry)) (now (arcs .entry)) buckets queue workers)) job
         failed) ⌝ }
 {
-    let mark = job_word(jobs, job, MARK);
-    let sound = counters_ok(sizes, jobs, arcs) & (mark <= 1);
+    let spoiled = job_word(jobs, job, SPOILED);
+    let sound = counters_ok(sizes, jobs, arcs) & (spoiled <= 1);
     if sound {
-        let refused = (mark == 1) & !failed;
+        let refused = (spoiled == 1) & !failed;
         if refused { GOOD_FOR_SPOILED } else { 0 }
     } else {
         DAMAGED
@@ -149,8 +149,8 @@ pub fn judge_finish(
     name: u32,
     failed: bool,
 ) -> u32
-    ensures { λ r. ⌜ r ≡ admitted sizes (atEntry jobs arcs buckets queue workers) worker refusal
-        (judgedFinish sizes (view (atEntry jobs arcs buckets queue workers)) worker (finishOf name failed)) ⌝ }
+    ensures { λ r. ⌜ r ≡ admitted sizes (asLent jobs arcs buckets queue workers) worker refusal
+        (judgedFinish sizes (view (asLent jobs arcs buckets queue workers)) worker (finishOf name failed)) ⌝ }
 {
     let fit = sizes_fit(sizes, jobs, arcs, buckets, queue, workers);
     if fit {

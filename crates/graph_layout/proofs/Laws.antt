@@ -1,13 +1,13 @@
--- The bucket bits of sizes that have room, and how many words buckets need. Assumes nothing.
+-- The bucket bits of sizes that have room, and how many words buckets need.
 use mathlib.Core.Path.{_≡_}
 use mathlib.Core.Bool.{Bool, true, _&&_}
 use Prim.Native.Nat.{ℕ, _≤_}
 use native.Mathlib.Omega.{arith}
-use Rattle.numbers.specs.Numbers.{mostBits}
-use Rattle.basics.specs.Laws.{and-left}
-use Rattle.terms.specs.Terms.{withinLimits}
-use Rattle.terms.specs.declared.Sizes.{Sizes}
-use Rattle.words.specs.Layout.{bucketShape, need}
+use Rattle.def_numbers.specs.Numbers.{mostBits}
+use Rattle.def_basics.specs.Laws.{and-left}
+use Rattle.def_terms.specs.Terms.{withinLimits}
+use Rattle.def_terms.specs.declared.Sizes.{Sizes}
+use Rattle.def_words.specs.Layout.{bucketShape, need}
 use Rattle.graph_sizes.proofs.Laws.{bits-within}
 
 pub room-bits : (s : Sizes) (long : Bool) → (withinLimits s && long) ≡ true → s .bits ≤ mostBits

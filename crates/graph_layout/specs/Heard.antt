@@ -1,7 +1,7 @@
 -- What a host hears of the words that the tables need: the five lengths, or the number that refused, are read off the
 -- struct, so no two are told alike, and a refusal has 0 in all else. And which they are, by the sizes. Follows
 -- docs/RULES.md, "Tables and their measures"; include/taskgraph.h has the fields. (Wrong/Heard.antt has tellings that
--- lose something, and wrong needs.) Assumes nothing.
+-- lose something, and wrong needs.)
 use mathlib.Core.Path.{_≡_, refl, sym, ap, _∙_}
 use mathlib.Core.Logic.{_≢_}
 use mathlib.Core.Bool.{Bool, true, false}
@@ -9,11 +9,11 @@ use Prim.Native.Nat.{ℕ, _+_, _*_, _^_}
 use native.Mathlib.Omega.{arith}
 use lib.Dec.{eqb}
 use borrow.Author.Tests.{eqb-true, eqb-false}
-use Rattle.basics.specs.Base.{pick}
-use Rattle.basics.specs.Laws.{never, pick-by, fails}
-use Rattle.terms.specs.Terms.{withinLimits}
-use Rattle.terms.specs.declared.Sizes.{Sizes}
-use Rattle.words.specs.Sized.{Limited, limited-means}
+use Rattle.def_basics.specs.Base.{pick}
+use Rattle.def_basics.specs.Laws.{never, pick-by, fails}
+use Rattle.def_terms.specs.Terms.{withinLimits}
+use Rattle.def_terms.specs.declared.Sizes.{Sizes}
+use Rattle.def_words.specs.Sized.{Limited, limited-means}
 use Rattle.graph_layout.specs.Needed.{wordsNeeded}
 use Rattle.graph_layout.specs.declared.Need.{Need}
 
@@ -113,7 +113,7 @@ pub need-is-told : (s : Sizes) → IsTold (wordsNeeded s)
 need-is-told s = pick-by IsTold (withinLimits s) (λ e. (lengths _, served, refl)) (λ e. (Told.refused 1, by-1, refl))
 
 -- ---- which lengths: the sizes, the jobs made and the minutes, 21 words, and 10 for each job; the arcs reserved, and 2
--- words for each arc; a head for each of 2 to the power b buckets; the jobs taken and put, and 3 words for each place
+-- words for each arc; a head for each of 2 to the power b buckets; the jobs taken and put, and 3 words for each cell
 -- of the queue; 43 words for each worker. "a size off its limits" is 1
 pub record NeedsExactly (ask : Sizes → Need) (s : Sizes) : Type 0 where
   pub by-1 : (Limited s → ⊥) → ask s ≡ record { number = 1; jobs = 0; arcs = 0; buckets = 0; queue = 0; workers = 0 }

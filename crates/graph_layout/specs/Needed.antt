@@ -1,19 +1,19 @@
 -- How long the five tables must be for given sizes, so that a host can lend them, and that tables so long are long
--- enough. Follows docs/RULES.md, "Tables and their measures": the counters and the records of each. Assumes nothing.
+-- enough. Follows docs/RULES.md, "Tables and their measures": the counters and the records of each.
 use mathlib.Core.Path.{_≡_, refl}
 use mathlib.Core.Bool.{Bool, true, false}
 use Prim.Native.Nat.{ℕ, _≤_, _^_}
 use native.Mathlib.Omega.{arith}
 use lib.ListN.{length}
 use borrow.Author.Tests.{le-leb}
-use Rattle.numbers.specs.Numbers.{wrongSize}
-use Rattle.basics.specs.Base.{pick}
-use Rattle.terms.specs.Terms.{withinLimits}
-use Rattle.terms.specs.declared.Sizes.{Sizes}
-use Rattle.terms.specs.declared.Answer.the-variants.{Laid}
-use Rattle.words.specs.Layout.{jobShape, arcShape, bucketShape, queueShape, workerShape, need, longEnough, roomFor}
-use Rattle.words.specs.Layout.{Tables}
-use Rattle.words.specs.Words.{layOut}
+use Rattle.def_numbers.specs.Numbers.{wrongSize}
+use Rattle.def_basics.specs.Base.{pick}
+use Rattle.def_terms.specs.Terms.{withinLimits}
+use Rattle.def_terms.specs.declared.Sizes.{Sizes}
+use Rattle.def_terms.specs.declared.Answer.the-variants.{Laid}
+use Rattle.def_words.specs.Layout.{jobShape, arcShape, bucketShape, queueShape, workerShape, need, longEnough, roomFor}
+use Rattle.def_words.specs.Layout.{Tables}
+use Rattle.def_words.specs.Words.{layOut}
 use Rattle.graph_layout.specs.declared.Need.{Need}
 
 -- number 1 where "a size is off its limits", and else the need of each table

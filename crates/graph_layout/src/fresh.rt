@@ -1,25 +1,25 @@
 // The stores of laying out. Follows docs/RULES.md, "Tables and their measures": no jobs, all workers idle and holding
-// nothing, the fixed minutes, unused words 0, every place none. Assumes nothing.
+// nothing, the fixed minutes, unused words 0, every place none.
 ghost use mathlib.Core.Path.{_≡_};
 ghost use Prim.Native.Nat.{_+_, _*_, _^_, _≤_};
 ghost use lib.Seq.{sets};
-ghost use Rattle.numbers.specs.Numbers.{mostBits};
-ghost use Rattle.minutes.specs.Minutes.{fixedMinutes};
-ghost use Rattle.words.specs.Columns.{place};
-ghost use Rattle.words.specs.Layout.{none, jobShape, workerShape, IDLE, bareWorker, repeated, freshJob, freshJobs};
-ghost use Rattle.words.specs.Layout.{putMinutes, freshArcs, freshBuckets, freshQueue, freshTables, atEntry, atExit};
+ghost use Rattle.def_numbers.specs.Numbers.{mostBits};
+ghost use Rattle.def_minutes.specs.Minutes.{fixedMinutes};
+ghost use Rattle.def_words.specs.Columns.{offset};
+ghost use Rattle.def_words.specs.Layout.{none, jobShape, workerShape, IDLE, bareWorker, repeated, freshJob, freshJobs};
+ghost use Rattle.def_words.specs.Layout.{putMinutes, freshArcs, freshBuckets, freshQueue, freshTables, asLent, asLeft};
+use def_numbers::*;
+use def_terms::Sizes;
 use graph_records::fill;
 use graph_records::put_bare_worker;
 use graph_records::put_job_record;
 use graph_records::put_words;
 use graph_words::layout::*;
 use graph_words::put_header;
-use numbers::*;
-use terms::Sizes;
 
 // The records of the jobs table.
 fn fresh_job_records(jobs: &mut [u32], count: u32)
-    ensures { λ _. ⌜ now (jobs .exit) ≡ sets (now (jobs .entry)) (place jobShape 0 0) (repeated count freshJob) ⌝ }
+    ensures { λ _. ⌜ now (jobs .exit) ≡ sets (now (jobs .entry)) (offset jobShape 0 0) (repeated count freshJob) ⌝ }
 {
     let mut i = 0;
     while i < count {
@@ -31,7 +31,7 @@ fn fresh_job_records(jobs: &mut [u32], count: u32)
 // The records of the workers.
 fn fresh_workers(workers: &mut [u32], count: u32)
     ensures { λ _. ⌜ now (workers .exit)
-        ≡ sets (now (workers .entry)) (place workerShape 0 0) (repeated count (bareWorker IDLE none 0)) ⌝ }
+        ≡ sets (now (workers .entry)) (offset workerShape 0 0) (repeated count (bareWorker IDLE none 0)) ⌝ }
 {
     let mut i = 0;
     while i < count {
@@ -44,7 +44,7 @@ fn fresh_workers(workers: &mut [u32], count: u32)
 fn fresh_minutes(jobs: &mut [u32])
     ensures { λ _. ⌜ now (jobs .exit) ≡ putMinutes (now (jobs .entry)) fixedMinutes ⌝ }
 {
-    let fixed = minutes::fixed();
+    let fixed = def_minutes::fixed();
     put_words(jobs, MINUTES, &fixed);
 }
 
@@ -110,7 +110,7 @@ pub fn fresh_tables(
     workers: &mut [u32],
 )
     ensures { λ _. ⌜ (sizes .bits ≤ mostBits
-        → atExit jobs arcs buckets queue workers ≡ freshTables sizes (atEntry jobs arcs buckets queue workers)) ⌝ }
+        → asLeft jobs arcs buckets queue workers ≡ freshTables sizes (asLent jobs arcs buckets queue workers)) ⌝ }
 {
     fresh_jobs(sizes, jobs);
     fresh_arcs(sizes, arcs);

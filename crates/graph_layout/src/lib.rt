@@ -1,22 +1,22 @@
 // How long the five tables must be for given sizes, and laying them out for a fresh graph. Follows docs/RULES.md,
 // "Tables and their measures" and "Turned-away calls". Nothing is required: both answer for all sizes and tables.
 ghost use mathlib.Core.Path.{_≡_};
-ghost use Rattle.terms.specs.Runs.{outcome};
-ghost use Rattle.words.specs.Layout.{atEntry, atExit};
-ghost use Rattle.words.specs.Words.{layOut};
+ghost use Rattle.def_terms.specs.Runs.{result};
+ghost use Rattle.def_words.specs.Layout.{asLent, asLeft};
+ghost use Rattle.def_words.specs.Words.{layOut};
 ghost use Rattle.graph_layout.specs.Needed.{wordsNeeded};
 
 mod fresh;
 
+use def_numbers::*;
+use def_terms::Answer;
+use def_terms::Sizes;
 use fresh::buckets_of;
 use fresh::fresh_tables;
 use graph_sizes::need;
 use graph_sizes::room_for;
 use graph_sizes::within_limits;
 use graph_words::layout::*;
-use numbers::*;
-use terms::Answer;
-use terms::Sizes;
 
 // How many words each table must have, or the number that refuses the sizes.
 #[repr(C)]
@@ -63,8 +63,8 @@ pub fn lay_out(
     queue: &mut [u32],
     workers: &mut [u32],
 ) -> Answer
-    ensures { λ r. ⌜ outcome r (atExit jobs arcs buckets queue workers)
-        ≡ layOut sizes (atEntry jobs arcs buckets queue workers) ⌝ }
+    ensures { λ r. ⌜ result r (asLeft jobs arcs buckets queue workers)
+        ≡ layOut sizes (asLent jobs arcs buckets queue workers) ⌝ }
 {
     let room = room_for(sizes, jobs, arcs, buckets, queue, workers);
     if room {

@@ -1,4 +1,4 @@
--- One of several tests that hold together. Assumes nothing.
+-- One of several tests that hold together.
 use mathlib.Core.Path.{_≡_, refl}
 use mathlib.Core.Bool.{Bool, true, false, _&&_}
 

@@ -1,11 +1,15 @@
 // What the last steps of an add plan: the links and the settling. Follows docs/RULES.md, "Steps" and "Turned-away
-// calls". Assumes nothing: each definition holds of all tables, and where a table is not read the contract holds with
-// any.
+// calls". Each definition holds of all tables, and where a table is not read the contract holds with any.
 ghost use mathlib.Core.Path.{_≡_};
 ghost use mathlib.Core.List.{List};
 ghost use Prim.Native.Nat.{ℕ};
-ghost use Rattle.words.specs.Layout.{tables, atEntry, view};
-ghost use Rattle.words.specs.Words.{planAppend, planLink, withSeat, planSettle, planLinks};
+ghost use Rattle.def_words.specs.Layout.{tables, asLent, view};
+ghost use Rattle.def_words.specs.Words.{planAppend, planLink, withSeat, planSettle, planLinks};
+use def_numbers::*;
+use def_terms::Sizes;
+use def_words::Found;
+use def_words::Plan;
+use def_words::Seating;
 use graph_find::find;
 use graph_index::seat_for;
 use graph_own::place_ok;
@@ -15,11 +19,6 @@ use graph_words::layout::*;
 use graph_words::less;
 use graph_words::name_word;
 use graph_words::worker_word;
-use numbers::*;
-use terms::Sizes;
-use words::Found;
-use words::Plan;
-use words::Seating;
 
 // The arc has 64 bits: the first reserved arc may be none, and the sum with a place then passes 32 bits.
 fn plan_append(
@@ -141,7 +140,7 @@ pub fn plan_links(
     workers: &[u32],
     worker: u32,
 ) -> Plan
-    ensures { λ r. ⌜ r ≡ planLinks sizes (view (atEntry jobs arcs buckets queue workers)) worker ⌝ }
+    ensures { λ r. ⌜ r ≡ planLinks sizes (view (asLent jobs arcs buckets queue workers)) worker ⌝ }
 {
     let place = worker_word(workers, worker, PLACE);
     let count = worker_word(workers, worker, LIST_COUNT);

@@ -1,8 +1,8 @@
-// The stores of a job's list of arcs. Follows docs/RULES.md, "Steps" and "Tables and their measures". Assumes nothing.
+// The stores of a job's list of arcs. Follows docs/RULES.md, "Steps" and "Tables and their measures".
 ghost use mathlib.Core.Path.{_≡_};
-ghost use Rattle.words.specs.Columns.{put};
-ghost use Rattle.words.specs.Layout.{jobShape, FIRST, LAST, arcShape};
-ghost use Rattle.words.specs.Words.{newArc};
+ghost use Rattle.def_words.specs.Columns.{put};
+ghost use Rattle.def_words.specs.Layout.{jobShape, FIRST, LAST, arcShape, AFTER};
+ghost use Rattle.def_words.specs.Words.{newArc};
 use graph_words::layout::*;
 use graph_words::put_arc;
 use graph_words::put_job;
@@ -17,7 +17,7 @@ pub fn new_arc(arcs: &mut [u32], arc: u32, job: u32)
 
 // A new arc after the last of a list.
 pub fn append_arc(arcs: &mut [u32], last: u32, arc: u32, job: u32)
-    ensures { λ _. ⌜ now (arcs .exit) ≡ put arcShape (newArc (now (arcs .entry)) arc job) last 1 arc ⌝ }
+    ensures { λ _. ⌜ now (arcs .exit) ≡ put arcShape (newArc (now (arcs .entry)) arc job) last AFTER arc ⌝ }
 {
     new_arc(arcs, arc, job);
     put_arc(arcs, last, AFTER, arc);

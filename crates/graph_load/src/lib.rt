@@ -2,17 +2,17 @@
 // those stored. Follows docs/RULES.md, "A district's minutes" and "Turned-away calls": the order is 1, 17, 9, 18.
 // Nothing is required: it answers for all tables and minutes.
 ghost use mathlib.Core.Path.{_≡_};
-ghost use Rattle.terms.specs.Runs.{outcome};
-ghost use Rattle.words.specs.Layout.{atEntry, atExit};
-ghost use Rattle.words.specs.Words.{judgedLoad, loadWords};
+ghost use Rattle.def_terms.specs.Runs.{result};
+ghost use Rattle.def_words.specs.Layout.{asLent, asLeft};
+ghost use Rattle.def_words.specs.Words.{judgedLoad, loadWords};
+use def_minutes::is_rising;
+use def_numbers::*;
+use def_terms::Answer;
+use def_terms::Sizes;
 use graph_records::put_words;
 use graph_sizes::sizes_fit;
 use graph_words::header;
 use graph_words::layout::*;
-use minutes::is_rising;
-use numbers::*;
-use terms::Answer;
-use terms::Sizes;
 
 // The number that turns a load away, or 0.
 fn judge_load(
@@ -25,7 +25,7 @@ fn judge_load(
     minutes: &[u32],
 ) -> u32
     ensures { λ r. ⌜ r
-        ≡ judgedLoad sizes (atEntry jobs arcs buckets queue workers) (now (minutes .entry)) ⌝ }
+        ≡ judgedLoad sizes (asLent jobs arcs buckets queue workers) (now (minutes .entry)) ⌝ }
 {
     let fit = sizes_fit(sizes, jobs, arcs, buckets, queue, workers);
     if fit {} else {
@@ -54,8 +54,8 @@ pub fn load(
     workers: &mut [u32],
     minutes: &[u32],
 ) -> Answer
-    ensures { λ r. ⌜ outcome r (atExit jobs arcs buckets queue workers)
-        ≡ loadWords sizes (atEntry jobs arcs buckets queue workers) (now (minutes .entry)) ⌝ }
+    ensures { λ r. ⌜ result r (asLeft jobs arcs buckets queue workers)
+        ≡ loadWords sizes (asLent jobs arcs buckets queue workers) (now (minutes .entry)) ⌝ }
 {
     let number = judge_load(sizes, jobs, arcs, buckets, queue, workers, minutes);
     if number == 0 {

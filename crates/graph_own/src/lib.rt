@@ -1,19 +1,19 @@
 // The counters of a graph, the places below them, and the words that a worker keeps: the tests of them that a call
-// makes before it does anything. Follows docs/RULES.md, "Turned-away calls", number 9. Assumes nothing.
+// makes before it does anything. Follows docs/RULES.md, "Turned-away calls", number 9.
 ghost use mathlib.Core.Path.{_≡_};
 ghost use mathlib.Core.Bool.{_&&_};
 ghost use mathlib.Core.List.{List};
 ghost use Prim.Native.Nat.{ℕ};
 ghost use lib.Dec.{leb};
 ghost use lib.ListN.{length};
-ghost use Rattle.words.specs.Columns.{place};
-ghost use Rattle.words.specs.Layout.{workerShape, NAMES, tables, view};
-ghost use Rattle.words.specs.Words.{placeOk, countersOk, ownOk};
+ghost use Rattle.def_words.specs.Columns.{offset};
+ghost use Rattle.def_words.specs.Layout.{workerShape, NAMES, tables, view};
+ghost use Rattle.def_words.specs.Words.{placeOk, countersOk, ownOk};
+use def_numbers::*;
+use def_terms::Sizes;
 use graph_words::header;
 use graph_words::layout::*;
 use graph_words::worker_word;
-use numbers::*;
-use terms::Sizes;
 
 // A place is none or in use: below its counter, and below the table's size.
 pub fn place_ok(place: u32, counter: u32, size: u32) -> bool
@@ -35,7 +35,7 @@ pub fn counters_ok(sizes: Sizes, jobs: &[u32], arcs: &[u32]) -> bool
     (header(jobs, MADE) <= sizes.jobs) & (header(arcs, RESERVED) <= sizes.arcs)
 }
 
-// The worker's own words are sound. The tests of its places are branches: what follows a call knows their outcome.
+// The worker's own words are sound. The tests of its places are branches: what follows a call knows what they said.
 fn own_sound(sizes: Sizes, jobs: &[u32], arcs: &[u32], workers: &[u32], worker: u32) -> bool
     ensures { λ r. ⌜ ((buckets queue : List ℕ)
         → r ≡ ownOk sizes (view (tables (now (jobs .entry)) (now (arcs .entry)) buckets queue (now (workers .entry))))
@@ -83,7 +83,7 @@ fn own_sound(sizes: Sizes, jobs: &[u32], arcs: &[u32], workers: &[u32], worker: 
 // read: it holds with any.
 pub fn own_ok(sizes: Sizes, jobs: &[u32], arcs: &[u32], workers: &[u32], worker: u32) -> bool
     ensures { λ r. ⌜ ((buckets queue : List ℕ)
-        → r ≡ (leb (place workerShape worker NAMES) (length (now (workers .entry)))
+        → r ≡ (leb (offset workerShape worker NAMES) (length (now (workers .entry)))
         && ownOk sizes (view (tables (now (jobs .entry)) (now (arcs .entry)) buckets queue (now (workers .entry))))
         worker)) ⌝ }
 {

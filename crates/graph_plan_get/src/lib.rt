@@ -1,10 +1,15 @@
 // What a get is to do with the tables: it reads and judges, and stores nothing. Follows docs/RULES.md, "Steps" and
-// "Turned-away calls". Assumes nothing: each definition holds of all tables.
+// "Turned-away calls". Each definition holds of all tables.
 ghost use mathlib.Core.Path.{_≡_};
 ghost use mathlib.Core.List.{List};
 ghost use Prim.Native.Nat.{ℕ};
-ghost use Rattle.words.specs.Layout.{tables, atEntry, view};
-ghost use Rattle.words.specs.Words.{planTake, planQueue, planGet, planGetOf};
+ghost use Rattle.def_words.specs.Layout.{tables, asLent, view};
+ghost use Rattle.def_words.specs.Words.{planTake, planQueue, planGet, planGetOf};
+use def_numbers::*;
+use def_terms::HandOut;
+use def_terms::Sizes;
+use def_words::GetPlan;
+use def_words::Seating;
 use graph_index::first_seat;
 use graph_own::counters_ok;
 use graph_own::own_ok;
@@ -14,13 +19,8 @@ use graph_words::job_word;
 use graph_words::layout::*;
 use graph_words::queue_word;
 use graph_words::worker_word;
-use numbers::*;
-use terms::HandOut;
-use terms::Sizes;
-use words::GetPlan;
-use words::Seating;
 
-// The job of the index's first place. Its words are read only where that place waits.
+// The job of the index's first cell. Its words are read only where that cell waits.
 fn plan_take(jobs: &[u32], queue: &[u32]) -> GetPlan
     ensures { λ r. ⌜ ((arcs buckets workers : List ℕ)
         → r ≡ planTake (view (tables (now (jobs .entry)) arcs buckets (now (queue .entry)) workers))) ⌝ }
@@ -28,16 +28,16 @@ fn plan_take(jobs: &[u32], queue: &[u32]) -> GetPlan
     let seating = first_seat(jobs, queue);
     match seating {
         Seating::Seated { seat } => {
-            let place = queue_word(queue, 0, SLOT);
-            let job = queue_word(queue, place, CELL);
-            let mark = job_word(jobs, job, MARK);
-            let sound = (job_word(jobs, job, LABEL) == UNEXECUTED) & (mark <= 1);
+            let cell = queue_word(queue, 0, SLOT);
+            let job = queue_word(queue, cell, QUEUED);
+            let spoiled = job_word(jobs, job, SPOILED);
+            let sound = (job_word(jobs, job, LABEL) == UNEXECUTED) & (spoiled <= 1);
             if sound {
                 GetPlan::Take {
                     out: HandOut {
                         job,
                         name: job_word(jobs, job, NAME),
-                        spoiled: mark == 1,
+                        spoiled: spoiled == 1,
                     },
                     seat,
                 }
@@ -105,7 +105,7 @@ pub fn plan_get(
     workers: &[u32],
     worker: u32,
 ) -> GetPlan
-    ensures { λ r. ⌜ r ≡ planGetOf sizes (atEntry jobs arcs buckets queue workers) worker ⌝ }
+    ensures { λ r. ⌜ r ≡ planGetOf sizes (asLent jobs arcs buckets queue workers) worker ⌝ }
 {
     let fit = sizes_fit(sizes, jobs, arcs, buckets, queue, workers);
     if fit {

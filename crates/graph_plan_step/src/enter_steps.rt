@@ -1,22 +1,21 @@
-// What the first steps of an add plan: the look-ups and the entry. Follows docs/RULES.md, "Steps" and "Turned-away
-// calls". Assumes nothing: each definition holds of all tables, and where a table is not read the contract holds with
-// any.
+// What the first steps of an add plan: the look-ups and the entering. Follows docs/RULES.md, "Steps" and "Turned-away
+// calls". Each definition holds of all tables, and where a table is not read the contract holds with any.
 ghost use mathlib.Core.Path.{_≡_};
 ghost use mathlib.Core.List.{List};
 ghost use Prim.Native.Nat.{ℕ};
-ghost use Rattle.words.specs.Layout.{tables, view};
-ghost use Rattle.words.specs.Words.{planLookUp, planEnter, planAdd};
-use bucket::bucket;
+ghost use Rattle.def_words.specs.Layout.{tables, view};
+ghost use Rattle.def_words.specs.Words.{planLookUp, planEnter, planAdd};
+use def_bucket::bucket;
+use def_numbers::*;
+use def_terms::Sizes;
+use def_words::Found;
+use def_words::Plan;
 use graph_find::find;
 use graph_words::bucket_word;
 use graph_words::header;
 use graph_words::layout::*;
 use graph_words::name_word;
 use graph_words::worker_word;
-use numbers::*;
-use terms::Sizes;
-use words::Found;
-use words::Plan;
 
 fn plan_look_up(place: u32, found: Found) -> Plan
     ensures { λ r. ⌜ r ≡ planLookUp place found ⌝ }

@@ -1,11 +1,14 @@
 // What a step is to do with the tables: it reads and judges, and stores nothing. Follows docs/RULES.md, "Steps" and
-// "Turned-away calls". Assumes nothing: each definition holds of all tables.
+// "Turned-away calls". Each definition holds of all tables.
 ghost use mathlib.Core.Path.{_≡_};
-ghost use Rattle.words.specs.Layout.{atEntry, view};
-ghost use Rattle.words.specs.Words.{planPhase, planStep};
+ghost use Rattle.def_words.specs.Layout.{asLent, view};
+ghost use Rattle.def_words.specs.Words.{planPhase, planStep};
 
 mod enter_steps;
 
+use def_numbers::*;
+use def_terms::Sizes;
+use def_words::Plan;
 use enter_steps::plan_add;
 use graph_finish_steps::plan_mark;
 use graph_finish_steps::plan_notify;
@@ -15,9 +18,6 @@ use graph_own::own_ok;
 use graph_sizes::sizes_fit;
 use graph_words::layout::*;
 use graph_words::worker_word;
-use numbers::*;
-use terms::Sizes;
-use words::Plan;
 
 // What the worker's phase asks for.
 fn plan_phase(
@@ -29,7 +29,7 @@ fn plan_phase(
     workers: &[u32],
     worker: u32,
 ) -> Plan
-    ensures { λ r. ⌜ r ≡ planPhase sizes (view (atEntry jobs arcs buckets queue workers)) worker ⌝ }
+    ensures { λ r. ⌜ r ≡ planPhase sizes (view (asLent jobs arcs buckets queue workers)) worker ⌝ }
 {
     let phase = worker_word(workers, worker, PHASE);
     let idle = phase == IDLE;
@@ -65,7 +65,7 @@ fn plan_phase(
 }
 
 // The tests that come first are written out in each call, as in its definition, and not a function of their own: where
-// their outcome is known, the compiler sees that what the call reads and stores lies within the tables (docs/SPEED.md).
+// their answer is known, the compiler sees that what the call reads and stores lies within the tables (docs/SPEED.md).
 pub fn plan_step(
     sizes: Sizes,
     jobs: &[u32],
@@ -75,7 +75,7 @@ pub fn plan_step(
     workers: &[u32],
     worker: u32,
 ) -> Plan
-    ensures { λ r. ⌜ r ≡ planStep sizes (atEntry jobs arcs buckets queue workers) worker ⌝ }
+    ensures { λ r. ⌜ r ≡ planStep sizes (asLent jobs arcs buckets queue workers) worker ⌝ }
 {
     let fit = sizes_fit(sizes, jobs, arcs, buckets, queue, workers);
     if fit {

@@ -1,17 +1,17 @@
 // The post of an add over five lent tables: a number refuses the call, or it is kept in its worker's record. Follows
 // docs/RULES.md, "Steps" and "Turned-away calls". Nothing is required: it answers for all tables and arguments.
 ghost use mathlib.Core.Path.{_≡_};
-ghost use Rattle.terms.specs.Runs.{outcome};
-ghost use Rattle.words.specs.Layout.{atEntry, atExit};
-ghost use Rattle.words.specs.Words.{addWords};
-ghost use Rattle.sheet_rows.specs.Arguments.{argumentsOf};
+ghost use Rattle.def_terms.specs.Runs.{result};
+ghost use Rattle.def_words.specs.Layout.{asLent, asLeft};
+ghost use Rattle.def_words.specs.Words.{addWords};
+ghost use Rattle.def_sheet_rows.specs.Arguments.{argumentsOf};
+use def_sheets::Entry;
+use def_terms::Answer;
+use def_terms::Sizes;
 use graph_judge::judge_add;
 use graph_posted_add::put_adding_worker;
 use graph_words::layout::HELD;
 use graph_words::worker_word;
-use sheet_format::Entry;
-use terms::Answer;
-use terms::Sizes;
 
 // Posts an add of the entry's job, whose prerequisites are the first `count` of `names`.
 pub fn post_add(
@@ -24,8 +24,8 @@ pub fn post_add(
     worker: u32,
     entry: Entry,
 ) -> Answer
-    ensures { λ r. ⌜ outcome r (atExit jobs arcs buckets queue workers)
-        ≡ addWords sizes (atEntry jobs arcs buckets queue workers) worker (argumentsOf entry) ⌝ }
+    ensures { λ r. ⌜ result r (asLeft jobs arcs buckets queue workers)
+        ≡ addWords sizes (asLent jobs arcs buckets queue workers) worker (argumentsOf entry) ⌝ }
 {
     let number = judge_add(sizes, jobs, arcs, buckets, queue, workers, worker, entry);
     if number == 0 {

@@ -1,4 +1,4 @@
--- The names of a list, and a worker's record stored in three runs. Assumes nothing.
+-- The names of a list, and a worker's record stored in three runs.
 use mathlib.Core.Path.{_≡_, refl, ap, _∙_}
 use mathlib.Core.List.{List, [], _∷_, _++_}
 use Prim.Native.Nat.{ℕ, zero, suc, _+_, _-_, _≤_, _<_}
@@ -6,11 +6,11 @@ use native.Mathlib.Omega.{arith}
 use native.Mathlib.Numerals.{add-one}
 use lib.ListN.{length, getD, set, drop, replicate}
 use lib.Seq.{sets, drop-cons}
-use Rattle.basics.specs.Base.{prefix}
-use Rattle.basics.specs.Laws.{length-prefix, getD-prefix}
-use Rattle.basics.specs.Stores.{sets-append}
-use Rattle.words.specs.Columns.{place}
-use Rattle.words.specs.Layout.{workerShape, PHASE, TALLY, NAMES}
+use Rattle.def_basics.specs.Base.{prefix}
+use Rattle.def_basics.specs.Laws.{length-prefix, getD-prefix}
+use Rattle.def_basics.specs.Stores.{sets-append}
+use Rattle.def_words.specs.Columns.{offset}
+use Rattle.def_words.specs.Layout.{workerShape, PHASE, TALLY, NAMES}
 
 -- ---- the names of a list, and 0 past them
 prefix-none : (n : ℕ) → prefix n [] ≡ replicate n 0
@@ -50,9 +50,10 @@ names-rest (suc n) (suc d) (suc r) (x ∷ l) a b e =
 
 -- ---- a worker's record in three runs
 pub worker-record : (l : List ℕ) (w : ℕ) (xs ys zs : List ℕ) → length xs ≡ TALLY → length xs + length ys ≡ NAMES
-    → sets (sets (sets l (place workerShape w PHASE) xs) (place workerShape w TALLY) ys) (place workerShape w NAMES) zs
-    ≡ sets l (place workerShape w PHASE) (xs ++ (ys ++ zs))
+    → sets (sets (sets l (offset workerShape w PHASE) xs) (offset workerShape w TALLY) ys)
+    (offset workerShape w NAMES) zs
+    ≡ sets l (offset workerShape w PHASE) (xs ++ (ys ++ zs))
 worker-record l w xs ys zs a b =
-    sets-append (sets l (place workerShape w PHASE) xs) ys zs (place workerShape w TALLY) (place workerShape w NAMES)
+    sets-append (sets l (offset workerShape w PHASE) xs) ys zs (offset workerShape w TALLY) (offset workerShape w NAMES)
     (omega arith)
-    ∙ sets-append l xs (ys ++ zs) (place workerShape w PHASE) (place workerShape w TALLY) (omega arith)
+    ∙ sets-append l xs (ys ++ zs) (offset workerShape w PHASE) (offset workerShape w TALLY) (omega arith)

@@ -1,21 +1,21 @@
 // The store of an add's record, posted or half done: its worker's words with the arguments and the list of names.
-// Follows docs/RULES.md, "Tables and their measures". A store past the table's end changes nothing. Assumes nothing.
+// Follows docs/RULES.md, "Tables and their measures". A store past the table's end changes nothing.
 ghost use mathlib.Core.Path.{_≡_};
 ghost use mathlib.Core.List.{[], _∷_};
 ghost use Prim.Native.Nat.{_≤_, _<_};
 ghost use lib.Seq.{sets};
-ghost use Rattle.numbers.specs.Numbers.{mostNames};
-ghost use Rattle.basics.specs.Base.{prefix};
-ghost use Rattle.words.specs.Columns.{place};
-ghost use Rattle.words.specs.Layout.{workerShape, PHASE, TALLY, NAMES};
-ghost use Rattle.words.specs.Words.{putWorker, addingWorker};
+ghost use Rattle.def_numbers.specs.Numbers.{mostNames};
+ghost use Rattle.def_basics.specs.Base.{prefix};
+ghost use Rattle.def_words.specs.Columns.{offset};
+ghost use Rattle.def_words.specs.Layout.{workerShape, PHASE, TALLY, NAMES};
+ghost use Rattle.def_words.specs.Words.{putWorker, addingWorker};
+use def_numbers::*;
 use graph_records::fill;
 use graph_records::record_at;
 use graph_words::layout::*;
 use graph_words::put_word;
 use graph_words::put_worker;
 use graph_words::word;
-use numbers::*;
 
 // A worker's phase, its hold, and the arguments of its call.
 fn put_arguments(
@@ -29,7 +29,7 @@ fn put_arguments(
     grower: u32,
 )
     ensures { λ _. ⌜ now (workers .exit)
-        ≡ sets (now (workers .entry)) (place workerShape worker PHASE)
+        ≡ sets (now (workers .entry)) (offset workerShape worker PHASE)
         (phase ∷ held ∷ name ∷ count ∷ class ∷ grower ∷ []) ⌝ }
 {
     put_worker(workers, worker, PHASE, phase);
@@ -51,7 +51,7 @@ fn put_reached(
     note: u32,
 )
     ensures { λ _. ⌜ now (workers .exit)
-        ≡ sets (now (workers .entry)) (place workerShape worker TALLY) (tally ∷ position ∷ job ∷ arc ∷ note ∷ []) ⌝ }
+        ≡ sets (now (workers .entry)) (offset workerShape worker TALLY) (tally ∷ position ∷ job ∷ arc ∷ note ∷ []) ⌝ }
 {
     put_worker(workers, worker, TALLY, tally);
     put_worker(workers, worker, PLACE, position);
@@ -62,7 +62,7 @@ fn put_reached(
 
 // Where a worker's list begins.
 fn names_at(worker: u32) -> usize
-    ensures { λ r. ⌜ r ≡ place workerShape worker NAMES ⌝ }
+    ensures { λ r. ⌜ r ≡ offset workerShape worker NAMES ⌝ }
 {
     record_at(worker) + (NAMES as usize)
 }
@@ -81,7 +81,7 @@ fn listed_of(count: u32) -> usize
 // The listed names, and 0 past them.
 fn put_names(workers: &mut [u32], worker: u32, names: &[u32], count: u32)
     ensures { λ _. ⌜ now (workers .exit)
-        ≡ sets (now (workers .entry)) (place workerShape worker NAMES)
+        ≡ sets (now (workers .entry)) (offset workerShape worker NAMES)
         (prefix mostNames (prefix count (now (names .entry)))) ⌝ }
 {
     let from = names_at(worker);

@@ -1,5 +1,5 @@
--- The places on a way through the index shift a level at a time, for a number of levels that is known only to be above 0
--- or not. Assumes nothing.
+-- The cells on a way through the index shift a level at a time, for a number of levels that is known only to be above 0
+-- or not.
 use mathlib.Core.Path.{_≡_, refl}
 use mathlib.Core.Bool.{Bool, true, false, _&&_, not}
 use mathlib.Core.List.{List}
@@ -8,10 +8,10 @@ use native.Mathlib.Omega.{arith}
 use native.Mathlib.Numerals.{sub-one}
 use lib.Dec.{ltb, eqb}
 use borrow.Author.Tests.{lt-ltb, ltb-true}
-use Rattle.basics.specs.Base.{pick}
-use Rattle.basics.specs.Laws.{never, and-left}
-use Rattle.heap.specs.Sift.{above}
-use Rattle.words.specs.Index.{slotIn, putSlot, shiftedDown, shiftedUp}
+use Rattle.def_basics.specs.Base.{pick}
+use Rattle.def_basics.specs.Laws.{never, and-left}
+use Rattle.def_heap.specs.Sift.{above}
+use Rattle.def_words.specs.Index.{slotIn, putSlot, shiftedDown, shiftedUp}
 
 -- a choice, by whether a test is to be passed
 picked : {A : Type 0} (b : Bool) (x y : A) → not b ≡ true → y ≡ pick b x y

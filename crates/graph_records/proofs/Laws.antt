@@ -1,4 +1,4 @@
--- Runs of stores: fields one after another, past the table's end, and into a record. Assumes nothing.
+-- Runs of stores: fields one after another, past the table's end, and into a record.
 use mathlib.Core.Path.{_≡_, refl, sym, _∙_}
 use mathlib.Core.List.{List, [], _∷_}
 use Prim.Native.Nat.{ℕ, zero, suc, _+_, _-_, _≤_, _<_}
@@ -7,22 +7,22 @@ use native.Mathlib.Numerals.{add-one}
 use lib.Dec.{lit<}
 use lib.ListN.{length, getD, set, drop, replicate, length-set, drop-of-length-le}
 use lib.Seq.{sets, set-out, drop-cons}
-use Rattle.basics.specs.Stores.{set-in}
-use Rattle.words.specs.Columns.{Shape, place, put}
-use Rattle.words.specs.Layout.{none, workerShape, PHASE, HELD, OWN-JOB, OWN-ARC, NOTE, bareWorker}
+use Rattle.def_basics.specs.Stores.{set-in}
+use Rattle.def_words.specs.Columns.{Shape, offset, put}
+use Rattle.def_words.specs.Layout.{none, workerShape, PHASE, HELD, OWN-JOB, OWN-ARC, NOTE, bareWorker}
 
 -- ---- a store before a run
 pub put-sets : (s : Shape) (l : List ℕ) (i k v : ℕ) (vs : List ℕ)
-    → sets (put s l i k v) (place s i (k + 1)) vs ≡ sets l (place s i k) (v ∷ vs)
+    → sets (put s l i k v) (offset s i (k + 1)) vs ≡ sets l (offset s i k) (v ∷ vs)
 unfolding put
-put-sets s l i k v vs = let z : place s i (k + 1) ≡ suc (place s i k) = omega arith in rw z
+put-sets s l i k v vs = let z : offset s i (k + 1) ≡ suc (offset s i k) = omega arith in rw z
 
 -- fields of one record, stored one after another from field k on
 abbrev pub puts : Shape → List ℕ → ℕ → ℕ → List ℕ → List ℕ
 puts s l i k [] = l
 puts s l i k (v ∷ vs) = puts s (put s l i k v) i (k + 1) vs
 
-pub puts-sets : (s : Shape) (l : List ℕ) (i k : ℕ) (vs : List ℕ) → puts s l i k vs ≡ sets l (place s i k) vs
+pub puts-sets : (s : Shape) (l : List ℕ) (i k : ℕ) (vs : List ℕ) → puts s l i k vs ≡ sets l (offset s i k) vs
 puts-sets s l i k [] = refl
 puts-sets s l i k (v ∷ vs) = puts-sets s (put s l i k v) i (k + 1) vs ∙ put-sets s l i k v vs
 
@@ -56,10 +56,10 @@ words-none l ws k i h = rw (drop-of-length-le ws {i = i} h)
 
 -- ---- a store into a run
 put-in : (l vs : List ℕ) (w k v : ℕ) → k < length vs
-    → put workerShape (sets l (place workerShape w 0) vs) w k v ≡ sets l (place workerShape w 0) (set vs k v)
+    → put workerShape (sets l (offset workerShape w 0) vs) w k v ≡ sets l (offset workerShape w 0) (set vs k v)
 unfolding put
-put-in l vs w k v h = let z : place workerShape w k ≡ place workerShape w 0 + k = omega arith in
-    rw z (set-in l vs (place workerShape w 0) k v h)
+put-in l vs w k v h = let z : offset workerShape w k ≡ offset workerShape w 0 + k = omega arith in
+    rw z (set-in l vs (offset workerShape w 0) k v h)
 
 -- a worker's record of 0, and the words of it that are not
 abbrev blank : List ℕ
@@ -67,8 +67,8 @@ blank = replicate (workerShape .width) 0
 
 pub bare-record : (l : List ℕ) (w p h n : ℕ)
     → put workerShape (put workerShape (put workerShape
-    (put workerShape (put workerShape (sets l (place workerShape w 0) blank) w PHASE p) w HELD h) w OWN-JOB
-    none) w OWN-ARC none) w NOTE n ≡ sets l (place workerShape w 0) (bareWorker p h n)
+    (put workerShape (put workerShape (sets l (offset workerShape w 0) blank) w PHASE p) w HELD h) w OWN-JOB
+    none) w OWN-ARC none) w NOTE n ≡ sets l (offset workerShape w 0) (bareWorker p h n)
 bare-record l w p h n =
     rw (
       put-in l blank w PHASE p (lit< tt),

@@ -1,14 +1,13 @@
 // The stores of words one after another, and of whole records: a job's, and that of a worker whose call has no
-// list. Follows docs/RULES.md, "Tables and their measures". A store past a table's end changes nothing. Assumes
-// nothing.
+// list. Follows docs/RULES.md, "Tables and their measures". A store past a table's end changes nothing.
 ghost use mathlib.Core.Path.{_≡_};
 ghost use mathlib.Core.List.{[], _∷_};
 ghost use Prim.Native.Nat.{_-_, _≤_};
 ghost use lib.ListN.{length, replicate};
 ghost use lib.Seq.{sets};
-ghost use Rattle.words.specs.Columns.{place};
-ghost use Rattle.words.specs.Layout.{none, jobShape, workerShape, PHASE, bareWorker};
-ghost use Rattle.words.specs.Words.{putWorker};
+ghost use Rattle.def_words.specs.Columns.{offset};
+ghost use Rattle.def_words.specs.Layout.{none, jobShape, workerShape, PHASE, bareWorker};
+ghost use Rattle.def_words.specs.Words.{putWorker};
 use graph_words::layout::*;
 use graph_words::put_job;
 use graph_words::put_word;
@@ -63,7 +62,7 @@ pub fn put_job_record(
     next: u32,
 )
     ensures { λ _. ⌜ now (jobs .exit)
-        ≡ sets (now (jobs .entry)) (place jobShape job 0)
+        ≡ sets (now (jobs .entry)) (offset jobShape job 0)
         (name ∷ 0 ∷ count ∷ class ∷ grower ∷ none ∷ none ∷ next ∷ 0 ∷ 0 ∷ []) ⌝ }
 {
     put_job(jobs, job, NAME, name);
@@ -75,12 +74,12 @@ pub fn put_job_record(
     put_job(jobs, job, LAST, NONE);
     put_job(jobs, job, NEXT, next);
     put_job(jobs, job, OUTCOME, 0);
-    put_job(jobs, job, MARK, 0);
+    put_job(jobs, job, SPOILED, 0);
 }
 
 // Where a worker's record begins.
 pub fn record_at(worker: u32) -> usize
-    ensures { λ r. ⌜ r ≡ place workerShape worker PHASE ⌝ }
+    ensures { λ r. ⌜ r ≡ offset workerShape worker PHASE ⌝ }
 {
     (WORKER_HEAD as usize) + (WORKER_WIDTH as usize) * (worker as usize)
 }

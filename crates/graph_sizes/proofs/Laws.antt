@@ -1,13 +1,13 @@
--- What the limits say of the bucket bits. Assumes nothing.
+-- What the limits say of the bucket bits.
 use mathlib.Core.Path.{_≡_}
 use mathlib.Core.Bool.{Bool, true, _&&_}
 use Prim.Native.Nat.{_≤_}
 use lib.Dec.{leb}
 use borrow.Author.Tests.{leb-true}
-use Rattle.numbers.specs.Numbers.{mostJobs, mostArcs, mostBits, mostWorkers}
-use Rattle.basics.specs.Laws.{and-left, and-right}
-use Rattle.terms.specs.Terms.{withinLimits}
-use Rattle.terms.specs.declared.Sizes.{Sizes}
+use Rattle.def_numbers.specs.Numbers.{mostJobs, mostArcs, mostBits, mostWorkers}
+use Rattle.def_basics.specs.Laws.{and-left, and-right}
+use Rattle.def_terms.specs.Terms.{withinLimits}
+use Rattle.def_terms.specs.declared.Sizes.{Sizes}
 
 -- the fourth of five tests
 within : (a b c d e : Bool) → (a && b && c && d && e) ≡ true → d ≡ true

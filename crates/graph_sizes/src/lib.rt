@@ -1,15 +1,15 @@
 // The sizes of a graph: their limits, the words that the tables need for them, and whether they are those laid out.
-// Follows docs/RULES.md, "Tables and their measures" and "Turned-away calls", number 1. Assumes nothing.
+// Follows docs/RULES.md, "Tables and their measures" and "Turned-away calls", number 1.
 ghost use mathlib.Core.Path.{_≡_};
 ghost use mathlib.Core.Bool.{true};
 ghost use Prim.Native.Nat.{_^_, _≤_};
-ghost use Rattle.numbers.specs.Numbers.{mostBits};
-ghost use Rattle.terms.specs.Terms.{withinLimits};
-ghost use Rattle.words.specs.Layout.{atEntry, need, longEnough, sizesKept, roomFor, sizesFit};
+ghost use Rattle.def_numbers.specs.Numbers.{mostBits};
+ghost use Rattle.def_terms.specs.Terms.{withinLimits};
+ghost use Rattle.def_words.specs.Layout.{asLent, need, longEnough, sizesKept, roomFor, sizesFit};
+use def_numbers::*;
+use def_terms::Sizes;
 use graph_words::header;
 use graph_words::layout::*;
-use numbers::*;
-use terms::Sizes;
 
 pub fn within_limits(sizes: Sizes) -> bool
     ensures { λ r. ⌜ r ≡ withinLimits sizes ⌝ }
@@ -44,7 +44,7 @@ fn long_enough(
     workers: &[u32],
 ) -> bool
     requires { ⌜ withinLimits sizes ≡ true ⌝ }
-    ensures { λ r. ⌜ r ≡ longEnough sizes (atEntry jobs arcs buckets queue workers) ⌝ }
+    ensures { λ r. ⌜ r ≡ longEnough sizes (asLent jobs arcs buckets queue workers) ⌝ }
 {
     (need(JOB_HEAD, JOB_WIDTH, sizes.jobs) <= jobs.len())
         & (need(ARC_HEAD, ARC_WIDTH, sizes.arcs) <= arcs.len())
@@ -62,7 +62,7 @@ pub fn room_for(
     queue: &[u32],
     workers: &[u32],
 ) -> bool
-    ensures { λ r. ⌜ r ≡ roomFor sizes (atEntry jobs arcs buckets queue workers) ⌝ }
+    ensures { λ r. ⌜ r ≡ roomFor sizes (asLent jobs arcs buckets queue workers) ⌝ }
 {
     let within = within_limits(sizes);
     if within {
@@ -90,7 +90,7 @@ pub fn sizes_fit(
     queue: &[u32],
     workers: &[u32],
 ) -> bool
-    ensures { λ r. ⌜ r ≡ sizesFit sizes (atEntry jobs arcs buckets queue workers) ⌝ }
+    ensures { λ r. ⌜ r ≡ sizesFit sizes (asLent jobs arcs buckets queue workers) ⌝ }
 {
     let room = room_for(sizes, jobs, arcs, buckets, queue, workers);
     if room { sizes_kept(sizes, jobs) } else { false }

@@ -1,15 +1,15 @@
 // A step of a worker's call over five lent tables: planned, stored, answered. Follows docs/RULES.md, "Steps" and
 // "Turned-away calls". Nothing is required: a step answers for all tables.
 ghost use mathlib.Core.Path.{_≡_};
-ghost use Rattle.terms.specs.Runs.{outcome};
-ghost use Rattle.words.specs.Layout.{atEntry, atExit};
-ghost use Rattle.words.specs.Words.{goingUnless, answerOf, stepWords};
+ghost use Rattle.def_terms.specs.Runs.{result};
+ghost use Rattle.def_words.specs.Layout.{asLent, asLeft};
+ghost use Rattle.def_words.specs.Words.{goingUnless, answerOf, stepWords};
+use def_terms::Answer;
+use def_terms::Sizes;
+use def_words::Plan;
 use graph_apply::apply;
 use graph_plan_step::plan_step;
 use graph_words::layout::NONE;
-use terms::Answer;
-use terms::Sizes;
-use words::Plan;
 
 // A step that ended its call, or one after which it goes on.
 fn going_unless(ends: bool) -> Answer
@@ -48,8 +48,8 @@ pub fn step(
     workers: &mut [u32],
     worker: u32,
 ) -> Answer
-    ensures { λ r. ⌜ outcome r (atExit jobs arcs buckets queue workers)
-        ≡ stepWords sizes (atEntry jobs arcs buckets queue workers) worker ⌝ }
+    ensures { λ r. ⌜ result r (asLeft jobs arcs buckets queue workers)
+        ≡ stepWords sizes (asLent jobs arcs buckets queue workers) worker ⌝ }
 {
     let plan = plan_step(sizes, jobs, arcs, buckets, queue, workers, worker);
     apply(jobs, arcs, buckets, queue, workers, worker, plan);

@@ -1,14 +1,16 @@
 // What the links and the settling of an add store in the tables. Follows docs/RULES.md, "Steps" and "Tables and their
 // measures". Nothing is required of a table, a worker or a plan; tables that a function is not lent stay, whatever they
-// are. Assumes nothing.
+// are.
 ghost use mathlib.Core.Path.{_≡_};
 ghost use mathlib.Core.List.{List};
 ghost use Prim.Native.Nat.{ℕ, _<_};
-ghost use Rattle.words.specs.Columns.{columns};
-ghost use Rattle.words.specs.Layout.{none, workerShape, PLACE, tables};
-ghost use Rattle.words.specs.Words.{applied};
-ghost use Rattle.words.specs.declared.Plan.the-variants.{LinkFirst, LinkAfter, Settle, SettleQueue};
-ghost use Rattle.fitting.specs.Kinds.{Linking, Settling, Stored};
+ghost use Rattle.def_words.specs.Columns.{columns};
+ghost use Rattle.def_words.specs.Layout.{none, workerShape, PLACE, tables};
+ghost use Rattle.def_words.specs.Words.{applied};
+ghost use Rattle.def_words.specs.declared.Plan.the-variants.{LinkFirst, LinkAfter, Settle, SettleQueue};
+ghost use Rattle.thm_counters_fit.specs.Kinds.{Linking, Settling, Stored};
+use def_words::Plan;
+use def_words::Seat;
 use graph_lists::append_arc;
 use graph_lists::new_arc;
 use graph_lists::put_only_arc;
@@ -19,8 +21,6 @@ use graph_words::put_job;
 use graph_words::worker_word;
 use graph_worker_words::count_place;
 use graph_worker_words::idle_worker;
-use words::Plan;
-use words::Seat;
 
 // A link appends an arc to an empty list.
 fn link_first(
@@ -111,7 +111,7 @@ fn settle_queue(
     count: u32,
     seat: Seat,
 )
-    ensures { λ _. ⌜ (seat .place < none →
+    ensures { λ _. ⌜ (seat .cell < none →
         (arcs buckets : List ℕ) →
         tables (now (jobs .exit)) arcs buckets (now (queue .exit)) (now (workers .exit))
         ≡ applied (SettleQueue job count seat)

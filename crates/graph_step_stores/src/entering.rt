@@ -1,15 +1,14 @@
-// What the entry of an add stores in the tables. Follows docs/RULES.md, "Steps" and "Tables and their measures".
-// Nothing is required of a table or a worker; the queue, which the function is not lent, stays, whatever it is. Assumes
-// nothing.
+// What the entering of an add stores in the tables. Follows docs/RULES.md, "Steps" and "Tables and their measures".
+// Nothing is required of a table or a worker; the queue, which the function is not lent, stays, whatever it is.
 ghost use mathlib.Core.Path.{_≡_};
 ghost use mathlib.Core.List.{List, [], _∷_};
 ghost use Prim.Native.Nat.{ℕ, _+_, _<_, _≤_};
 ghost use lib.Seq.{sets};
-ghost use Rattle.words.specs.Columns.{place, columns, putHeader};
-ghost use Rattle.words.specs.Layout.{none, jobShape, MADE, RESERVED, workerShape};
-ghost use Rattle.words.specs.Layout.{LIST-COUNT, OWN-NAME, OWN-CLASS, OWN-GROWER, tables};
-ghost use Rattle.words.specs.Words.{applied};
-ghost use Rattle.words.specs.declared.Plan.the-variants.{Enter};
+ghost use Rattle.def_words.specs.Columns.{offset, columns, putHeader};
+ghost use Rattle.def_words.specs.Layout.{none, jobShape, MADE, RESERVED, workerShape};
+ghost use Rattle.def_words.specs.Layout.{LIST-COUNT, OWN-NAME, OWN-CLASS, OWN-GROWER, tables};
+ghost use Rattle.def_words.specs.Words.{applied};
+ghost use Rattle.def_words.specs.declared.Plan.the-variants.{Enter};
 use graph_records::put_job_record;
 use graph_words::layout::*;
 use graph_words::put_bucket;
@@ -21,7 +20,7 @@ use graph_worker_words::sum;
 // The entered job's words, and the count of jobs made.
 fn enter_job(jobs: &mut [u32], workers: &[u32], worker: u32, job: u32, head: u32)
     ensures { λ _. ⌜ (job < none → now (jobs .exit)
-        ≡ putHeader (sets (now (jobs .entry)) (place jobShape job 0)
+        ≡ putHeader (sets (now (jobs .entry)) (offset jobShape job 0)
         (columns workerShape (now (workers .entry)) OWN-NAME worker ∷ 0
         ∷ columns workerShape (now (workers .entry)) LIST-COUNT worker
         ∷ columns workerShape (now (workers .entry)) OWN-CLASS worker

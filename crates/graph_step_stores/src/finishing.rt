@@ -1,13 +1,15 @@
 // What the plans of a finish store in the tables. Follows docs/RULES.md, "Steps" and "Tables and their
 // measures". Nothing is required of a table, a worker or a plan; tables that a function is not lent stay, whatever they
-// are. Assumes nothing.
+// are.
 ghost use mathlib.Core.Path.{_≡_};
 ghost use mathlib.Core.List.{List};
 ghost use Prim.Native.Nat.{ℕ, _<_};
-ghost use Rattle.words.specs.Layout.{none, tables};
-ghost use Rattle.words.specs.Words.{applied};
-ghost use Rattle.words.specs.declared.Plan.the-variants.{Mark, Notify, NotifyQueue};
-ghost use Rattle.fitting.specs.Kinds.{Finishing, Stored};
+ghost use Rattle.def_words.specs.Layout.{none, tables};
+ghost use Rattle.def_words.specs.Words.{applied};
+ghost use Rattle.def_words.specs.declared.Plan.the-variants.{Mark, Notify, NotifyQueue};
+ghost use Rattle.thm_counters_fit.specs.Kinds.{Finishing, Stored};
+use def_words::Plan;
+use def_words::Seat;
 use graph_queue::put_seat;
 use graph_words::layout::*;
 use graph_words::put_count;
@@ -15,8 +17,6 @@ use graph_words::put_outcome;
 use graph_words::worker_word;
 use graph_worker_words::arcs_from;
 use graph_worker_words::mark_worker;
-use words::Plan;
-use words::Seat;
 
 // The finish marks its job, with its outcome.
 fn mark(jobs: &mut [u32], workers: &mut [u32], worker: u32, job: u32, first: u32)
@@ -53,7 +53,7 @@ fn notify_queue(
     next: u32,
     seat: Seat,
 )
-    ensures { λ _. ⌜ (seat .place < none →
+    ensures { λ _. ⌜ (seat .cell < none →
         (arcs buckets : List ℕ) →
         tables (now (jobs .exit)) arcs buckets (now (queue .exit)) (now (workers .exit))
         ≡ applied (NotifyQueue job count next seat)

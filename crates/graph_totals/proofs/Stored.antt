@@ -1,4 +1,4 @@
--- The stored minutes: a part of the table of jobs, and what they say of its board. Assumes nothing.
+-- The stored minutes: a part of the table of jobs, and what they say of its board.
 use mathlib.Core.Path.{_≡_, refl}
 use mathlib.Core.Bool.{Bool, true, false, _&&_, and-eq-true-iff, and-false}
 use mathlib.Core.List.{List}
@@ -8,18 +8,18 @@ use borrow.Author.Tests.{leb-true}
 use lib.Dec.{leb}
 use lib.ListN.{length, take, drop}
 use lib.Seq.{drop-cons}
-use Rattle.numbers.specs.Numbers.{damaged, wrongSize}
-use Rattle.basics.specs.Base.{pick}
-use Rattle.minutes.specs.Rising.{isRising}
-use Rattle.minutes.specs.Judged.{noMinutes, judgedAs, judgedMinutes}
-use Rattle.minutes.specs.declared.GraphMinutes.{GraphMinutes}
-use Rattle.terms.specs.Terms.{withinLimits}
-use Rattle.terms.specs.declared.Sizes.{Sizes}
-use Rattle.totals.specs.Board.{refused, totalsOf}
-use Rattle.totals.specs.declared.Totals.{Totals}
-use Rattle.words.specs.Columns.{header, cells}
-use Rattle.words.specs.Layout.{jobShape, need, sizesKept, storedMinutes, MADE}
-use Rattle.graph_board.specs.Board.{jobsFit, graphRows, graphMinutes, graphTotals}
+use Rattle.def_numbers.specs.Numbers.{damaged, wrongSize}
+use Rattle.def_basics.specs.Base.{pick}
+use Rattle.def_minutes.specs.Rising.{isRising}
+use Rattle.def_minutes.specs.Judged.{noMinutes, judgedAs, judgedMinutes}
+use Rattle.def_minutes.specs.declared.GraphMinutes.{GraphMinutes}
+use Rattle.def_terms.specs.Terms.{withinLimits}
+use Rattle.def_terms.specs.declared.Sizes.{Sizes}
+use Rattle.def_totals.specs.Board.{refused, totalsOf}
+use Rattle.def_totals.specs.declared.Totals.{Totals}
+use Rattle.def_words.specs.Columns.{header, cells}
+use Rattle.def_words.specs.Layout.{jobShape, need, sizesKept, storedMinutes, MADE}
+use Rattle.def_graph_board.specs.Board.{jobsFit, graphRows, graphMinutes, graphTotals}
 
 -- words of a table are a part of it
 pub cells-part : (l : List ℕ) (i n : ℕ) → i + n ≤ length l → take n (drop i l) ≡ cells (header l) i n

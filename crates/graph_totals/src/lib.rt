@@ -1,16 +1,16 @@
 // The minutes that a graph stores, and the board of totals over its own jobs by them: the label and class of each job
-// that was made. Follows docs/RULES.md, "The board and the day list" and "Turned-away calls". Assumes nothing.
+// that was made. Follows docs/RULES.md, "The board and the day list" and "Turned-away calls".
 ghost use mathlib.Core.Path.{_≡_};
-ghost use Rattle.graph_board.specs.Board.{jobsFit, graphMinutes, graphTotals};
+ghost use Rattle.def_graph_board.specs.Board.{jobsFit, graphMinutes, graphTotals};
+use def_minutes::GraphMinutes;
+use def_numbers::*;
+use def_terms::Sizes;
+use def_totals::Totals;
+use def_totals::blank;
 use graph_sizes::need;
 use graph_sizes::within_limits;
 use graph_words::header;
 use graph_words::layout::*;
-use minutes::GraphMinutes;
-use numbers::*;
-use terms::Sizes;
-use totals::Totals;
-use totals::blank;
 use totals_of_words::of_table;
 
 // The sizes are within their limits and are the ones laid out, and the table of jobs is long enough for them.
@@ -33,9 +33,9 @@ pub fn minutes_of_graph(sizes: Sizes, jobs: &[u32]) -> GraphMinutes
     if fit {
         let from = MINUTES as usize;
         let end = JOB_HEAD as usize;
-        minutes::judged(DAMAGED, &jobs[from..end])
+        def_minutes::judged(DAMAGED, &jobs[from..end])
     } else {
-        minutes::none(WRONG_SIZE)
+        def_minutes::none(WRONG_SIZE)
     }
 }
 

@@ -1,4 +1,4 @@
--- That the place of a word fits 64 bits. Assumes nothing.
+-- That the offset of a word fits 64 bits.
 use Prim.Native.Nat.{ℕ, _*_, _^_, _≤_, _<_}
 use native.Mathlib.Nat.{mul-le-mul}
 use native.Mathlib.Omega.{arith}

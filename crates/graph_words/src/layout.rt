@@ -1,5 +1,5 @@
-// The numbers of the tables' layout, with the values that specs/Layout of `words` gives them. Follows docs/RULES.md,
-// "Tables and their measures". Assumes nothing.
+// The numbers of the tables' layout, with the values that specs/Layout of `def_words` gives them. Follows
+// docs/RULES.md, "Tables and their measures".
 
 // No place.
 pub const NONE: u32 = 4294967295;
@@ -37,7 +37,7 @@ pub const NEXT: u32 = 7;
 
 pub const OUTCOME: u32 = 8;
 
-pub const MARK: u32 = 9;
+pub const SPOILED: u32 = 9;
 
 // A job's labels.
 pub const UNEXECUTED: u32 = 0;
@@ -53,13 +53,13 @@ pub const DEPENDENT: u32 = 0;
 
 pub const AFTER: u32 = 1;
 
-// The counters of the queue, and the fields of a place: its cell, the slot of the index that shares its record, and the
-// place's own position, which is the slot that holds it.
+// The counters of the queue, and the fields of a cell: its job, the slot of the index that shares its record, and the
+// cell's own position, which is the slot that holds it.
 pub const TAKEN: u32 = 0;
 
 pub const PUT: u32 = 1;
 
-pub const CELL: u32 = 0;
+pub const QUEUED: u32 = 0;
 
 pub const SLOT: u32 = 1;
 

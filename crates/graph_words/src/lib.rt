@@ -3,9 +3,9 @@
 ghost use mathlib.Core.Path.{_≡_};
 ghost use Prim.Native.Nat.{_+_, _-_};
 ghost use lib.ListN.{getD, set};
-ghost use Rattle.words.specs.Columns.{columns, put, header, putHeader};
-ghost use Rattle.words.specs.Layout.{jobShape, arcShape, bucketShape, queueShape, workerShape, NAMES};
-ghost use Rattle.words.specs.Words.{putCount, putOutcome};
+ghost use Rattle.def_words.specs.Columns.{columns, put, header, putHeader};
+ghost use Rattle.def_words.specs.Layout.{jobShape, arcShape, bucketShape, queueShape, workerShape, NAMES, NEWEST};
+ghost use Rattle.def_words.specs.Words.{putCount, putOutcome};
 
 pub mod layout;
 
@@ -71,14 +71,14 @@ pub fn put_job(jobs: &mut [u32], job: u32, field: u32, v: u32)
     put_column(jobs, JOB_HEAD, JOB_WIDTH, job, field, v);
 }
 
-// A job's count, and its mark where the note is 1. The mark is not read.
+// A job's count, and its spoiled word where the note is 1. That word is not read.
 pub fn put_count(jobs: &mut [u32], job: u32, count: u32, note: u32)
     ensures { λ _. ⌜ now (jobs .exit) ≡ putCount (now (jobs .entry)) job count note ⌝ }
 {
     put_job(jobs, job, COUNT, count);
     let spoils = note == 1;
     if spoils {
-        put_job(jobs, job, MARK, 1);
+        put_job(jobs, job, SPOILED, 1);
     }
 }
 
@@ -104,28 +104,28 @@ pub fn put_arc(arcs: &mut [u32], arc: u32, field: u32, v: u32)
 
 // The newest job of a bucket.
 pub fn bucket_word(buckets: &[u32], bucket: u32) -> u32
-    ensures { λ r. ⌜ r ≡ columns bucketShape (now (buckets .entry)) 0 bucket ⌝ }
+    ensures { λ r. ⌜ r ≡ columns bucketShape (now (buckets .entry)) NEWEST bucket ⌝ }
 {
     column(buckets, BUCKET_HEAD, BUCKET_WIDTH, bucket, 0)
 }
 
 pub fn put_bucket(buckets: &mut [u32], bucket: u32, v: u32)
-    ensures { λ _. ⌜ now (buckets .exit) ≡ put bucketShape (now (buckets .entry)) bucket 0 v ⌝ }
+    ensures { λ _. ⌜ now (buckets .exit) ≡ put bucketShape (now (buckets .entry)) bucket NEWEST v ⌝ }
 {
     put_column(buckets, BUCKET_HEAD, BUCKET_WIDTH, bucket, 0, v);
 }
 
-// The cell or the position of a place of the queue, or the slot of the index that shares its record.
-pub fn queue_word(queue: &[u32], place: u32, field: u32) -> u32
-    ensures { λ r. ⌜ r ≡ columns queueShape (now (queue .entry)) field place ⌝ }
+// The job or the position of a cell of the queue, or the slot of the index that shares its record.
+pub fn queue_word(queue: &[u32], cell: u32, field: u32) -> u32
+    ensures { λ r. ⌜ r ≡ columns queueShape (now (queue .entry)) field cell ⌝ }
 {
-    column(queue, QUEUE_HEAD, QUEUE_WIDTH, place, field as usize)
+    column(queue, QUEUE_HEAD, QUEUE_WIDTH, cell, field as usize)
 }
 
-pub fn put_queue(queue: &mut [u32], place: u32, field: u32, v: u32)
-    ensures { λ _. ⌜ now (queue .exit) ≡ put queueShape (now (queue .entry)) place field v ⌝ }
+pub fn put_queue(queue: &mut [u32], cell: u32, field: u32, v: u32)
+    ensures { λ _. ⌜ now (queue .exit) ≡ put queueShape (now (queue .entry)) cell field v ⌝ }
 {
-    put_column(queue, QUEUE_HEAD, QUEUE_WIDTH, place, field, v);
+    put_column(queue, QUEUE_HEAD, QUEUE_WIDTH, cell, field, v);
 }
 
 pub fn worker_word(workers: &[u32], worker: u32, field: u32) -> u32

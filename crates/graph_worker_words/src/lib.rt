@@ -1,13 +1,14 @@
 // What a step stores in its worker's record: the call goes on, or ends and leaves the worker idle. Follows
-// docs/RULES.md, "Steps". Assumes nothing.
+// docs/RULES.md, "Steps".
 ghost use mathlib.Core.Path.{_≡_};
 ghost use Prim.Native.Nat.{_+_, _<_, _≤_};
 ghost use lib.Dec.{eqb};
-ghost use Rattle.basics.specs.Base.{pick};
-ghost use Rattle.words.specs.Columns.{columns, put};
-ghost use Rattle.words.specs.Layout.{none, workerShape, PHASE, HELD, LIST-COUNT, TALLY, PLACE, OWN-JOB, OWN-ARC, NOTE};
-ghost use Rattle.words.specs.Layout.{IDLE, LINKING, NOTIFYING, bareWorker};
-ghost use Rattle.words.specs.Words.{putWorker, firstArc, noted, markedWorker};
+ghost use Rattle.def_basics.specs.Base.{pick};
+ghost use Rattle.def_words.specs.Columns.{columns, put};
+ghost use Rattle.def_words.specs.Layout.{none, workerShape, PHASE, HELD, LIST-COUNT, TALLY, PLACE, OWN-JOB, OWN-ARC};
+ghost use Rattle.def_words.specs.Layout.{NOTE};
+ghost use Rattle.def_words.specs.Layout.{IDLE, LINKING, NOTIFYING, bareWorker};
+ghost use Rattle.def_words.specs.Words.{putWorker, firstArc, noted, markedWorker};
 use graph_records::put_bare_worker;
 use graph_words::layout::*;
 use graph_words::put_worker;

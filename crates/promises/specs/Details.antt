@@ -11,40 +11,41 @@ use mathlib.Core.Option.{none, some}
 use Prim.Native.Nat.{ℕ, suc, _+_, _*_, _^_, _%_, _≤_, _<_}
 use lib.ListN.{length, getD}
 use lib.Seq.{sets}
-use Rattle.numbers.specs.Numbers.{mostNames, classes, wrongSize, damaged, halfDone, workerIdle, mostWorkers}
-use Rattle.numbers.specs.Numbers.{mostDayList}
-use Rattle.basics.specs.Base.{pick, repeats, contains, occurrences}
-use Rattle.bucket.specs.Bucket.{bucketOf}
-use Rattle.minutes.specs.Minutes.{fixedMinutes}
-use Rattle.minutes.specs.Judged.{allMinutes, noMinutes}
-use Rattle.minutes.specs.Rising.{isRising, SixteenRising, rising-means}
-use Rattle.terms.specs.Terms.{Arguments, withinLimits, sameSizes, bit, argumentsWrong, settles}
-use Rattle.terms.specs.Terms.{Finish, finishOf, listed}
-use Rattle.terms.specs.Runs.{Item, postAdd, postFinish, step, get, load, sizesOf, workerOf, isLoad, outcome, after}
-use Rattle.terms.specs.Runs.{events, Outcome}
-use Rattle.terms.specs.Seen.{idle}
-use Rattle.terms.specs.declared.Sizes.{Sizes}
-use Rattle.terms.specs.declared.HandOut.{HandOut}
-use Rattle.terms.specs.declared.Answer.{Answer}
-use Rattle.terms.specs.declared.Answer.the-variants.{Laid, Posted, Ended, NoneReady, Handed, Refused}
-use Rattle.heap.specs.Compared.{Alike}
-use Rattle.words.specs.Layout.{Tables, View, view, workerShape, NAME, LABEL, CLASS, DEPENDENT, AFTER, HELD, LIST-COUNT}
-use Rattle.words.specs.Layout.{TALLY, OWN-JOB, OWN-ARC, NAMES, IDLE, NOTIFYING, bareWorker, jobShape, storedMinutes}
-use Rattle.words.specs.Layout.{OUTCOME, MARK, NOTE}
-use Rattle.words.specs.Layout as words
-use Rattle.words.specs.Columns.{columns, header}
-use Rattle.words.specs.Stored.{minutes-by-words, job-by-words}
-use Rattle.words.specs.Index.{rankOf, placeIn, waits, filled, firstSeat, seatFor, putSeat, comparedPlaces}
-use Rattle.words.specs.Words as by-words
-use Rattle.words.specs.Words.{nextJob, putWorker, finishWords, stepWords, getWords, loaded, perform, layOut}
-use Rattle.words.specs.Observed.{waiting, bucketFrom, newestFirst, seen}
-use Rattle.linearization.specs.Calls.{Reading, reading, Quiet, acceptedAdds, minutesLoaded, unread}
-use Rattle.linearization.specs.Calls as reading
-use Rattle.linearizability.specs.Demand.{addOf, PrerequisiteFailed, JobFinished}
-use Rattle.linearizability.specs.Stays.{Stays}
-use Rattle.words_history.specs.Lifted as lifted
-use Rattle.words_history.specs.Staying as staying
-use Rattle.words_history.specs.IndexExact.{IndexExact, index-exact}
+use Rattle.def_numbers.specs.Numbers.{mostNames, classes, wrongSize, damaged, halfDone, workerIdle, mostWorkers}
+use Rattle.def_numbers.specs.Numbers.{mostDayList}
+use Rattle.def_basics.specs.Base.{pick, repeats, contains, occurrences}
+use Rattle.def_bucket.specs.Bucket.{bucketOf}
+use Rattle.def_minutes.specs.Minutes.{fixedMinutes}
+use Rattle.def_minutes.specs.Judged.{allMinutes, noMinutes}
+use Rattle.def_minutes.specs.Rising.{isRising, SixteenRising, rising-means}
+use Rattle.def_terms.specs.Terms.{Arguments, withinLimits, sameSizes, bit, argumentsWrong, settles}
+use Rattle.def_terms.specs.Terms.{Finish, finishOf, listed}
+use Rattle.def_terms.specs.Runs.{Item, postAdd, postFinish, step, get, load, sizesOf, workerOf, isLoad, result, after}
+use Rattle.def_terms.specs.Runs.{events, Result}
+use Rattle.def_terms.specs.Seen.{idle}
+use Rattle.def_terms.specs.declared.Sizes.{Sizes}
+use Rattle.def_terms.specs.declared.HandOut.{HandOut}
+use Rattle.def_terms.specs.declared.Answer.{Answer}
+use Rattle.def_terms.specs.declared.Answer.the-variants.{Laid, Posted, Ended, NoneReady, Handed, Refused}
+use Rattle.def_heap.specs.Compared.{Alike}
+use Rattle.def_words.specs.Layout.{Tables, View, view, workerShape, NAME, LABEL, CLASS, DEPENDENT, AFTER, HELD}
+use Rattle.def_words.specs.Layout.{LIST-COUNT}
+use Rattle.def_words.specs.Layout.{TALLY, OWN-JOB, OWN-ARC, NAMES, IDLE, NOTIFYING, bareWorker, jobShape, storedMinutes}
+use Rattle.def_words.specs.Layout.{OUTCOME, SPOILED, NOTE, NEWEST}
+use Rattle.def_words.specs.Layout as words
+use Rattle.def_words.specs.Columns.{columns, header}
+use Rattle.def_words.specs.Stored.{minutes-by-words, job-by-words}
+use Rattle.def_words.specs.Index.{rankOf, cellIn, waits, filled, firstSeat, seatFor, putSeat, comparedCells}
+use Rattle.def_words.specs.Words as by-words
+use Rattle.def_words.specs.Words.{nextJob, putWorker, finishWords, stepWords, getWords, loaded, perform, layOut}
+use Rattle.def_words.specs.Observed.{waiting, bucketFrom, newestFirst, seen}
+use Rattle.def_call_order.specs.Calls.{Reading, reading, Quiet, acceptedAdds, minutesLoaded, unread}
+use Rattle.def_call_order.specs.Calls as reading
+use Rattle.def_demand.specs.Demand.{addOf, PrerequisiteFailed, JobFinished}
+use Rattle.def_demand.specs.Stays.{Stays}
+use Rattle.thm_words_history.specs.Lifted as lifted
+use Rattle.thm_words_history.specs.Staying as staying
+use Rattle.thm_words_history.specs.IndexExact.{IndexExact, index-exact}
 use Rattle.thm_words_need.specs.Parts.{needed, rest, joined, laidOut}
 use Rattle.thm_words_refusals.specs.Numbers as list
 use Rattle.thm_words_refusals.specs.Refusals.{ends, wordsOf, holdAfter}
@@ -55,38 +56,38 @@ use Rattle.thm_words_tests.specs.Judged.{TurnedAway}
 use Rattle.thm_words_tests.specs.Reach.{index, reach}
 use Rattle.thm_words_refusals.specs.Comes.{first-of-all, StepRefused, step-refused, MayGet, GetRefused, at-empty}
 use Rattle.thm_words_refusals.specs.Comes.{at-index, comes-early}
-use Rattle.thm_words_order.specs.Compared.{placesByGet, comparedByGet, few-compared, counted-at-index}
+use Rattle.thm_words_order.specs.Compared.{cellsByGet, comparedByGet, few-compared, counted-at-index}
 use Rattle.thm_words_order.specs.Compared.{none-before-index}
-use Rattle.thm_words_outcomes.specs.Outcomes.{FinishesExactly, item-finishes-exactly, TellsMark, item-tells-mark}
+use Rattle.thm_words_outcomes.specs.Outcomes.{FinishesExactly, item-finishes-exactly, TellsSpoiled, item-tells-spoiled}
 use Rattle.thm_words_outcomes.specs.OutcomeWords.{WritesOutcomes}
-use Rattle.bucket.specs.Laws.{Large, large-buckets}
-use Rattle.words.specs.declared.Found.{Found}
+use Rattle.def_bucket.specs.Laws.{Large, large-buckets}
+use Rattle.def_words.specs.declared.Found.{Found}
 use Rattle.thm_words_steps.specs.Buckets.{LooksFor, look-up-means, OneEnd, one-end}
 use Rattle.thm_words_steps.specs.LookUpSteps.{LooksUpExactly, item-looks-up-exactly}
 use Rattle.thm_words_steps.specs.EnterSteps.{EntersExactly, item-enters-exactly}
-use Rattle.sequential_model.specs.Book.{addEnd}
-use Rattle.arguments.specs.Lists.{Inside, contains-means, Twice, repeats-means, Times, occurrences-mean}
-use Rattle.arguments.specs.Judged.{Lists, listed-means, Judges, judged-alone}
-use Rattle.pinned.specs.AddPosts.{Post, AddsExactly, item-adds-exactly, adds-alone, ByFive, five-means}
-use Rattle.pinned.specs.Five as five
-use Rattle.pinned.specs.FreshWords.{LaysFresh, lays-alone}
-use Rattle.pinned.specs.Numerals.{Pinned, pinned}
-use Rattle.day_cases.specs.Decimal.{Decimal, decimal-means}
-use Rattle.day_cases.specs.DayRows.{DayRows}
-use Rattle.day_cases.specs.DayTold.{PrintsExactly, prints-exactly, prints-alone}
-use Rattle.day_cases.specs.DayCases.{day-rows}
-use Rattle.day_cases.specs.DayAnswers.{DayAnswers, day-answers, answers-alone}
-use Rattle.day_cases.specs.DayAnswers as day
-use Rattle.starred_cases.specs.StarredCases.{Starred, every-row}
-use Rattle.graph_board.specs.Lent.{LendsAlike, lends-alike}
-use Rattle.graph_board.specs.Within.{WithinNeed, totals-within-need, minutes-within-need}
+use Rattle.def_book.specs.Book.{addEnd}
+use Rattle.thm_arguments.specs.Lists.{Inside, contains-means, Twice, repeats-means, Times, occurrences-mean}
+use Rattle.thm_arguments.specs.Judged.{Lists, listed-means, Judges, judged-alone}
+use Rattle.thm_pinned.specs.AddPosts.{Post, AddsExactly, item-adds-exactly, adds-alone, ByFive, five-means}
+use Rattle.thm_pinned.specs.Five as five
+use Rattle.thm_pinned.specs.FreshWords.{LaysFresh, lays-alone}
+use Rattle.thm_pinned.specs.Numerals.{Pinned, pinned}
+use Rattle.thm_day_cases.specs.Decimal.{Decimal, decimal-means}
+use Rattle.thm_day_cases.specs.DayRows.{DayRows}
+use Rattle.thm_day_cases.specs.DayTold.{PrintsExactly, prints-exactly, prints-alone}
+use Rattle.thm_day_cases.specs.DayCases.{day-rows}
+use Rattle.thm_day_cases.specs.DayAnswers.{DayAnswers, day-answers, answers-alone}
+use Rattle.thm_day_cases.specs.DayAnswers as day
+use Rattle.thm_starred_cases.specs.StarredCases.{Starred, every-row}
+use Rattle.def_graph_board.specs.Lent.{LendsAlike, lends-alike}
+use Rattle.def_graph_board.specs.Within.{WithinNeed, totals-within-need, minutes-within-need}
 use Rattle.taskgraph_heard.specs.ToldApart.{ToldOneWay, told-one-way}
 use Rattle.taskgraph_heard.specs.Contracts.{Contracts, contracts}
 use Rattle.thm_words_loads.specs.Loads.{Stored, loaded-stores, LoadsExactly, item-loads-exactly}
 use Rattle.thm_words_loads.specs.MinutesElsewhere.{minutes-apart, minutes-stay}
 use Rattle.thm_words_queue.specs.Elsewhere.{withQueue, Elsewhere, elsewhere}
 use Rattle.thm_words_order.specs.IndexFirst.{FirstTaken, first-taken, none-ready-empty}
-use Rattle.thm_words_order.specs.Looked.{eachWaits, isSeated, lookedByGet, takesFirst, lookedByEntry, mayEnter}
+use Rattle.thm_words_order.specs.Looked.{eachWaits, isSeated, lookedByGet, takesFirst, lookedByEntering, mayEnter}
 use Rattle.thm_words_order.specs.Classes.{ButClasses, Classed, withJobs, SameGet, get-by-classes}
 use Rattle.thm_words_steps.specs.LinkSteps.{LinksExactly, item-links-exactly}
 use Rattle.thm_words_steps.specs.MarkSteps.{MarksExactly, item-marks-exactly}
@@ -100,44 +101,44 @@ use Rattle.thm_words_queue.specs.Notified.{Lowers, Unlowered, Onward, NotifiesR
 use Rattle.thm_words_queue.specs.Notified.{notifies-seated}
 use Rattle.thm_words_order.specs.Order.{classAt, GoesFirst, rank-means}
 use Rattle.thm_words_order.specs.Taken.{GetsFirst, early-refuses, empty-none-ready, first-got}
-use Rattle.thm_words_order.specs.EntryReads.{SameCounters, SameSlots, seat-same}
+use Rattle.thm_words_order.specs.EnteringReads.{SameCounters, SameSlots, seat-same}
 use Rattle.thm_words_order.specs.GetReads.{first-seat-same, takes-same}
-use Rattle.words.specs.declared.Seat.{Seat}
-use Rattle.words.specs.declared.Seating.the-variants.{Seated}
-use Rattle.sheet_format.specs.Job.{Job}
-use Rattle.sheet_format.specs.NumberLaws.{Bytes}
-use Rattle.whole_words.specs.Whole.{wholeAdd, wholeFinish}
-use Rattle.day_rounds.specs.Rounds.{daySizes, argumentsOf, Holder, getRound, finishAll, rounds, runDay, handOuts}
-use Rattle.day_rounds.specs.Rounds.{unfinished}
-use Rattle.day_format.specs.Text.{decimal, leftWord, line, _␣_}
-use Rattle.day_format.specs.Day.{linesBefore, dayLines, dayText, dayList, printing}
-use Rattle.day_format.specs.declared.DayAnswer.the-variants.{Printed}
-use Rattle.day_history.specs.Theorem.{Begins, afterAdds, afterRounds}
-use Rattle.day_history.specs.Theorem as ends-of-day
-use Rattle.totals.specs.Board.{refused, totalsOf, totalsBy, totalsOfWords}
-use Rattle.totals.specs.Exactly.{RowsExactly, rows-exactly, fixed-rows, recordWords, words-exactly, odd-words}
-use Rattle.totals.specs.declared.JobRecord.{JobRecord}
-use Rattle.graph_board.specs.Board.{graphMinutes, graphTotals}
-use Rattle.graph_board.specs.Accounted.{Accounted}
-use Rattle.graph_board.specs.Exactly.{BoardsExactly, boards-exactly, MinutesExactly, minutes-exactly}
-use Rattle.board_history.specs.Minutes.{accounted, minutes-told, board-number}
-use Rattle.worker_state.specs.Held.{heldWords}
-use Rattle.worker_state.specs.Drained.{drainedWords}
-use Rattle.linearization.specs.Holds.{handedRead, heldRead}
-use Rattle.state_history.specs.Told.{told}
-use Rattle.state_history.specs.HeldExactly.{Ask, HeldExactly, held-exactly, only-held-words}
-use Rattle.state_history.specs.DrainedExactly.{AskDrained, DrainedExactly, drained-exactly-told, only-drained-words}
-use Rattle.state_history.specs.Need as state-need
-use Rattle.state_history.specs.Agrees as state-agrees
-use Rattle.state_history.specs.MinutesApart.{held-apart, drained-apart}
-use Rattle.state_history.specs.Theorem as state
-use Rattle.whole_words.specs.CallEnds.{AddAnswer}
-use Rattle.sheet_format.specs.Decode.{jobs}
-use Rattle.host_calls.specs.HostCalls.{HostCall, sheet, afterCalls}
-use Rattle.host_calls.specs.CallsDemand.{items, readMinutes, readCalls}
-use Rattle.calls_history.specs.WordsCalls.{turnedWords, answerWords}
-use Rattle.calls_history.specs.Theorem.{calls-demand, at-calls}
-use Rattle.calls_history.specs.Now.{Now}
+use Rattle.def_words.specs.declared.Seat.{Seat}
+use Rattle.def_words.specs.declared.Seating.the-variants.{Seated}
+use Rattle.def_sheets.specs.Job.{Job}
+use Rattle.def_sheets.specs.NumberLaws.{Bytes}
+use Rattle.def_whole_calls.specs.Whole.{wholeAdd, wholeFinish}
+use Rattle.def_day.specs.Rounds.{daySizes, argumentsOf, Holder, getRound, finishAll, rounds, runDay, handOuts}
+use Rattle.def_day.specs.Rounds.{unfinished}
+use Rattle.def_day_lines.specs.Text.{decimal, leftWord, line, _␣_}
+use Rattle.def_day_lines.specs.Day.{linesBefore, dayLines, dayText, dayList, printing}
+use Rattle.def_day_lines.specs.declared.DayAnswer.the-variants.{Printed}
+use Rattle.thm_day_history.specs.Theorem.{Begins, afterAdds, afterRounds}
+use Rattle.thm_day_history.specs.Theorem as ends-of-day
+use Rattle.def_totals.specs.Board.{refused, totalsOf, totalsBy, totalsOfWords}
+use Rattle.def_totals.specs.Exactly.{RowsExactly, rows-exactly, fixed-rows, recordWords, words-exactly, odd-words}
+use Rattle.def_totals.specs.declared.JobRecord.{JobRecord}
+use Rattle.def_graph_board.specs.Board.{graphMinutes, graphTotals}
+use Rattle.def_graph_board.specs.Accounted.{Accounted}
+use Rattle.def_graph_board.specs.Exactly.{BoardsExactly, boards-exactly, MinutesExactly, minutes-exactly}
+use Rattle.thm_board_history.specs.Minutes.{accounted, minutes-told, board-number}
+use Rattle.def_worker_state.specs.Held.{heldWords}
+use Rattle.def_worker_state.specs.Drained.{drainedWords}
+use Rattle.def_call_order.specs.Holds.{handedRead, heldRead}
+use Rattle.thm_state_history.specs.Told.{told}
+use Rattle.thm_state_history.specs.HeldExactly.{Ask, HeldExactly, held-exactly, only-held-words}
+use Rattle.thm_state_history.specs.DrainedExactly.{AskDrained, DrainedExactly, drained-exactly-told, only-drained-words}
+use Rattle.thm_state_history.specs.Need as state-need
+use Rattle.thm_state_history.specs.Agrees as state-agrees
+use Rattle.thm_state_history.specs.MinutesApart.{held-apart, drained-apart}
+use Rattle.thm_state_history.specs.Theorem as state
+use Rattle.def_whole_calls.specs.CallEnds.{AddAnswer}
+use Rattle.def_sheets.specs.Decode.{jobs}
+use Rattle.def_host_calls.specs.HostCalls.{HostCall, sheet, afterCalls}
+use Rattle.def_host_calls.specs.CallsDemand.{items, readMinutes, readCalls}
+use Rattle.thm_calls_history.specs.WordsCalls.{turnedWords, answerWords}
+use Rattle.thm_calls_history.specs.Theorem.{calls-demand, at-calls}
+use Rattle.thm_calls_history.specs.Now.{Now}
 
 -- ---- of every list of calls from tables that were laid out, whatever they held before
 module _ (s : Sizes) (t : Tables) (laid : layOut s t .answer ≡ Laid) (calls : List HostCall) where
@@ -202,24 +203,24 @@ module _ (s : Sizes) (t : Tables) (laid : layOut s t .answer ≡ Laid) (calls : 
 
   -- and a bucket's list holds exactly the jobs of its names, newest first.
   pub a-bucket-holds-its-jobs : (k : ℕ) → k < 2 ^ s .bits
-      → bucketFrom (view now) (view now .bucket 0 k)
+      → bucketFrom (view now) (view now .bucket NEWEST k)
       ≡ newestFirst (λ j. bucketOf (view now .job NAME j) (s .bits)) k (view now .made)
   a-bucket-holds-its-jobs = rw (N .here) (lifted.newest-first s t laid (N .items))
 
-  -- ---- outcomes. No later item takes a mark away, changes the mark of a job that has entered the queue, or the
-  -- outcome of a finished job. (Later whole calls count as the items that they are worth.)
-  pub marks-and-outcomes-stay : (more : List Item) → Stays perform seen fresh worthOf more
-  marks-and-outcomes-stay = staying.stays s t laid worthOf
+  -- ---- outcomes. No later item makes a spoiled job unspoiled, changes the spoiled word of a job that has entered the
+  -- queue, or the outcome of a finished job. (Later whole calls count as the items that they are worth.)
+  pub spoiled-words-and-outcomes-stay : (more : List Item) → Stays perform seen fresh worthOf more
+  spoiled-words-and-outcomes-stay = staying.stays s t laid worthOf
 
   -- "the words of outcome, mark and note are 0 or 1".
-  pub outcomes-marks-and-notes-are-0-or-1 :
-      ((j : ℕ) → j < s .jobs → (view now .job OUTCOME j ≤ 1) × (view now .job MARK j ≤ 1))
+  pub outcomes-spoiled-words-and-notes-are-0-or-1 :
+      ((j : ℕ) → j < s .jobs → (view now .job OUTCOME j ≤ 1) × (view now .job SPOILED j ≤ 1))
       × ((w : ℕ) → w < s .workers → view now .worker NOTE w ≤ 1)
-  outcomes-marks-and-notes-are-0-or-1 =
+  outcomes-spoiled-words-and-notes-are-0-or-1 =
       rw (N .here) (lifted.job-bits s t laid (N .items), lifted.note-bit s t laid (N .items))
 
   -- ---- a district's minutes always rise, each from 1 to 1,440. (That they are those of the last load that was
-  -- accepted: `minutes` in the demand.)
+  -- accepted: `def_minutes` in the demand.)
   pub the-minutes-always-rise : SixteenRising (storedMinutes (now .jobs))
   the-minutes-always-rise = rw (N .here) (lifted.minutes-rise s t laid (N .items))
 
@@ -243,23 +244,23 @@ module _ (s : Sizes) (t : Tables) (laid : layOut s t .answer ≡ Laid) (calls : 
       rw (calls-demand s t laid calls .leaves, loads) (minutes-told s t laid worthOf)
 
   -- ---- a worker that restarts is told what calls and replies alone say: the job that was handed out to it last, with
-  -- the name and the mark that the get told, unless a finish of it was accepted since, and then none; and its call half
-  -- done, of an add the name too. Whatever sizes and worker it asks with: 1 unless the sizes are those laid out, then 2
-  -- unless w is below P.
+  -- the name that the get told, and spoiled or not as it told, unless a finish of it was accepted since, and then none;
+  -- and its call half done, of an add the name too. Whatever sizes and worker it asks with: 1 unless the sizes are
+  -- those laid out, then 2 unless w is below P.
   pub a-worker-is-told-what-it-holds : (q : Sizes) (w : ℕ) → heldWords q now w ≡ told q s read w
   a-worker-is-told-what-it-holds = rw (N .here, N .read) (state.held s t laid (N .items))
 
-  -- The name is that of the job's add, and the mark is the one that is seen now.
+  -- The name is that of the job's add, and the spoiled word is the one that is seen now.
   pub a-hand-out-still-holds : (w : ℕ) (o : HandOut) → w < s .workers → handedRead read w ≡ some o
       → (o .job < length adds)
       × (o .name ≡ addOf adds (o .job) .name)
-      × (seen now .job (o .job) .mark ≡ bit (o .spoiled))
+      × (seen now .job (o .job) .spoiled ≡ bit (o .spoiled))
   a-hand-out-still-holds = rw (N .here, N .read) (state.handed-shown s t laid (N .items))
 
-  -- The mark that it is told is complete: it says whether a prerequisite of the held job failed.
-  pub a-held-jobs-mark-is-complete : (w p : ℕ) → w < s .workers → seen now .held w ≡ some p
-      → (seen now .job p .mark ≡ 1) ↔ PrerequisiteFailed (seen now) adds p
-  a-held-jobs-mark-is-complete = rw (N .here, N .read) (state.held-mark s t laid (N .items))
+  -- The spoiled word that it is told is complete: it says whether a prerequisite of the held job failed.
+  pub a-held-jobs-spoiled-word-is-complete : (w p : ℕ) → w < s .workers → seen now .held w ≡ some p
+      → (seen now .job p .spoiled ≡ 1) ↔ PrerequisiteFailed (seen now) adds p
+  a-held-jobs-spoiled-word-is-complete = rw (N .here, N .read) (state.held-spoiled s t laid (N .items))
 
   -- What is seen of its hold is the same.
   pub a-hold-is-read-off-the-calls : (w : ℕ) → w < s .workers → seen now .held w ≡ heldRead read w
@@ -310,12 +311,12 @@ a-list-keeps-to-the-need = within.list-within
 -- ---- what is judged first, on ALL tables: "1, 2, 9 for the worker's own words", whatever the post, step or get, and
 -- nothing is changed;
 pub every-call-is-turned-away-by-1-2-9-first : (t : Tables) (i : Item) (n : ℕ) → isLoad i ≡ false
-    → TurnedAway (sizesOf i) t (workerOf i) n → perform t i ≡ outcome (Refused n 0) t
+    → TurnedAway (sizesOf i) t (workerOf i) n → perform t i ≡ result (Refused n 0) t
 every-call-is-turned-away-by-1-2-9-first = first-of-all
 
 -- then a step by 4 or by 9 for the counters (a post of an add and a get: below).
 pub a-step-is-refused-by-4-then-9 : (s : Sizes) (t : Tables) (w : ℕ) → Admitted s t w → (n : ℕ) → StepRefused s t w n
-    → perform t (step s w) ≡ outcome (Refused n 0) t
+    → perform t (step s w) ≡ result (Refused n 0) t
 a-step-is-refused-by-4-then-9 = step-refused
 
 -- ---- number 5, by places and numerals: "a class over 15, a grower over 65,535, or a list over 32, holding its own
@@ -362,16 +363,17 @@ a-whole-add-is-refused-by-5-exactly-if-wrong = five.whole-five-means
 pub the-book-refuses-by-5-exactly-if-wrong : five.Judged addEnd
 the-book-refuses-by-5-exactly-if-wrong = five.book-five-means
 
--- The post of a finish, by the words of the tables: 3, 11, 9 for a counter or the mark of the held job, and then "19,
--- good for a spoiled job", each "with nothing changed"; else it is posted, and its outcome is the worker's note.
+-- The post of a finish, by the words of the tables: 3, 11, 9 for a counter or the spoiled word of the held job, and
+-- then "19, good for a spoiled job", each "with nothing changed"; else it is posted, and its outcome is the worker's
+-- note.
 pub a-finish-is-answered-exactly : (s : Sizes) (t : Tables) (w : ℕ) (f : Finish)
     → FinishesExactly (λ q u v x. perform u (postFinish q v x)) s t w f
 a-finish-is-answered-exactly = item-finishes-exactly
 
--- "marked spoiled, which the get's answer tells": the mark of a job that is handed out is 0 or 1, and is told; any
--- other is 9, with nothing changed.
-pub a-get-tells-the-mark : (s : Sizes) (t : Tables) (w : ℕ) → TellsMark (λ q u v. perform u (get q v)) s t w
-a-get-tells-the-mark = item-tells-mark
+-- "marked spoiled, which the get's answer tells": the spoiled word of a job that is handed out is 0 or 1, and is told;
+-- any other is 9, with nothing changed.
+pub a-get-tells-a-spoiled-job : (s : Sizes) (t : Tables) (w : ℕ) → TellsSpoiled (λ q u v. perform u (get q v)) s t w
+a-get-tells-a-spoiled-job = item-tells-spoiled
 
 -- The walk for a name along its bucket, by the words of the tables, damaged ones too: it ends in one way and no other,
 -- and the words' look-up tells which. The buckets of four large names, which a multiplier near 2654435769 lacks.
@@ -402,22 +404,23 @@ pub a-link-is-made-exactly : (s : Sizes) (t : Tables) (w : ℕ)
     → LinksExactly (λ q u v. perform u (step q v)) s t w
 a-link-is-made-exactly = item-links-exactly
 
--- The mark of a finish: it reads the hold, the held job's label and its first arc, and not the job's mark; it keeps the
--- outcome.
+-- The mark of a finish: it reads the hold, the held job's label and its first arc, and not the job's spoiled word; it
+-- keeps the outcome.
 pub a-mark-is-made-exactly : (s : Sizes) (t : Tables) (w : ℕ)
     → MarksExactly (λ q u v. perform u (step q v)) s t w
 a-mark-is-made-exactly = item-marks-exactly
 
--- Which items write the words of outcome, mark and note, and what: no others do, and these do. "A link to a failed job
--- is noted beside the tally, and settling spoils; a failed finish's step for an arc spoils that arc's dependent".
-pub outcomes-marks-and-notes-are-written-so : WritesOutcomes perform
-outcomes-marks-and-notes-are-written-so = writes-outcomes
+-- Which items write the outcome, the spoiled word and the note, and what: no others do, and these do. "A link to a
+-- failed job is noted beside the tally, and settling spoils; a failed finish's step for an arc spoils that arc's
+-- dependent".
+pub outcomes-spoiled-words-and-notes-are-written-so : WritesOutcomes perform
+outcomes-spoiled-words-and-notes-are-written-so = writes-outcomes
 
 -- "`taken` and `put` are read only where the table below names them": a post, and a step that neither settles nor goes
 -- along an arc, do with any queue of the same length what they do with this one, and leave it as it is.
 pub the-queue-is-left-alone-elsewhere : (t : Tables) (q : List ℕ) → length q ≡ length (t .queue) → (i : Item)
     → Elsewhere t i
-    → perform (withQueue t q) i ≡ outcome (perform t i .answer) (withQueue (perform t i .state) q)
+    → perform (withQueue t q) i ≡ result (perform t i .answer) (withQueue (perform t i .state) q)
 the-queue-is-left-alone-elsewhere = elsewhere
 
 -- ---- a load, on ALL tables: "the order is 1, 17, 9, 18, with nothing changed"; it reads the sizes, the values and how
@@ -507,7 +510,7 @@ module _ (s : Sizes) (t : Tables) (w : ℕ) where
   -- the code counts them: `first_seat_counted` of graph_index, which finds the seat, answers how many pairs of ranks it
   -- compared, and its contract equates that with these; a get that does not come to the index compares none;
   pub the-pairs-are-those-that-the-code-counts :
-      (reach s t w ≡ index → length (comparedByGet s t w) ≡ length (comparedPlaces (view t)))
+      (reach s t w ≡ index → length (comparedByGet s t w) ≡ length (comparedCells (view t)))
       × (reach s t w ≢ index → comparedByGet s t w ≡ [])
   the-pairs-are-those-that-the-code-counts = (counted-at-index s t w, none-before-index s t w)
 
@@ -516,15 +519,15 @@ module _ (s : Sizes) (t : Tables) (w : ℕ) where
   -- but for the classes.
   pub no-other-pair-decides : (m : List ℕ) → ButClasses (t .jobs) m
       → Classed (view t) (lookedByGet (view t)) → Classed (view (withJobs t m)) (lookedByGet (view t))
-      → Alike (rankOf (view t)) (rankOf (view (withJobs t m))) (placesByGet s t w)
+      → Alike (rankOf (view t)) (rankOf (view (withJobs t m))) (cellsByGet s t w)
       → SameGet s t m w
   no-other-pair-decides m = get-by-classes s t m w
 
   -- How far a get comes decides what it does. "Order: 1, 2, 9 for the worker's own words", 3, 10, and 9 for the
   -- counters: the first of them that is met refuses it; over an empty queue it says "none ready"; nothing is changed.
   pub a-get-plans-by-how-far-it-comes :
-      ((n : ℕ) → GetRefused s t w n → getWords s t w ≡ outcome (Refused n 0) t)
-      × (MayGet s t w → view t .taken ≡ view t .put → getWords s t w ≡ outcome NoneReady t)
+      ((n : ℕ) → GetRefused s t w n → getWords s t w ≡ result (Refused n 0) t)
+      × (MayGet s t w → view t .taken ≡ view t .put → getWords s t w ≡ result NoneReady t)
   a-get-plans-by-how-far-it-comes =
       (λ n r. early-refuses s t w n (comes-early s t w n r), λ may e. empty-none-ready s t w (at-empty s t w may e))
 
@@ -534,14 +537,14 @@ module _ (s : Sizes) (t : Tables) (w : ℕ) where
     abbrev comes : reach s t w ≡ index
     comes = at-index s t w may some
 
-    pub a-wrong-index-that-is-seen-is-9 : takesFirst (view t) ≡ false → getWords s t w ≡ outcome (Refused damaged 0) t
+    pub a-wrong-index-that-is-seen-is-9 : takesFirst (view t) ≡ false → getWords s t w ≡ result (Refused damaged 0) t
     a-wrong-index-that-is-seen-is-9 = looked.refused-at-index s t w comes
 
     -- "and where no word read shows it, get takes the index's first", whatever the order of its slots: it "labels it
     -- executing and records it as held", sets its cell and its position to none, and one more was taken; every other
-    -- cell is as before. It writes "the slots on the way with the positions of their places, the last slot", and no
-    -- others: "the place in the last filled slot" goes down "while the lower rank of the places below is below its own;
-    -- that place moves up", and no further. The slots on the way are at most as many as the logarithm of the waiting
+    -- cell is as before. It writes "the slots on the way with the positions of their cells, the last slot", and no
+    -- others: "the cell in the last filled slot" goes down "while the lower rank of the cells below is below its own;
+    -- that cell moves up", and no further. The slots on the way are at most as many as the logarithm of the waiting
     -- jobs, rounded up, and one.
     pub a-get-takes-the-indexs-first : takesFirst (view t) ≡ true → GetsFirst t w (getWords s t w)
     a-get-takes-the-indexs-first = first-got s t w comes
@@ -555,9 +558,9 @@ module _ (s : Sizes) (t : Tables) (w : ℕ) where
 
   -- No step leaves a job out of the queue. A settling step that nothing turns away before its own words: "the remaining
   -- count falls by the tally, and the job enters the queue if the count is then 0 and either the tally is above 0 or d
-  -- is 0". It enters in the next place, whose cell it gets, and that place is in the slot of its seat, which is its
+  -- is 0". It enters in the next cell, and that cell is in the slot of its seat, which is its
   -- position; one more was put, and every other cell is as before. It writes "the slots on the way with the positions
-  -- of their places", and no others: it "goes up while its rank is below that of the place in the slot above, which
+  -- of their cells", and no others: it "goes up while its rank is below that of the cell in the slot above, which
   -- moves down", and no further, and the slots written are few.
   abbrev pub job : ℕ
   job = view t .worker OWN-JOB w
@@ -574,13 +577,13 @@ module _ (s : Sizes) (t : Tables) (w : ℕ) where
   -- "Number 9 is met if" there is no job, its count is off its range or would fall below 0, or a job that is to be
   -- queued has no seat;
   pub a-settling-step-that-meets-damage-is-9 : ComesToSettle s t w → Unsettled s (view t) job tally d
-      → stepWords s t w ≡ outcome (Refused damaged 0) t
+      → stepWords s t w ≡ result (Refused damaged 0) t
   a-settling-step-that-meets-damage-is-9 = settling-is-9 s t w
 
   -- and none is refused that has a seat.
   pub a-settling-job-with-a-seat-is-queued : ComesToSettle s t w → (c : ℕ) (e : Seat) → Settles (view t) job tally c
       → settles c tally d ≡ true → seatFor s (view t) job ≡ Seated e
-      → stepWords s t w ≡ outcome Ended (counted t w job c (putSeat (t .queue) e job) (putBack t w))
+      → stepWords s t w ≡ result Ended (counted t w job c (putSeat (t .queue) e job) (putBack t w))
   a-settling-job-with-a-seat-is-queued = settles-seated s t w
 
   -- The same of an arc's step: it "lowers that dependent's count by 1; a count that reaches 0 puts that job in the
@@ -595,63 +598,63 @@ module _ (s : Sizes) (t : Tables) (w : ℕ) where
   a-notified-job-is-queued = notifies-rightly s t w
 
   pub an-arcs-step-that-meets-damage-is-9 : Comes s t w NOTIFYING → Unlowered s (view t) arc
-      → stepWords s t w ≡ outcome (Refused damaged 0) t
+      → stepWords s t w ≡ result (Refused damaged 0) t
   an-arcs-step-that-meets-damage-is-9 = notifying-is-9 s t w
 
   pub a-notified-job-with-a-seat-is-queued : Comes s t w NOTIFYING → (e : Seat) → Lowers s (view t) arc 0
       → seatFor s (view t) dependent ≡ Seated e
       → (a : Answer) (r : List ℕ) → Onward t w (view t .arc AFTER arc) a r
-      → stepWords s t w ≡ outcome a (counted t w dependent 0 (putSeat (t .queue) e dependent) r)
+      → stepWords s t w ≡ result a (counted t w dependent 0 (putSeat (t .queue) e dependent) r)
   a-notified-job-with-a-seat-is-queued = notifies-seated s t w
 
 module _ (v : View) where
-  -- A lower rank means a higher class, or an equal class and an earlier place, for classes and places within their
+  -- A lower rank means a higher class, or an equal class and an earlier cell, for classes and cells within their
   -- limits. (Minutes rise with the class: minutes, specs/Rising.antt.)
   pub a-lower-rank-goes-first : (p q : ℕ) → classAt v p ≤ 15 → classAt v q ≤ 15 → p < 4096 → q < 4096
       → (rankOf v p < rankOf v q) ↔ GoesFirst v p q
   a-lower-rank-goes-first = rank-means v
 
-  -- "A slot waits if its place was put, that place's position is the slot, and its cell has a job that was made, of a
-  -- class within its limit. So no place is in two slots that wait."
+  -- "A slot waits if its cell was put, that cell's position is the slot, and it has a job that was made, of a
+  -- class within its limit. So no cell is in two slots that wait."
   pub a-slot-waits-exactly : (i : ℕ) → (waits v i ≡ true) ↔ Waits v i
   a-slot-waits-exactly = waits-means v
 
-  pub no-place-is-in-two-slots-that-wait : (i k : ℕ) → waits v i ≡ true → waits v k ≡ true → placeIn v i ≡ placeIn v k
+  pub no-cell-is-in-two-slots-that-wait : (i k : ℕ) → waits v i ≡ true → waits v k ≡ true → cellIn v i ≡ cellIn v k
       → i ≡ k
-  no-place-is-in-two-slots-that-wait = one-slot v
+  no-cell-is-in-two-slots-that-wait = one-slot v
 
   -- A job that enters has a seat exactly if `taken` is at most `put`, there is room, its class is within the limit, and
   -- each slot that it looks at waits;
   pub a-job-is-seated-exactly : (s : Sizes) (j : ℕ)
-      → isSeated (seatFor s v j) ≡ (mayEnter s v j && eachWaits v (lookedByEntry v j))
-  a-job-is-seated-exactly s = looked.entry-exact s v
+      → isSeated (seatFor s v j) ≡ (mayEnter s v j && eachWaits v (lookedByEntering v j))
+  a-job-is-seated-exactly s = looked.entering-exact s v
 
-  -- then its seat is the next place of the queue, and the slot past the filled ones is where it starts.
-  pub a-seat-is-the-next-place : (s : Sizes) (j : ℕ) (e : Seat) → seatFor s v j ≡ Seated e → Next s v e
-  a-seat-is-the-next-place s = seat-next s v
+  -- then its seat is the next cell of the queue, and the slot past the filled ones is where it starts.
+  pub a-seat-is-the-next-cell : (s : Sizes) (j : ℕ) (e : Seat) → seatFor s v j ≡ Seated e → Next s v e
+  a-seat-is-the-next-cell s = seat-next s v
 
   -- No other word tells the seat than `made`, `taken`, `put`, the job's class, and the four words by which "a slot" is
   -- judged, of each slot that it looks at.
   pub no-other-word-tells-the-seat : (u : View) → SameCounters u v → (s : Sizes) (j : ℕ)
-      → u .job CLASS j ≡ v .job CLASS j → SameSlots u v (lookedByEntry v j)
+      → u .job CLASS j ≡ v .job CLASS j → SameSlots u v (lookedByEntering v j)
       → seatFor s u j ≡ seatFor s v j
   no-other-word-tells-the-seat u = seat-same u v
 
-  -- Nor does another word tell of a get whether it takes the first, and how the places move then, than these counters,
-  -- the four words of each slot that it looks at, and the label and the mark of the first job.
+  -- Nor does another word tell of a get whether it takes the first, and how the cells move then, than these counters,
+  -- the four words of each slot that it looks at, and the label and the spoiled word of the first job.
   pub no-other-word-tells-what-is-taken : (u : View) → SameCounters u v → SameSlots u v (lookedByGet v)
-      → u .job LABEL (nextJob v) ≡ v .job LABEL (nextJob v) → u .job MARK (nextJob v) ≡ v .job MARK (nextJob v)
+      → u .job LABEL (nextJob v) ≡ v .job LABEL (nextJob v) → u .job SPOILED (nextJob v) ≡ v .job SPOILED (nextJob v)
       → (firstSeat u ≡ firstSeat v) × (takesFirst u ≡ takesFirst v)
   no-other-word-tells-what-is-taken u C A e m = (first-seat-same u v C A, takes-same u v C A e m)
 
   -- None is without a seat in an index whose filled slots all wait, whatever their order.
-  pub slots-that-wait-are-trusted-by-entries : (s : Sizes) (j : ℕ) → mayEnter s v j ≡ true
+  pub slots-that-wait-are-trusted-by-entering : (s : Sizes) (j : ℕ) → mayEnter s v j ≡ true
       → ((k : ℕ) → k < filled v → waits v k ≡ true) → isSeated (seatFor s v j) ≡ true
-  slots-that-wait-are-trusted-by-entries s = looked.trusted-entry s v
+  slots-that-wait-are-trusted-by-entering s = looked.trusted-entering s v
 
-  -- The slots looked at, so the cost, grow with the logarithm of the waiting jobs, of an entry and of a get.
-  pub an-entry-looks-at-few-slots : (j k : ℕ) → filled v + 1 < 2 ^ suc k → length (lookedByEntry v j) ≤ k
-  an-entry-looks-at-few-slots = looked.log-by-entry v
+  -- The slots looked at, so the cost, grow with the logarithm of the waiting jobs, of a job that enters and of a get.
+  pub entering-looks-at-few-slots : (j k : ℕ) → filled v + 1 < 2 ^ suc k → length (lookedByEntering v j) ≤ k
+  entering-looks-at-few-slots = looked.log-by-entering v
 
   pub a-get-looks-at-few-slots : (k : ℕ) → filled v ≤ 2 ^ suc k → length (lookedByGet v) ≤ 2 + 2 * k
   a-get-looks-at-few-slots = looked.log-by-get v
@@ -706,11 +709,11 @@ pub drained-exactly-by-one-function-alone : (ask : AskDrained)
 drained-exactly-by-one-function-alone = only-drained-words
 
 -- One laying-out alone leaves a fresh graph (`a-fresh-graph-is-these-words` of Promises.antt).
-pub laid-so-by-one-laying-out-alone : (lay : Sizes → Tables → Outcome Tables)
+pub laid-so-by-one-laying-out-alone : (lay : Sizes → Tables → Result Tables)
     → ((s : Sizes) (t : Tables) → LaysFresh lay s t) → (s : Sizes) (t : Tables) → lay s t ≡ layOut s t
 laid-so-by-one-laying-out-alone = lays-alone
 
--- Every number, limit and place of a word, by numeral.
+-- Every number, limit and offset of a word, by numeral.
 pub the-numbers-are-these : Pinned
 the-numbers-are-these = pinned
 
@@ -753,7 +756,7 @@ module _ (workers : ℕ) (some : 1 ≤ workers) (few : workers ≤ mostWorkers) 
 
   -- each finish brings good, and no job is spoiled;
   pub no-job-of-the-day-fails : (j : ℕ) → j < view (afterRounds s limits js) .made
-      → (view (afterRounds s limits js) .job OUTCOME j ≡ 0) × (view (afterRounds s limits js) .job MARK j ≡ 0)
+      → (view (afterRounds s limits js) .job OUTCOME j ≡ 0) × (view (afterRounds s limits js) .job SPOILED j ≡ 0)
   no-job-of-the-day-fails = ends-of-day.none-failed-or-is-spoiled s limits js
 
   pub the-rounds-suffice : (k : ℕ)

@@ -2,52 +2,52 @@
 -- names where it was shown. All else that is shown stands in Details.antt, beside this file; nobody need read it to
 -- believe this. `docs/PROMISES.md` says which definitions a reader must believe for each part, and how many lines.
 -- "Laid out" means: `layOut s t` answered so, whatever the tables t held before. A call is a single item or a whole
--- call; what is read off calls and replies stands in host_calls, specs/CallsDemand.antt.
+-- call; what is read off calls and replies stands in def_host_calls, specs/CallsDemand.antt.
 use mathlib.Core.Path.{_≡_}
 use mathlib.Core.List.{List, map}
 use Prim.Native.Nat.{ℕ, _^_}
-use Rattle.basics.specs.Base.{pick}
-use Rattle.terms.specs.Runs.{Item, workerOf, after}
-use Rattle.terms.specs.declared.Sizes.{Sizes}
-use Rattle.terms.specs.declared.Answer.the-variants.{Laid, Refused}
-use Rattle.words.specs.Layout.{Tables}
-use Rattle.words.specs.Words.{perform, layOut}
-use Rattle.words.specs.Observed.{seen}
-use Rattle.linearizability.specs.LongFirst.{TakesLongest}
+use Rattle.def_basics.specs.Base.{pick}
+use Rattle.def_terms.specs.Runs.{Item, workerOf, after}
+use Rattle.def_terms.specs.declared.Sizes.{Sizes}
+use Rattle.def_terms.specs.declared.Answer.the-variants.{Laid, Refused}
+use Rattle.def_words.specs.Layout.{Tables}
+use Rattle.def_words.specs.Words.{perform, layOut}
+use Rattle.def_words.specs.Observed.{seen}
+use Rattle.def_demand.specs.LongFirst.{TakesLongest}
 use Rattle.thm_words_need.specs.Plans.{quitsBy}
 use Rattle.thm_words_refusals.specs.Numbers.{Fits}
 use Rattle.thm_words_refusals.specs.Numbers as list
 use Rattle.thm_words_refusals.specs.Refusals.{idled}
 use Rattle.thm_words_refusals.specs.Refusals as refusals
 use Rattle.thm_words_need.specs.Within as within
-use Rattle.sheet_format.specs.Job.{Job, Below}
-use Rattle.sheet_format.specs.NumberLaws.{Bytes}
-use Rattle.sheet_format.specs.Decode.{decodeSheet, jobs}
-use Rattle.host_calls.specs.HostCalls.{HostCall, replied, worth, replyWorth, afterCalls}
-use Rattle.host_calls.specs.CallsDemand.{CallsDemand}
-use Rattle.calls_history.specs.WordsCalls.{turnedWords, answerWords}
-use Rattle.calls_history.specs.Worth.{whole-is-worth}
-use Rattle.calls_history.specs.Theorem.{calls-demand}
-use Rattle.host_calls.specs.Audit.{Among, answersIn, HandsOutOnce, HandsOutFairly, ForgetsNone}
-use Rattle.host_calls.specs.Served.{ServesAll}
-use Rattle.calls_history.specs.AcceptedAdds.{serves-all}
-use Rattle.calls_history.specs.Question as question
-use Rattle.host_calls.specs.InTurn.{ByCount}
-use Rattle.calls_history.specs.NeverDamaged.{never-nine}
-use Rattle.calls_history.specs.EachEnds.{EachEnds, each-ends}
-use Rattle.calls_history.specs.InTurn as in-turn
-use Rattle.sheet_format.specs.SheetPromises as sheets
-use Rattle.sheet_format.specs.Reading.{SheetReadsExactly}
-use Rattle.sheet_format.specs.Writing.{WritesSheetExactly}
-use Rattle.sheet_format.specs.Write.{jobOf, entriesOf, writeSheet}
-use Rattle.sheet_format.specs.declared.SheetWrote.{SheetWrote}
+use Rattle.def_sheets.specs.Job.{Job, Below}
+use Rattle.def_sheets.specs.NumberLaws.{Bytes}
+use Rattle.def_sheets.specs.Decode.{decodeSheet, jobs}
+use Rattle.def_host_calls.specs.HostCalls.{HostCall, replied, worth, replyWorth, afterCalls}
+use Rattle.def_host_calls.specs.CallsDemand.{CallsDemand}
+use Rattle.thm_calls_history.specs.WordsCalls.{turnedWords, answerWords}
+use Rattle.thm_calls_history.specs.Worth.{whole-is-worth}
+use Rattle.thm_calls_history.specs.Theorem.{calls-demand}
+use Rattle.def_host_calls.specs.Audit.{Among, answersIn, HandsOutOnce, HandsOutFairly, ForgetsNone}
+use Rattle.def_host_calls.specs.Served.{ServesAll}
+use Rattle.thm_calls_history.specs.AcceptedAdds.{serves-all}
+use Rattle.thm_calls_history.specs.Question as question
+use Rattle.def_host_calls.specs.InTurn.{ByCount}
+use Rattle.thm_calls_history.specs.NeverDamaged.{never-nine}
+use Rattle.thm_calls_history.specs.EachEnds.{EachEnds, each-ends}
+use Rattle.thm_calls_history.specs.InTurn as in-turn
+use Rattle.def_sheets.specs.SheetPromises as sheets
+use Rattle.def_sheets.specs.Reading.{SheetReadsExactly}
+use Rattle.def_sheets.specs.Writing.{WritesSheetExactly}
+use Rattle.def_sheets.specs.Write.{jobOf, entriesOf, writeSheet}
+use Rattle.def_sheets.specs.declared.SheetWrote.{SheetWrote}
 use Rattle.thm_words_need.specs.Need.{KeepsToNeed}
-use Rattle.pinned.specs.FreshWords.{LaysFresh, lays-fresh}
+use Rattle.thm_pinned.specs.FreshWords.{LaysFresh, lays-fresh}
 use Rattle.taskgraph_heard.specs.ToldApart.{ToldApart, told-apart}
 use Rattle.taskgraph_answer.specs.WholeAnswers.{wholeOf, toldWhole}
-use Rattle.whole_answers.specs.Stopped.{TellsWhole, tells-whole}
-use Rattle.terms.specs.Terms.{argumentsWrong}
-use Rattle.arguments.specs.Judged.{Judges, wrong-means}
+use Rattle.thm_whole_answers.specs.Stopped.{TellsWhole, tells-whole}
+use Rattle.def_terms.specs.Terms.{argumentsWrong}
+use Rattle.thm_arguments.specs.Judged.{Judges, wrong-means}
 use lib.ListN.{take}
 
 -- ---- of every list of calls from tables that were laid out, whatever they held before: single posts, steps, gets and
@@ -85,8 +85,8 @@ module _ (s : Sizes) (t : Tables) (laid : layOut s t .answer ≡ Laid) (calls : 
   -- ---- DEMAND 3, whole. A call replies what its posts and steps answer, with no other worker's step between. Each
   -- item does and answers what the rules say; no job enters the ready queue twice, none before each of its
   -- prerequisites is marked finished, each once its add and the finishes of its prerequisites have ended; jobs, labels,
-  -- outcomes and holds and how each call ended are those of the plain book, and with no call half done counts, marks
-  -- and waiting jobs too.
+  -- outcomes and holds and how each call ended are those of the plain book, and with no call half done counts, spoiled
+  -- words and waiting jobs too.
   pub every-list-of-calls-is-right : CallsDemand perform turnedWords answerWords seen s fresh calls
   every-list-of-calls-is-right = calls-demand s t laid calls
 
@@ -122,7 +122,7 @@ module _ (t : Tables) (i : Item) where
   nothing-past-the-need-is-touched = within.keeps-to-need t i
 
 -- Laying out succeeds exactly if the sizes lie in their limits and each table is long enough; then the words needed are
--- a fresh graph, each word by its place and numeral, whatever they were, and the rest is as it was. Else it is refused
+-- a fresh graph, each word by its offset and numeral, whatever they were, and the rest is as it was. Else it is refused
 -- by 1, and nothing is changed. No table's length is.
 pub a-fresh-graph-is-these-words : (s : Sizes) (t : Tables) → LaysFresh layOut s t
 a-fresh-graph-is-these-words = lays-fresh

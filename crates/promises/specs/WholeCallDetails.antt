@@ -7,46 +7,46 @@ use mathlib.Core.Bool.{true, false}
 use mathlib.Core.List.{List, [], map}
 use Prim.Native.Nat.{ℕ, _+_, _*_, _%_, _≤_, _<_}
 use lib.ListN.{length, getD, take}
-use Rattle.numbers.specs.Numbers.{mostEntries, damaged, wrongSize, tooManyEntries, entryWords}
-use Rattle.basics.specs.Base.{contains}
-use Rattle.terms.specs.Terms.{Arguments, Finish, noArguments}
-use Rattle.terms.specs.declared.Sizes.{Sizes}
-use Rattle.terms.specs.declared.Answer.the-variants.{Laid, Going, Ended, Refused}
-use Rattle.words.specs.Layout.{Tables, none}
-use Rattle.words.specs.Words.{addWords, perform}
-use Rattle.sheet_format.specs.Job.{Job}
-use Rattle.sheet_format.specs.NumberLaws.{Bytes}
-use Rattle.sheet_format.specs.Decode.{decodeSheet, jobs, readSheet}
-use Rattle.day_rounds.specs.Rounds.{argumentsOf}
-use Rattle.whole_words.specs.Whole.{wholeAdd, wholeFinish}
-use Rattle.whole_words.specs.Sheet.{sheetOutcome, sheetWords}
-use Rattle.sheet_rows.specs.SheetRows.{addsOf, rowsWords}
-use Rattle.whole_stops.specs.StoppedSheet.{rowsAdded}
+use Rattle.def_numbers.specs.Numbers.{mostEntries, damaged, wrongSize, tooManyEntries, entryWords}
+use Rattle.def_basics.specs.Base.{contains}
+use Rattle.def_terms.specs.Terms.{Arguments, Finish, noArguments}
+use Rattle.def_terms.specs.declared.Sizes.{Sizes}
+use Rattle.def_terms.specs.declared.Answer.the-variants.{Laid, Going, Ended, Refused}
+use Rattle.def_words.specs.Layout.{Tables, none}
+use Rattle.def_words.specs.Words.{addWords, perform}
+use Rattle.def_sheets.specs.Job.{Job}
+use Rattle.def_sheets.specs.NumberLaws.{Bytes}
+use Rattle.def_sheets.specs.Decode.{decodeSheet, jobs, readSheet}
+use Rattle.def_day.specs.Rounds.{argumentsOf}
+use Rattle.def_whole_calls.specs.Whole.{wholeAdd, wholeFinish}
+use Rattle.def_whole_calls.specs.Sheet.{sheetResult, sheetWords}
+use Rattle.def_sheet_rows.specs.SheetRows.{addsOf, rowsWords}
+use Rattle.def_stops.specs.StoppedSheet.{rowsAdded}
 use Rattle.taskgraph_answer.specs.WholeAnswers.{wholeOf, toldWhole}
-use Rattle.calls_history.specs.FewSteps.{FewSteps, few-steps}
-use Rattle.calls_history.specs.WordsCalls.{answerWords}
-use Rattle.whole_answers.specs.Stopped.{Learns}
-use Rattle.whole_answers.specs.Stopped as stops
-use Rattle.whole_answers.specs.StoppedSheet.{before, addAt, StopsAt}
-use Rattle.whole_answers.specs.StoppedSheet as sheet-stops
-use Rattle.fused_words.specs.FusedWorker.{Admitted, isIdle, holdOf, idledWith}
-use Rattle.whole_answers.specs.Worker.{Back}
-use Rattle.whole_answers.specs.Numbers.{AddAnswer, FinishAnswer}
-use Rattle.whole_answers.specs.Numbers as numbers
-use Rattle.whole_answers.specs.Left.{addKeeps, addIdles, finishKeeps}
-use Rattle.whole_answers.specs.Left as left
-use Rattle.whole_answers.specs.SheetAdds.{afterAdds}
-use Rattle.whole_answers.specs.Sheets.{Stuck}
-use Rattle.whole_answers.specs.Sheets as sheets
-use Rattle.whole_answers.specs.SheetTurned as turned
-use Rattle.whole_answers.specs.InC.{EntryTold}
-use Rattle.whole_answers.specs.InC as rows
-use Rattle.whole_answers.specs.ReadRows as read
-use Rattle.whole_answers.specs.MinutesApart.{CallApart, SheetApart, add-apart, finish-apart, sheet-apart}
-use Rattle.whole_answers.specs.Within.{CallWithin}
-use Rattle.whole_answers.specs.Within as within
-use Rattle.whole_answers.specs.SheetWithin.{SheetWithin}
-use Rattle.whole_answers.specs.SheetWithin as sheet-within
+use Rattle.thm_calls_history.specs.FewSteps.{FewSteps, few-steps}
+use Rattle.thm_calls_history.specs.WordsCalls.{answerWords}
+use Rattle.thm_whole_answers.specs.Stopped.{Learns}
+use Rattle.thm_whole_answers.specs.Stopped as stops
+use Rattle.thm_whole_answers.specs.StoppedSheet.{before, addAt, StopsAt}
+use Rattle.thm_whole_answers.specs.StoppedSheet as sheet-stops
+use Rattle.def_fused.specs.FusedWorker.{Admitted, isIdle, holdOf, idledWith}
+use Rattle.thm_whole_answers.specs.Worker.{Back}
+use Rattle.thm_whole_answers.specs.Numbers.{AddAnswer, FinishAnswer}
+use Rattle.thm_whole_answers.specs.Numbers as numbers
+use Rattle.thm_whole_answers.specs.Left.{addKeeps, addIdles, finishKeeps}
+use Rattle.thm_whole_answers.specs.Left as left
+use Rattle.thm_whole_answers.specs.SheetAdds.{afterAdds}
+use Rattle.thm_whole_answers.specs.Sheets.{Stuck}
+use Rattle.thm_whole_answers.specs.Sheets as sheets
+use Rattle.thm_whole_answers.specs.SheetTurned as turned
+use Rattle.thm_whole_answers.specs.InC.{EntryTold}
+use Rattle.thm_whole_answers.specs.InC as rows
+use Rattle.thm_whole_answers.specs.ReadRows as read
+use Rattle.thm_whole_answers.specs.MinutesApart.{CallApart, SheetApart, add-apart, finish-apart, sheet-apart}
+use Rattle.thm_whole_answers.specs.Within.{CallWithin}
+use Rattle.thm_whole_answers.specs.Within as within
+use Rattle.thm_whole_answers.specs.SheetWithin.{SheetWithin}
+use Rattle.thm_whole_answers.specs.SheetWithin as sheet-within
 
 -- No whole call reads or changes the minutes that are stored: with any sixteen in their place it answers the same, and
 -- leaves the same but for them.
@@ -122,7 +122,7 @@ module _ (s : Sizes) (t : Tables) (w : ℕ) (l : List Arguments) where
 
   -- turned away, it answers no entry and changes nothing;
   pub a-sheet-turned-away-changes-nothing : sheetWords s t w l .number ≢ 0
-      → sheetWords s t w l ≡ sheetOutcome (sheetWords s t w l .number) [] t
+      → sheetWords s t w l ≡ sheetResult (sheetWords s t w l .number) [] t
   a-sheet-turned-away-changes-nothing = sheets.sheet-turned-away s t w l
 
   -- by any number but 16 it is turned away as any post of an add by this worker is: "1, 2, 9 for the worker's own
@@ -158,7 +158,7 @@ module _ (s : Sizes) (t : Tables) (w : ℕ) (l : List Arguments) where
 
 -- As a host has it: words that make no whole rows are 1, and else they are the sheet of their entries;
 module _ (s : Sizes) (t : Tables) (w : ℕ) (words : List ℕ) where
-  pub no-whole-rows-are-1 : length words % entryWords ≢ 0 → rowsWords s t w words ≡ sheetOutcome wrongSize [] t
+  pub no-whole-rows-are-1 : length words % entryWords ≢ 0 → rowsWords s t w words ≡ sheetResult wrongSize [] t
   no-whole-rows-are-1 = rows.rows-cut s t w words
 
   pub whole-rows-are-a-sheet : length words % entryWords ≡ 0 → rowsWords s t w words ≡ sheetWords s t w (addsOf words)

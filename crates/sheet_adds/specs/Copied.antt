@@ -1,4 +1,4 @@
--- A list copied into another from its start on, one element after another. Assumes nothing.
+-- A list copied into another from its start on, one element after another.
 use mathlib.Core.Path.{_≡_, sym, ap, _∙_}
 use mathlib.Core.List.{List, _++_, append-nil}
 use Prim.Native.Nat.{ℕ, suc, _+_, _≤_, _<_}

@@ -1,4 +1,4 @@
--- A sheet that is turned away, and one that is served. Assumes nothing.
+-- A sheet that is turned away, and one that is served.
 use mathlib.Core.Path.{_≡_, refl, sym, _∙_}
 use mathlib.Core.Bool.{Bool, true, false}
 use mathlib.Core.List.{List, [], _∷_, map}
@@ -7,19 +7,19 @@ use native.Mathlib.Omega.{arith}
 use lib.Dec.{eqb, ltb, leb}
 use lib.ListN.{length}
 use borrow.Author.Tests.{leb-true, ltb-true, ltb-false, ne-eqb}
-use Rattle.numbers.specs.Numbers.{mostEntries, wrongSize, entryWords}
-use Rattle.basics.specs.Base.{pick}
-use Rattle.terms.specs.Terms.{Arguments}
-use Rattle.terms.specs.declared.Sizes.{Sizes}
-use Rattle.words.specs.Layout.{Tables, view, PHASE, IDLE, sizesFit}
-use Rattle.words.specs.Words.{admitted, ownOk}
-use Rattle.sheet_format.specs.Write.{entriesFrom}
-use Rattle.whole_words.specs.Sheet.{sheetOutcome, judgedSheet, sheetWords}
-use Rattle.whole_stops.specs.StoppedSheet.{rowsStopped}
-use Rattle.fused_add_laws.specs.Sheets.{addEachIfIdle, servedIfIdle, judged-admitted, whole-sheet}
-use Rattle.sheet_rows.specs.Arguments.{argumentsOf}
-use Rattle.sheet_rows.specs.SheetRows.{addsOf, rowsWords, turnedAway, Added}
-use Rattle.sheet_rows.specs.declared.SheetAdded.{SheetAdded}
+use Rattle.def_numbers.specs.Numbers.{mostEntries, wrongSize, entryWords}
+use Rattle.def_basics.specs.Base.{pick}
+use Rattle.def_terms.specs.Terms.{Arguments}
+use Rattle.def_terms.specs.declared.Sizes.{Sizes}
+use Rattle.def_words.specs.Layout.{Tables, view, PHASE, IDLE, sizesFit}
+use Rattle.def_words.specs.Words.{admitted, ownOk}
+use Rattle.def_sheets.specs.Write.{entriesFrom}
+use Rattle.def_whole_calls.specs.Sheet.{sheetResult, judgedSheet, sheetWords}
+use Rattle.def_stops.specs.StoppedSheet.{rowsStopped}
+use Rattle.thm_fused_add.specs.Sheets.{addEachIfIdle, servedIfIdle, judged-admitted, whole-sheet}
+use Rattle.def_sheet_rows.specs.Arguments.{argumentsOf}
+use Rattle.def_sheet_rows.specs.SheetRows.{addsOf, rowsWords, turnedAway, Added}
+use Rattle.def_sheet_rows.specs.declared.SheetAdded.{SheetAdded}
 use Rattle.sheet_adds.specs.Stops.{stopIfIdle, fused-stop}
 
 -- ---- what is not turned away has few entries
@@ -44,7 +44,7 @@ few s t w n k j z =
 
 -- ---- by the number that judging gave
 pub turned : (s : Sizes) (t : Tables) (w : ℕ) (l : List Arguments) (n : ℕ) → n ≡ judgedSheet s t w (length l) → 0 < n
-    → sheetWords s t w l ≡ sheetOutcome n [] t
+    → sheetWords s t w l ≡ sheetResult n [] t
 unfolding servedIfIdle
 turned s t w l zero e h = absurd (omega arith)
 turned s t w l (suc n) e h = rw (whole-sheet s t w l, ← e) refl

@@ -1,28 +1,27 @@
--- The rows of a sheet that are left, with the numbers and places told so far: what is left makes the whole. Assumes
--- nothing.
+-- The rows of a sheet that are left, with the numbers and places told so far: what is left makes the whole.
 use mathlib.Core.Path.{_≡_, refl, ap}
 use mathlib.Core.List.{List, [], _∷_, map}
 use Prim.Native.Nat.{ℕ, suc, _+_, _-_}
 use native.Mathlib.Omega.{arith}
 use lib.ListN.{set}
-use Rattle.basics.specs.Base.{pick}
-use Rattle.terms.specs.Terms.{Arguments}
-use Rattle.terms.specs.Runs.{Outcome}
-use Rattle.terms.specs.declared.Sizes.{Sizes}
-use Rattle.words.specs.Layout.{Tables}
-use Rattle.sheet_format.specs.Write.{entryAt, entriesFrom}
-use Rattle.whole_words.specs.Sheet.{SheetOutcome}
-use Rattle.whole_stops.specs.Stopped.{stoppedBy}
-use Rattle.whole_stops.specs.StoppedSheet.{firstStop}
-use Rattle.fused_words.specs.FusedAdd.{addIfIdle}
-use Rattle.fused_add_laws.specs.Sheets.{addEachIfIdle}
-use Rattle.sheet_rows.specs.Arguments.{argumentsOf}
-use Rattle.sheet_rows.specs.SheetRows.{numberOf, placeOf, toldFrom, noEntries, Added}
-use Rattle.sheet_rows.specs.declared.SheetAdded.{SheetAdded}
+use Rattle.def_basics.specs.Base.{pick}
+use Rattle.def_terms.specs.Terms.{Arguments}
+use Rattle.def_terms.specs.Runs.{Result}
+use Rattle.def_terms.specs.declared.Sizes.{Sizes}
+use Rattle.def_words.specs.Layout.{Tables}
+use Rattle.def_sheets.specs.Write.{entryAt, entriesFrom}
+use Rattle.def_whole_calls.specs.Sheet.{SheetResult}
+use Rattle.def_stops.specs.Stopped.{stoppedBy}
+use Rattle.def_stops.specs.StoppedSheet.{firstStop}
+use Rattle.def_fused.specs.FusedAdd.{addIfIdle}
+use Rattle.thm_fused_add.specs.Sheets.{addEachIfIdle}
+use Rattle.def_sheet_rows.specs.Arguments.{argumentsOf}
+use Rattle.def_sheet_rows.specs.SheetRows.{numberOf, placeOf, toldFrom, noEntries, Added}
+use Rattle.def_sheet_rows.specs.declared.SheetAdded.{SheetAdded}
 use Rattle.sheet_adds.specs.Stops.{stopIfIdle, orFirst, first-of, or-none}
 
 -- n rows, from one on
-abbrev pub left : Sizes → ℕ → List ℕ → ℕ → ℕ → Tables → SheetOutcome
+abbrev pub left : Sizes → ℕ → List ℕ → ℕ → ℕ → Tables → SheetResult
 left s w rows row n t = addEachIfIdle s w (map argumentsOf (entriesFrom rows row n)) t
 
 abbrev pub stops : Sizes → ℕ → List ℕ → ℕ → ℕ → Tables → ℕ
@@ -33,11 +32,11 @@ pub record Told : Type 0 where
   pub added : SheetAdded
   pub state : Tables
 
-abbrev pub told : List ℕ → List ℕ → ℕ → ℕ → SheetOutcome → ℕ → Told
+abbrev pub told : List ℕ → List ℕ → ℕ → ℕ → SheetResult → ℕ → Told
 told numbers places k row o stop =
     record { added = toldFrom numbers places (orFirst k stop) row (o .answers); state = o .state }
 
-pub row-told : (s : Sizes) (w : ℕ) (rows : List ℕ) (row n m : ℕ) (t : Tables) (o : Outcome Tables)
+pub row-told : (s : Sizes) (w : ℕ) (rows : List ℕ) (row n m : ℕ) (t : Tables) (o : Result Tables)
     (numbers places : List ℕ) (k : ℕ)
     → m ≡ suc n → o ≡ addIfIdle s t w (argumentsOf (entryAt rows row))
     → told (set numbers row (numberOf (o .answer))) (set places row (placeOf (o .answer)))

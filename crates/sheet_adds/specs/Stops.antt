@@ -1,5 +1,5 @@
 -- The entry of a sheet that damage stops half done, by adds in one go: that of the adds run whole, for an admitted
--- worker. Assumes nothing.
+-- worker.
 use mathlib.Core.Path.{_≡_, refl, ap, _∙_}
 use mathlib.Core.Bool.{Bool, true, false}
 use mathlib.Core.List.{List, [], _∷_}
@@ -7,22 +7,22 @@ use Prim.Native.Nat.{ℕ, zero, suc}
 use native.Mathlib.Omega.{arith}
 use lib.Dec.{eqb}
 use borrow.Author.Tests.{ne-eqb}
-use Rattle.basics.specs.Base.{pick}
-use Rattle.terms.specs.Terms.{Arguments}
-use Rattle.terms.specs.Runs.{Outcome}
-use Rattle.terms.specs.declared.Sizes.{Sizes}
-use Rattle.words.specs.Layout.{Tables}
-use Rattle.whole_words.specs.Whole.{wholeAdd}
-use Rattle.whole_stops.specs.Stopped.{stoppedBy}
-use Rattle.whole_stops.specs.StoppedSheet.{firstStop}
-use Rattle.fused_words.specs.FusedWorker.{Admitted}
-use Rattle.fused_words.specs.FusedAdd.{addIfIdle}
-use Rattle.fused_add_laws.specs.Adds.{fused-add, still-admitted}
+use Rattle.def_basics.specs.Base.{pick}
+use Rattle.def_terms.specs.Terms.{Arguments}
+use Rattle.def_terms.specs.Runs.{Result}
+use Rattle.def_terms.specs.declared.Sizes.{Sizes}
+use Rattle.def_words.specs.Layout.{Tables}
+use Rattle.def_whole_calls.specs.Whole.{wholeAdd}
+use Rattle.def_stops.specs.Stopped.{stoppedBy}
+use Rattle.def_stops.specs.StoppedSheet.{firstStop}
+use Rattle.def_fused.specs.FusedWorker.{Admitted}
+use Rattle.def_fused.specs.FusedAdd.{addIfIdle}
+use Rattle.thm_fused_add.specs.Adds.{fused-add, still-admitted}
 
 abbrev pub stopIfIdle : Sizes → ℕ → ℕ → List Arguments → Tables → ℕ
 stopIfIdle s w i l t = firstStop (λ u a. addIfIdle s u w a) w i l t
 
-abbrev after : Tables → ℕ → ℕ → (Tables → ℕ) → Outcome Tables → ℕ
+abbrev after : Tables → ℕ → ℕ → (Tables → ℕ) → Result Tables → ℕ
 after t w i rest o = pick (stoppedBy t w o) (suc i) (rest (o .state))
 
 pub fused-stop : (s : Sizes) (w i : ℕ) (l : List Arguments) (t : Tables) → Admitted s t w

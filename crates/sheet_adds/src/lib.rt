@@ -1,25 +1,27 @@
 // The entries of a sheet's rows, added one after another by one worker, each whole. Follows docs/RULES.md, "Whole
-// calls". Assumes nothing.
+// calls".
 ghost use mathlib.Core.Path.{_≡_};
 ghost use Prim.Native.Nat.{_+_, _*_, _≤_, _<_};
 ghost use lib.ListN.{length, take, drop};
 ghost use mathlib.Core.List.{map};
-ghost use Rattle.numbers.specs.Numbers.{mostNames, mostEntries, entryWords};
-ghost use Rattle.basics.specs.Base.{pick};
-ghost use Rattle.terms.specs.Runs.{outcome};
-ghost use Rattle.words.specs.Layout.{atEntry, atExit};
-ghost use Rattle.sheet_format.specs.Write.{entryAt, entriesFrom};
-ghost use Rattle.fused_add_laws.specs.Sheets.{addEachIfIdle};
-ghost use Rattle.sheet_rows.specs.Arguments.{argumentsOf};
-ghost use Rattle.sheet_rows.specs.SheetRows.{Added, rowsWords};
-ghost use Rattle.whole_stops.specs.StoppedSheet.{rowsStopped};
+ghost use Rattle.def_numbers.specs.Numbers.{mostNames, mostEntries, entryWords};
+ghost use Rattle.def_basics.specs.Base.{pick};
+ghost use Rattle.def_terms.specs.Runs.{result};
+ghost use Rattle.def_words.specs.Layout.{asLent, asLeft};
+ghost use Rattle.def_sheets.specs.Write.{entryAt, entriesFrom};
+ghost use Rattle.thm_fused_add.specs.Sheets.{addEachIfIdle};
+ghost use Rattle.def_sheet_rows.specs.Arguments.{argumentsOf};
+ghost use Rattle.def_sheet_rows.specs.SheetRows.{Added, rowsWords};
+ghost use Rattle.def_stops.specs.StoppedSheet.{rowsStopped};
 ghost use Rattle.sheet_adds.specs.Stops.{stopIfIdle, orFirst};
+use def_numbers::ENTRY_WORDS;
+use def_numbers::WRONG_SIZE;
+use def_sheet_rows::SheetAdded;
+use def_sheets::Entry;
+use def_terms::Sizes;
 use fused_add::add_if_idle;
 use graph_words::layout::PHASE;
 use graph_words::worker_word;
-use numbers::ENTRY_WORDS;
-use numbers::WRONG_SIZE;
-use sheet_format::Entry;
 use sheet_judge::judge_sheet;
 use sheet_judge::number_of;
 use sheet_judge::place_of;
@@ -28,8 +30,6 @@ use sheet_limits::CLASS_WORD;
 use sheet_limits::COUNT_WORD;
 use sheet_limits::GROWER_WORD;
 use sheet_limits::NAMES_WORD;
-use sheet_rows::SheetAdded;
-use terms::Sizes;
 use worker_phase::stopped_as;
 
 // The names of a row, from a word on.
@@ -89,11 +89,11 @@ fn add_rows(
     count: usize,
 ) -> SheetAdded
     requires { ⌜ (count ≤ mostEntries) × (entryWords * count ≤ length (now rows)) ⌝ }
-    ensures { λ r. ⌜ Added r (atExit jobs arcs buckets queue workers)
+    ensures { λ r. ⌜ Added r (asLeft jobs arcs buckets queue workers)
         (stopIfIdle sizes worker 0 (map argumentsOf (entriesFrom (now (rows .entry)) 0 count))
-        (atEntry jobs arcs buckets queue workers))
+        (asLent jobs arcs buckets queue workers))
         (addEachIfIdle sizes worker (map argumentsOf (entriesFrom (now (rows .entry)) 0 count))
-        (atEntry jobs arcs buckets queue workers)) ⌝ }
+        (asLent jobs arcs buckets queue workers)) ⌝ }
 {
     let mut numbers: [u32; 64] = [0; 64];
     let mut places: [u32; 64] = [0; 64];
@@ -129,9 +129,9 @@ pub fn add_sheet(
     worker: u32,
     rows: &[u32],
 ) -> SheetAdded
-    ensures { λ r. ⌜ Added r (atExit jobs arcs buckets queue workers)
-        (rowsStopped sizes (atEntry jobs arcs buckets queue workers) worker (now (rows .entry)))
-        (rowsWords sizes (atEntry jobs arcs buckets queue workers) worker (now (rows .entry))) ⌝ }
+    ensures { λ r. ⌜ Added r (asLeft jobs arcs buckets queue workers)
+        (rowsStopped sizes (asLent jobs arcs buckets queue workers) worker (now (rows .entry)))
+        (rowsWords sizes (asLent jobs arcs buckets queue workers) worker (now (rows .entry))) ⌝ }
 {
     let whole = rows.len() % ENTRY_WORDS == 0;
     if whole {} else {

@@ -1,22 +1,21 @@
 // What turns a sheet of adds away, before any entry: it reads and judges, and stores nothing; and what is told of such
-// a sheet and of an entry. Follows docs/RULES.md, "Whole calls". Assumes nothing: the definitions hold of all tables
-// and arguments.
+// a sheet and of an entry. Follows docs/RULES.md, "Whole calls". The definitions hold of all tables and arguments.
 ghost use mathlib.Core.Path.{_≡_};
 ghost use lib.Dec.{leb, eqb};
-ghost use Rattle.numbers.specs.Numbers.{mostEntries, tooManyEntries, halfDone};
-ghost use Rattle.basics.specs.Base.{pick};
-ghost use Rattle.words.specs.Columns.{columns};
-ghost use Rattle.words.specs.Layout.{workerShape, PHASE, IDLE, atEntry};
-ghost use Rattle.whole_words.specs.Sheet.{judgedSheet};
-ghost use Rattle.sheet_rows.specs.SheetRows.{numberOf, placeOf, turnedAway};
+ghost use Rattle.def_numbers.specs.Numbers.{mostEntries, tooManyEntries, halfDone};
+ghost use Rattle.def_basics.specs.Base.{pick};
+ghost use Rattle.def_words.specs.Columns.{columns};
+ghost use Rattle.def_words.specs.Layout.{workerShape, PHASE, IDLE, asLent};
+ghost use Rattle.def_whole_calls.specs.Sheet.{judgedSheet};
+ghost use Rattle.def_sheet_rows.specs.SheetRows.{numberOf, placeOf, turnedAway};
+use def_numbers::*;
+use def_sheet_rows::SheetAdded;
+use def_terms::Answer;
+use def_terms::Sizes;
 use graph_own::own_ok;
 use graph_sizes::sizes_fit;
 use graph_words::layout::*;
 use graph_words::worker_word;
-use numbers::*;
-use sheet_rows::SheetAdded;
-use terms::Answer;
-use terms::Sizes;
 
 // What turns a sheet of so many entries away where the worker is known and sound.
 fn judge_admitted_sheet(workers: &[u32], worker: u32, entries: usize) -> u32
@@ -43,7 +42,7 @@ pub fn judge_sheet(
     worker: u32,
     entries: usize,
 ) -> u32
-    ensures { λ r. ⌜ r ≡ judgedSheet sizes (atEntry jobs arcs buckets queue workers) worker entries ⌝ }
+    ensures { λ r. ⌜ r ≡ judgedSheet sizes (asLent jobs arcs buckets queue workers) worker entries ⌝ }
 {
     let fit = sizes_fit(sizes, jobs, arcs, buckets, queue, workers);
     if fit {

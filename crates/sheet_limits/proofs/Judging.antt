@@ -1,4 +1,4 @@
--- What a judgement says of the entry, and of the sheet, that was judged. Assumes nothing.
+-- What a judgement says of the entry, and of the sheet, that was judged.
 use Prim.Native.Nat.{ℕ, _≤_}
 use mathlib.Core.Path.{_≡_, refl}
 use mathlib.Core.List.{List, map}
@@ -6,21 +6,21 @@ use mathlib.Core.Bool.{Bool, true, false}
 use lib.ListN.{length}
 use lib.Dec.{leb}
 use borrow.Author.Tests.{leb-true}
-use Rattle.numbers.specs.Numbers.{mostNames}
-use Rattle.basics.specs.Base.{pick}
-use Rattle.sheet_format.specs.Job.{encode, encodeSheet}
-use Rattle.sheet_format.specs.Write.{Fault, jobOf, faultOf, listPlace, SheetFault, sheetFault}
-use Rattle.sheet_format.specs.declared.Entry.{Entry}
+use Rattle.def_numbers.specs.Numbers.{mostNames}
+use Rattle.def_basics.specs.Base.{pick}
+use Rattle.def_sheets.specs.Job.{encode, encodeSheet}
+use Rattle.def_sheets.specs.Write.{Fault, jobOf, faultOf, listOffset, SheetFault, sheetFault}
+use Rattle.def_sheets.specs.declared.Entry.{Entry}
 use Rattle.sheet_limits.specs.declared.Judged.{Judged}
 use Rattle.sheet_limits.specs.declared.SheetJudged.{SheetJudged}
 use Rattle.sheet_limits.specs.Judge.{judged, judgedBy, sheetJudged, sheetJudgedBy}
 
 module _ (e : Entry) where
-  pub refused : (place : ℕ) → judged e ≡ Judged.Refused place → faultOf e ≡ Fault.at place
+  pub refused : (offset : ℕ) → judged e ≡ Judged.Refused offset → faultOf e ≡ Fault.at offset
   unfolding judged
-  refused place h = go (faultOf e) h
+  refused offset h = go (faultOf e) h
     where
-      go : (f : Fault) → judgedBy f (length (encode (jobOf e))) ≡ Judged.Refused place → f ≡ Fault.at place
+      go : (f : Fault) → judgedBy f (length (encode (jobOf e))) ≡ Judged.Refused offset → f ≡ Fault.at offset
       go (Fault.at p) h = cc
       go Fault.none h = cc
 
@@ -39,18 +39,18 @@ module _ (e : Entry) where
   unfolding faultOf
   few h = leb-true (e .count) mostNames (go (leb (e .count) mostNames) _ h)
     where
-      go : (t : Bool) (f : Fault) → pick t f (Fault.at listPlace) ≡ Fault.none → t ≡ true
+      go : (t : Bool) (f : Fault) → pick t f (Fault.at listOffset) ≡ Fault.none → t ≡ true
       go true f h = refl
       go false f h = cc
 
 module _ (es : List Entry) where
-  pub sheet-refused : (i place : ℕ) → sheetJudged es ≡ SheetJudged.Refused i place
-      → sheetFault 0 es ≡ SheetFault.at i place
+  pub sheet-refused : (i offset : ℕ) → sheetJudged es ≡ SheetJudged.Refused i offset
+      → sheetFault 0 es ≡ SheetFault.at i offset
   unfolding sheetJudged
-  sheet-refused i place h = go (sheetFault 0 es) h
+  sheet-refused i offset h = go (sheetFault 0 es) h
     where
-      go : (f : SheetFault) → sheetJudgedBy f (length (encodeSheet (map jobOf es))) ≡ SheetJudged.Refused i place
-          → f ≡ SheetFault.at i place
+      go : (f : SheetFault) → sheetJudgedBy f (length (encodeSheet (map jobOf es))) ≡ SheetJudged.Refused i offset
+          → f ≡ SheetFault.at i offset
       go (SheetFault.at j p) h = cc
       go SheetFault.none h = cc
 

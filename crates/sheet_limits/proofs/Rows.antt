@@ -1,15 +1,15 @@
--- Rows of words as entries, one after the other: the first row that is left, and the others. Assumes nothing.
+-- Rows of words as entries, one after the other: the first row that is left, and the others.
 use Prim.Native.Nat.{ℕ, zero, suc, _+_, _*_, _-_, _≤_, _<_}
 use mathlib.Core.Path.{_≡_, refl, sym, ap, _∙_}
 use mathlib.Core.List.{List, [], _∷_, _++_, map}
 use native.Mathlib.Omega.{arith}
 use lib.ListN.{length, getD, drop, length-append, length-drop}
 use lib.Seq.{length-take-le, take-take}
-use Rattle.numbers.specs.Numbers.{mostNames, nameBytes, entryWords}
-use Rattle.sheet_format.specs.Job.{bitOf, encode, encodeSheet}
-use Rattle.sheet_format.specs.Write.{Fault, faultOf, listBytes, jobOf, entryAt, entriesFrom, SheetFault, sheetFault}
-use Rattle.sheet_format.specs.Write.{orElse}
-use Rattle.sheet_format.specs.declared.Entry.{Entry}
+use Rattle.def_numbers.specs.Numbers.{mostNames, nameBytes, entryWords}
+use Rattle.def_sheets.specs.Job.{bitOf, encode, encodeSheet}
+use Rattle.def_sheets.specs.Write.{Fault, faultOf, listBytes, jobOf, entryAt, entriesFrom, SheetFault, sheetFault}
+use Rattle.def_sheets.specs.Write.{orElse}
+use Rattle.def_sheets.specs.declared.Entry.{Entry}
 use Rattle.sheet_limits.specs.Jobs.{jobWith}
 use Rattle.sheet_limits.proofs.Sizes.{encode-length}
 use Rattle.sheet_limits.proofs.Judging.{few}
@@ -44,7 +44,7 @@ restBytes rows i n = encodeSheet (map jobOf (rest rows i n))
 -- an entry with no fault, and no fault in the others
 no-fault : (i : ℕ) (f : Fault) (others : SheetFault) → orElse i f others ≡ SheetFault.none
     → (f ≡ Fault.none) × (others ≡ SheetFault.none)
-no-fault i (Fault.at place) others h = (cc, cc)
+no-fault i (Fault.at offset) others h = (cc, cc)
 no-fault i Fault.none others h = (refl, h)
 
 module _ (rows : List ℕ) where

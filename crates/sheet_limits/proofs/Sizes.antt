@@ -1,4 +1,4 @@
--- How long an entry is, and room that is tested with no sum. Assumes nothing.
+-- How long an entry is, and room that is tested with no sum.
 use Prim.Native.Nat.{ℕ, suc, _+_, _*_, _-_, _≤_}
 use mathlib.Core.Path.{_≡_, refl, sym, ap, _∙_}
 use mathlib.Core.List.{List, [], _∷_, _++_}
@@ -8,12 +8,12 @@ use lib.Dec.{leb}
 use lib.ListN.{length, take, drop, length-append, length-drop}
 use lib.Seq.{length-take-le}
 use borrow.Author.Tests.{leb-true, leb-false, le-leb, lt-leb}
-use Rattle.numbers.specs.Numbers.{nameBytes, countBytes, classBytes, growerBytes}
-use Rattle.sheet_format.specs.Number.{spelt}
-use Rattle.sheet_format.specs.Job.{bitOf, speltUnlessZero, speltNames, speltList, encode}
-use Rattle.sheet_format.specs.Write.{listPlace, listBytes}
-use Rattle.sheet_format.specs.NumberLaws.{length-spelt}
-use Rattle.sheet_format.specs.EntryTrip.{length-list, length-optional}
+use Rattle.def_numbers.specs.Numbers.{nameBytes, countBytes, classBytes, growerBytes}
+use Rattle.def_sheets.specs.Number.{spelt}
+use Rattle.def_sheets.specs.Job.{bitOf, speltUnlessZero, speltNames, speltList, encode}
+use Rattle.def_sheets.specs.Write.{listOffset, listBytes}
+use Rattle.def_sheets.specs.NumberLaws.{length-spelt}
+use Rattle.def_sheets.specs.EntryTrip.{length-list, length-optional}
 use Rattle.sheet_limits.specs.Jobs.{jobWith}
 
 -- a field that is there
@@ -40,7 +40,7 @@ taken words from n h = length-take-le n (drop from words) (simp length-drop (ome
 
 -- the bytes of an entry with so many names, this class and this grower
 abbrev pub bytesOf : ℕ → ℕ → ℕ → ℕ
-bytesOf count class grower = listPlace + listBytes count + classBytes * bitOf class + growerBytes * bitOf grower
+bytesOf count class grower = listOffset + listBytes count + classBytes * bitOf class + growerBytes * bitOf grower
 
 -- an entry
 module _ (words : List ℕ) (from count class grower : ℕ) (named : from + count ≤ length words) where

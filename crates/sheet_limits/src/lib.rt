@@ -1,29 +1,29 @@
 // Entries and whole sheets of jobs, judged before a byte is written (docs/SHEETS.md, numbers 14 and 15): the first
-// field off its limits, or the bytes that are needed, and whether there is room for them. Assumes nothing.
+// field off its limits, or the bytes that are needed, and whether there is room for them.
 ghost use mathlib.Core.Path.{_≡_};
 ghost use mathlib.Core.List.{List};
 ghost use Prim.Native.Nat.{ℕ, _+_, _*_, _≤_};
 ghost use lib.ListN.{length};
 ghost use lib.Dec.{leb};
-ghost use Rattle.numbers.specs.Numbers.{mostNames, nameBytes, countBytes, entryWords};
-ghost use Rattle.sheet_format.specs.Job.{bitOf, mapByte};
-ghost use Rattle.sheet_format.specs.Write.{listBytes, entryAt, entriesFrom, entriesOf};
+ghost use Rattle.def_numbers.specs.Numbers.{mostNames, nameBytes, countBytes, entryWords};
+ghost use Rattle.def_sheets.specs.Job.{bitOf, mapByte};
+ghost use Rattle.def_sheets.specs.Write.{listBytes, entryAt, entriesFrom, entriesOf};
 ghost use Rattle.sheet_limits.specs.Jobs.{entryWith, jobOn};
 ghost use Rattle.sheet_limits.specs.Judge.{judged, sheetJudged};
-use numbers::CLASS_BYTES;
-use numbers::COUNT_BYTES;
-use numbers::ENTRY_WORDS;
-use numbers::GROWER_BYTES;
-use numbers::MOST_CLASS;
-use numbers::MOST_GROWER;
-use numbers::MOST_NAMES;
-use numbers::NAME_BYTES;
+use def_numbers::CLASS_BYTES;
+use def_numbers::COUNT_BYTES;
+use def_numbers::ENTRY_WORDS;
+use def_numbers::GROWER_BYTES;
+use def_numbers::MOST_CLASS;
+use def_numbers::MOST_GROWER;
+use def_numbers::MOST_NAMES;
+use def_numbers::NAME_BYTES;
 
 // The bytes of the map.
 pub const MAP_BYTES: usize = 1;
 
 // Where the list stands, from the entry's start.
-pub const LIST_PLACE: usize = MAP_BYTES + NAME_BYTES;
+pub const LIST_OFFSET: usize = MAP_BYTES + NAME_BYTES;
 
 // A row of words holds an entry: its name, and from these words on its count, class, grower and names.
 pub const COUNT_WORD: usize = 1;
@@ -72,25 +72,25 @@ fn list_bytes(n: u32) -> usize
     }
 }
 
-// Judges an entry by its count, class and grower, whatever its names are. The place of its fields is counted on.
+// Judges an entry by its count, class and grower, whatever its names are. The offset of its fields is counted on.
 pub fn judge(count: u32, class: u32, grower: u32) -> Judged
     ensures { λ r. ⌜ ((name : ℕ) (names : List ℕ) → length names ≡ mostNames
         → r ≡ judged (entryWith name count class grower names)) ⌝ }
 {
-    let mut place = LIST_PLACE;
+    let mut offset = LIST_OFFSET;
     if MOST_NAMES < count {
-        return Judged::Refused { at: place };
+        return Judged::Refused { at: offset };
     }
-    place += list_bytes(count);
+    offset += list_bytes(count);
     if MOST_CLASS < class {
-        return Judged::Refused { at: place };
+        return Judged::Refused { at: offset };
     }
-    place += CLASS_BYTES * bit(class);
+    offset += CLASS_BYTES * bit(class);
     if MOST_GROWER < grower {
-        return Judged::Refused { at: place };
+        return Judged::Refused { at: offset };
     }
-    place += GROWER_BYTES * bit(grower);
-    Judged::Takes { bytes: place }
+    offset += GROWER_BYTES * bit(grower);
+    Judged::Takes { bytes: offset }
 }
 
 // Whether so many bytes from an offset on lie before the end. No sum is made, so none can wrap.

@@ -1,4 +1,4 @@
--- Laws of the loop that stores a sheet's rows: what is left to store makes the whole. Assumes nothing.
+-- Laws of the loop that stores a sheet's rows: what is left to store makes the whole.
 use Prim.Native.Nat.{ℕ, _+_, _*_, _-_, _≤_, _<_}
 use mathlib.Core.Path.{_≡_, refl, sym, ap, _∙_}
 use mathlib.Core.List.{List, [], _∷_}
@@ -6,13 +6,13 @@ use native.Mathlib.Omega.{arith}
 use lib.ListN.{length, length-append, length-replicate, replicate}
 use lib.Seq.{sets, length-sets}
 use borrow.Author.Tests.{le-leb, lt-leb}
-use Rattle.numbers.specs.Numbers.{mostNames, entryWords, noRoom}
-use Rattle.basics.specs.Laws.{never}
-use Rattle.basics.specs.Stores.{sets-append}
-use Rattle.sheet_format.specs.Job.{Job}
-use Rattle.sheet_format.specs.Decode.{job, end, refused, decode, Sheet, jobs, broken, before, decodeSheet, scanSheet}
-use Rattle.sheet_format.specs.Decode.{rowOf, rowsOf, sheetRows, readSheet}
-use Rattle.sheet_format.specs.declared.SheetRead.{SheetRead}
+use Rattle.def_numbers.specs.Numbers.{mostNames, entryWords, noRoom}
+use Rattle.def_basics.specs.Laws.{never}
+use Rattle.def_basics.specs.Stores.{sets-append}
+use Rattle.def_sheets.specs.Job.{Job}
+use Rattle.def_sheets.specs.Decode.{job, end, refused, decode, Sheet, jobs, broken, before, decodeSheet, scanSheet}
+use Rattle.def_sheets.specs.Decode.{rowOf, rowsOf, sheetRows, readSheet}
+use Rattle.def_sheets.specs.declared.SheetRead.{SheetRead}
 use Rattle.entry_scan.proofs.Entries.{stands}
 use Rattle.sheet_scan.proofs.Sheets.{rest, rest-start, rest-on}
 
@@ -121,5 +121,5 @@ module _ {s rows₀ rows : List ℕ} {at from : ℕ} (l : Left s rows₀ rows at
       never (cc)
 
   -- so what is said of an entry that is no refusal holds of each entry
-  pub left-sound : {P : Type 0} → (((number place : ℕ) → decode s at ≡ refused number place → ⊥) → P) → P
-  left-sound said = said λ number place e. left-refused e
+  pub left-sound : {P : Type 0} → (((number offset : ℕ) → decode s at ≡ refused number offset → ⊥) → P) → P
+  left-sound said = said λ number offset e. left-refused e

@@ -1,4 +1,4 @@
--- Laws of runs of stores: how names come into a list of words, and what stands behind them. Assumes nothing.
+-- Laws of runs of stores: how names come into a list of words, and what stands behind them.
 use Prim.Native.Nat.{ℕ, zero, suc, _+_, _*_, _-_, _≤_}
 use mathlib.Core.Path.{_≡_, ap, _∙_}
 use mathlib.Core.List.{List, [], _∷_, _++_}
@@ -6,12 +6,12 @@ use native.Mathlib.Omega.{arith}
 use native.Mathlib.Numerals.{add-one}
 use lib.ListN.{length, set, drop, replicate, length-replicate, replicate-append-replicate}
 use lib.Seq.{sets, sets-eq, set-set}
-use Rattle.numbers.specs.Numbers.{mostNames}
-use Rattle.basics.specs.Stores.{sets-append, set-before}
-use Rattle.sheet_format.specs.Number.{numberAt}
-use Rattle.sheet_format.specs.Decode.{namesAt, padded}
-use Rattle.sheet_format.specs.NumberLaws.{length-namesAt}
-use Rattle.sheet_format.specs.CodeLaws.{names-more}
+use Rattle.def_numbers.specs.Numbers.{mostNames}
+use Rattle.def_basics.specs.Stores.{sets-append, set-before}
+use Rattle.def_sheets.specs.Number.{numberAt}
+use Rattle.def_sheets.specs.Decode.{namesAt, padded}
+use Rattle.def_sheets.specs.NumberLaws.{length-namesAt}
+use Rattle.def_sheets.specs.CodeLaws.{names-more}
 
 pub name-more : (l : List ℕ) (from k w : ℕ) (s : List ℕ) (at i : ℕ) → k ≡ from + i
     → set (sets l from (namesAt w s at i)) k (numberAt w s (at + w * i)) ≡ sets l from (namesAt w s at (i + 1))

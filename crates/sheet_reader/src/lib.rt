@@ -1,18 +1,17 @@
 // The reader of job sheets: an entry with its names, and a whole sheet as rows of words (docs/SHEETS.md and numbers 12
-// to 15). Each answer is the one that the definitions of sheet_format give. Assumes nothing of the bytes, and nothing
-// of the offset.
+// to 15). Each answer is the one that the definitions of def_sheets give, for all bytes and every offset.
+use def_numbers::ENTRY_WORDS;
+use def_numbers::MOST_NAMES;
+use def_numbers::NAME_BYTES;
+use def_numbers::NO_ROOM;
+use def_sheets::Entry;
+use def_sheets::Read;
+use def_sheets::Reading;
+use def_sheets::Scan;
+use def_sheets::SheetRead;
 use entry_scan::NAMES_FROM;
 use entry_scan::scan;
 use entry_scan::spelt4;
-use numbers::ENTRY_WORDS;
-use numbers::MOST_NAMES;
-use numbers::NAME_BYTES;
-use numbers::NO_ROOM;
-use sheet_format::Entry;
-use sheet_format::Read;
-use sheet_format::Reading;
-use sheet_format::Scan;
-use sheet_format::SheetRead;
 use sheet_scan::scan_again;
 use sheet_scan::scan_sheet;
 ghost use mathlib.Core.Path.{_≡_};
@@ -20,9 +19,9 @@ ghost use mathlib.Core.List.{_∷_};
 ghost use Prim.Native.Nat.{_+_, _*_, _-_, _≤_};
 ghost use lib.ListN.{length, replicate};
 ghost use lib.Seq.{sets};
-ghost use Rattle.numbers.specs.Numbers.{mostNames, nameBytes, entryWords};
-ghost use Rattle.sheet_format.specs.Decode.{namesAt, padded, decode, blank, readingOf};
-ghost use Rattle.sheet_format.specs.Decode.{decodeSheet, scanSheet, sheetRows, readSheet};
+ghost use Rattle.def_numbers.specs.Numbers.{mostNames, nameBytes, entryWords};
+ghost use Rattle.def_sheets.specs.Decode.{namesAt, padded, decode, blank, readingOf};
+ghost use Rattle.def_sheets.specs.Decode.{decodeSheet, scanSheet, sheetRows, readSheet};
 
 // the places of an entry's names
 const PLACES: usize = MOST_NAMES as usize;
@@ -34,8 +33,8 @@ fn store_names(s: &[u8], at: usize, count: usize, words: &mut [u32], from: usize
 {
     let mut i = 0;
     while i < count {
-        let place = at + NAME_BYTES * i;
-        words[from + i] = spelt4(s[place], s[place + 1], s[place + 2], s[place + 3]);
+        let offset = at + NAME_BYTES * i;
+        words[from + i] = spelt4(s[offset], s[offset + 1], s[offset + 2], s[offset + 3]);
         i += 1;
     }
 }

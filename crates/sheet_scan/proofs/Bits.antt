@@ -1,6 +1,6 @@
 -- Laws of an entry whose fields are multiplied by their bits: where the longest entry would fit, this comes to what
 -- `decode` says
--- (docs/SHEETS.md). Assumes nothing.
+-- (docs/SHEETS.md).
 use Prim.Native.Nat.{ℕ, zero, suc, _+_, _*_, _/_, _%_, _≤_, _<_}
 use mathlib.Core.Path.{_≡_, refl, ap}
 use mathlib.Core.Bool.{Bool, true, _&&_, _||_}
@@ -9,21 +9,21 @@ use native.Mathlib.Omega.{arith}
 use lib.ListN.{length, getD}
 use lib.Dec.{ltb, leb, eqb}
 use borrow.Author.Tests.{leb-true, le-leb, lt-ltb}
-use Rattle.numbers.specs.Numbers.{mostNames, mostClass, mostGrower, nameBytes, countBytes, classBytes, growerBytes}
-use Rattle.numbers.specs.Numbers.{mostEntryBytes}
-use Rattle.basics.specs.Laws.{never}
-use Rattle.sheet_format.specs.Number.{numberAt}
-use Rattle.sheet_format.specs.Choice.{both}
-use Rattle.sheet_format.specs.Job.{Job}
-use Rattle.sheet_format.specs.Decode.{mapAt, nameAt, limitedAt, listAt, ifBit, namesAt, Decoded, job, end, refused}
-use Rattle.sheet_format.specs.Decode.{thenDecoded, decode, scanOf}
-use Rattle.sheet_format.specs.declared.Field.{Field}
-use Rattle.sheet_format.specs.declared.Field.the-variants.{Got, Refused}
-use Rattle.sheet_format.specs.declared.Scan.{Scan}
+use Rattle.def_numbers.specs.Numbers.{mostNames, mostClass, mostGrower, nameBytes, countBytes, classBytes, growerBytes}
+use Rattle.def_numbers.specs.Numbers.{mostEntryBytes}
+use Rattle.def_basics.specs.Laws.{never}
+use Rattle.def_sheets.specs.Number.{numberAt}
+use Rattle.def_sheets.specs.Choice.{both}
+use Rattle.def_sheets.specs.Job.{Job}
+use Rattle.def_sheets.specs.Decode.{mapAt, nameAt, limitedAt, listAt, ifBit, namesAt, Decoded, job, end, refused}
+use Rattle.def_sheets.specs.Decode.{thenDecoded, decode, scanOf}
+use Rattle.def_sheets.specs.declared.Field.{Field}
+use Rattle.def_sheets.specs.declared.Field.the-variants.{Got, Refused}
+use Rattle.def_sheets.specs.declared.Scan.{Scan}
 use Rattle.entry_scan.specs.Stages.{judgedThen, fromGrower, fromClass}
-use Rattle.sheet_scan.specs.Places.{classPlace, growerPlace}
+use Rattle.sheet_scan.specs.Offsets.{classOffset, growerOffset}
 use Rattle.entry_scan.proofs.Fields.{got, through, limited-got, from-class-is}
-use Rattle.sheet_format.specs.NumberLaws.{length-namesAt}
+use Rattle.def_sheets.specs.NumberLaws.{length-namesAt}
 use Rattle.entry_scan.proofs.Entries.{decoded, inside, stands}
 
 -- a number is left out, or from 1 to its limit
@@ -50,13 +50,13 @@ module _ (s : List ℕ) (at : ℕ) where
   count = (map / 2 % 2) * numberAt countBytes s (at + 5)
 
   abbrev pub class : ℕ
-  class = (map / 4 % 2) * numberAt classBytes s (classPlace at map count)
+  class = (map / 4 % 2) * numberAt classBytes s (classOffset at map count)
 
   abbrev pub grower : ℕ
-  grower = (map / 8 % 2) * numberAt growerBytes s (growerPlace at map count)
+  grower = (map / 8 % 2) * numberAt growerBytes s (growerOffset at map count)
 
   abbrev pub past : ℕ
-  past = growerPlace at map count + growerBytes * (map / 8 % 2)
+  past = growerOffset at map count + growerBytes * (map / 8 % 2)
 
   abbrev pub fields : Scan
   fields = Scan.Fields (numberAt nameBytes s (at + 1)) count class grower past
@@ -132,9 +132,9 @@ module _ (s : List ℕ) (at : ℕ) where
         le-leb (at + 1 + nameBytes) (length s) (omega arith),
         n,
         list-by-bit (map s at / 2 % 2) s (at + 5) (omega arith) (omega arith) l,
-        ← from-class-is s (classPlace at (map s at) (count s at)) (map s at) (numberAt nameBytes s (at + 1))
+        ← from-class-is s (classOffset at (map s at) (count s at)) (map s at) (numberAt nameBytes s (at + 1))
             (namesAt nameBytes s (at + 5 + countBytes) (count s at)),
-        ends-by-bits s (classPlace at (map s at) (count s at)) (map s at) (numberAt nameBytes s (at + 1))
+        ends-by-bits s (classOffset at (map s at) (count s at)) (map s at) (numberAt nameBytes s (at + 1))
             (namesAt nameBytes s (at + 5 + countBytes) (count s at)) (omega arith) c g,
         length-namesAt,
       )
@@ -224,11 +224,11 @@ read-fields s at j n h =
     let p₁ = number-got nameBytes s (at + 1) name₀ n₁ (rw (p₀ .1) at e₁) in
     let q₁ : n₁ ≡ at + 5 = omega (arith, p₁ .1) in
     let p₂ = list-got (map s at / 2 % 2) s (at + 5) count₀ n₂ (omega arith) (rw (p₀ .0, q₁) at e₂) in
-    let q₂ : n₂ ≡ classPlace at (map s at) (count s at) = rw (p₂ .0) at (p₂ .1) in
-    let p₃ = limited-by-bit classBytes mostClass (map s at / 4 % 2) s (classPlace at (map s at) (count s at)) class₀ n₃
+    let q₂ : n₂ ≡ classOffset at (map s at) (count s at) = rw (p₂ .0) at (p₂ .1) in
+    let p₃ = limited-by-bit classBytes mostClass (map s at / 4 % 2) s (classOffset at (map s at) (count s at)) class₀ n₃
     (omega arith) (rw (p₀ .0, q₂) at e₃) in
     let p₄ = limited-by-bit growerBytes mostGrower (map s at / 8 % 2) s
-    (growerPlace at (map s at) (count s at)) grower₀ n₄ (omega arith) (rw (p₀ .0, p₃ .1) at e₄) in
+    (growerOffset at (map s at) (count s at)) grower₀ n₄ (omega arith) (rw (p₀ .0, p₃ .1) at e₄) in
     let all : Scan.Fields name₀ (length (namesAt nameBytes s (n₁ + countBytes) count₀)) class₀ grower₀ n₄
     ≡ scanOf (job j n) = ap scanOf h₄ in
     rw (length-namesAt, p₁ .0, p₂ .0, p₃ .0, p₄ .0, p₄ .1) at all
@@ -249,7 +249,7 @@ inside-not-end s at l h =
     (rw (lt-ltb at (length s) l) at h)
 
 -- in a sheet without a refusal
-pub unrefused : (s : List ℕ) (at : ℕ) → at < length s → ((number place : ℕ) → decode s at ≡ refused number place → ⊥)
+pub unrefused : (s : List ℕ) (at : ℕ) → at < length s → ((number offset : ℕ) → decode s at ≡ refused number offset → ⊥)
     → (fields s at ≡ scanOf (decode s at)) × (count s at ≤ mostNames)
 unrefused s at l sound = go (decode s at) refl
   where

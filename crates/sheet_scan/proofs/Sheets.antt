@@ -1,14 +1,14 @@
--- Laws of what is left of a sheet from an offset on, for the loops over a whole sheet. Assumes nothing.
+-- Laws of what is left of a sheet from an offset on, for the loops over a whole sheet.
 use Prim.Native.Nat.{ℕ, zero, suc, _+_, _-_, _≤_, _<_}
 use mathlib.Core.Path.{_≡_, refl, ap, _∙_}
 use mathlib.Core.List.{List}
 use native.Mathlib.Omega.{arith}
 use lib.ListN.{length}
 use borrow.Author.Tests.{le-ltb}
-use Rattle.sheet_format.specs.Job.{Job}
-use Rattle.sheet_format.specs.Decode.{Decoded, job, end, refused, decode, Sheet, jobs, broken, before, onward}
-use Rattle.sheet_format.specs.Decode.{decodeFrom, decodeSheet, scanSheet}
-use Rattle.sheet_format.specs.declared.SheetRead.{SheetRead}
+use Rattle.def_sheets.specs.Job.{Job}
+use Rattle.def_sheets.specs.Decode.{Decoded, job, end, refused, decode, Sheet, jobs, broken, before, onward}
+use Rattle.def_sheets.specs.Decode.{decodeFrom, decodeSheet, scanSheet}
+use Rattle.def_sheets.specs.declared.SheetRead.{SheetRead}
 use Rattle.entry_scan.proofs.Entries.{stands}
 
 -- the sheet from an offset on

@@ -1,26 +1,26 @@
 // The scan of a whole job sheet, which counts its entries (docs/SHEETS.md and numbers 12 to 14). Where the longest
-// entry would fit, the fields are read with no test of their ends. Assumes nothing of the bytes.
-use entry_scan::LIST_PLACE;
+// entry would fit, the fields are read with no test of their ends.
+use def_numbers::MOST_CLASS;
+use def_numbers::MOST_ENTRY_BYTES;
+use def_numbers::MOST_GROWER;
+use def_numbers::MOST_NAMES;
+use def_numbers::NAME_BYTES;
+use def_sheets::Scan;
+use def_sheets::SheetRead;
+use entry_scan::LIST_OFFSET;
 use entry_scan::NAMES_FROM;
 use entry_scan::scan;
 use entry_scan::spelt2;
 use entry_scan::spelt4;
 use entry_scan::wide;
 use entry_scan::within_if;
-use numbers::MOST_CLASS;
-use numbers::MOST_ENTRY_BYTES;
-use numbers::MOST_GROWER;
-use numbers::MOST_NAMES;
-use numbers::NAME_BYTES;
-use sheet_format::Scan;
-use sheet_format::SheetRead;
 ghost use mathlib.Core.Path.{_≡_};
 ghost use Prim.Native.Nat.{ℕ, _+_, _*_, _/_, _%_, _≤_};
 ghost use lib.ListN.{length, getD};
-ghost use Rattle.numbers.specs.Numbers.{mostNames, mostEntryBytes};
-ghost use Rattle.sheet_format.specs.Number.{numberAt};
-ghost use Rattle.sheet_format.specs.Decode.{decode, refused, scanOf, decodeSheet, scanSheet};
-ghost use Rattle.sheet_scan.specs.Places.{classPlace, growerPlace};
+ghost use Rattle.def_numbers.specs.Numbers.{mostNames, mostEntryBytes};
+ghost use Rattle.def_sheets.specs.Number.{numberAt};
+ghost use Rattle.def_sheets.specs.Decode.{decode, refused, scanOf, decodeSheet, scanSheet};
+ghost use Rattle.sheet_scan.specs.Offsets.{classOffset, growerOffset};
 
 // map bytes: of a name alone, and of a name with a list
 const NAME_ALONE: u32 = 1;
@@ -62,12 +62,12 @@ struct LastFields {
 // bit is guessed wrong half the time.
 fn last_fields(s: &[u8], at: usize, map: u32, count: u32) -> LastFields
     requires { ⌜ (at + mostEntryBytes ≤ length (now s)) × (count ≤ mostNames) ⌝ }
-    ensures { λ r. ⌜ (r .class ≡ (map / 4 % 2) * numberAt 1 (now (s .entry)) (classPlace at map count))
-        × (r .grower ≡ (map / 8 % 2) * numberAt 2 (now (s .entry)) (growerPlace at map count))
-        × (r .next ≡ growerPlace at map count + 2 * (map / 8 % 2)) ⌝ }
+    ensures { λ r. ⌜ (r .class ≡ (map / 4 % 2) * numberAt 1 (now (s .entry)) (classOffset at map count))
+        × (r .grower ≡ (map / 8 % 2) * numberAt 2 (now (s .entry)) (growerOffset at map count))
+        × (r .next ≡ growerOffset at map count + 2 * (map / 8 % 2)) ⌝ }
 {
     let list_bit = map / 2 % 2;
-    let class_at = at + LIST_PLACE + (list_bit as usize) + NAME_BYTES * (count as usize);
+    let class_at = at + LIST_OFFSET + (list_bit as usize) + NAME_BYTES * (count as usize);
     let class_bit = map / 4 % 2;
     let class = class_bit * number1(s, class_at);
     let grower_at = class_at + (class_bit as usize);
@@ -86,7 +86,7 @@ fn scan_by_bits(s: &[u8], at: usize, map: u32) -> Scan
     ensures { λ r. ⌜ r ≡ scanOf (decode (now (s .entry)) at) ⌝ }
 {
     let list_bit = map / 2 % 2;
-    let count = list_bit * number1(s, at + LIST_PLACE);
+    let count = list_bit * number1(s, at + LIST_OFFSET);
     let right = (map < 16) & (map % 2 == 1);
     if right & within_if(list_bit, count, MOST_NAMES) {
         let last = last_fields(s, at, map, count);
@@ -121,10 +121,10 @@ fn scan_next(s: &[u8], at: usize) -> Scan
             count: 0,
             class: 0,
             grower: 0,
-            next: at + LIST_PLACE,
+            next: at + LIST_OFFSET,
         };
     }
-    let count = number1(s, at + LIST_PLACE);
+    let count = number1(s, at + LIST_OFFSET);
     let listed = (1 <= count) & (count <= MOST_NAMES);
     if (map == NAME_AND_LIST) & listed {
         return Scan::Fields {
@@ -141,14 +141,14 @@ fn scan_next(s: &[u8], at: usize) -> Scan
 // The numbers of an entry that was read before and is no refusal: no value is judged. No sum is made before the longest
 // entry is known to fit, so none can wrap.
 pub fn scan_again(s: &[u8], at: usize) -> Scan
-    ensures { λ r. ⌜ (((number place : ℕ) → decode (now (s .entry)) at ≡ refused number place → ⊥)
+    ensures { λ r. ⌜ (((number offset : ℕ) → decode (now (s .entry)) at ≡ refused number offset → ⊥)
         → r ≡ scanOf (decode (now (s .entry)) at)) ⌝ }
 {
     if MOST_ENTRY_BYTES <= s.len() {
         if at <= s.len() - MOST_ENTRY_BYTES {
             let map = wide(s[at]);
             let list_bit = map / 2 % 2;
-            let count = list_bit * number1(s, at + LIST_PLACE);
+            let count = list_bit * number1(s, at + LIST_OFFSET);
             if count <= MOST_NAMES {
                 let last = last_fields(s, at, map, count);
                 return Scan::Fields {

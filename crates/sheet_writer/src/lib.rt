@@ -1,16 +1,16 @@
 // Writes entries and whole sheets of jobs (docs/SHEETS.md, numbers 14 and 15): judged first, then stored field after
-// field at a running place. A refusal leaves the output as it was. Assumes nothing.
-use numbers::CLASS_BYTES;
-use numbers::COUNT_BYTES;
-use numbers::ENTRY_WORDS;
-use numbers::GROWER_BYTES;
-use numbers::NAME_BYTES;
-use numbers::NO_ROOM;
-use numbers::WRONG_SIZE;
-use numbers::WRONG_VALUE;
-use sheet_format::Entry;
-use sheet_format::SheetWrote;
-use sheet_format::Wrote;
+// field at a running offset. A refusal leaves the output as it was.
+use def_numbers::CLASS_BYTES;
+use def_numbers::COUNT_BYTES;
+use def_numbers::ENTRY_WORDS;
+use def_numbers::GROWER_BYTES;
+use def_numbers::NAME_BYTES;
+use def_numbers::NO_ROOM;
+use def_numbers::WRONG_SIZE;
+use def_numbers::WRONG_VALUE;
+use def_sheets::Entry;
+use def_sheets::SheetWrote;
+use def_sheets::Wrote;
 use sheet_limits::CLASS_WORD;
 use sheet_limits::COUNT_WORD;
 use sheet_limits::GROWER_WORD;
@@ -25,34 +25,34 @@ use sheet_limits::map_byte;
 ghost use mathlib.Core.Path.{_≡_};
 ghost use Prim.Native.Nat.{_+_, _*_, _≤_};
 ghost use lib.ListN.{length, take, drop};
-ghost use Rattle.numbers.specs.Numbers.{nameBytes, entryWords};
-ghost use Rattle.sheet_format.specs.Number.{spelt};
-ghost use Rattle.sheet_format.specs.Job.{speltNames, encode};
-ghost use Rattle.sheet_format.specs.Write.{Fault, faultOf, jobOf, entryAt, entriesFrom};
-ghost use Rattle.sheet_format.specs.Write.{SheetFault, sheetFault, written, writeEntry, sheetWritten, writeSheet};
-ghost use Rattle.sheet_format.specs.Place.{Part, running, put, upTo};
-ghost use Rattle.sheet_format.specs.SheetPlace.{sheetSoFar};
+ghost use Rattle.def_numbers.specs.Numbers.{nameBytes, entryWords};
+ghost use Rattle.def_sheets.specs.Number.{spelt};
+ghost use Rattle.def_sheets.specs.Job.{speltNames, encode};
+ghost use Rattle.def_sheets.specs.Write.{Fault, faultOf, jobOf, entryAt, entriesFrom};
+ghost use Rattle.def_sheets.specs.Write.{SheetFault, sheetFault, written, writeEntry, sheetWritten, writeSheet};
+ghost use Rattle.def_sheets.specs.Offset.{Part, running, put, upTo};
+ghost use Rattle.def_sheets.specs.SheetOffset.{sheetSoFar};
 ghost use Rattle.sheet_writer.specs.Put.{Put, jobIn, Fits, Due};
 
 // A name, least byte first.
-fn put_name(out: &mut [u8], place: usize, name: u32) -> usize
-    requires { ⌜ place + nameBytes ≤ length (now out) ⌝ }
-    ensures { λ r. ⌜ Put (spelt nameBytes name) (now (out .entry)) place (now (out .exit)) r ⌝ }
+fn put_name(out: &mut [u8], offset: usize, name: u32) -> usize
+    requires { ⌜ offset + nameBytes ≤ length (now out) ⌝ }
+    ensures { λ r. ⌜ Put (spelt nameBytes name) (now (out .entry)) offset (now (out .exit)) r ⌝ }
 {
-    out[place] = (name % 256) as u8;
-    out[place + 1] = (name / 256 % 256) as u8;
-    out[place + 2] = (name / 256 / 256 % 256) as u8;
-    out[place + 3] = (name / 256 / 256 / 256 % 256) as u8;
-    place + NAME_BYTES
+    out[offset] = (name % 256) as u8;
+    out[offset + 1] = (name / 256 % 256) as u8;
+    out[offset + 2] = (name / 256 / 256 % 256) as u8;
+    out[offset + 3] = (name / 256 / 256 / 256 % 256) as u8;
+    offset + NAME_BYTES
 }
 
 // n names, the first at words[from].
-fn put_names(out: &mut [u8], place: usize, words: &[u32], from: usize, n: usize) -> usize
-    requires { ⌜ (from + n ≤ length (now words)) × (place + nameBytes * n ≤ length (now out)) ⌝ }
-    ensures { λ r. ⌜ Put (speltNames nameBytes (take n (drop from (now (words .entry))))) (now (out .entry)) place
+fn put_names(out: &mut [u8], offset: usize, words: &[u32], from: usize, n: usize) -> usize
+    requires { ⌜ (from + n ≤ length (now words)) × (offset + nameBytes * n ≤ length (now out)) ⌝ }
+    ensures { λ r. ⌜ Put (speltNames nameBytes (take n (drop from (now (words .entry))))) (now (out .entry)) offset
         (now (out .exit)) r ⌝ }
 {
-    let mut next = place;
+    let mut next = offset;
     let mut i: usize = 0;
     while i < n {
         next = put_name(out, next, words[from + i]);
@@ -71,83 +71,83 @@ struct Fields {
     first: usize,
 }
 
-// The parts of an entry, in their order. Each is due at the running place, which is past the bytes of the entry so far;
-// it is stored there, or left out, and the place past it is handed on.
+// The parts of an entry, in their order. Each is due at the running offset, which is past the bytes of the entry so
+// far; it is stored there, or left out, and the offset past it is handed on.
 
-fn put_map(out: &mut [u8], place: usize, words: &[u32], fields: Fields) -> usize
-    requires { ⌜ Due Part.map (now words) fields place (now out) ⌝ }
+fn put_map(out: &mut [u8], offset: usize, words: &[u32], fields: Fields) -> usize
+    requires { ⌜ Due Part.map (now words) fields offset (now out) ⌝ }
     ensures { λ r. ⌜ running (now (out .exit)) r
-        ≡ put Part.map (jobIn (now (words .entry)) fields) (running (now (out .entry)) place) ⌝ }
+        ≡ put Part.map (jobIn (now (words .entry)) fields) (running (now (out .entry)) offset) ⌝ }
 {
-    out[place] = map_byte(fields.count, fields.class, fields.grower);
-    place + MAP_BYTES
+    out[offset] = map_byte(fields.count, fields.class, fields.grower);
+    offset + MAP_BYTES
 }
 
-fn put_own_name(out: &mut [u8], place: usize, words: &[u32], fields: Fields) -> usize
-    requires { ⌜ Due Part.name (now words) fields place (now out) ⌝ }
+fn put_own_name(out: &mut [u8], offset: usize, words: &[u32], fields: Fields) -> usize
+    requires { ⌜ Due Part.name (now words) fields offset (now out) ⌝ }
     ensures { λ r. ⌜ running (now (out .exit)) r
-        ≡ put Part.name (jobIn (now (words .entry)) fields) (running (now (out .entry)) place) ⌝ }
+        ≡ put Part.name (jobIn (now (words .entry)) fields) (running (now (out .entry)) offset) ⌝ }
 {
-    put_name(out, place, fields.name)
+    put_name(out, offset, fields.name)
 }
 
 // The count and the names.
-fn put_list(out: &mut [u8], place: usize, words: &[u32], fields: Fields) -> usize
-    requires { ⌜ Due Part.list (now words) fields place (now out) ⌝ }
+fn put_list(out: &mut [u8], offset: usize, words: &[u32], fields: Fields) -> usize
+    requires { ⌜ Due Part.list (now words) fields offset (now out) ⌝ }
     ensures { λ r. ⌜ running (now (out .exit)) r
-        ≡ put Part.list (jobIn (now (words .entry)) fields) (running (now (out .entry)) place) ⌝ }
+        ≡ put Part.list (jobIn (now (words .entry)) fields) (running (now (out .entry)) offset) ⌝ }
 {
     if fields.count == 0 {
-        return place;
+        return offset;
     }
-    out[place] = (fields.count % 256) as u8;
+    out[offset] = (fields.count % 256) as u8;
     put_names(
         out,
-        place + COUNT_BYTES,
+        offset + COUNT_BYTES,
         words,
         fields.first,
         fields.count as usize,
     )
 }
 
-fn put_class(out: &mut [u8], place: usize, words: &[u32], fields: Fields) -> usize
-    requires { ⌜ Due Part.class (now words) fields place (now out) ⌝ }
+fn put_class(out: &mut [u8], offset: usize, words: &[u32], fields: Fields) -> usize
+    requires { ⌜ Due Part.class (now words) fields offset (now out) ⌝ }
     ensures { λ r. ⌜ running (now (out .exit)) r
-        ≡ put Part.class (jobIn (now (words .entry)) fields) (running (now (out .entry)) place) ⌝ }
+        ≡ put Part.class (jobIn (now (words .entry)) fields) (running (now (out .entry)) offset) ⌝ }
 {
     if fields.class == 0 {
-        return place;
+        return offset;
     }
-    out[place] = (fields.class % 256) as u8;
-    place + CLASS_BYTES
+    out[offset] = (fields.class % 256) as u8;
+    offset + CLASS_BYTES
 }
 
 // Least byte first.
-fn put_grower(out: &mut [u8], place: usize, words: &[u32], fields: Fields) -> usize
-    requires { ⌜ Due Part.grower (now words) fields place (now out) ⌝ }
+fn put_grower(out: &mut [u8], offset: usize, words: &[u32], fields: Fields) -> usize
+    requires { ⌜ Due Part.grower (now words) fields offset (now out) ⌝ }
     ensures { λ r. ⌜ running (now (out .exit)) r
-        ≡ put Part.grower (jobIn (now (words .entry)) fields) (running (now (out .entry)) place) ⌝ }
+        ≡ put Part.grower (jobIn (now (words .entry)) fields) (running (now (out .entry)) offset) ⌝ }
 {
     if fields.grower == 0 {
-        return place;
+        return offset;
     }
-    out[place] = (fields.grower % 256) as u8;
-    out[place + 1] = (fields.grower / 256 % 256) as u8;
-    place + GROWER_BYTES
+    out[offset] = (fields.grower % 256) as u8;
+    out[offset + 1] = (fields.grower / 256 % 256) as u8;
+    offset + GROWER_BYTES
 }
 
-// An entry for which there is room. One place runs through it, and comes to each part, those left out too.
+// An entry for which there is room. One offset runs through it, and comes to each part, those left out too.
 fn put_entry(out: &mut [u8], words: &[u32], fields: Fields) -> usize
     requires { ⌜ Fits (now words) fields (now out) ⌝ }
     ensures { λ r. ⌜ running (now (out .exit)) r
         ≡ upTo put Part.end (jobIn (now (words .entry)) fields) (running (now (out .entry)) (fields .start)) ⌝ }
 {
-    let mut place = fields.start;
-    place = put_map(out, place, words, fields);
-    place = put_own_name(out, place, words, fields);
-    place = put_list(out, place, words, fields);
-    place = put_class(out, place, words, fields);
-    put_grower(out, place, words, fields)
+    let mut offset = fields.start;
+    offset = put_map(out, offset, words, fields);
+    offset = put_own_name(out, offset, words, fields);
+    offset = put_list(out, offset, words, fields);
+    offset = put_class(out, offset, words, fields);
+    put_grower(out, offset, words, fields)
 }
 
 // An entry that is within its limits and for which there is room.
@@ -172,9 +172,9 @@ pub fn write(out: &mut [u8], at: usize, entry: Entry) -> Wrote
     ensures { λ r. ⌜ written r (now (out .exit)) ≡ writeEntry entry (now (out .entry)) at ⌝ }
 {
     match judge(entry.count, entry.class, entry.grower) {
-        Judged::Refused { at: place } => Wrote::Refused {
+        Judged::Refused { at: offset } => Wrote::Refused {
             number: WRONG_VALUE,
-            at: place,
+            at: offset,
         },
         Judged::Takes { bytes } => {
             if has_room(out.len(), at, bytes) {

@@ -1,15 +1,16 @@
 -- The struct of the C interface for the calls of the graph: for each case of an answer the number and the values that
--- docs/RULES.md, "Turned-away calls" and "Steps", has for it. What does not belong to a case is 0. Assumes nothing.
+-- docs/RULES.md, "Turned-away calls" and "Steps", has for it. What does not belong to a case is 0.
 use mathlib.Core.Path.{_≡_}
 use mathlib.Core.Bool.{not}
 use Prim.Native.Nat.{ℕ}
 use lib.Dec.{eqb}
-use Rattle.numbers.specs.Numbers.{accepted, kindRefused, kindLaidOut, kindPosted, kindGoingOn, kindEnded, kindNoneReady}
-use Rattle.numbers.specs.Numbers.{kindHandedOut, kindLoaded}
-use Rattle.terms.specs.Terms.{bit, Finish, finishOf}
-use Rattle.terms.specs.Runs.{Outcome}
-use Rattle.terms.specs.declared.Answer.{Answer}
-use Rattle.words.specs.Layout.{Tables}
+use Rattle.def_numbers.specs.Numbers.{accepted, kindRefused, kindLaidOut, kindPosted, kindGoingOn, kindEnded}
+use Rattle.def_numbers.specs.Numbers.{kindNoneReady}
+use Rattle.def_numbers.specs.Numbers.{kindHandedOut, kindLoaded}
+use Rattle.def_terms.specs.Terms.{bit, Finish, finishOf}
+use Rattle.def_terms.specs.Runs.{Result}
+use Rattle.def_terms.specs.declared.Answer.{Answer}
+use Rattle.def_words.specs.Layout.{Tables}
 use Rattle.taskgraph_answer.specs.declared.GraphAnswer.{GraphAnswer}
 
 -- an answer that has nothing but its kind
@@ -41,6 +42,6 @@ graphAnswer (Answer.Refused number place) =
 abbrev pub finishTaken : ℕ → ℕ → Finish
 finishTaken name outcome = finishOf name (not (eqb outcome 0))
 
--- a call answers so and leaves these tables: those of a definition's outcome, as C has them
-abbrev pub Gives : GraphAnswer → Tables → Outcome Tables → Type 0
+-- a call answers so and leaves these tables: those of a definition's result, as C has them
+abbrev pub Gives : GraphAnswer → Tables → Result Tables → Type 0
 Gives r t said = (r ≡ graphAnswer (said .answer)) × (t ≡ said .state)

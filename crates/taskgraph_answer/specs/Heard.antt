@@ -1,6 +1,6 @@
 -- What a host hears in an answer of the graph, by the fields of the struct and the numerals of include/taskgraph.h: the
 -- answer is read off it, so no two answers are told alike, and a field that says nothing is 0. Follows docs/RULES.md,
--- "Steps" and "Turned-away calls". (Wrong/Heard.antt has tellings that lose something.) Assumes nothing.
+-- "Steps" and "Turned-away calls". (Wrong/Heard.antt has tellings that lose something.)
 use mathlib.Core.Path.{_≡_, refl, sym, _∙_}
 use mathlib.Core.Logic.{_≢_}
 use mathlib.Core.Bool.{Bool, true, false}
@@ -8,11 +8,11 @@ use mathlib.Core.Option.{Option, none, some}
 use Prim.Native.Nat.{ℕ}
 use lib.Dec.{eqb}
 use borrow.Author.Tests.{eqb-true, eqb-false}
-use Rattle.basics.specs.Base.{pick}
-use Rattle.basics.specs.Laws.{never, pick-by}
-use Rattle.terms.specs.Terms.{bit}
-use Rattle.terms.specs.declared.Answer.{Answer}
-use Rattle.terms.specs.declared.Answer.the-variants.{Laid, Loaded, Posted, Going, Ended, NoneReady, Handed, Refused}
+use Rattle.def_basics.specs.Base.{pick}
+use Rattle.def_basics.specs.Laws.{never, pick-by}
+use Rattle.def_terms.specs.Terms.{bit}
+use Rattle.def_terms.specs.declared.Answer.{Answer}
+use Rattle.def_terms.specs.declared.Answer.the-variants.{Laid, Loaded, Posted, Going, Ended, NoneReady, Handed, Refused}
 use Rattle.taskgraph_answer.specs.Answers.{plain, graphAnswer}
 use Rattle.taskgraph_answer.specs.declared.GraphAnswer.{GraphAnswer}
 
@@ -39,7 +39,7 @@ heard r =
     (pick (eqb (r .kind) 7) (some Loaded) none)))))))
 
 -- "The kind of an answer, and the fields that belong to it; all others are 0": number and place belong to a refusal,
--- the job, its name and its mark to a job handed out
+-- the job, its name and its spoiled word to a job handed out
 pub record Silent (r : GraphAnswer) : Type 0 where
   pub not-refused : r .kind ≢ 0 → (r .number ≡ 0) × (r .place ≡ 0)
   pub not-handed-out : r .kind ≢ 6 → (r .job ≡ 0) × (r .name ≡ 0) × (r .spoiled ≡ 0)

@@ -3,9 +3,9 @@
 use mathlib.Core.Path.{_≡_, refl, ap}
 use mathlib.Core.Option.{Option, none, some}
 use lib.Dec.{eqb}
-use Rattle.basics.specs.Base.{pick}
-use Rattle.terms.specs.declared.Answer.{Answer}
-use Rattle.terms.specs.declared.Answer.the-variants.{Laid, Loaded, Posted, Going, Ended, NoneReady, Handed, Refused}
+use Rattle.def_basics.specs.Base.{pick}
+use Rattle.def_terms.specs.declared.Answer.{Answer}
+use Rattle.def_terms.specs.declared.Answer.the-variants.{Laid, Loaded, Posted, Going, Ended, NoneReady, Handed, Refused}
 use Rattle.taskgraph_answer.specs.Answers.{graphAnswer}
 use Rattle.taskgraph_answer.specs.WholeAnswers.{Whole, answered, stopped, toldWhole}
 use Rattle.taskgraph_answer.specs.Heard.{heard, answers-heard}

@@ -1,19 +1,19 @@
 -- The struct of the C interface for an add and a finish run whole: a call that damage stopped half done has a kind of
--- its own, so that a refusal by 9 is one that changed nothing. Follows docs/RULES.md, "Whole calls". Assumes nothing.
+-- its own, so that a refusal by 9 is one that changed nothing. Follows docs/RULES.md, "Whole calls".
 use mathlib.Core.Path.{_≡_, refl, _∙_}
 use mathlib.Core.Logic.{_≢_}
 use mathlib.Core.Bool.{Bool, true, false}
 use Prim.Native.Nat.{ℕ}
-use Rattle.numbers.specs.Numbers.{damaged, kindStopped}
-use Rattle.basics.specs.Base.{pick}
-use Rattle.terms.specs.Runs.{Outcome}
-use Rattle.terms.specs.declared.Answer.{Answer}
-use Rattle.terms.specs.declared.Answer.the-variants.{Laid, Loaded, Posted, Going, Ended, NoneReady, Handed, Refused}
-use Rattle.terms.specs.declared.HandOut.{HandOut}
-use Rattle.words.specs.Layout.{Tables, view, PHASE}
-use Rattle.sheet_rows.specs.SheetRows.{numberOf}
-use Rattle.whole_stops.specs.Stopped.{stoppedAs, stoppedBy}
-use Rattle.whole_stops.specs.Known.{stopped-known}
+use Rattle.def_numbers.specs.Numbers.{damaged, kindStopped}
+use Rattle.def_basics.specs.Base.{pick}
+use Rattle.def_terms.specs.Runs.{Result}
+use Rattle.def_terms.specs.declared.Answer.{Answer}
+use Rattle.def_terms.specs.declared.Answer.the-variants.{Laid, Loaded, Posted, Going, Ended, NoneReady, Handed, Refused}
+use Rattle.def_terms.specs.declared.HandOut.{HandOut}
+use Rattle.def_words.specs.Layout.{Tables, view, PHASE}
+use Rattle.def_sheet_rows.specs.SheetRows.{numberOf}
+use Rattle.def_stops.specs.Stopped.{stoppedAs, stoppedBy}
+use Rattle.def_stops.specs.Known.{stopped-known}
 use Rattle.taskgraph_answer.specs.Answers.{graphAnswer}
 use Rattle.taskgraph_answer.specs.declared.GraphAnswer.{GraphAnswer}
 
@@ -22,8 +22,8 @@ pub data Whole : Type 0 where
   answered : Answer → Whole
   stopped : Whole
 
--- of a call of worker w on the tables t that has this outcome
-abbrev pub wholeOf : Tables → ℕ → Outcome Tables → Whole
+-- of a call of worker w on the tables t that has this result
+abbrev pub wholeOf : Tables → ℕ → Result Tables → Whole
 wholeOf t w o = pick (stoppedBy t w o) stopped (answered (o .answer))
 
 abbrev pub stoppedAnswer : GraphAnswer
@@ -33,8 +33,8 @@ abbrev pub toldWhole : Whole → GraphAnswer
 toldWhole (answered x) = graphAnswer x
 toldWhole stopped = stoppedAnswer
 
--- a call of worker w on the tables t answers so and leaves these tables: those of a definition's outcome, as C has them
-abbrev pub GivesWhole : GraphAnswer → Tables → Tables → ℕ → Outcome Tables → Type 0
+-- a call of worker w on the tables t answers so and leaves these tables: those of a definition's result, as C has them
+abbrev pub GivesWhole : GraphAnswer → Tables → Tables → ℕ → Result Tables → Type 0
 GivesWhole r t' t w said = (r ≡ toldWhole (wholeOf t w said)) × (t' ≡ said .state)
 
 -- ---- as the code tells it: by the answer's number, and the phases p before and q after the call, of a worker that is
@@ -53,7 +53,7 @@ told-by : (b : Bool) (x : Answer) → pick b stoppedAnswer (graphAnswer x) ≡ t
 told-by true x = refl
 told-by false x = refl
 
-pub whole-in-c : {made said : Outcome Tables} {r g : GraphAnswer} {b : Bool} {p q : ℕ} (t : Tables) (w : ℕ)
+pub whole-in-c : {made said : Result Tables} {r g : GraphAnswer} {b : Bool} {p q : ℕ} (t : Tables) (w : ℕ)
     (known : Bool)
     → made ≡ said → (known ≡ false → numberOf (said .answer) ≢ damaged) → g ≡ graphAnswer (made .answer)
     → p ≡ pick known (view t .worker PHASE w) 0 → q ≡ pick known (view (made .state) .worker PHASE w) 0

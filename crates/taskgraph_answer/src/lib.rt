@@ -1,21 +1,21 @@
 // What a call or a step of the graph answers, as C has it: a struct by value. include/taskgraph.h declares it. Follows
-// docs/RULES.md, "Steps" and "Turned-away calls". Assumes nothing.
+// docs/RULES.md, "Steps" and "Turned-away calls".
 ghost use mathlib.Core.Path.{_≡_};
-ghost use Rattle.basics.specs.Base.{pick};
+ghost use Rattle.def_basics.specs.Base.{pick};
 ghost use Rattle.taskgraph_answer.specs.Answers.{plain, graphAnswer};
 ghost use Rattle.taskgraph_answer.specs.WholeAnswers.{stoppedAnswer};
-use numbers::DAMAGED;
-use numbers::KIND_ENDED;
-use numbers::KIND_GOING_ON;
-use numbers::KIND_HANDED_OUT;
-use numbers::KIND_LAID_OUT;
-use numbers::KIND_LOADED;
-use numbers::KIND_NONE_READY;
-use numbers::KIND_POSTED;
-use numbers::KIND_REFUSED;
-use numbers::KIND_STOPPED;
-use terms::Answer;
-use terms::bit;
+use def_numbers::DAMAGED;
+use def_numbers::KIND_ENDED;
+use def_numbers::KIND_GOING_ON;
+use def_numbers::KIND_HANDED_OUT;
+use def_numbers::KIND_LAID_OUT;
+use def_numbers::KIND_LOADED;
+use def_numbers::KIND_NONE_READY;
+use def_numbers::KIND_POSTED;
+use def_numbers::KIND_REFUSED;
+use def_numbers::KIND_STOPPED;
+use def_terms::Answer;
+use def_terms::bit;
 
 // What a call or a step answers. A refusal has its number, 6 also the place in the list; a job handed out has its place
 // and its name, and 1 where it is spoiled. A whole call that damage stopped half done has number 9. What does not

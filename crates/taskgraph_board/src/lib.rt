@@ -1,12 +1,11 @@
 // The board over the graph's own jobs, and the minutes that it goes by, as C has them: the sizes, then the lent jobs
 // table. A slice is a pointer and a count of elements in C. include/taskgraph.h declares all of this. Follows
-// docs/RULES.md, "The board and the day list". Assumes nothing but that a pointer with a count points to that many
-// elements.
+// docs/RULES.md, "The board and the day list". Assumes that a pointer with a count points to that many elements.
 ghost use mathlib.Core.Path.{_≡_};
-ghost use Rattle.graph_board.specs.Board.{graphMinutes, graphTotals};
-use minutes::GraphMinutes;
-use terms::Sizes;
-use totals::Totals;
+ghost use Rattle.def_graph_board.specs.Board.{graphMinutes, graphTotals};
+use def_minutes::GraphMinutes;
+use def_terms::Sizes;
+use def_totals::Totals;
 
 // The board over the graph's own jobs.
 #[no_mangle]

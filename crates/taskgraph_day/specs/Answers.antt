@@ -1,7 +1,7 @@
--- The struct of the C interface for the day list: for each case of an answer the number and the bytes. Assumes nothing.
+-- The struct of the C interface for the day list: for each case of an answer the number and the bytes.
 use Prim.Native.Nat.{ℕ}
-use Rattle.numbers.specs.Numbers.{accepted}
-use Rattle.day_format.specs.declared.DayAnswer.{DayAnswer}
+use Rattle.def_numbers.specs.Numbers.{accepted}
+use Rattle.def_day_lines.specs.declared.DayAnswer.{DayAnswer}
 use Rattle.taskgraph_day.specs.declared.DayPrinted.{DayPrinted}
 
 -- how many bytes the day list printed; 1 and 15 have none

@@ -1,7 +1,7 @@
 -- What a host hears of the day list, by the fields of the struct and the numerals of include/taskgraph.h: how many
 -- bytes the lines take, or which number refused, is read off it, so no two are told alike, and a refusal has no bytes.
 -- Follows docs/RULES.md, "The board and the day list" and "Turned-away calls". (Wrong/Heard.antt has tellings that lose
--- something.) Assumes nothing.
+-- something.)
 use mathlib.Core.Path.{_≡_, refl, ap, _∙_}
 use mathlib.Core.Logic.{_≢_}
 use mathlib.Core.Bool.{_&&_}
@@ -10,12 +10,12 @@ use Prim.Native.Nat.{ℕ}
 use lib.Dec.{eqb, leb}
 use lib.ListN.{length}
 use borrow.Author.Tests.{eqb-true, eqb-false}
-use Rattle.numbers.specs.Numbers.{mostWorkers}
-use Rattle.basics.specs.Base.{pick}
-use Rattle.basics.specs.Laws.{pick-by}
-use Rattle.day_format.specs.Day.{dayText, Printing, dayList}
-use Rattle.day_format.specs.declared.DayAnswer.{DayAnswer}
-use Rattle.day_format.specs.declared.DayAnswer.the-variants.{Printed, Refused}
+use Rattle.def_numbers.specs.Numbers.{mostWorkers}
+use Rattle.def_basics.specs.Base.{pick}
+use Rattle.def_basics.specs.Laws.{pick-by}
+use Rattle.def_day_lines.specs.Day.{dayText, Printing, dayList}
+use Rattle.def_day_lines.specs.declared.DayAnswer.{DayAnswer}
+use Rattle.def_day_lines.specs.declared.DayAnswer.the-variants.{Printed, Refused}
 use Rattle.taskgraph_day.specs.Answers.{dayPrinted}
 use Rattle.taskgraph_day.specs.declared.DayPrinted.{DayPrinted}
 

@@ -3,12 +3,12 @@
 // compiled by itself: in one module with the calls of the graph it would be a second caller of a step, and the compiler
 // then keeps the
 // step out of line in both.
-// Assumes nothing but that a pointer with a count points to that many elements.
+// Assumes that a pointer with a count points to that many elements.
 ghost use mathlib.Core.Path.{_≡_};
-ghost use Rattle.day_format.specs.Day.{dayList};
+ghost use Rattle.def_day_lines.specs.Day.{dayList};
 ghost use Rattle.taskgraph_day.specs.Answers.{dayPrinted};
-use day_format::DayAnswer;
-use numbers::ACCEPTED;
+use def_day_lines::DayAnswer;
+use def_numbers::ACCEPTED;
 
 // How many bytes the day list printed, or a refusal.
 #[repr(C)]

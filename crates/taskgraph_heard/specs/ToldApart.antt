@@ -2,7 +2,7 @@
 -- numerals of include/taskgraph.h, fields that say nothing are 0, and no other answers are given than those that are
 -- read so. Each `heard` stands in the specs/Heard.antt of the crate named beside it, with tellings that lose something
 -- in its Wrong/Heard.antt. Follows docs/RULES.md, "Steps", "Turned-away calls", "Tables and their measures", "The board
--- and the day list", and docs/SHEETS.md. Assumes nothing.
+-- and the day list", and docs/SHEETS.md.
 use mathlib.Core.Path.{_≡_, refl, ap, _∙_}
 use mathlib.Core.Logic.{_≢_}
 use mathlib.Core.Bool.{true, false}
@@ -11,35 +11,35 @@ use Prim.Native.Nat.{ℕ, zero, suc, _+_, _*_, _/_, _≤_, _<_}
 use native.Mathlib.Omega.{arith}
 use lib.ListN.{length, getD}
 use borrow.Author.Tests.{eq-eqb, ne-eqb}
-use Rattle.basics.specs.Laws.{pick-by}
-use Rattle.terms.specs.Terms.{Arguments, noArguments, Finish}
-use Rattle.terms.specs.Runs.{Item, postAdd, postFinish, step, get, load, Outcome}
-use Rattle.terms.specs.declared.Answer.{Answer}
-use Rattle.terms.specs.declared.Answer.the-variants.{Laid, Refused}
-use Rattle.terms.specs.declared.Sizes.{Sizes}
-use Rattle.words.specs.Layout.{Tables, roomFor}
-use Rattle.words.specs.Words.{perform, layOut}
+use Rattle.def_basics.specs.Laws.{pick-by}
+use Rattle.def_terms.specs.Terms.{Arguments, noArguments, Finish}
+use Rattle.def_terms.specs.Runs.{Item, postAdd, postFinish, step, get, load, Result}
+use Rattle.def_terms.specs.declared.Answer.{Answer}
+use Rattle.def_terms.specs.declared.Answer.the-variants.{Laid, Refused}
+use Rattle.def_terms.specs.declared.Sizes.{Sizes}
+use Rattle.def_words.specs.Layout.{Tables, roomFor}
+use Rattle.def_words.specs.Words.{perform, layOut}
 use Rattle.thm_words_refusals.specs.Numbers.{Fits, fits}
 use Rattle.thm_words_refusals.specs.Numbers as list
-use Rattle.whole_words.specs.Whole.{wholeAdd, wholeFinish}
-use Rattle.sheet_rows.specs.SheetRows.{addsOf, rowsWords}
-use Rattle.sheet_rows.specs.Arguments.{argumentsOf}
-use Rattle.sheet_rows.specs.declared.SheetAdded.{SheetAdded}
-use Rattle.whole_answers.specs.Heard as whole
+use Rattle.def_whole_calls.specs.Whole.{wholeAdd, wholeFinish}
+use Rattle.def_sheet_rows.specs.SheetRows.{addsOf, rowsWords}
+use Rattle.def_sheet_rows.specs.Arguments.{argumentsOf}
+use Rattle.def_sheet_rows.specs.declared.SheetAdded.{SheetAdded}
+use Rattle.thm_whole_answers.specs.Heard as whole
 use Rattle.taskgraph_answer.specs.Answers.{graphAnswer, finishTaken}
 use Rattle.taskgraph_answer.specs.Heard as answer
 use Rattle.taskgraph_answer.specs.WholeAnswers.{toldWhole}
 use Rattle.taskgraph_answer.specs.HeardWhole as wholly
-use Rattle.whole_stops.specs.StoppedSheet.{rowsStopped, rowsAdded}
-use Rattle.whole_answers.specs.SheetHeard.{heardSheet, sheetOf, sheet-heard-as-told}
+use Rattle.def_stops.specs.StoppedSheet.{rowsStopped, rowsAdded}
+use Rattle.thm_whole_answers.specs.SheetHeard.{heardSheet, sheetOf, sheet-heard-as-told}
 use Rattle.taskgraph_answer.specs.declared.GraphAnswer.{GraphAnswer}
-use Rattle.sheet_format.specs.Job.{Job}
-use Rattle.sheet_format.specs.Decode.{Decoded, decode, Sheet, decodeSheet, entryOf, scanSheet, readSheet}
-use Rattle.sheet_format.specs.Write.{jobOf, entryAt, entriesFrom, writeEntry, writeSheet}
-use Rattle.sheet_format.specs.declared.Entry.{Entry}
-use Rattle.sheet_format.specs.declared.SheetRead.{SheetRead}
-use Rattle.sheet_format.specs.declared.Wrote.{Wrote}
-use Rattle.sheet_format.specs.declared.SheetWrote.{SheetWrote}
+use Rattle.def_sheets.specs.Job.{Job}
+use Rattle.def_sheets.specs.Decode.{Decoded, decode, Sheet, decodeSheet, entryOf, scanSheet, readSheet}
+use Rattle.def_sheets.specs.Write.{jobOf, entryAt, entriesFrom, writeEntry, writeSheet}
+use Rattle.def_sheets.specs.declared.Entry.{Entry}
+use Rattle.def_sheets.specs.declared.SheetRead.{SheetRead}
+use Rattle.def_sheets.specs.declared.Wrote.{Wrote}
+use Rattle.def_sheets.specs.declared.SheetWrote.{SheetWrote}
 use Rattle.taskgraph_reader.specs.Answers.{entryRead, sheetRead}
 use Rattle.taskgraph_reader.specs.Heard as reader
 use Rattle.taskgraph_reader.specs.Rows as rows
@@ -49,23 +49,23 @@ use Rattle.taskgraph_writer.specs.Answers.{entryWritten, sheetWritten}
 use Rattle.taskgraph_writer.specs.Heard as writer
 use Rattle.taskgraph_writer.specs.declared.EntryWritten.{EntryWritten}
 use Rattle.taskgraph_writer.specs.declared.SheetWritten.{SheetWritten}
-use Rattle.worker_state.specs.Held.{heldWords}
-use Rattle.worker_state.specs.Drained.{drainedWords}
-use Rattle.worker_state.specs.Heard as state
-use Rattle.worker_state.specs.declared.Holding.{Holding}
-use Rattle.worker_state.specs.declared.Drained.{Drained}
-use Rattle.totals.specs.Board.{totalsOf, totalsBy, totalsOfWords}
-use Rattle.totals.specs.Heard as board
-use Rattle.totals.specs.declared.JobRecord.{JobRecord}
-use Rattle.totals.specs.declared.Totals.{Totals}
-use Rattle.graph_board.specs.Board.{graphTotals, graphMinutes}
-use Rattle.graph_board.specs.Heard as graph
-use Rattle.minutes.specs.declared.GraphMinutes.{GraphMinutes}
+use Rattle.def_worker_state.specs.Held.{heldWords}
+use Rattle.def_worker_state.specs.Drained.{drainedWords}
+use Rattle.def_worker_state.specs.Heard as state
+use Rattle.def_worker_state.specs.declared.Holding.{Holding}
+use Rattle.def_worker_state.specs.declared.Drained.{Drained}
+use Rattle.def_totals.specs.Board.{totalsOf, totalsBy, totalsOfWords}
+use Rattle.def_totals.specs.Heard as board
+use Rattle.def_totals.specs.declared.JobRecord.{JobRecord}
+use Rattle.def_totals.specs.declared.Totals.{Totals}
+use Rattle.def_graph_board.specs.Board.{graphTotals, graphMinutes}
+use Rattle.def_graph_board.specs.Heard as graph
+use Rattle.def_minutes.specs.declared.GraphMinutes.{GraphMinutes}
 use Rattle.graph_layout.specs.Needed.{wordsNeeded}
 use Rattle.graph_layout.specs.Heard as layout
 use Rattle.graph_layout.specs.declared.Need.{Need}
-use Rattle.day_format.specs.Day.{dayList}
-use Rattle.day_format.specs.declared.DayAnswer.{DayAnswer}
+use Rattle.def_day_lines.specs.Day.{dayList}
+use Rattle.def_day_lines.specs.declared.DayAnswer.{DayAnswer}
 use Rattle.taskgraph_day.specs.Answers.{dayPrinted}
 use Rattle.taskgraph_day.specs.Heard as day
 use Rattle.taskgraph_day.specs.declared.DayPrinted.{DayPrinted}
@@ -106,7 +106,7 @@ pub record SheetTaken (l : List Arguments) (r : List ℕ) : Type 0 where
 -- cites
 pub record ToldApart : Type 0 where
   -- tg_answer, of tg_lay_out, tg_load_minutes, tg_post_add, tg_post_finish, tg_step, tg_get, tg_add and tg_finish
-  -- (taskgraph_answer); which answers there are: thm_words_refusals, whole_answers
+  -- (taskgraph_answer); which answers there are: thm_words_refusals, thm_whole_answers
   pub answers : answer.AnswersHeard graphAnswer
   pub which-answers : (t : Tables) (i : Item) → Fits i (perform t i .answer)
   pub which-numbers : (i : Item) → list.numbers i ≡ refusedWith i
@@ -116,7 +116,7 @@ pub record ToldApart : Type 0 where
   pub how-an-add-ends : (s : Sizes) (t : Tables) (w : ℕ) (a : Arguments) → whole.AddEnded (wholeAdd s t w a .answer)
   pub how-a-finish-ends : (s : Sizes) (t : Tables) (w : ℕ) (f : Finish)
       → whole.FinishEnded (wholeFinish s t w f .answer)
-  -- tg_sheet_added, of tg_add_sheet; of each entry what its add would tell (whole_answers)
+  -- tg_sheet_added, of tg_add_sheet; of each entry what its add would tell (thm_whole_answers)
   pub sheets-added : whole.SheetsHeard whole.sheetTold
   pub a-sheet-added-is-told : (s : Sizes) (t : Tables) (w : ℕ) (r : List ℕ)
       → rowsAdded s t w r
@@ -151,7 +151,7 @@ pub record ToldApart : Type 0 where
   -- tg_sheet_written, of tg_write_sheet
   pub sheets-written : writer.SheetsHeard sheetWritten
   pub how-all-written : (rows out : List ℕ) → writer.WritesAll (writeSheet rows out .answer)
-  -- tg_holding, of tg_held (worker_state)
+  -- tg_holding, of tg_held (def_worker_state)
   pub holdings : state.HoldingsHeard state.holdingTold
   pub a-holding-is-told : (s : Sizes) (t : Tables) (w : ℕ)
       → (x : state.Told) × state.Tells x × (heldWords s t w ≡ state.holdingTold x)
@@ -160,7 +160,7 @@ pub record ToldApart : Type 0 where
   pub drained-is-told : (s : Sizes) (t : Tables)
       → (x : state.DrainedTold) × state.TellsDrained x × (drainedWords s t ≡ state.drainedTold x)
   -- tg_totals, of tg_totals_of_words, tg_totals_of_records, tg_totals_by_minutes and tg_totals_of_graph (totals,
-  -- graph_board)
+  -- def_graph_board)
   pub totals : board.TotalsHeard board.totalsTold
   pub words-are-told : (table words : List ℕ)
       → (x : board.Told) × board.TellsOwn x × (totalsOfWords table words ≡ board.totalsTold x)
@@ -170,7 +170,7 @@ pub record ToldApart : Type 0 where
       → (x : board.Told) × board.Tells x × (totalsBy table rows ≡ board.totalsTold x)
   pub the-graphs-row-is-told : (s : Sizes) (jobs : List ℕ)
       → (x : board.Told) × board.TellsOwn x × (graphTotals s jobs ≡ board.totalsTold x)
-  -- tg_graph_minutes, of tg_minutes_of_graph (graph_board)
+  -- tg_graph_minutes, of tg_minutes_of_graph (def_graph_board)
   pub minutes : graph.MinutesHeard graph.minutesTold
   pub minutes-are-told : (s : Sizes) (jobs : List ℕ)
       → (x : graph.Told) × graph.Tells x × (graphMinutes s jobs ≡ graph.minutesTold x)
@@ -192,7 +192,7 @@ same-numbers (load s m) = refl
 laid-or-not : (s : Sizes) (t : Tables) → LaidOrNot (layOut s t .answer)
 unfolding layOut
 laid-or-not s t =
-    pick-by (λ (o : Outcome Tables). LaidOrNot (o .answer)) (roomFor s t) (λ e. laid) (λ e. LaidOrNot.by-1)
+    pick-by (λ (o : Result Tables). LaidOrNot (o .answer)) (roomFor s t) (λ e. laid) (λ e. LaidOrNot.by-1)
 
 finish-taken : (name outcome : ℕ) → FinishTaken (finishTaken name outcome) name outcome
 finish-taken name outcome = record {

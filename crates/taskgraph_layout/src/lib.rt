@@ -1,16 +1,16 @@
 // The words that the five tables need, and laying them out, as C has them: the sizes, then the lent tables. A slice is
 // a pointer and a count of elements in C; answers are structs by value. include/taskgraph.h declares them. Follows
-// docs/RULES.md, "Tables and their measures" and "Turned-away calls". Assumes nothing but that a pointer with a count
-// points to that many elements.
+// docs/RULES.md, "Tables and their measures" and "Turned-away calls". Assumes that a pointer with a count points to
+// that many elements.
 ghost use mathlib.Core.Path.{_≡_};
-ghost use Rattle.words.specs.Layout.{atEntry, atExit};
-ghost use Rattle.words.specs.Words.{layOut};
+ghost use Rattle.def_words.specs.Layout.{asLent, asLeft};
+ghost use Rattle.def_words.specs.Words.{layOut};
 ghost use Rattle.graph_layout.specs.Needed.{wordsNeeded};
 ghost use Rattle.taskgraph_answer.specs.Answers.{Gives};
+use def_terms::Sizes;
 use graph_layout::Need;
 use taskgraph_answer::GraphAnswer;
 use taskgraph_answer::answered;
-use terms::Sizes;
 
 // How long the tables must be for these sizes.
 #[no_mangle]
@@ -30,8 +30,8 @@ pub extern "C" fn tg_lay_out(
     queue: &mut [u32],
     workers: &mut [u32],
 ) -> GraphAnswer
-    ensures { λ r. ⌜ Gives r (atExit jobs arcs buckets queue workers)
-        (layOut sizes (atEntry jobs arcs buckets queue workers)) ⌝ }
+    ensures { λ r. ⌜ Gives r (asLeft jobs arcs buckets queue workers)
+        (layOut sizes (asLent jobs arcs buckets queue workers)) ⌝ }
 {
     answered(graph_layout::lay_out(sizes, jobs, arcs, buckets, queue, workers))
 }

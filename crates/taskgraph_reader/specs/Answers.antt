@@ -1,10 +1,9 @@
 -- The structs of the C interface for reading job sheets: for each case of an answer the number and the values that
--- docs/RULES.md, "Turned-away calls" and "Job sheets", has for it. What does not belong to a case is 0. Assumes
--- nothing.
+-- docs/RULES.md, "Turned-away calls" and "Job sheets", has for it. What does not belong to a case is 0.
 use Prim.Native.Nat.{ℕ}
-use Rattle.numbers.specs.Numbers.{accepted}
-use Rattle.sheet_format.specs.Decode.{Decoded, job, end, refused, entryOf, blank, Sheet, scanSheet}
-use Rattle.sheet_format.specs.declared.SheetRead.{SheetRead}
+use Rattle.def_numbers.specs.Numbers.{accepted}
+use Rattle.def_sheets.specs.Decode.{Decoded, job, end, refused, entryOf, blank, Sheet, scanSheet}
+use Rattle.def_sheets.specs.declared.SheetRead.{SheetRead}
 use Rattle.taskgraph_reader.specs.declared.EntryRead.{EntryRead}
 use Rattle.taskgraph_reader.specs.declared.SheetScanned.{SheetScanned}
 

@@ -1,7 +1,7 @@
 -- What a host hears of a sheet that is read, by the fields of the structs and the numerals of include/taskgraph.h: what
 -- stands at an offset, and how many entries a sheet has, are read off them, so no two are told alike, and a field that
 -- says nothing is 0. Follows docs/SHEETS.md and numbers 12 to 15 of docs/RULES.md, "Turned-away calls".
--- (Wrong/Heard.antt has tellings that lose something.) Assumes nothing.
+-- (Wrong/Heard.antt has tellings that lose something.)
 use mathlib.Core.Path.{_≡_, refl, sym, ap, _∙_}
 use mathlib.Core.Logic.{_≢_}
 use mathlib.Core.Bool.{false, _&&_}
@@ -13,21 +13,21 @@ use lib.Dec.{eqb, leb, ltb}
 use lib.ListN.{length, getD, take, drop, replicate, length-append, take-append-drop}
 use lib.Seq.{length-take-le}
 use borrow.Author.Tests.{eqb-true, eqb-false}
-use Rattle.numbers.specs.Numbers.{mostNames, mostClass, mostGrower, nameBytes, countBytes, classBytes, growerBytes}
-use Rattle.numbers.specs.Numbers.{entryWords, cut}
-use Rattle.basics.specs.Base.{pick}
-use Rattle.basics.specs.Laws.{never, pick-by}
-use Rattle.sheet_format.specs.Number.{numberAt}
-use Rattle.sheet_format.specs.Job.{Job}
-use Rattle.sheet_format.specs.Decode.{Decoded, job, end, refused, decode, Sheet, jobs, broken, decodeFrom, decodeSheet}
-use Rattle.sheet_format.specs.Decode.{onward, before, entryOf, blank, scanSheet, readSheet, SheetRows}
-use Rattle.sheet_format.specs.Decode.{thenDecoded, mapAt, nameAt, limitedAt, listAt, ifBit, then}
-use Rattle.sheet_format.specs.CodeLaws.{entry-bounds}
-use Rattle.sheet_format.specs.declared.Entry.{Entry}
-use Rattle.sheet_format.specs.declared.Field.{Field}
-use Rattle.sheet_format.specs.declared.Field.the-variants.{Got, Refused}
-use Rattle.sheet_format.specs.declared.SheetRead.{SheetRead}
-use Rattle.sheet_format.specs.declared.SheetRead.the-variants.{Whole}
+use Rattle.def_numbers.specs.Numbers.{mostNames, mostClass, mostGrower, nameBytes, countBytes, classBytes, growerBytes}
+use Rattle.def_numbers.specs.Numbers.{entryWords, cut}
+use Rattle.def_basics.specs.Base.{pick}
+use Rattle.def_basics.specs.Laws.{never, pick-by}
+use Rattle.def_sheets.specs.Number.{numberAt}
+use Rattle.def_sheets.specs.Job.{Job}
+use Rattle.def_sheets.specs.Decode.{Decoded, job, end, refused, decode, Sheet, jobs, broken, decodeFrom, decodeSheet}
+use Rattle.def_sheets.specs.Decode.{onward, before, entryOf, blank, scanSheet, readSheet, SheetRows}
+use Rattle.def_sheets.specs.Decode.{thenDecoded, mapAt, nameAt, limitedAt, listAt, ifBit, then}
+use Rattle.def_sheets.specs.CodeLaws.{entry-bounds}
+use Rattle.def_sheets.specs.declared.Entry.{Entry}
+use Rattle.def_sheets.specs.declared.Field.{Field}
+use Rattle.def_sheets.specs.declared.Field.the-variants.{Got, Refused}
+use Rattle.def_sheets.specs.declared.SheetRead.{SheetRead}
+use Rattle.def_sheets.specs.declared.SheetRead.the-variants.{Whole}
 use Rattle.taskgraph_reader.specs.Answers.{entryRead, sheetRead}
 use Rattle.taskgraph_reader.specs.declared.EntryRead.{EntryRead}
 use Rattle.taskgraph_reader.specs.declared.SheetScanned.{SheetScanned}

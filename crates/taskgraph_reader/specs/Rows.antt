@@ -1,7 +1,6 @@
 -- What a host hears in the rows into which a sheet was read, by their words: row i has the job of entry i, "laid out as
 -- a tg_entry" of 36 words, with 0 for the names past its count, and the words past the last entry are as they were.
 -- Follows docs/SHEETS.md; include/taskgraph.h has the fields. (Wrong/Rows.antt has readers that lose something.)
--- Assumes nothing.
 use mathlib.Core.Path.{_≡_, ap, _∙_}
 use mathlib.Core.List.{List, [], _∷_, _++_, append-assoc}
 use Prim.Native.Nat.{ℕ, zero, suc, _+_, _*_, _-_, _≤_, _<_}
@@ -9,12 +8,12 @@ use native.Mathlib.Omega.{arith}
 use lib.ListN.{length, getD, take, drop}
 use lib.Seq.{sets, sets-eq, length-sets, getD-append-add, drop-append-add, take-at, getD-drop}
 use borrow.Author.Tests.{le-leb}
-use Rattle.sheet_format.specs.Job.{Job}
-use Rattle.sheet_format.specs.Decode.{Sheet, jobs, decodeSheet, rowOf, rowsOf, padded, entryOf, readSheet}
-use Rattle.sheet_format.specs.SheetTrip.{Each}
-use Rattle.sheet_format.specs.RewriteTrip.{Short, length-rowOf, length-rowsOf}
-use Rattle.sheet_format.specs.CodeLaws.{sheet-bounds}
-use Rattle.sheet_format.specs.declared.Entry.{Entry}
+use Rattle.def_sheets.specs.Job.{Job}
+use Rattle.def_sheets.specs.Decode.{Sheet, jobs, decodeSheet, rowOf, rowsOf, padded, entryOf, readSheet}
+use Rattle.def_sheets.specs.SheetTrip.{Each}
+use Rattle.def_sheets.specs.RewriteTrip.{Short, length-rowOf, length-rowsOf}
+use Rattle.def_sheets.specs.CodeLaws.{sheet-bounds}
+use Rattle.def_sheets.specs.declared.Entry.{Entry}
 use Rattle.taskgraph_reader.specs.Heard.{heardJob, Tidy, jobs-heard}
 
 -- the entry in row i: its name, count, class and grower, then 32 names

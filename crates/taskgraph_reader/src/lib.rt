@@ -1,13 +1,13 @@
 // Reading job sheets as C has it. A slice is a pointer and a count of elements in C; answers are structs by value.
 // Numbers are those of docs/RULES.md, "Turned-away calls", and 0 where nothing was refused. include/taskgraph.h
-// declares all of this. Assumes nothing but that a pointer with a count points to that many elements.
+// declares all of this. Assumes that a pointer with a count points to that many elements.
 ghost use mathlib.Core.Path.{_≡_};
-ghost use Rattle.sheet_format.specs.Decode.{decode, decodeSheet, readSheet};
+ghost use Rattle.def_sheets.specs.Decode.{decode, decodeSheet, readSheet};
 ghost use Rattle.taskgraph_reader.specs.Answers.{entryRead, sheetScanned, sheetRead};
-use numbers::ACCEPTED;
-use sheet_format::Entry;
-use sheet_format::Read;
-use sheet_format::SheetRead;
+use def_numbers::ACCEPTED;
+use def_sheets::Entry;
+use def_sheets::Read;
+use def_sheets::SheetRead;
 
 // What stands at an offset of a sheet: found is 1 for a job, at the offset past it; number and found are 0 at the end
 // of the sheet.

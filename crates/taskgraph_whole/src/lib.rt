@@ -1,16 +1,16 @@
 // An add and a finish run whole as C has them: posted, and stepped to the end, in one call. A slice is a pointer and a
 // count of elements in C; answers are structs by value. include/taskgraph.h declares all of this. Follows
-// docs/RULES.md, "Whole calls". Assumes nothing but that a pointer with a count points to that many elements.
-ghost use Rattle.words.specs.Layout.{atEntry, atExit};
-ghost use Rattle.whole_words.specs.Whole.{wholeAdd, wholeFinish};
+// docs/RULES.md, "Whole calls". Assumes that a pointer with a count points to that many elements.
+ghost use Rattle.def_words.specs.Layout.{asLent, asLeft};
+ghost use Rattle.def_whole_calls.specs.Whole.{wholeAdd, wholeFinish};
 ghost use Rattle.taskgraph_answer.specs.Answers.{finishTaken};
 ghost use Rattle.taskgraph_answer.specs.WholeAnswers.{GivesWhole};
-ghost use Rattle.sheet_rows.specs.Arguments.{argumentsOf};
-use sheet_format::Entry;
+ghost use Rattle.def_sheet_rows.specs.Arguments.{argumentsOf};
+use def_sheets::Entry;
+use def_terms::Sizes;
 use taskgraph_answer::GraphAnswer;
 use taskgraph_answer::answered;
 use taskgraph_answer::whole_answered;
-use terms::Sizes;
 use whole_add::add_whole;
 use worker_phase::phase_of;
 use worker_phase::stopped_as;
@@ -27,9 +27,9 @@ pub extern "C" fn tg_add(
     worker: u32,
     entry: Entry,
 ) -> GraphAnswer
-    ensures { λ r. ⌜ GivesWhole r (atExit jobs arcs buckets queue workers)
-        (atEntry jobs arcs buckets queue workers) worker
-        (wholeAdd sizes (atEntry jobs arcs buckets queue workers) worker (argumentsOf entry)) ⌝ }
+    ensures { λ r. ⌜ GivesWhole r (asLeft jobs arcs buckets queue workers)
+        (asLent jobs arcs buckets queue workers) worker
+        (wholeAdd sizes (asLent jobs arcs buckets queue workers) worker (argumentsOf entry)) ⌝ }
 {
     let before = phase_of(workers, sizes.workers, worker);
     let made = add_whole(sizes, jobs, arcs, buckets, queue, workers, worker, entry);
@@ -52,9 +52,9 @@ pub extern "C" fn tg_finish(
     name: u32,
     outcome: u32,
 ) -> GraphAnswer
-    ensures { λ r. ⌜ GivesWhole r (atExit jobs arcs buckets queue workers)
-        (atEntry jobs arcs buckets queue workers) worker
-        (wholeFinish sizes (atEntry jobs arcs buckets queue workers) worker
+    ensures { λ r. ⌜ GivesWhole r (asLeft jobs arcs buckets queue workers)
+        (asLent jobs arcs buckets queue workers) worker
+        (wholeFinish sizes (asLent jobs arcs buckets queue workers) worker
         (finishTaken name outcome)) ⌝ }
 {
     let before = phase_of(workers, sizes.workers, worker);

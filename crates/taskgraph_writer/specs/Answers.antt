@@ -1,10 +1,9 @@
 -- The structs of the C interface for writing job sheets: for each case of an answer the number and the values that
--- docs/RULES.md, "Turned-away calls" and "Job sheets", has for it. What does not belong to a case is 0. Assumes
--- nothing.
+-- docs/RULES.md, "Turned-away calls" and "Job sheets", has for it. What does not belong to a case is 0.
 use Prim.Native.Nat.{ℕ}
-use Rattle.numbers.specs.Numbers.{accepted}
-use Rattle.sheet_format.specs.declared.Wrote.{Wrote}
-use Rattle.sheet_format.specs.declared.SheetWrote.{SheetWrote}
+use Rattle.def_numbers.specs.Numbers.{accepted}
+use Rattle.def_sheets.specs.declared.Wrote.{Wrote}
+use Rattle.def_sheets.specs.declared.SheetWrote.{SheetWrote}
 use Rattle.taskgraph_writer.specs.declared.EntryWritten.{EntryWritten}
 use Rattle.taskgraph_writer.specs.declared.SheetWritten.{SheetWritten}
 

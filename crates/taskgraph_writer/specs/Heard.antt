@@ -1,24 +1,24 @@
 -- What a host hears of a sheet that is written, by the fields of the structs and the numerals of include/taskgraph.h:
 -- where the entry ends, how many entries and bytes were written, or which field was refused, are read off them, so no
 -- two are told alike. Follows docs/SHEETS.md and numbers 1, 14 and 15 of docs/RULES.md, "Turned-away calls".
--- (Wrong/Heard.antt has tellings that lose something.) Assumes nothing.
+-- (Wrong/Heard.antt has tellings that lose something.)
 use mathlib.Core.Path.{_≡_, refl, ap, _∙_}
 use mathlib.Core.List.{List, map}
 use Prim.Native.Nat.{ℕ, _+_, _%_}
 use lib.Dec.{eqb, leb}
 use lib.ListN.{length}
 use borrow.Author.Tests.{eqb-true, eqb-false}
-use Rattle.numbers.specs.Numbers.{entryWords}
-use Rattle.basics.specs.Base.{pick}
-use Rattle.basics.specs.Laws.{pick-by}
-use Rattle.sheet_format.specs.Job.{Job, encode, encodeSheet}
-use Rattle.sheet_format.specs.Write.{jobOf, Fault, faultOf, Written, writeJudged, writeEntry, entriesOf, SheetFault}
-use Rattle.sheet_format.specs.Write.{sheetFault, writeSheetJudged, writeSheet}
-use Rattle.sheet_format.specs.Write as writing
-use Rattle.sheet_format.specs.declared.Entry.{Entry}
-use Rattle.sheet_format.specs.declared.Wrote.{Wrote}
-use Rattle.sheet_format.specs.declared.Wrote.the-variants.{Done, Refused}
-use Rattle.sheet_format.specs.declared.SheetWrote.{SheetWrote}
+use Rattle.def_numbers.specs.Numbers.{entryWords}
+use Rattle.def_basics.specs.Base.{pick}
+use Rattle.def_basics.specs.Laws.{pick-by}
+use Rattle.def_sheets.specs.Job.{Job, encode, encodeSheet}
+use Rattle.def_sheets.specs.Write.{jobOf, Fault, faultOf, Written, writeJudged, writeEntry, entriesOf, SheetFault}
+use Rattle.def_sheets.specs.Write.{sheetFault, writeSheetJudged, writeSheet}
+use Rattle.def_sheets.specs.Write as writing
+use Rattle.def_sheets.specs.declared.Entry.{Entry}
+use Rattle.def_sheets.specs.declared.Wrote.{Wrote}
+use Rattle.def_sheets.specs.declared.Wrote.the-variants.{Done, Refused}
+use Rattle.def_sheets.specs.declared.SheetWrote.{SheetWrote}
 use Rattle.taskgraph_writer.specs.Answers.{entryWritten, sheetWritten}
 use Rattle.taskgraph_writer.specs.declared.EntryWritten.{EntryWritten}
 use Rattle.taskgraph_writer.specs.declared.SheetWritten.{SheetWritten}
@@ -71,7 +71,7 @@ unfolding writeEntry
 how-written e out start = go (faultOf e)
   where
     go : (f : Fault) → Writes (writeJudged f (jobOf e) out start .answer)
-    go (Fault.at place) = by-14
+    go (Fault.at offset) = by-14
     go Fault.none =
         pick-by (λ (r : Written). Writes (r .answer)) (leb (start + length (encode (jobOf e))) (length out))
         (λ h. done) (λ h. by-15)
@@ -142,7 +142,7 @@ how-all-written rows out =
     (λ e. go (sheetFault 0 (entriesOf rows)) (map jobOf (entriesOf rows))) (λ e. WritesAll.by-1)
   where
     go : (f : SheetFault) (js : List Job) → WritesAll (writeSheetJudged f js out .answer)
-    go (SheetFault.at k place) js = WritesAll.by-14
+    go (SheetFault.at k offset) js = WritesAll.by-14
     go SheetFault.none js =
         pick-by (λ (r : writing.SheetWritten). WritesAll (r .answer)) (leb (length (encodeSheet js)) (length out))
         (λ e. WritesAll.done) (λ e. WritesAll.by-15)

@@ -1,22 +1,22 @@
 // Writing job sheets as C has it. A slice is a pointer and a count of elements in C; answers are structs by value.
 // Numbers are those of docs/RULES.md, "Turned-away calls", and 0 where nothing was refused. include/taskgraph.h
-// declares all of this. Assumes nothing but that a pointer with a count points to that many elements.
+// declares all of this. Assumes that a pointer with a count points to that many elements.
 ghost use mathlib.Core.Path.{_≡_};
-ghost use Rattle.sheet_format.specs.Write.{writeEntry, writeSheet};
+ghost use Rattle.def_sheets.specs.Write.{writeEntry, writeSheet};
 ghost use Rattle.taskgraph_writer.specs.Answers.{entryWritten, sheetWritten};
-use numbers::ACCEPTED;
-use sheet_format::Entry;
-use sheet_format::SheetWrote;
-use sheet_format::Wrote;
+use def_numbers::ACCEPTED;
+use def_sheets::Entry;
+use def_sheets::SheetWrote;
+use def_sheets::Wrote;
 
-// Where the entry ends in the output, or a refusal with the place of its field from the entry's start.
+// Where the entry ends in the output, or a refusal with the offset of its field from the entry's start.
 #[repr(C)]
 pub struct EntryWritten {
     pub number: u32,
     pub at: usize,
 }
 
-// How many entries and bytes were written, or a refusal with the entry's number and the place of its field from the
+// How many entries and bytes were written, or a refusal with the entry's number and the offset of its field from the
 // entry's start.
 #[repr(C)]
 pub struct SheetWritten {

@@ -1,6 +1,6 @@
 -- When tables are laid out, and what laying out leaves: a fresh graph in the words needed, whatever they were, and the
 -- rest as it was. For all tables. Follows docs/RULES.md, "Tables and their measures" ("Laying out makes a fresh graph")
--- and "Turned-away calls" (number 1). Assumes nothing.
+-- and "Turned-away calls" (number 1).
 use mathlib.Core.Path.{_≡_, ap, _∙_}
 use mathlib.Core.Bool.{true}
 use mathlib.Core.List.{List, _++_}
@@ -11,19 +11,19 @@ use lib.Dec.{leb}
 use lib.ListN.{length, getD, drop, length-append, length-replicate, List·getD-append}
 use lib.Seq.{sets, sets-eq, length-sets}
 use borrow.Author.Tests.{leb-true}
-use Rattle.numbers.specs.Numbers.{wrongSize}
-use Rattle.basics.specs.Base.{pick}
-use Rattle.basics.specs.Laws.{fails}
-use Rattle.minutes.specs.Minutes.{fixedMinutes}
-use Rattle.terms.specs.Runs.{Outcome, outcome}
-use Rattle.terms.specs.declared.Sizes.{Sizes}
-use Rattle.terms.specs.declared.Answer.the-variants.{Laid, Refused}
-use Rattle.words.specs.Columns.{rows}
-use Rattle.words.specs.Layout.{none, jobShape, arcShape, bucketShape, queueShape, workerShape, IDLE, Tables, tables}
-use Rattle.words.specs.Layout.{need, bareWorker, repeated, freshJob, freshArc, freshPlace, freshJobs, freshArcs}
-use Rattle.words.specs.Layout.{freshBuckets}
-use Rattle.words.specs.Layout.{freshQueue, freshWorkers, freshTables, longEnough, roomFor}
-use Rattle.words.specs.Words.{layOut}
+use Rattle.def_numbers.specs.Numbers.{wrongSize}
+use Rattle.def_basics.specs.Base.{pick}
+use Rattle.def_basics.specs.Laws.{fails}
+use Rattle.def_minutes.specs.Minutes.{fixedMinutes}
+use Rattle.def_terms.specs.Runs.{Result, result}
+use Rattle.def_terms.specs.declared.Sizes.{Sizes}
+use Rattle.def_terms.specs.declared.Answer.the-variants.{Laid, Refused}
+use Rattle.def_words.specs.Columns.{rows}
+use Rattle.def_words.specs.Layout.{none, jobShape, arcShape, bucketShape, queueShape, workerShape, IDLE, Tables, tables}
+use Rattle.def_words.specs.Layout.{need, bareWorker, repeated, freshJob, freshArc, freshCell, freshJobs, freshArcs}
+use Rattle.def_words.specs.Layout.{freshBuckets}
+use Rattle.def_words.specs.Layout.{freshQueue, freshWorkers, freshTables, longEnough, roomFor}
+use Rattle.def_words.specs.Words.{layOut}
 use Rattle.thm_words_tests.specs.Tests.{test, parts, Long, long}
 use Rattle.thm_words_tests.specs.Judged.{Roomy, room-means}
 use Rattle.thm_words_need.specs.Parts.{rest, joined, lengths}
@@ -47,7 +47,7 @@ lay-fresh s t h i =
     let jobs = length-repeated (s .jobs) freshJob in
     let arcs = length-repeated (s .arcs) freshArc in
     let buckets = length-replicate (2 ^ s .bits) none in
-    let queue = length-repeated (s .jobs) freshPlace in
+    let queue = length-repeated (s .jobs) freshCell in
     let workers = length-repeated (s .workers) (bareWorker IDLE none 0) in
     tables (lay-table (freshJobs s) (t .jobs) (need jobShape (s .jobs)) (omega arith) (h .jobs) i)
     (lay-table (freshArcs s) (t .arcs) (need arcShape (s .arcs)) (omega arith) (h .arcs) i)
@@ -57,16 +57,16 @@ lay-fresh s t h i =
 
 -- laying out: where there is room for the sizes, a fresh graph, the rest as it was; else number 1, and nothing changed
 pub laid-out : (s : Sizes) (t : Tables)
-    → layOut s t ≡ pick (roomFor s t) (outcome Laid (joined (fresh s) (rest s t))) (outcome (Refused wrongSize 0) t)
+    → layOut s t ≡ pick (roomFor s t) (result Laid (joined (fresh s) (rest s t))) (result (Refused wrongSize 0) t)
 unfolding layOut
 laid-out s t = test (roomFor s t)
     (λ e. let h : longEnough s t ≡ true = search parts in rw (e, lay-fresh s t (long h)))
     (λ e. rw e)
 
 -- ---- the same of any laying-out, in two cases, by the words alone
-pub record LaysOut (lay : Sizes → Tables → Outcome Tables) (s : Sizes) (t : Tables) : Type 0 where
-  pub by-1 : (Roomy s t → ⊥) → lay s t ≡ outcome (Refused wrongSize 0) t
-  pub lays : Roomy s t → lay s t ≡ outcome Laid (joined (fresh s) (rest s t))
+pub record LaysOut (lay : Sizes → Tables → Result Tables) (s : Sizes) (t : Tables) : Type 0 where
+  pub by-1 : (Roomy s t → ⊥) → lay s t ≡ result (Refused wrongSize 0) t
+  pub lays : Roomy s t → lay s t ≡ result Laid (joined (fresh s) (rest s t))
   pub lengths : lengths (lay s t .state) ≡ lengths t
   pub minutes : Roomy s t → (c : ℕ) → c < 16 → getD (lay s t .state .jobs) (5 + c) 0 ≡ getD fixedMinutes c 0
 
@@ -96,7 +96,7 @@ lay-kept s t = test (roomFor s t) (λ e. rw e (lay-lengths s t)) (λ e. rw e)
 
 pub lays-out : (s : Sizes) (t : Tables) → LaysOut layOut s t
 lays-out s t =
-    let laid : Roomy s t → layOut s t ≡ outcome Laid (joined (fresh s) (rest s t)) =
+    let laid : Roomy s t → layOut s t ≡ result Laid (joined (fresh s) (rest s t)) =
     λ h. rw (laid-out s t, room-means s t .1 h) in
     record {
       by-1 = λ f. rw (laid-out s t, fails (roomFor s t) (room-means s t .0) f);

@@ -1,7 +1,6 @@
 -- For ALL tables: what a load does, of any machine over the tables, and that the words' load does it; and the words
 -- that it reads. Follows docs/RULES.md: "A host may load sixteen minute values in place of the fixed ones, before the
 -- first job enters", "the order is 1, 17, 9, 18, with nothing changed". (Wrong/Loads.antt has loads that do otherwise.)
--- Assumes nothing.
 use mathlib.Core.Path.{_≡_, refl, sym, ap, _∙_}
 use mathlib.Core.List.{List}
 use Prim.Native.Nat.{ℕ, zero, suc, _+_, _≤_, _<_}
@@ -9,21 +8,21 @@ use native.Mathlib.Omega.{arith}
 use lib.ListN.{length, getD}
 use lib.Seq.{length-sets}
 use borrow.Author.Tests.{le-leb, lt-leb, eq-eqb, ne-eqb}
-use Rattle.basics.specs.Stores.{sets-off, sets-at}
-use Rattle.minutes.specs.Rising.{isRising, SixteenRising, rising-means}
-use Rattle.basics.specs.Laws.{fails}
-use Rattle.terms.specs.Runs.{load, Outcome, outcome}
-use Rattle.terms.specs.declared.Sizes.{Sizes}
-use Rattle.terms.specs.declared.Answer.the-variants.{Loaded, Refused}
-use Rattle.words.specs.Columns.{header, cells, cells-list}
-use Rattle.words.specs.Layout.{MINUTES, Tables, view, sizesFit, storedMinutes, putMinutes}
-use Rattle.words.specs.Words.{loaded, judgedLoad, loading, loadWords, perform}
+use Rattle.def_basics.specs.Stores.{sets-off, sets-at}
+use Rattle.def_minutes.specs.Rising.{isRising, SixteenRising, rising-means}
+use Rattle.def_basics.specs.Laws.{fails}
+use Rattle.def_terms.specs.Runs.{load, Result, result}
+use Rattle.def_terms.specs.declared.Sizes.{Sizes}
+use Rattle.def_terms.specs.declared.Answer.the-variants.{Loaded, Refused}
+use Rattle.def_words.specs.Columns.{header, cells, cells-list}
+use Rattle.def_words.specs.Layout.{MINUTES, Tables, view, sizesFit, storedMinutes, putMinutes}
+use Rattle.def_words.specs.Words.{loaded, judgedLoad, loading, loadWords, perform}
 use Rattle.thm_words_tests.specs.Judged.{Sized, sized-means}
 
 -- ---- the statement
 -- a call that loads minutes, of any machine over the tables
 abbrev pub Load : Type 0
-Load = Sizes → Tables → List ℕ → Outcome Tables
+Load = Sizes → Tables → List ℕ → Result Tables
 
 -- the tables u are t with the values m as the minutes of the sixteen classes: words 5 to 20 of the jobs' table; every
 -- other word is as it was
@@ -41,11 +40,11 @@ pub record Stored (t : Tables) (m : List ℕ) (u : Tables) : Type 0 where
 -- "the order is 1, 17, 9, 18, with nothing changed"; and what none of them turns away is loaded. Word 4 of the jobs'
 -- table is how many jobs were made
 pub record LoadsExactly (load : Load) (s : Sizes) (t : Tables) (m : List ℕ) : Type 0 where
-  pub by-1 : (Sized s t → ⊥) → load s t m ≡ outcome (Refused 1 0) t
-  pub by-17 : Sized s t → (SixteenRising m → ⊥) → load s t m ≡ outcome (Refused 17 0) t
-  pub by-9 : Sized s t → SixteenRising m → s .jobs < getD (t .jobs) 4 0 → load s t m ≡ outcome (Refused 9 0) t
+  pub by-1 : (Sized s t → ⊥) → load s t m ≡ result (Refused 1 0) t
+  pub by-17 : Sized s t → (SixteenRising m → ⊥) → load s t m ≡ result (Refused 17 0) t
+  pub by-9 : Sized s t → SixteenRising m → s .jobs < getD (t .jobs) 4 0 → load s t m ≡ result (Refused 9 0) t
   pub by-18 : Sized s t → SixteenRising m → 0 < getD (t .jobs) 4 0 → getD (t .jobs) 4 0 ≤ s .jobs
-      → load s t m ≡ outcome (Refused 18 0) t
+      → load s t m ≡ result (Refused 18 0) t
   pub loads : Sized s t → SixteenRising m → getD (t .jobs) 4 0 ≡ 0
       → (load s t m .answer ≡ Loaded) × Stored t m (load s t m .state)
 

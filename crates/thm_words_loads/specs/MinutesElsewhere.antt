@@ -1,5 +1,5 @@
 -- For ALL tables: a post, a step and a get read no word of the stored minutes and change none. Follows docs/TABLES.md,
--- "What each step reads and writes". Assumes nothing.
+-- "What each step reads and writes".
 use mathlib.Core.Path.{_≡_, refl, sym, ap, subst, fun-ext, _∙_}
 use mathlib.Core.Bool.{false}
 use mathlib.Core.List.{List, [], _∷_}
@@ -9,34 +9,36 @@ use native.Mathlib.Decide.{decLt}
 use lib.Dec.{ltb, eqb}
 use lib.ListN.{length, getD, set}
 use lib.Seq.{sets, set-comm, length-sets, getD-set-other, ext-getD}
-use Rattle.numbers.specs.Numbers.{classes}
-use Rattle.basics.specs.Base.{pick}
-use Rattle.basics.specs.Laws.{never}
-use Rattle.basics.specs.Stores.{sets-off}
-use Rattle.terms.specs.Terms.{bit}
-use Rattle.terms.specs.Runs.{Outcome, outcome, Item, postAdd, postFinish, step, get, load, isLoad}
-use Rattle.terms.specs.declared.Sizes.{Sizes}
-use Rattle.words.specs.Columns.{place, columns, header, put, putHeader, cells}
-use Rattle.words.specs.Layout.{jobShape, JOBS, ARCS, BITS, WORKERS, MADE, MINUTES, LABEL, COUNT, FIRST, LAST, HELD}
-use Rattle.words.specs.Layout.{MARKING, Tables, tables, View, view, longEnough, sizesKept, storedMinutes, putMinutes}
-use Rattle.words.specs.Layout.{OUTCOME, MARK, NOTE, sizesFit, bareWorker}
-use Rattle.words.specs.Words.{admitted, refusal, judgedAdd, judgedFinish, addingWorker, enteredJob, posted, planPhase}
-use Rattle.words.specs.Words.{planGet, planStep, planGetOf, applied, appliedGet, loaded, addWords, finishWords}
-use Rattle.words.specs.Words.{lowered, stepWords, getWords, perform}
-use Rattle.words.specs.declared.Plan.{Plan}
-use Rattle.words.specs.declared.Plan.the-variants.{Refuse, Quit, Pass, Enter, Tally, LinkFirst, LinkAfter, Settle}
-use Rattle.words.specs.declared.Plan.the-variants.{SettleQueue, Mark, Notify, NotifyQueue}
-use Rattle.words.specs.declared.GetPlan.{GetPlan}
-use Rattle.words.specs.declared.GetPlan.the-variants.{RefuseGet, Wait, Take}
+use Rattle.def_numbers.specs.Numbers.{classes}
+use Rattle.def_basics.specs.Base.{pick}
+use Rattle.def_basics.specs.Laws.{never}
+use Rattle.def_basics.specs.Stores.{sets-off}
+use Rattle.def_terms.specs.Terms.{bit}
+use Rattle.def_terms.specs.Runs.{Result, result, Item, postAdd, postFinish, step, get, load, isLoad}
+use Rattle.def_terms.specs.declared.Sizes.{Sizes}
+use Rattle.def_words.specs.Columns.{offset, columns, header, put, putHeader, cells}
+use Rattle.def_words.specs.Layout.{jobShape, JOBS, ARCS, BITS, WORKERS, MADE, MINUTES, LABEL, COUNT, FIRST, LAST, HELD}
+use Rattle.def_words.specs.Layout.{MARKING, Tables, tables, View, view, longEnough, sizesKept, storedMinutes}
+use Rattle.def_words.specs.Layout.{putMinutes}
+use Rattle.def_words.specs.Layout.{OUTCOME, SPOILED, NOTE, sizesFit, bareWorker}
+use Rattle.def_words.specs.Words.{admitted, refusal, judgedAdd, judgedFinish, addingWorker, enteredJob, posted}
+use Rattle.def_words.specs.Words.{planPhase}
+use Rattle.def_words.specs.Words.{planGet, planStep, planGetOf, applied, appliedGet, loaded, addWords, finishWords}
+use Rattle.def_words.specs.Words.{lowered, stepWords, getWords, perform}
+use Rattle.def_words.specs.declared.Plan.{Plan}
+use Rattle.def_words.specs.declared.Plan.the-variants.{Refuse, Quit, Pass, Enter, Tally, LinkFirst, LinkAfter, Settle}
+use Rattle.def_words.specs.declared.Plan.the-variants.{SettleQueue, Mark, Notify, NotifyQueue}
+use Rattle.def_words.specs.declared.GetPlan.{GetPlan}
+use Rattle.def_words.specs.declared.GetPlan.the-variants.{RefuseGet, Wait, Take}
 use Rattle.thm_words_tests.specs.Tests.{test}
 use Rattle.thm_words_need.specs.Within.{not-changed}
 use Rattle.thm_words_loads.specs.Loads.{Stored, loaded-stores}
 
 -- ---- what is claimed, of any machine: with other minutes in the tables it answers alike, and leaves the same words
 -- and those minutes
-pub record MinutesAlone (perform : Tables → Item → Outcome Tables) : Type 0 where
+pub record MinutesAlone (perform : Tables → Item → Result Tables) : Type 0 where
   pub elsewhere : (t : Tables) (m : List ℕ) → length m ≡ classes → (i : Item) → isLoad i ≡ false
-      → perform (loaded t m) i ≡ outcome (perform t i .answer) (loaded (perform t i .state) m)
+      → perform (loaded t m) i ≡ result (perform t i .answer) (loaded (perform t i .state) m)
 
 -- ---- stores off a run of stores come before it as well
 set-off : (l r : List ℕ) (i k v : ℕ) → (i ≤ k → i + length r ≤ k) → set (sets l i r) k v ≡ sets (set l k v) i r
@@ -62,7 +64,7 @@ module _ (t : Tables) (m : List ℕ) (e : length m ≡ classes) where
   unfolding columns
   records = fun-ext (λ k. fun-ext (λ j.
       ap (λ x. pick (ltb k (jobShape .width)) x 0)
-      (sets-off m (t .jobs) MINUTES (place jobShape j k) (λ z. omega arith))))
+      (sets-off m (t .jobs) MINUTES (offset jobShape j k) (λ z. omega arith))))
 
   sizes : (s : Sizes) → sizesKept s (putMinutes (t .jobs) m) ≡ sizesKept s (t .jobs)
   unfolding sizesKept
@@ -115,11 +117,11 @@ module _ (t : Tables) (m : List ℕ) (e : length m ≡ classes) where
   -- a field of a job's record, a whole record, a counter
   field : {x y : List ℕ} → Beside x y → (j k v : ℕ) → Beside (put jobShape x j k v) (put jobShape y j k v)
   unfolding put
-  field d j k v = word d (place jobShape j k) v (λ z. omega arith)
+  field d j k v = word d (offset jobShape j k) v (λ z. omega arith)
 
   fields : {x y : List ℕ} → Beside x y → (j : ℕ) (r : List ℕ)
-      → Beside (sets x (place jobShape j 0) r) (sets y (place jobShape j 0) r)
-  fields d j r = words d (place jobShape j 0) r (omega arith)
+      → Beside (sets x (offset jobShape j 0) r) (sets y (offset jobShape j 0) r)
+  fields d j r = words d (offset jobShape j 0) r (omega arith)
 
   counter : {x y : List ℕ} → Beside x y → (k v : ℕ) → k < MINUTES → Beside (putHeader x k v) (putHeader y k v)
   unfolding putHeader
@@ -135,9 +137,9 @@ module _ (t : Tables) (m : List ℕ) (e : length m ≡ classes) where
     cells-alike (header x) (header (t .jobs)) MINUTES classes (d .stay),
   )
 
-  -- a job's count, and its mark by the worker's note
+  -- a job's count, and its spoiled word by the worker's note
   counted : (w j c : ℕ) → Beside (lowered (view t) w (t .jobs) j c) (lowered (view t) w (putMinutes (t .jobs) m) j c)
-  counted w j c = test (eqb (view t .worker NOTE w) 1) (λ e. rw e (field (field start j COUNT c) j MARK 1))
+  counted w j c = test (eqb (view t .worker NOTE w) 1) (λ e. rw e (field (field start j COUNT c) j SPOILED 1))
       (λ e. rw e (field start j COUNT c))
 
   applies : (w : ℕ) (p : Plan) → Carried (applied p t w) (applied p (loaded t m) w)
@@ -163,9 +165,9 @@ module _ (t : Tables) (m : List ℕ) (e : length m ≡ classes) where
   applies-get w (Take h s) = carried _ _ _ _ (field start (h .job) LABEL 1)
 
   -- ---- what is done with the other minutes is what is done with these, and these stay
-  abbrev Did : Outcome Tables → Outcome Tables → Type 0
+  abbrev Did : Result Tables → Result Tables → Type 0
   Did o′ o =
-      (o′ ≡ outcome (o .answer) (loaded (o .state) m)) × (storedMinutes (o .state .jobs) ≡ storedMinutes (t .jobs))
+      (o′ ≡ result (o .answer) (loaded (o .state) m)) × (storedMinutes (o .state .jobs) ≡ storedMinutes (t .jobs))
 
   posts : (n w : ℕ) (r : List ℕ) → Did (posted n (loaded t m) w r) (posted n t w r)
   unfolding posted
@@ -191,7 +193,7 @@ module _ (t : Tables) (m : List ℕ) (e : length m ≡ classes) where
 
 -- a post, a step and a get do not read the stored minutes
 pub minutes-elsewhere : (t : Tables) (m : List ℕ) → length m ≡ classes → (i : Item) → isLoad i ≡ false
-    → perform (loaded t m) i ≡ outcome (perform t i .answer) (loaded (perform t i .state) m)
+    → perform (loaded t m) i ≡ result (perform t i .answer) (loaded (perform t i .state) m)
 minutes-elsewhere t m e i n = does t m e i n .0
 
 pub minutes-alone : MinutesAlone perform
@@ -233,11 +235,11 @@ pub minutes-apart : (t u : Tables) (m : List ℕ) → Stored t m u → 21 ≤ le
     → isLoad i ≡ false
     → (perform u i .answer ≡ perform t i .answer) × Stored (perform t i .state) m (perform u i .state)
 minutes-apart t u m d fits e i n =
-    let did : perform u i ≡ outcome (perform t i .answer) (loaded (perform t i .state) m) =
+    let did : perform u i ≡ result (perform t i .answer) (loaded (perform t i .state) m) =
     ap (λ (v : Tables). perform v i) (stored-is-loaded t u m d fits e) ∙ minutes-elsewhere t m e i n in
     let kept : length (perform t i .state .jobs) ≡ length (t .jobs) =
     ap (λ (l : List ℕ). getD l 0 0) (not-changed t i .1) in (
-      ap (λ (o : Outcome Tables). o .answer) did,
-      subst (λ (v : Tables). Stored (perform t i .state) m v) (sym (ap (λ (o : Outcome Tables). o .state) did))
+      ap (λ (o : Result Tables). o .answer) did,
+      subst (λ (v : Tables). Stored (perform t i .state) m v) (sym (ap (λ (o : Result Tables). o .state) did))
           (loaded-stores (perform t i .state) m e (omega arith)),
     )

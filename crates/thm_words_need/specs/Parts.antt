@@ -1,5 +1,5 @@
 -- Tables cut in two: the words that given sizes need, and the words past them; and what is read of tables so joined.
--- Follows docs/RULES.md, "Tables and their measures": "words past a table's need are never touched". Assumes nothing.
+-- Follows docs/RULES.md, "Tables and their measures": "words past a table's need are never touched".
 use mathlib.Core.Path.{_≡_, refl, ap, _∙_, fun-ext}
 use mathlib.Core.Bool.{Bool, true, false}
 use mathlib.Core.List.{List, [], _∷_, _++_, append-nil}
@@ -10,11 +10,12 @@ use lib.Dec.{ltb, leb}
 use lib.ListN.{length, getD, take, drop, take-append-drop, drop-of-length-le, length-append, List·getD-append}
 use lib.Seq.{getD-take, length-take-le, take-all, take-at, drop-at}
 use borrow.Author.Tests.{ltb-true, leb-true, lt-ltb, le-leb}
-use Rattle.basics.specs.Base.{pick}
-use Rattle.terms.specs.declared.Sizes.{Sizes}
-use Rattle.words.specs.Columns.{Shape, place, Rows, rows, columns, header, put, inside}
-use Rattle.words.specs.Layout.{jobShape, JOBS, ARCS, BITS, WORKERS, MADE, arcShape, RESERVED, bucketShape, queueShape}
-use Rattle.words.specs.Layout.{TAKEN, PUT, workerShape, Tables, tables, View, view, need, longEnough, sizesKept}
+use Rattle.def_basics.specs.Base.{pick}
+use Rattle.def_terms.specs.declared.Sizes.{Sizes}
+use Rattle.def_words.specs.Columns.{Shape, offset, Rows, rows, columns, header, put, inside}
+use Rattle.def_words.specs.Layout.{jobShape, JOBS, ARCS, BITS, WORKERS, MADE, arcShape, RESERVED, bucketShape}
+use Rattle.def_words.specs.Layout.{queueShape}
+use Rattle.def_words.specs.Layout.{TAKEN, PUT, workerShape, Tables, tables, View, view, need, longEnough, sizesKept}
 use Rattle.thm_words_tests.specs.Tests.{test, parts, Long}
 
 -- each table cut at its need: the words that the sizes need, and the words past them
@@ -79,7 +80,8 @@ module _ (s : Shape) (R : ℕ) (l m : List ℕ) (r : Rows s R l) where
   pub columns-joined : (k i : ℕ) → ltb i R ≡ true → columns s (l ++ m) k i ≡ columns s l k i
   unfolding columns
   columns-joined k i h = test (ltb k (s .width))
-      (λ e. rw e (List·getD-append l m 0 (place s i k) (inside s R l i k r (ltb-true i R h) (ltb-true k (s .width) e))))
+      (λ e. rw e
+      (List·getD-append l m 0 (offset s i k) (inside s R l i k r (ltb-true i R h) (ltb-true k (s .width) e))))
       (λ e. rw e)
 
 -- ---- what the steps read

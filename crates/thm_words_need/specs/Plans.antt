@@ -1,37 +1,39 @@
 -- What the calls plan is read within the sizes, and names only places within the sizes; and which numbers a plan can
--- refuse with. Follows docs/RULES.md, "Tables and their measures" and "Turned-away calls". Assumes nothing.
+-- refuse with. Follows docs/RULES.md, "Tables and their measures" and "Turned-away calls".
 use mathlib.Core.Path.{_≡_, refl, ap}
 use mathlib.Core.Bool.{Bool, true, false, _&&_, _||_, not}
 use Prim.Native.Nat.{ℕ, zero, suc, _+_, _-_, _^_, _≤_, _<_}
 use native.Mathlib.Omega.{arith}
 use lib.Dec.{ltb, leb, eqb}
 use borrow.Author.Tests.{leb-true, leb-false, eqb-true, eqb-false, lt-ltb}
-use Rattle.numbers.specs.Numbers.{mostNames, wrongSize, noSuchWorker, unknownName, namePresent, tablesFull, damaged}
-use Rattle.basics.specs.Base.{pick}
-use Rattle.basics.specs.Laws.{and-right, or-left}
-use Rattle.bucket.specs.Bucket.{bucketOf}
-use Rattle.bucket.specs.Laws.{below}
-use Rattle.terms.specs.Terms.{settles, Arguments, argumentsWrong, Finish}
-use Rattle.terms.specs.declared.Sizes.{Sizes}
-use Rattle.words.specs.Layout.{none, NAME, LABEL, COUNT, FIRST, LAST, NEXT, DEPENDENT, AFTER, PHASE, HELD, OWN-NAME}
-use Rattle.words.specs.Layout.{LIST-COUNT, PLACE, OWN-JOB, OWN-ARC, IDLE, LOOKING, LINKING, MARKING, Tables, View, view}
-use Rattle.words.specs.Layout.{OUTCOME, MARK, sizesFit}
-use Rattle.words.specs.Words.{placeOk, isPlace, countersOk, ownOk, walk, findOf, planLookUp, planEnter, planAppend}
-use Rattle.words.specs.Words.{planLink, inSeat, withSeat, planSettle, planMark, planNotify, nameAt, planAdd, planLinks}
-use Rattle.words.specs.Words.{planCall, planPhase, admitted, nextJob, takeFrom, planTake, planQueue, planGet}
-use Rattle.words.specs.Words.{judgedCounters, judgedAdd}
-use Rattle.words.specs.Words.{planTally, markOk, judgedFinish}
-use Rattle.words.specs.Index.{seatFor, firstSeat}
-use Rattle.words.specs.declared.Seat.{Seat}
-use Rattle.words.specs.declared.Seating.{Seating}
-use Rattle.words.specs.declared.Seating.the-variants.{Seated, Unseated}
-use Rattle.words.specs.declared.Found.{Found}
-use Rattle.words.specs.declared.Found.the-variants.{At, Missing, Damaged}
-use Rattle.words.specs.declared.Plan.{Plan}
-use Rattle.words.specs.declared.Plan.the-variants.{Refuse, Quit, Pass, Enter, Tally, LinkFirst, LinkAfter, Settle}
-use Rattle.words.specs.declared.Plan.the-variants.{SettleQueue, Mark, Notify, NotifyQueue}
-use Rattle.words.specs.declared.GetPlan.{GetPlan}
-use Rattle.words.specs.declared.GetPlan.the-variants.{RefuseGet, Wait, Take}
+use Rattle.def_numbers.specs.Numbers.{mostNames, wrongSize, noSuchWorker, unknownName, namePresent, tablesFull, damaged}
+use Rattle.def_basics.specs.Base.{pick}
+use Rattle.def_basics.specs.Laws.{and-right, or-left}
+use Rattle.def_bucket.specs.Bucket.{bucketOf}
+use Rattle.def_bucket.specs.Laws.{below}
+use Rattle.def_terms.specs.Terms.{settles, Arguments, argumentsWrong, Finish}
+use Rattle.def_terms.specs.declared.Sizes.{Sizes}
+use Rattle.def_words.specs.Layout.{none, NAME, LABEL, COUNT, FIRST, LAST, NEXT, DEPENDENT, AFTER, PHASE, HELD, OWN-NAME}
+use Rattle.def_words.specs.Layout.{LIST-COUNT, PLACE, OWN-JOB, OWN-ARC, IDLE, LOOKING, LINKING, MARKING, Tables, View}
+use Rattle.def_words.specs.Layout.{view}
+use Rattle.def_words.specs.Layout.{OUTCOME, SPOILED, sizesFit}
+use Rattle.def_words.specs.Words.{placeOk, isPlace, countersOk, ownOk, walk, findOf, planLookUp, planEnter, planAppend}
+use Rattle.def_words.specs.Words.{planLink, inSeat, withSeat, planSettle, planMark, planNotify, nameAt, planAdd}
+use Rattle.def_words.specs.Words.{planLinks}
+use Rattle.def_words.specs.Words.{planCall, planPhase, admitted, nextJob, takeFrom, planTake, planQueue, planGet}
+use Rattle.def_words.specs.Words.{judgedCounters, judgedAdd}
+use Rattle.def_words.specs.Words.{planTally, spoiledOk, judgedFinish}
+use Rattle.def_words.specs.Index.{seatFor, firstSeat}
+use Rattle.def_words.specs.declared.Seat.{Seat}
+use Rattle.def_words.specs.declared.Seating.{Seating}
+use Rattle.def_words.specs.declared.Seating.the-variants.{Seated, Unseated}
+use Rattle.def_words.specs.declared.Found.{Found}
+use Rattle.def_words.specs.declared.Found.the-variants.{At, Missing, Damaged}
+use Rattle.def_words.specs.declared.Plan.{Plan}
+use Rattle.def_words.specs.declared.Plan.the-variants.{Refuse, Quit, Pass, Enter, Tally, LinkFirst, LinkAfter, Settle}
+use Rattle.def_words.specs.declared.Plan.the-variants.{SettleQueue, Mark, Notify, NotifyQueue}
+use Rattle.def_words.specs.declared.GetPlan.{GetPlan}
+use Rattle.def_words.specs.declared.GetPlan.the-variants.{RefuseGet, Wait, Take}
 use Rattle.thm_words_tests.specs.Tests.{test, parts}
 use Rattle.thm_words_need.specs.Parts.{clip, Alike, Reads, choose, within}
 use Rattle.thm_words_need.specs.Seats.{Entering, Leaving, InSeating, seat-alike, InFirst, first-alike}
@@ -247,7 +249,7 @@ module _ (s : Sizes) (v : View) (w : ℕ) (known : ltb w (s .workers) ≡ true) 
       go : (r : Seating) → InFirst s v a r → Alike (InsideGet s v) (takeFrom v r) (takeFrom (clip s v) r)
       go (Seated e) i =
           rw (lt-ltb 0 (s .jobs) (omega arith), i .1, i .2)
-          (choose (InsideGet s v) (eqb (v .job LABEL (nextJob v)) 0 && markOk v (nextJob v))
+          (choose (InsideGet s v) (eqb (v .job LABEL (nextJob v)) 0 && spoiledOk v (nextJob v))
           (λ _. (refl, (i .2, i .0))) (λ _. (refl, refl)))
       go Unseated i = (refl, refl)
 
@@ -286,8 +288,8 @@ module _ (s : Sizes) (v : View) (w : ℕ) (known : ltb w (s .workers) ≡ true) 
       rw known (choose Post (eqb phase IDLE)
       (λ _. place-cases p (v .made) (s .jobs) (own-places s v w own .0) (λ e. rw e (refl, refl))
       (λ e h. rw (e, h) (choose Post (eqb (v .job NAME p) (f .name))
-      (λ _. choose Post (countersOk s v && markOk v p)
-      (λ _. choose Post (eqb (v .job MARK p) 1 && not (f .failed)) (λ _. (refl, refl)) (λ _. (refl, refl)))
+      (λ _. choose Post (countersOk s v && spoiledOk v p)
+      (λ _. choose Post (eqb (v .job SPOILED p) 1 && not (f .failed)) (λ _. (refl, refl)) (λ _. (refl, refl)))
       (λ _. (refl, refl)))
       (λ _. (refl, refl)))))
       (λ _. (refl, refl)))

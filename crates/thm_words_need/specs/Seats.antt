@@ -1,41 +1,41 @@
--- Where a job is put in the queue and its index, and which is taken out: read within the sizes, and at places and slots
--- within the sizes. Follows docs/RULES.md, "Tables and their measures". Assumes nothing.
+-- Where a job is put in the queue and its index, and which is taken out: read within the sizes, and at cells and slots
+-- within the sizes. Follows docs/RULES.md, "Tables and their measures".
 use mathlib.Core.Path.{_≡_, refl, ap}
 use mathlib.Core.Bool.{true, _&&_}
 use Prim.Native.Nat.{ℕ, _-_, _≤_, _<_}
 use native.Mathlib.Omega.{arith}
 use lib.Dec.{ltb, leb, eqb}
 use borrow.Author.Tests.{ltb-true, lt-ltb, le-leb}
-use Rattle.numbers.specs.Numbers.{mostClass}
-use Rattle.heap.specs.Sift.{siftUp, siftDown}
-use Rattle.heap.specs.Same.{RestsBelow, down-below, Matches, up-same, down-same}
-use Rattle.heap.specs.Way.{WayUp, WayFirst, up-weaker, first-weaker, way-up, Raised, down-leads}
-use Rattle.heap.specs.Way.{leads-first}
-use Rattle.heap.specs.declared.Sifted.{Sifted}
-use Rattle.heap.specs.declared.Sifted.the-variants.{Rests, Astray}
-use Rattle.terms.specs.declared.Sizes.{Sizes}
-use Rattle.words.specs.Layout.{CLASS, CELL, POSITION, View}
-use Rattle.words.specs.Index.{levels, rankIn, rankOf, placeIn, waits, filled, seated, seatFor, firstPlace, lastSlot}
-use Rattle.words.specs.Index.{lastPlace, firstSeatBy, firstSeat}
-use Rattle.words.specs.Words.{nextJob}
-use Rattle.words.specs.declared.Seat.{Seat}
-use Rattle.words.specs.declared.Seating.{Seating}
-use Rattle.words.specs.declared.Seating.the-variants.{Seated, Unseated}
+use Rattle.def_numbers.specs.Numbers.{mostClass}
+use Rattle.def_heap.specs.Sift.{siftUp, siftDown}
+use Rattle.def_heap.specs.Same.{RestsBelow, down-below, Matches, up-same, down-same}
+use Rattle.def_heap.specs.Way.{WayUp, WayFirst, up-weaker, first-weaker, way-up, Raised, down-leads}
+use Rattle.def_heap.specs.Way.{leads-first}
+use Rattle.def_heap.specs.declared.Sifted.{Sifted}
+use Rattle.def_heap.specs.declared.Sifted.the-variants.{Rests, Astray}
+use Rattle.def_terms.specs.declared.Sizes.{Sizes}
+use Rattle.def_words.specs.Layout.{CLASS, QUEUED, POSITION, View}
+use Rattle.def_words.specs.Index.{levels, rankIn, rankOf, cellIn, waits, filled, seated, seatFor, firstCell, lastSlot}
+use Rattle.def_words.specs.Index.{lastCell, firstSeatBy, firstSeat}
+use Rattle.def_words.specs.Words.{nextJob}
+use Rattle.def_words.specs.declared.Seat.{Seat}
+use Rattle.def_words.specs.declared.Seating.{Seating}
+use Rattle.def_words.specs.declared.Seating.the-variants.{Seated, Unseated}
 use Rattle.thm_words_tests.specs.Tests.{test, parts}
 use Rattle.thm_words_need.specs.Parts.{clip, Reads, choose, within}
 
--- ---- a seat within the sizes, and the places in the slots of its way: each of them gets another position
+-- ---- a seat within the sizes, and the cells in the slots of its way: each of them gets another position
 abbrev pub Carries : Sizes → View → ℕ → Type 0
-Carries s v i = placeIn v i < s .jobs
+Carries s v i = cellIn v i < s .jobs
 
 abbrev pub Entering : Sizes → View → Seat → Type 0
 Entering s v e =
-    (ltb (e .place) (s .jobs) ≡ true) × (ltb (e .last) (s .jobs) ≡ true)
+    (ltb (e .cell) (s .jobs) ≡ true) × (ltb (e .last) (s .jobs) ≡ true)
     × WayUp (Carries s v) levels (e .last) (e .slot)
 
 abbrev pub Leaving : Sizes → View → Seat → Type 0
 Leaving s v e =
-    (ltb (e .place) (s .jobs) ≡ true) × (ltb (e .last) (s .jobs) ≡ true) × (ltb (e .slot) (s .jobs) ≡ true)
+    (ltb (e .cell) (s .jobs) ≡ true) × (ltb (e .last) (s .jobs) ≡ true) × (ltb (e .slot) (s .jobs) ≡ true)
     × Carries s v (e .last)
     × WayFirst (Carries s v) levels (e .slot)
 
@@ -49,13 +49,13 @@ module _ (s : Sizes) (v : View) (made : leb (v .made) (s .jobs) ≡ true) where
   c = clip s v
 
   module _ (put : v .put ≤ s .jobs) where
-    -- a slot that waits has its place, that place's cell and its job's class within the sizes
+    -- a slot that waits has its cell, that cell's job and its class within the sizes
     waits-alike : (i : ℕ) → i < s .jobs → waits v i ≡ waits c i
     unfolding waits
     waits-alike i h =
-        let p = placeIn v i in
+        let p = cellIn v i in
         rw (lt-ltb i (s .jobs) h) (test (ltb p (v .put))
-        (λ e. let k = v .cell CELL p in
+        (λ e. let k = v .cell QUEUED p in
         rw (e, within p (v .put) (s .jobs) (le-leb (v .put) (s .jobs) put) e)
         (test (eqb (v .cell POSITION p) i)
         (λ g. rw g (test (ltb k (v .made)) (λ f. rw (f, within k (v .made) (s .jobs) made f)) (λ f. rw f)))
@@ -63,23 +63,23 @@ module _ (s : Sizes) (v : View) (made : leb (v .made) (s .jobs) ≡ true) where
         (λ e. rw e))
 
     waits-within : (i : ℕ) → waits v i ≡ true
-        → (ltb (placeIn v i) (s .jobs) ≡ true) × (ltb (v .cell CELL (placeIn v i)) (s .jobs) ≡ true)
+        → (ltb (cellIn v i) (s .jobs) ≡ true) × (ltb (v .cell QUEUED (cellIn v i)) (s .jobs) ≡ true)
     unfolding waits
-    waits-within i e = let p = placeIn v i in (
+    waits-within i e = let p = cellIn v i in (
       within p (v .put) (s .jobs) (le-leb (v .put) (s .jobs) put) (search parts),
-      within (v .cell CELL p) (v .made) (s .jobs) made (search parts),
+      within (v .cell QUEUED p) (v .made) (s .jobs) made (search parts),
     )
 
     carries : (i : ℕ) → waits v i ≡ true → Carries s v i
-    carries i e = ltb-true (placeIn v i) (s .jobs) (waits-within i e .0)
+    carries i e = ltb-true (cellIn v i) (s .jobs) (waits-within i e .0)
 
-    rank-alike : (i : ℕ) → waits v i ≡ true → rankOf v (placeIn v i) ≡ rankOf c (placeIn v i)
+    rank-alike : (i : ℕ) → waits v i ≡ true → rankOf v (cellIn v i) ≡ rankOf c (cellIn v i)
     rank-alike i e = let h = waits-within i e in rw (h .0, h .1)
 
-    slot-alike : (i : ℕ) → i < s .jobs → placeIn v i ≡ placeIn c i
+    slot-alike : (i : ℕ) → i < s .jobs → cellIn v i ≡ cellIn c i
     slot-alike i h = rw (lt-ltb i (s .jobs) h)
 
-    matches : Matches (s .jobs) (rankOf v) (rankOf c) (waits v) (waits c) (placeIn v) (placeIn c)
+    matches : Matches (s .jobs) (rankOf v) (rankOf c) (waits v) (waits c) (cellIn v) (cellIn c)
     matches = record {
       sounds = waits-alike;
       ranks = λ i _. rank-alike i;
@@ -88,10 +88,10 @@ module _ (s : Sizes) (v : View) (made : leb (v .made) (s .jobs) ≡ true) where
 
   -- ---- a job that enters
   abbrev up : View → ℕ → Sifted
-  up u j = siftUp (rankOf u) (waits u) (placeIn u) levels (rankIn v j (v .put)) (filled v)
+  up u j = siftUp (rankOf u) (waits u) (cellIn u) levels (rankIn v j (v .put)) (filled v)
 
   entering : (put : v .put < s .jobs) (r : ℕ) (f : Sifted)
-      → siftUp (rankOf v) (waits v) (placeIn v) levels r (filled v) ≡ f
+      → siftUp (rankOf v) (waits v) (cellIn v) levels r (filled v) ≡ f
       → InSeating s v (seated f (v .put) (filled v))
   entering put r (Rests k) e = (
     lt-ltb (v .put) (s .jobs) put,
@@ -110,18 +110,18 @@ module _ (s : Sizes) (v : View) (made : leb (v .made) (s .jobs) ≡ true) where
       ))
       (λ _. (refl, tt)))
 
-  -- ---- the job that is taken: its place and its number too are within the sizes
+  -- ---- the job that is taken: its cell and its number too are within the sizes
   abbrev pub InFirst : Seating → Type 0
   InFirst (Seated e) =
-      Leaving s v e × (ltb (firstPlace v) (s .jobs) ≡ true) × (ltb (nextJob v) (s .jobs) ≡ true)
+      Leaving s v e × (ltb (firstCell v) (s .jobs) ≡ true) × (ltb (nextJob v) (s .jobs) ≡ true)
   InFirst Unseated = Unit {0}
 
   module _ (put : v .put ≤ s .jobs) (some : v .taken < v .put) where
     abbrev l : ℕ
-    l = lastPlace v
+    l = lastCell v
 
     abbrev down : View → Sifted
-    down u = siftDown (rankOf u) (waits u) (placeIn u) levels (lastSlot v) (rankOf u l) 0
+    down u = siftDown (rankOf u) (waits u) (cellIn u) levels (lastSlot v) (rankOf u l) 0
 
     down-alike : waits v (lastSlot v) ≡ true → down v ≡ down c
     down-alike e =
@@ -129,16 +129,16 @@ module _ (s : Sizes) (v : View) (made : leb (v .made) (s .jobs) ≡ true) where
         (down-same (matches put) (lastSlot v) (omega arith) levels (rankOf v l) 0)
 
     in-first : waits v 0 ≡ true → waits v (lastSlot v) ≡ true → (r : Sifted) → down v ≡ r → RestsBelow (s .jobs) r
-        → InFirst (seated r (firstPlace v) (lastSlot v))
+        → InFirst (seated r (firstCell v) (lastSlot v))
     in-first a b (Rests k) e h =
         let w = waits-within put 0 a in
-        let way = down-leads (rankOf v) (waits v) (placeIn v) levels (lastSlot v) (rankOf v l) 0 k e in (
+        let way = down-leads (rankOf v) (waits v) (cellIn v) levels (lastSlot v) (rankOf v l) 0 k e in (
           (
             w .0,
             lt-ltb (lastSlot v) (s .jobs) (omega arith),
             lt-ltb k (s .jobs) h,
             carries put (lastSlot v) b,
-            first-weaker {P = Raised (rankOf v) (waits v) (placeIn v) (lastSlot v) (rankOf v l)}
+            first-weaker {P = Raised (rankOf v) (waits v) (cellIn v) (lastSlot v) (rankOf v l)}
                 (λ i p. carries put i (p .waits)) levels k (leads-first _ levels way),
           ),
           w .0,
@@ -157,9 +157,9 @@ module _ (s : Sizes) (v : View) (made : leb (v .made) (s .jobs) ≡ true) where
         )
         (choose InFirst (waits v 0 && waits v (lastSlot v))
         (λ e. (
-          ap (λ r. seated r (firstPlace v) (lastSlot v)) (down-alike (search parts)),
+          ap (λ r. seated r (firstCell v) (lastSlot v)) (down-alike (search parts)),
           in-first (search parts) (search parts) (down v) refl
-              (down-below (rankOf v) (waits v) (placeIn v) (s .jobs) levels (lastSlot v) (rankOf v l) 0 (omega arith)
+              (down-below (rankOf v) (waits v) (cellIn v) (s .jobs) levels (lastSlot v) (rankOf v l) 0 (omega arith)
               (omega arith)),
         ))
         (λ _. (refl, tt)))

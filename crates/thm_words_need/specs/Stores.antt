@@ -1,6 +1,5 @@
 -- What a plan within the sizes stores: the words past the need stay, and no table's length changes, nor the sizes that
 -- the tables keep. Follows docs/RULES.md, "Tables and their measures": "words past a table's need are never touched".
--- Assumes nothing.
 use mathlib.Core.Path.{_≡_, refl, _∙_}
 use mathlib.Core.Bool.{Bool, true, false}
 use mathlib.Core.List.{List, [], _∷_, _++_}
@@ -10,28 +9,30 @@ use lib.Dec.{ltb, eqb, lit≤, lit<}
 use lib.ListN.{length, set, length-set}
 use lib.Seq.{sets, set-append-left, getD-set-other}
 use borrow.Author.Tests.{ltb-true, leb-true, lt-ltb}
-use Rattle.numbers.specs.Numbers.{classes}
-use Rattle.basics.specs.Base.{pick, update}
-use Rattle.basics.specs.Laws.{pick-by}
-use Rattle.heap.specs.Sift.{above}
-use Rattle.heap.specs.Way.{WayUp, WayFirst, up-weaker, first-weaker}
-use Rattle.terms.specs.declared.Sizes.{Sizes}
-use Rattle.words.specs.Columns.{Shape, place, Rows, rows, columns, header, put, putHeader, inside, rows-put}
-use Rattle.words.specs.Columns.{columns-put}
-use Rattle.words.specs.Layout.{none, jobShape, JOBS, ARCS, BITS, WORKERS, MADE, LABEL, COUNT, FIRST, LAST, arcShape}
-use Rattle.words.specs.Layout.{RESERVED, DEPENDENT, AFTER, bucketShape, queueShape, TAKEN, PUT, CELL, SLOT, POSITION}
-use Rattle.words.specs.Layout.{OUTCOME, MARK, MINUTES, workerShape, PHASE, NOTE}
-use Rattle.words.specs.Layout.{HELD, OWN-NAME, LIST-COUNT, OWN-CLASS, OWN-GROWER, TALLY, PLACE, OWN-JOB, OWN-ARC, IDLE}
-use Rattle.words.specs.Layout.{LINKING, NOTIFYING, Tables, tables, view, bareWorker}
-use Rattle.words.specs.Words.{applied, appliedGet, idleWorker, putWorker, enteredJob, putField, nextPlace, arcsFrom}
-use Rattle.words.specs.Words.{markedWorker, lowered, loaded}
-use Rattle.words.specs.Index.{levels, slotIn, putSlot, shiftedDown, shiftedUp, putSeat, takeSeat}
-use Rattle.words.specs.declared.Seat.{Seat}
-use Rattle.words.specs.declared.Plan.{Plan}
-use Rattle.words.specs.declared.Plan.the-variants.{Refuse, Quit, Pass, Enter, Tally, LinkFirst, LinkAfter, Settle}
-use Rattle.words.specs.declared.Plan.the-variants.{SettleQueue, Mark, Notify, NotifyQueue}
-use Rattle.words.specs.declared.GetPlan.{GetPlan}
-use Rattle.words.specs.declared.GetPlan.the-variants.{RefuseGet, Wait, Take}
+use Rattle.def_numbers.specs.Numbers.{classes}
+use Rattle.def_basics.specs.Base.{pick, update}
+use Rattle.def_basics.specs.Laws.{pick-by}
+use Rattle.def_heap.specs.Sift.{above}
+use Rattle.def_heap.specs.Way.{WayUp, WayFirst, up-weaker, first-weaker}
+use Rattle.def_terms.specs.declared.Sizes.{Sizes}
+use Rattle.def_words.specs.Columns.{Shape, offset, Rows, rows, columns, header, put, putHeader, inside, rows-put}
+use Rattle.def_words.specs.Columns.{columns-put}
+use Rattle.def_words.specs.Layout.{none, jobShape, JOBS, ARCS, BITS, WORKERS, MADE, LABEL, COUNT, FIRST, LAST, arcShape}
+use Rattle.def_words.specs.Layout.{RESERVED, DEPENDENT, AFTER, bucketShape, queueShape, TAKEN, PUT, QUEUED, SLOT}
+use Rattle.def_words.specs.Layout.{POSITION}
+use Rattle.def_words.specs.Layout.{OUTCOME, SPOILED, MINUTES, workerShape, PHASE, NOTE}
+use Rattle.def_words.specs.Layout.{HELD, OWN-NAME, LIST-COUNT, OWN-CLASS, OWN-GROWER, TALLY, PLACE, OWN-JOB, OWN-ARC}
+use Rattle.def_words.specs.Layout.{IDLE}
+use Rattle.def_words.specs.Layout.{LINKING, NOTIFYING, Tables, tables, view, bareWorker}
+use Rattle.def_words.specs.Words.{applied, appliedGet, idleWorker, putWorker, enteredJob, putField, nextPlace, arcsFrom}
+use Rattle.def_words.specs.Words.{markedWorker, lowered, loaded}
+use Rattle.def_words.specs.Index.{levels, slotIn, putSlot, shiftedDown, shiftedUp, putSeat, takeSeat}
+use Rattle.def_words.specs.declared.Seat.{Seat}
+use Rattle.def_words.specs.declared.Plan.{Plan}
+use Rattle.def_words.specs.declared.Plan.the-variants.{Refuse, Quit, Pass, Enter, Tally, LinkFirst, LinkAfter, Settle}
+use Rattle.def_words.specs.declared.Plan.the-variants.{SettleQueue, Mark, Notify, NotifyQueue}
+use Rattle.def_words.specs.declared.GetPlan.{GetPlan}
+use Rattle.def_words.specs.declared.GetPlan.the-variants.{RefuseGet, Wait, Take}
 use Rattle.thm_words_tests.specs.Tests.{test, Long, record-ends}
 use Rattle.thm_words_need.specs.Parts.{joined, lengths, laidOut, header-joined, columns-joined}
 use Rattle.thm_words_need.specs.Seats.{Entering, Leaving}
@@ -85,15 +86,15 @@ unfolding put
 field {T} d i k v e h =
     let o = inside (T .shape) (T .size) (T .words) i k (T .long) (ltb-true _ _ h) (ltb-true _ _ e) in
     let b = T .low in
-    word d (place (T .shape) i k) v o (omega arith)
+    word d (offset (T .shape) i k) v o (omega arith)
 
 fields : {T : Table} {x y : List ℕ} → Stored T x y → (i : ℕ) (z : List ℕ) → ltb i (T .size) ≡ true
     → length z ≡ T .shape .width
-    → Stored T (sets x (place (T .shape) i 0) z) (sets y (place (T .shape) i 0) z)
+    → Stored T (sets x (offset (T .shape) i 0) z) (sets y (offset (T .shape) i 0) z)
 fields {T} d i z h e =
     let o = record-ends (T .shape) (T .size) (T .words) i (T .long) h in
     let b = T .low in
-    words d (place (T .shape) i 0) z (omega arith) (omega arith)
+    words d (offset (T .shape) i 0) z (omega arith) (omega arith)
 
 counter : {T : Table} {x y : List ℕ} → Stored T x y → (k v : ℕ) → ltb k (T .shape .head) ≡ true → T .kept ≤ k
     → Stored T (putHeader x k v) (putHeader y k v)
@@ -174,11 +175,11 @@ module _ (s : Sizes) (t r : Tables) (h : Long s t) where
   put-slot d i p o a =
       field (field d i SLOT p refl (lt-ltb i (s .jobs) o)) p POSITION i refl (lt-ltb p (s .jobs) a)
 
-  -- a slot that holds a place within the table
+  -- a slot that holds a cell within the table
   abbrev Holds : List ℕ → ℕ → Type 0
   Holds x i = slotIn x i < s .jobs
 
-  -- and it still does when such a place is put in one
+  -- and it still does when such a cell is put in one
   holds : {x y : List ℕ} → Stored Q x y → (i p : ℕ) → i < s .jobs → p < s .jobs
       → (k : ℕ) → Holds x k → Holds (putSlot x i p) k
   unfolding rows update
@@ -216,11 +217,11 @@ module _ (s : Sizes) (t r : Tables) (h : Long s t) where
       → Stored Q (putSeat (t .queue) e j) (putSeat (t .queue ++ r .queue) e j)
   unfolding putSeat
   put-seat e j i =
-      let at = ltb-true (e .place) (s .jobs) (i .0) in
-      let same : (k : ℕ) → Holds (t .queue) k → Holds (put queueShape (t .queue) (e .place) CELL j) k = λ k b.
-      rw (columns-put queueShape (s .jobs) (t .queue) (e .place) CELL j refl (h .queue) at) b in
+      let at = ltb-true (e .cell) (s .jobs) (i .0) in
+      let same : (k : ℕ) → Holds (t .queue) k → Holds (put queueShape (t .queue) (e .cell) QUEUED j) k = λ k b.
+      rw (columns-put queueShape (s .jobs) (t .queue) (e .cell) QUEUED j refl (h .queue) at) b in
       counter
-      (slots-down levels (field start (e .place) CELL j refl (i .0)) _ _ _ at (ltb-true _ _ (i .1))
+      (slots-down levels (field start (e .cell) QUEUED j refl (i .0)) _ _ _ at (ltb-true _ _ (i .1))
       (up-weaker same levels (e .last) (e .slot) (i .2)))
       PUT _ refl
       (omega arith)
@@ -234,8 +235,8 @@ module _ (s : Sizes) (t r : Tables) (h : Long s t) where
       (counter
       (field (field
       (field (slots-up levels start _ _ (i .3) slot (i .4)) (e .last) SLOT none refl (i .1))
-      (e .place) CELL none refl (i .0))
-      (e .place) POSITION none refl (i .0))
+      (e .cell) QUEUED none refl (i .0))
+      (e .cell) POSITION none refl (i .0))
       TAKEN _ refl
       (omega arith))
 
@@ -271,12 +272,12 @@ module _ (s : Sizes) (t r : Tables) (h : Long s t) where
         either (eqb x none) (fields start w (bareWorker IDLE none 0) known refl)
         (mine (mine (mine start PHASE NOTIFYING refl) HELD none refl) OWN-ARC x refl)
 
-    -- a job's count, and its mark by the worker's note
+    -- a job's count, and its spoiled word by the worker's note
     counted : (j c : ℕ) → ltb j (s .jobs) ≡ true
         → Stored J (lowered (view t) w (t .jobs) j c) (lowered (view (joined t r)) w (t .jobs ++ r .jobs) j c)
     counted j c h =
         rw (own NOTE) (either (eqb (view t .worker NOTE w) 1)
-        (field (field start j COUNT c refl h) j MARK 1 refl h) (field start j COUNT c refl h))
+        (field (field start j COUNT c refl h) j SPOILED 1 refl h) (field start j COUNT c refl h))
 
     pub step-carried : (m : Bool) (p : Plan) → Inside s (view t) m p
         → Carried (applied p t w) (applied p (joined t r) w)

@@ -1,6 +1,6 @@
 -- No call looks at a word past the need of the sizes that it brings, and none changes one; the same of a whole list of
 -- items. For all tables, damaged ones too. Follows docs/RULES.md, "Tables and their measures": "words past a table's
--- need are never touched". Assumes nothing.
+-- need are never touched".
 use mathlib.Core.Path.{_≡_, refl, sym, ap, ap₂, subst, _∙_}
 use mathlib.Core.Bool.{true, false, _&&_, and-false}
 use mathlib.Core.List.{List, [], _∷_}
@@ -8,25 +8,28 @@ use Prim.Native.Nat.{ℕ, zero, suc}
 use lib.Dec.{ltb}
 use lib.ListN.{length}
 use borrow.Author.Tests.{eqb-true}
-use Rattle.numbers.specs.Numbers.{mostNames, wrongSize}
-use Rattle.basics.specs.Base.{pick}
-use Rattle.basics.specs.Laws.{length-prefix}
-use Rattle.minutes.specs.Rising.{isRising, SixteenRising, rising-means}
-use Rattle.terms.specs.Terms.{Arguments, listed, withinLimits, bit}
-use Rattle.terms.specs.Runs.{Item, postAdd, postFinish, step, get, load, Outcome, outcome, Event, after, events}
-use Rattle.terms.specs.Runs.{sizesOf}
-use Rattle.terms.specs.declared.Sizes.{Sizes}
-use Rattle.terms.specs.declared.Answer.{Answer}
-use Rattle.terms.specs.declared.Answer.the-variants.{Posted, Loaded, Refused}
-use Rattle.words.specs.Layout.{jobShape, MADE, workerShape, HELD, MARKING, Tables, View, view, bareWorker, longEnough}
-use Rattle.words.specs.Layout.{sizesKept, roomFor, sizesFit}
-use Rattle.words.specs.Words.{ownOk, planPhase, admitted, answerOf, answerGet, applied, stepWords, planGet, appliedGet}
-use Rattle.words.specs.Words.{getWords, judgedAdd, judgedFinish, addingWorker, refusal, posted, addWords, finishWords}
-use Rattle.words.specs.Words.{judgedLoad, loading, loadWords, perform}
-use Rattle.words.specs.declared.Plan.{Plan}
-use Rattle.words.specs.declared.Plan.the-variants.{Refuse}
-use Rattle.words.specs.declared.GetPlan.{GetPlan}
-use Rattle.words.specs.declared.GetPlan.the-variants.{RefuseGet}
+use Rattle.def_numbers.specs.Numbers.{mostNames, wrongSize}
+use Rattle.def_basics.specs.Base.{pick}
+use Rattle.def_basics.specs.Laws.{length-prefix}
+use Rattle.def_minutes.specs.Rising.{isRising, SixteenRising, rising-means}
+use Rattle.def_terms.specs.Terms.{Arguments, listed, withinLimits, bit}
+use Rattle.def_terms.specs.Runs.{Item, postAdd, postFinish, step, get, load, Result, result, Event, after, events}
+use Rattle.def_terms.specs.Runs.{sizesOf}
+use Rattle.def_terms.specs.declared.Sizes.{Sizes}
+use Rattle.def_terms.specs.declared.Answer.{Answer}
+use Rattle.def_terms.specs.declared.Answer.the-variants.{Posted, Loaded, Refused}
+use Rattle.def_words.specs.Layout.{jobShape, MADE, workerShape, HELD, MARKING, Tables, View, view, bareWorker}
+use Rattle.def_words.specs.Layout.{longEnough}
+use Rattle.def_words.specs.Layout.{sizesKept, roomFor, sizesFit}
+use Rattle.def_words.specs.Words.{ownOk, planPhase, admitted, answerOf, answerGet, applied, stepWords, planGet}
+use Rattle.def_words.specs.Words.{appliedGet}
+use Rattle.def_words.specs.Words.{getWords, judgedAdd, judgedFinish, addingWorker, refusal, posted, addWords}
+use Rattle.def_words.specs.Words.{finishWords}
+use Rattle.def_words.specs.Words.{judgedLoad, loading, loadWords, perform}
+use Rattle.def_words.specs.declared.Plan.{Plan}
+use Rattle.def_words.specs.declared.Plan.the-variants.{Refuse}
+use Rattle.def_words.specs.declared.GetPlan.{GetPlan}
+use Rattle.def_words.specs.declared.GetPlan.the-variants.{RefuseGet}
 use Rattle.thm_words_tests.specs.Tests.{test, parts, long}
 use Rattle.thm_words_need.specs.Parts.{needed, rest, joined, lengths, laidOut, clip, clip-joined, header-joined}
 use Rattle.thm_words_need.specs.Parts.{whole, needed-again, long-needed, kept-needed, long-joined, kept-joined}
@@ -55,18 +58,18 @@ module _ (s : Sizes) (t r : Tables) (e : longEnough s t ≡ true) where
       (λ o. rw o)))
       (λ k. rw k)))
 
-  -- an outcome from t with r behind it: that from t, with r behind it; and t keeps its lengths and its sizes
-  abbrev Framed : Outcome Tables → Outcome Tables → Type 0
-  Framed o′ o = (o′ ≡ outcome (o .answer) (joined (o .state) r)) × Kept t (o .state)
+  -- a result from t with r behind it: that from t, with r behind it; and t keeps its lengths and its sizes
+  abbrev Framed : Result Tables → Result Tables → Type 0
+  Framed o′ o = (o′ ≡ result (o .answer) (joined (o .state) r)) × Kept t (o .state)
 
-  framed : (a : Answer) {u v : Tables} → Carried s t r (long e) u v → Framed (outcome a v) (outcome a u)
-  framed a c = (ap (outcome a) (c .0), c .1)
+  framed : (a : Answer) {u v : Tables} → Carried s t r (long e) u v → Framed (result a v) (result a u)
+  framed a c = (ap (result a) (c .0), c .1)
 
   step-framed : (w : ℕ) → Framed (stepWords s (joined t r) w) (stepWords s t w)
   unfolding stepWords applied
   step-framed w =
       rw (admitted-joined w Refuse (λ v. planPhase s v w) (λ v k o. phase-alike s v w k o .0))
-      (admit (λ p. Framed (outcome (answerOf p) (applied p (joined t r) w)) (outcome (answerOf p) (applied p t w))) s t
+      (admit (λ p. Framed (result (answerOf p) (applied p (joined t r) w)) (result (answerOf p) (applied p t w))) s t
       w Refuse plan (λ n _. framed _ (unchanged s t r (long e)))
       (λ _ k o. framed (answerOf plan) (step-carried s t r (long e) w k _ plan (phase-alike s (view t) w k o .1))))
     where
@@ -78,7 +81,7 @@ module _ (s : Sizes) (t r : Tables) (e : longEnough s t ≡ true) where
   get-framed w =
       rw (admitted-joined w RefuseGet (λ v. planGet s v w) (λ v k o. get-alike s v w k o .0))
       (admit
-      (λ p. let a = answerGet p in Framed (outcome a (appliedGet p (joined t r) w)) (outcome a (appliedGet p t w)))
+      (λ p. let a = answerGet p in Framed (result a (appliedGet p (joined t r) w)) (result a (appliedGet p t w)))
       s t w RefuseGet plan (λ n _. framed _ (unchanged s t r (long e)))
       (λ _ k o. framed (answerGet plan) (get-carried s t r (long e) w k plan (get-alike s (view t) w k o .1))))
     where
@@ -150,7 +153,7 @@ frame t r (load s m) e = load-framed s t r e m
 
 -- ---- number 1, for items: other sizes than those laid out, sizes off their limits, a table too short
 pub turned-away : (t : Tables) (i : Item) → sizesFit (sizesOf i) t ≡ false
-    → perform t i ≡ outcome (Refused wrongSize 0) t
+    → perform t i ≡ result (Refused wrongSize 0) t
 unfolding perform addWords finishWords stepWords getWords loadWords admitted posted applied appliedGet loading
 turned-away t (postAdd s w a) e = rw e
 turned-away t (postFinish s w f) e = rw e
@@ -169,7 +172,7 @@ item-kept t i = test (longEnough (sizesOf i) t) (λ e. frame t t i e .1)
 -- ---- THE equation: what an item does is what it does to the words that its sizes need, with the rest left as it was
 abbrev pub Within : Sizes → Tables → Item → Type 0
 Within s t i =
-    perform t i ≡ outcome (perform (needed s t) i .answer) (joined (perform (needed s t) i .state) (rest s t))
+    perform t i ≡ result (perform (needed s t) i .answer) (joined (perform (needed s t) i .state) (rest s t))
 
 pub within : (t : Tables) (i : Item) → Within (sizesOf i) t i
 within t i =

@@ -1,7 +1,6 @@
 -- "a get compares at most 64 pairs of jobs", and by their classes it tells nothing else: over tables that are the same
 -- but for the classes of jobs, those that it looks at within their limit, it answers the same and leaves the same,
 -- where the pairs that it compares are ordered alike. For all tables, damaged ones too. Follows docs/RULES.md, "Steps".
--- Assumes nothing.
 use mathlib.Core.Path.{_≡_, refl, sym, ap, _∙_}
 use mathlib.Core.Logic.{_≢_}
 use mathlib.Core.Bool.{Bool, true, false, _&&_}
@@ -13,38 +12,39 @@ use lib.Dec.{ltb, leb, eqb}
 use lib.ListN.{length, getD, set, length-set}
 use lib.Seq.{getD-set-same, getD-set-other, set-out}
 use borrow.Author.Tests.{ltb-true, le-leb}
-use Rattle.numbers.specs.Numbers.{mostClass}
-use Rattle.basics.specs.Base.{pick}
-use Rattle.heap.specs.Sift.{siftDown}
-use Rattle.heap.specs.Compared.{pairsDown, Alike, AgreeOn, same-down}
-use Rattle.heap.specs.declared.Sifted.{Sifted}
-use Rattle.terms.specs.declared.Sizes.{Sizes}
-use Rattle.words.specs.Columns.{place, columns, header, put, sep}
-use Rattle.words.specs.Layout.{jobShape, JOBS, ARCS, BITS, WORKERS, MADE, NAME, LABEL, CLASS, MARK, CELL, POSITION}
-use Rattle.words.specs.Layout.{Tables, tables, View, view, longEnough, sizesKept}
-use Rattle.words.specs.Index.{levels, rankOf, placeIn, waits, seated, firstPlace, lastSlot, lastPlace, firstSeatBy}
-use Rattle.words.specs.Index.{firstSeat, comparedPlaces}
-use Rattle.words.specs.Words.{ownOk, admitted, nextJob, takeFrom, planGetOf, answerGet, appliedGet, getWords}
-use Rattle.words.specs.declared.Seating.{Seating}
-use Rattle.words.specs.declared.Seating.the-variants.{Seated, Unseated}
-use Rattle.words.specs.declared.GetPlan.{GetPlan}
-use Rattle.words.specs.declared.GetPlan.the-variants.{RefuseGet, Wait, Take}
+use Rattle.def_numbers.specs.Numbers.{mostClass}
+use Rattle.def_basics.specs.Base.{pick}
+use Rattle.def_heap.specs.Sift.{siftDown}
+use Rattle.def_heap.specs.Compared.{pairsDown, Alike, AgreeOn, same-down}
+use Rattle.def_heap.specs.declared.Sifted.{Sifted}
+use Rattle.def_terms.specs.declared.Sizes.{Sizes}
+use Rattle.def_words.specs.Columns.{offset, columns, header, put, sep}
+use Rattle.def_words.specs.Layout.{jobShape, JOBS, ARCS, BITS, WORKERS, MADE, NAME, LABEL, CLASS, SPOILED, QUEUED}
+use Rattle.def_words.specs.Layout.{POSITION}
+use Rattle.def_words.specs.Layout.{Tables, tables, View, view, longEnough, sizesKept}
+use Rattle.def_words.specs.Index.{levels, rankOf, cellIn, waits, seated, firstCell, lastSlot, lastCell, firstSeatBy}
+use Rattle.def_words.specs.Index.{firstSeat, comparedCells}
+use Rattle.def_words.specs.Words.{ownOk, admitted, nextJob, takeFrom, planGetOf, answerGet, appliedGet, getWords}
+use Rattle.def_words.specs.declared.Seating.{Seating}
+use Rattle.def_words.specs.declared.Seating.the-variants.{Seated, Unseated}
+use Rattle.def_words.specs.declared.GetPlan.{GetPlan}
+use Rattle.def_words.specs.declared.GetPlan.the-variants.{RefuseGet, Wait, Take}
 use Rattle.thm_words_tests.specs.Tests.{test}
 use Rattle.thm_words_tests.specs.Reach.{Reach, early, empty, index, reach, planAt}
-use Rattle.thm_words_order.specs.Compared.{placesByGet, atIndex}
+use Rattle.thm_words_order.specs.Compared.{cellsByGet, atIndex}
 use Rattle.thm_words_order.specs.IndexFirst.{planned}
 use Rattle.thm_words_order.specs.Looked.{lookedByGet}
 
 -- two jobs tables that differ in no word but classes
 pub record ButClasses (l m : List ℕ) : Type 0 where
   pub lengths : length m ≡ length l
-  pub words : (q : ℕ) → ((j : ℕ) → q ≢ place jobShape j CLASS) → getD m q 0 ≡ getD l q 0
+  pub words : (q : ℕ) → ((j : ℕ) → q ≢ offset jobShape j CLASS) → getD m q 0 ≡ getD l q 0
 
 -- the classes of the jobs in some slots, as far as they were made, are within their limit
 unfoldable pub Classed : View → List ℕ → Type 0
 Classed v [] = Unit {0}
 Classed v (i ∷ l) =
-    (v .cell CELL (placeIn v i) < v .made → v .job CLASS (v .cell CELL (placeIn v i)) ≤ mostClass) × Classed v l
+    (v .cell QUEUED (cellIn v i) < v .made → v .job CLASS (v .cell QUEUED (cellIn v i)) ≤ mostClass) × Classed v l
 
 -- the tables with another jobs table
 abbrev pub withJobs : Tables → List ℕ → Tables
@@ -59,7 +59,7 @@ module _ (l m : List ℕ) (b : ButClasses l m) where
   field-same : (k j : ℕ) → ltb k (jobShape .width) ≡ true → k ≢ CLASS → columns jobShape m k j ≡ columns jobShape l k j
   unfolding columns
   field-same k j e n =
-      rw e (b .words (place jobShape j k)
+      rw e (b .words (offset jobShape j k)
       (λ i z. n (sep jobShape j i k CLASS (ltb-true k (jobShape .width) e) (omega arith) z .1)))
 
   -- a store of the same word leaves it so
@@ -103,29 +103,29 @@ module _ (t : Tables) (m : List ℕ) (b : ButClasses (t .jobs) m) where
   unfolding waits Classed AgreeOn
   waits-same [] one two = tt
   waits-same (i ∷ l) one two =
-      let p = placeIn v i in (
-        job-same (ltb p (v .put) && eqb (v .cell POSITION p) i) (v .cell CELL p) (one .0) (two .0),
+      let p = cellIn v i in (
+        job-same (ltb p (v .put) && eqb (v .cell POSITION p) i) (v .cell QUEUED p) (one .0) (two .0),
         waits-same l (one .1) (two .1),
       )
 
   -- the seat of the job that is taken is told by the pairs compared and the slots looked at
-  seat-same : AgreeOn (waits v) (waits u) (lookedByGet v) → Alike (rankOf v) (rankOf u) (comparedPlaces v)
+  seat-same : AgreeOn (waits v) (waits u) (lookedByGet v) → Alike (rankOf v) (rankOf u) (comparedCells v)
       → firstSeat u ≡ firstSeat v
   unfolding firstSeatBy lookedByGet AgreeOn
   seat-same B A = rw (B .0, B .1 .0) (go (waits v 0 && waits v (lastSlot v)) A)
     where
       down : View → Sifted
-      down x = siftDown (rankOf x) (waits x) (placeIn v) levels (lastSlot v) (rankOf x (lastPlace v)) 0
+      down x = siftDown (rankOf x) (waits x) (cellIn v) levels (lastSlot v) (rankOf x (lastCell v)) 0
 
       pairs : List (ℕ × ℕ)
-      pairs = pairsDown (rankOf v) (waits v) (placeIn v) levels (lastSlot v) (lastPlace v) 0
+      pairs = pairsDown (rankOf v) (waits v) (cellIn v) levels (lastSlot v) (lastCell v) 0
 
       go : (c : Bool) → Alike (rankOf v) (rankOf u) (pick c pairs [])
-          → pick c (seated (down u) (firstPlace v) (lastSlot v)) Unseated
-          ≡ pick c (seated (down v) (firstPlace v) (lastSlot v)) Unseated
+          → pick c (seated (down u) (firstCell v) (lastSlot v)) Unseated
+          ≡ pick c (seated (down v) (firstCell v) (lastSlot v)) Unseated
       go true A =
-          ap (λ r. seated r (firstPlace v) (lastSlot v))
-          (same-down (rankOf v) (rankOf u) (waits v) (waits u) (placeIn v) levels (lastSlot v) (lastPlace v) 0 A
+          ap (λ r. seated r (firstCell v) (lastSlot v))
+          (same-down (rankOf v) (rankOf u) (waits v) (waits u) (cellIn v) levels (lastSlot v) (lastCell v) 0 A
           (B .1 .1))
       go false A = refl
 
@@ -134,7 +134,7 @@ module _ (t : Tables) (m : List ℕ) (b : ButClasses (t .jobs) m) where
       rw (
         field-same (t .jobs) m b LABEL (nextJob v) refl (omega arith),
         field-same (t .jobs) m b NAME (nextJob v) refl (omega arith),
-        field-same (t .jobs) m b MARK (nextJob v) refl (omega arith),
+        field-same (t .jobs) m b SPOILED (nextJob v) refl (omega arith),
       )
   take-same Unseated = refl
 
@@ -152,13 +152,13 @@ module _ (t : Tables) (m : List ℕ) (b : ButClasses (t .jobs) m) where
         )
 
     plan-same : Classed v (lookedByGet v) → Classed u (lookedByGet v)
-        → Alike (rankOf v) (rankOf u) (placesByGet s t w)
+        → Alike (rankOf v) (rankOf u) (cellsByGet s t w)
         → planGetOf s (withJobs t m) w ≡ planGetOf s t w
-    unfolding placesByGet
+    unfolding cellsByGet
     plan-same one two A =
         planned s (withJobs t m) w ∙ rw reach-same (go (reach s t w) A) ∙ sym (planned s t w)
       where
-        go : (r : Reach) → Alike (rankOf v) (rankOf u) (atIndex r (comparedPlaces v))
+        go : (r : Reach) → Alike (rankOf v) (rankOf u) (atIndex r (comparedCells v))
             → planAt r (takeFrom u (firstSeat u)) ≡ planAt r (takeFrom v (firstSeat v))
         go (early n) A = refl
         go empty A = refl
@@ -182,7 +182,7 @@ pub record SameGet (s : Sizes) (t : Tables) (m : List ℕ) (w : ℕ) : Type 0 wh
 
 pub get-by-classes : (s : Sizes) (t : Tables) (m : List ℕ) (w : ℕ) → ButClasses (t .jobs) m
     → Classed (view t) (lookedByGet (view t)) → Classed (view (withJobs t m)) (lookedByGet (view t))
-    → Alike (rankOf (view t)) (rankOf (view (withJobs t m))) (placesByGet s t w)
+    → Alike (rankOf (view t)) (rankOf (view (withJobs t m))) (cellsByGet s t w)
     → SameGet s t m w
 unfolding getWords appliedGet
 get-by-classes s t m w b one two A =

@@ -1,28 +1,30 @@
 -- For ALL tables: a get that hands a job out hands out the index's first, and has found that its slot and the last one
 -- wait; and one that says that none is ready has found the queue empty. Follows docs/RULES.md, "The index" and
--- "Turned-away calls". Assumes nothing.
+-- "Turned-away calls".
 use mathlib.Core.Path.{_≡_, sym, ap, _∙_}
 use mathlib.Core.Bool.{true, false, _&&_}
 use Prim.Native.Nat.{ℕ, _-_, _≤_, _<_}
 use native.Mathlib.Omega.{arith}
 use lib.Dec.{leb, ltb, eqb}
 use borrow.Author.Tests.{leb-true, eqb-true, eqb-false}
-use Rattle.numbers.specs.Numbers.{damaged}
-use Rattle.basics.specs.Laws.{never, pick-by}
-use Rattle.heap.specs.Sift.{siftDown}
-use Rattle.heap.specs.declared.Sifted.{Sifted}
-use Rattle.heap.specs.declared.Sifted.the-variants.{Rests, Astray}
-use Rattle.terms.specs.declared.Sizes.{Sizes}
-use Rattle.terms.specs.declared.HandOut.{HandOut}
-use Rattle.terms.specs.declared.Answer.the-variants.{NoneReady, Handed}
-use Rattle.words.specs.Layout.{Tables, View, view, NAME, LABEL, MARK, CELL, SLOT, PHASE, HELD, IDLE, none, sizesFit}
-use Rattle.words.specs.Index.{levels, rankOf, placeIn, waits, firstPlace, lastPlace, lastSlot, seated, firstSeatBy}
-use Rattle.words.specs.Index.{firstSeat}
-use Rattle.words.specs.Words.{admitted, ownOk, countersOk, markOk, takeFrom, nextJob, answerGet, getWords, planGetOf}
-use Rattle.words.specs.declared.Seating.{Seating}
-use Rattle.words.specs.declared.Seating.the-variants.{Seated, Unseated}
-use Rattle.words.specs.declared.GetPlan.{GetPlan}
-use Rattle.words.specs.declared.GetPlan.the-variants.{RefuseGet}
+use Rattle.def_numbers.specs.Numbers.{damaged}
+use Rattle.def_basics.specs.Laws.{never, pick-by}
+use Rattle.def_heap.specs.Sift.{siftDown}
+use Rattle.def_heap.specs.declared.Sifted.{Sifted}
+use Rattle.def_heap.specs.declared.Sifted.the-variants.{Rests, Astray}
+use Rattle.def_terms.specs.declared.Sizes.{Sizes}
+use Rattle.def_terms.specs.declared.HandOut.{HandOut}
+use Rattle.def_terms.specs.declared.Answer.the-variants.{NoneReady, Handed}
+use Rattle.def_words.specs.Layout.{Tables, View, view, NAME, LABEL, SPOILED, QUEUED, SLOT, PHASE, HELD, IDLE, none}
+use Rattle.def_words.specs.Layout.{sizesFit}
+use Rattle.def_words.specs.Index.{levels, rankOf, cellIn, waits, firstCell, lastCell, lastSlot, seated, firstSeatBy}
+use Rattle.def_words.specs.Index.{firstSeat}
+use Rattle.def_words.specs.Words.{admitted, ownOk, countersOk, spoiledOk, takeFrom, nextJob, answerGet, getWords}
+use Rattle.def_words.specs.Words.{planGetOf}
+use Rattle.def_words.specs.declared.Seating.{Seating}
+use Rattle.def_words.specs.declared.Seating.the-variants.{Seated, Unseated}
+use Rattle.def_words.specs.declared.GetPlan.{GetPlan}
+use Rattle.def_words.specs.declared.GetPlan.the-variants.{RefuseGet}
 use Rattle.thm_words_tests.specs.Tests.{parts}
 use Rattle.thm_words_tests.specs.Reach.{Reach, early, empty, index, reach, planAt, plan-by-reach}
 
@@ -81,16 +83,16 @@ pub planned : (s : Sizes) (t : Tables) (w : ℕ)
 planned s t w = sym (plan-by-reach s t w)
 
 -- ---- a job that is handed out
--- what a hand-out says of the index, by the words of the tables: the first place is that in slot 0, the last slot is
--- below `put` less `taken`; and of the job's mark, which it tells
+-- what a hand-out says of the index, by the words of the tables: the first cell is that in slot 0, the last slot is
+-- below `put` less `taken`; and of the job's spoiled word, which it tells
 pub record FirstTaken (v : View) (h : HandOut) : Type 0 where
-  pub first : h .job ≡ v .cell CELL (v .cell SLOT 0)
+  pub first : h .job ≡ v .cell QUEUED (v .cell SLOT 0)
   pub name : h .name ≡ v .job NAME (h .job)
   pub last : waits v (v .put - v .taken - 1) ≡ true
   pub waits : waits v 0 ≡ true
   pub unexecuted : v .job LABEL (h .job) ≡ 0
-  pub marked : v .job MARK (h .job) ≤ 1
-  pub spoiled : h .spoiled ≡ eqb (v .job MARK (h .job)) 1
+  pub within : v .job SPOILED (h .job) ≤ 1
+  pub spoiled : h .spoiled ≡ eqb (v .job SPOILED (h .job)) 1
 
 abbrev Says : View → GetPlan → Type 0
 Says v p = (h : HandOut) → answerGet p ≡ Handed h → FirstTaken v h
@@ -99,10 +101,10 @@ refusing : (v : View) (n : ℕ) → Says v (RefuseGet n)
 refusing v n h e = never (cc)
 
 taking : (v : View) → waits v 0 ≡ true → waits v (lastSlot v) ≡ true → (f : Sifted)
-    → Says v (takeFrom v (seated f (firstPlace v) (lastSlot v)))
+    → Says v (takeFrom v (seated f (firstCell v) (lastSlot v)))
 taking v a b Astray = refusing v damaged
 taking v a b (Rests k) =
-    pick-by (Says v) (eqb (v .job LABEL (nextJob v)) 0 && markOk v (nextJob v))
+    pick-by (Says v) (eqb (v .job LABEL (nextJob v)) 0 && spoiledOk v (nextJob v))
     (λ c h e.
     let same : h .job ≡ nextJob v = cc in
     record {
@@ -111,7 +113,7 @@ taking v a b (Rests k) =
       last = b;
       waits = a;
       unexecuted = rw same (eqb-true (v .job LABEL (nextJob v)) 0 (search parts));
-      marked = rw same (leb-true (v .job MARK (nextJob v)) 1 (search parts));
+      within = rw same (leb-true (v .job SPOILED (nextJob v)) 1 (search parts));
       spoiled = cc;
     })
     (λ c. refusing v damaged)
@@ -121,7 +123,7 @@ unfolding firstSeatBy
 take-says v =
     pick-by (λ r. Says v (takeFrom v r)) (waits v 0 && waits v (lastSlot v))
     (λ e. taking v (search parts) (search parts)
-    (siftDown (rankOf v) (waits v) (placeIn v) levels (lastSlot v) (rankOf v (lastPlace v)) 0))
+    (siftDown (rankOf v) (waits v) (cellIn v) levels (lastSlot v) (rankOf v (lastCell v)) 0))
     (λ _. refusing v damaged)
 
 pub first-taken : (s : Sizes) (t : Tables) (w : ℕ) (h : HandOut) → getWords s t w .answer ≡ Handed h
@@ -146,7 +148,7 @@ none-ready-empty s t w e = go (reach s t w) (reached s t w) (ap answerGet (sym (
     no : (r : Seating) → N (takeFrom (view t) r)
     no (Seated x) =
         let j = nextJob (view t) in
-        pick-by N (eqb (view t .job LABEL j) 0 && markOk (view t) j) (λ _ f. never (cc)) (λ _ f. never (cc))
+        pick-by N (eqb (view t .job LABEL j) 0 && spoiledOk (view t) j) (λ _ f. never (cc)) (λ _ f. never (cc))
     no Unseated = λ f. never (cc)
 
     go : (r : Reach) → Reached s t w r → N (planAt r (takeFrom (view t) (firstSeat (view t))))

@@ -4,5 +4,5 @@ pub mod IndexFirst
 pub mod Looked
 pub mod Classes
 pub mod Taken
-pub mod EntryReads
+pub mod EnteringReads
 pub mod GetReads

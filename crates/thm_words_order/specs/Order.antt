@@ -1,17 +1,17 @@
--- For ALL tables: what a lower rank means, both ways. Follows docs/RULES.md, "The index". Assumes nothing.
+-- For ALL tables: what a lower rank means, both ways. Follows docs/RULES.md, "The index".
 use mathlib.Core.Path.{_≡_}
 use mathlib.Core.Logic.{_↔_}
 use Prim.Native.Nat.{ℕ, _≤_, _<_}
 use native.Mathlib.Omega.{arith}
 use native.Mathlib.Decide.{decLt}
-use Rattle.words.specs.Layout.{CLASS, CELL, View}
-use Rattle.words.specs.Index.{rankOf}
+use Rattle.def_words.specs.Layout.{CLASS, QUEUED, View}
+use Rattle.def_words.specs.Index.{rankOf}
 
--- the class of the job in a place's cell
+-- the class of the job in a cell
 abbrev pub classAt : View → ℕ → ℕ
-classAt v p = v .job CLASS (v .cell CELL p)
+classAt v p = v .job CLASS (v .cell QUEUED p)
 
--- a higher class, which has more minutes, or an equal class and an earlier place
+-- a higher class, which has more minutes, or an equal class and an earlier cell
 pub data GoesFirst (v : View) (p q : ℕ) : Type 0 where
   longer : classAt v q < classAt v p → GoesFirst v p q
   earlier : classAt v p ≡ classAt v q → p < q → GoesFirst v p q

@@ -1,4 +1,4 @@
--- For ALL tables: what each plan of a step does to the workers' notes. Follows docs/RULES.md, "Steps". Assumes nothing.
+-- For ALL tables: what each plan of a step does to the workers' notes. Follows docs/RULES.md, "Steps".
 use mathlib.Core.Path.{_≡_, refl, sym, ap, _∙_}
 use mathlib.Core.Logic.{_≢_}
 use mathlib.Core.Bool.{Bool, true, false}
@@ -9,18 +9,19 @@ use native.Mathlib.Decide.{ℕ-discrete}
 use lib.Dec.{ltb, eqb}
 use lib.ListN.{length, getD}
 use borrow.Author.Tests.{eqb-true}
-use Rattle.basics.specs.Base.{pick}
-use Rattle.terms.specs.Runs.{step, Outcome}
-use Rattle.terms.specs.declared.Sizes.{Sizes}
-use Rattle.words.specs.Columns.{place, rows-put}
-use Rattle.words.specs.Layout.{none, workerShape, PHASE, HELD, TALLY, PLACE, OWN-JOB, OWN-ARC, NOTE, IDLE, Tables, View}
-use Rattle.words.specs.Layout.{view, bareWorker}
-use Rattle.words.specs.Words.{goingUnless, nameAt, putWorker, putField, nextPlace, noted, arcsFrom, applied}
-use Rattle.words.specs.declared.Found.the-variants.{At}
+use Rattle.def_basics.specs.Base.{pick}
+use Rattle.def_terms.specs.Runs.{step, Result}
+use Rattle.def_terms.specs.declared.Sizes.{Sizes}
+use Rattle.def_words.specs.Columns.{offset, rows-put}
+use Rattle.def_words.specs.Layout.{none, workerShape, PHASE, HELD, TALLY, PLACE, OWN-JOB, OWN-ARC, NOTE, IDLE, Tables}
+use Rattle.def_words.specs.Layout.{View}
+use Rattle.def_words.specs.Layout.{view, bareWorker}
+use Rattle.def_words.specs.Words.{goingUnless, nameAt, putWorker, putField, nextPlace, noted, arcsFrom, applied}
+use Rattle.def_words.specs.declared.Found.the-variants.{At}
 use Rattle.thm_words_steps.specs.Buckets.{look-up-means}
-use Rattle.words.specs.declared.Plan.{Plan}
-use Rattle.words.specs.declared.Plan.the-variants.{Refuse, Quit, Pass, Enter, Tally, LinkFirst, LinkAfter, Settle}
-use Rattle.words.specs.declared.Plan.the-variants.{SettleQueue, Mark, Notify, NotifyQueue}
+use Rattle.def_words.specs.declared.Plan.{Plan}
+use Rattle.def_words.specs.declared.Plan.the-variants.{Refuse, Quit, Pass, Enter, Tally, LinkFirst, LinkAfter, Settle}
+use Rattle.def_words.specs.declared.Plan.the-variants.{SettleQueue, Mark, Notify, NotifyQueue}
 use Rattle.thm_words_tests.specs.Tests.{test, Long}
 use Rattle.thm_words_tests.specs.Judged.{did}
 use Rattle.thm_words_tests.specs.OneWord.{ownWord, own-by-word, job-by-word}
@@ -34,7 +35,7 @@ use Rattle.thm_words_outcomes.specs.Fields.{field-at, field-off, record-
 abbrev pub mine : List ℕ → ℕ → ℕ → ℕ
 mine a x k = getD a (43 * x + k) 0
 
-there : (a : List ℕ) (x k : ℕ) → mine a x k ≡ getD a (place workerShape x k) 0
+there : (a : List ℕ) (x k : ℕ) → mine a x k ≡ getD a (offset workerShape x k) 0
 there a x k = ap (λ n. getD a n 0) {x = 43 * x + k} {y = 0 + 43 * x + k} (omega arith)
 
 -- a store in another field
@@ -63,7 +64,7 @@ module _ (s : Sizes) (t : Tables) (w : ℕ) (h : Long s t) (known : ltb w (s .wo
     mine-off x k d b =
         there (putWorker r w z) x k ∙ record-off workerShape (s .workers) r w z e x k d b ∙ sym (there r x k)
 
-  put-back : (held : ℕ) (o : Outcome Tables) → ends (o .answer) ≡ true
+  put-back : (held : ℕ) (o : Result Tables) → ends (o .answer) ≡ true
       → o .state .workers ≡ putWorker r w (bareWorker IDLE held 0)
       → (x : ℕ)
       → NoteAfter t o x (step s w)
@@ -96,7 +97,7 @@ module _ (s : Sizes) (t : Tables) (w : ℕ) (h : Long s t) (known : ltb w (s .wo
         ∙ apart w (nextPlace v w r) TALLY y x (omega arith) (omega arith)
         ∙ apart w r PLACE (v .worker PLACE w + 1) x (omega arith) (omega arith)
 
-  tallies : (o y : ℕ) → FromLink s v w o → (u : Outcome Tables)
+  tallies : (o y : ℕ) → FromLink s v w o → (u : Result Tables)
       → u .state .workers ≡ putField (putField (nextPlace v w r) w TALLY y) w NOTE (noted o (v .worker NOTE w))
       → (x : ℕ)
       → NoteAfter t u x (step s w)
@@ -116,7 +117,7 @@ module _ (s : Sizes) (t : Tables) (w : ℕ) (h : Long s t) (known : ltb w (s .wo
           z
       by-outcome false g z = same (z ∙ own-by-word t w 10 (omega arith))
 
-  arcs-on : (y : ℕ) (o : Outcome Tables) → o .answer ≡ goingUnless (eqb y none) → o .state .workers ≡ arcsFrom y v w r
+  arcs-on : (y : ℕ) (o : Result Tables) → o .answer ≡ goingUnless (eqb y none) → o .state .workers ≡ arcsFrom y v w r
       → (x : ℕ)
       → NoteAfter t o x (step s w)
   arcs-on y o a e x = test (eqb y none) (λ d. let b = rw d at a in put-back _ o (rw b) (rw d at e) x)

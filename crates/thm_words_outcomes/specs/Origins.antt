@@ -1,30 +1,31 @@
 -- For ALL tables: which step plans what. Entering comes of an add that has looked up, a tally of one that links,
 -- settling of one that has linked, a mark and an arc's step of a finish; and each names the job that the worker's words
--- name. Follows docs/RULES.md, "Steps". Assumes nothing.
+-- name. Follows docs/RULES.md, "Steps".
 use mathlib.Core.Path.{_≡_, refl}
 use mathlib.Core.Bool.{true, _&&_, _||_}
 use Prim.Native.Nat.{ℕ, _+_, _-_, _≤_, _<_}
 use native.Mathlib.Omega.{arith}
 use lib.Dec.{ltb, leb, eqb}
 use borrow.Author.Tests.{ltb-true, ltb-false, eqb-true, eqb-false}
-use Rattle.numbers.specs.Numbers.{mostNames}
-use Rattle.basics.specs.Laws.{pick-by}
-use Rattle.terms.specs.Terms.{settles}
-use Rattle.terms.specs.declared.Sizes.{Sizes}
-use Rattle.words.specs.Layout.{none, LABEL, COUNT, FIRST, LAST, OUTCOME, DEPENDENT, AFTER, PHASE, HELD, LIST-COUNT}
-use Rattle.words.specs.Layout.{PLACE, OWN-JOB, OWN-ARC, IDLE, LOOKING, LINKING, MARKING, NOTIFYING, View}
-use Rattle.words.specs.Words.{placeOk, isPlace, countersOk, ownOk, findOf, nameAt, planLookUp, planEnter, planAppend}
-use Rattle.words.specs.Words.{planTally, planLink, inSeat, withSeat, planSettle, planMark, planNotify, planAdd}
-use Rattle.words.specs.Words.{planLinks, planCall, planPhase}
-use Rattle.words.specs.Index.{seatFor}
-use Rattle.words.specs.declared.Seat.{Seat}
-use Rattle.words.specs.declared.Seating.{Seating}
-use Rattle.words.specs.declared.Seating.the-variants.{Seated, Unseated}
-use Rattle.words.specs.declared.Found.{Found}
-use Rattle.words.specs.declared.Found.the-variants.{At, Missing, Damaged}
-use Rattle.words.specs.declared.Plan.{Plan}
-use Rattle.words.specs.declared.Plan.the-variants.{Refuse, Quit, Pass, Enter, Tally, LinkFirst, LinkAfter, Settle}
-use Rattle.words.specs.declared.Plan.the-variants.{SettleQueue, Mark, Notify, NotifyQueue}
+use Rattle.def_numbers.specs.Numbers.{mostNames}
+use Rattle.def_basics.specs.Laws.{pick-by}
+use Rattle.def_terms.specs.Terms.{settles}
+use Rattle.def_terms.specs.declared.Sizes.{Sizes}
+use Rattle.def_words.specs.Layout.{none, LABEL, COUNT, FIRST, LAST, OUTCOME, DEPENDENT, AFTER, PHASE, HELD, LIST-COUNT}
+use Rattle.def_words.specs.Layout.{PLACE, OWN-JOB, OWN-ARC, IDLE, LOOKING, LINKING, MARKING, NOTIFYING, View}
+use Rattle.def_words.specs.Words.{placeOk, isPlace, countersOk, ownOk, findOf, nameAt, planLookUp, planEnter}
+use Rattle.def_words.specs.Words.{planAppend}
+use Rattle.def_words.specs.Words.{planTally, planLink, inSeat, withSeat, planSettle, planMark, planNotify, planAdd}
+use Rattle.def_words.specs.Words.{planLinks, planCall, planPhase}
+use Rattle.def_words.specs.Index.{seatFor}
+use Rattle.def_words.specs.declared.Seat.{Seat}
+use Rattle.def_words.specs.declared.Seating.{Seating}
+use Rattle.def_words.specs.declared.Seating.the-variants.{Seated, Unseated}
+use Rattle.def_words.specs.declared.Found.{Found}
+use Rattle.def_words.specs.declared.Found.the-variants.{At, Missing, Damaged}
+use Rattle.def_words.specs.declared.Plan.{Plan}
+use Rattle.def_words.specs.declared.Plan.the-variants.{Refuse, Quit, Pass, Enter, Tally, LinkFirst, LinkAfter, Settle}
+use Rattle.def_words.specs.declared.Plan.the-variants.{SettleQueue, Mark, Notify, NotifyQueue}
 use Rattle.thm_words_tests.specs.Judged.{own-means}
 
 module _ (s : Sizes) (v : View) (w : ℕ) where

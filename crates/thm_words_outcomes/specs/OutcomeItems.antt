@@ -1,5 +1,5 @@
--- For ALL tables: the words' calls write outcomes, marks and notes as OutcomeWords.antt says. Follows docs/RULES.md,
--- "Steps". Assumes nothing.
+-- For ALL tables: the words' calls write outcomes, spoiled words and notes as OutcomeWords.antt says. Follows
+-- docs/RULES.md, "Steps".
 use mathlib.Core.Path.{_≡_, refl, ap, subst, _∙_}
 use mathlib.Core.Logic.{_≢_}
 use mathlib.Core.Bool.{true}
@@ -10,36 +10,37 @@ use native.Mathlib.Decide.{ℕ-discrete}
 use lib.Dec.{ltb}
 use lib.ListN.{length, getD}
 use borrow.Author.Tests.{lt-ltb, lt-leb}
-use Rattle.numbers.specs.Numbers.{mostNames, damaged}
-use Rattle.basics.specs.Base.{pick}
-use Rattle.basics.specs.Laws.{never, length-prefix}
-use Rattle.basics.specs.Stores.{sets-off}
-use Rattle.minutes.specs.Rising.{isRising, SixteenRising, rising-means}
-use Rattle.terms.specs.Terms.{listed, bit}
-use Rattle.terms.specs.Runs.{Item, postAdd, postFinish, step, get, load, Outcome, outcome}
-use Rattle.terms.specs.declared.Sizes.{Sizes}
-use Rattle.terms.specs.declared.Answer.the-variants.{Ended, Refused}
-use Rattle.words.specs.Layout.{jobShape, LABEL, OUTCOME, MARK, HELD, PLACE, LIST-COUNT, MARKING}
-use Rattle.words.specs.Layout.{MINUTES, Tables, view, longEnough, sizesFit, bareWorker}
-use Rattle.words.specs.Words.{countersOk, findOf, nameAt, planTally, planLink, planLinks, planCall, planPhase}
-use Rattle.words.specs.Words.{planStep, admitted, answerOf, applied, stepWords, planGetOf, appliedGet}
-use Rattle.words.specs.Words.{getWords, refusal, judgedAdd, judgedFinish, addingWorker, posted, addWords, finishWords}
-use Rattle.words.specs.Words.{judgedLoad, loading, loadWords, perform}
-use Rattle.words.specs.declared.Found.the-variants.{At}
-use Rattle.words.specs.declared.Plan.{Plan}
-use Rattle.words.specs.declared.Plan.the-variants.{Refuse}
-use Rattle.words.specs.declared.GetPlan.{GetPlan}
-use Rattle.words.specs.declared.GetPlan.the-variants.{RefuseGet, Wait, Take}
+use Rattle.def_numbers.specs.Numbers.{mostNames, damaged}
+use Rattle.def_basics.specs.Base.{pick}
+use Rattle.def_basics.specs.Laws.{never, length-prefix}
+use Rattle.def_basics.specs.Stores.{sets-off}
+use Rattle.def_minutes.specs.Rising.{isRising, SixteenRising, rising-means}
+use Rattle.def_terms.specs.Terms.{listed, bit}
+use Rattle.def_terms.specs.Runs.{Item, postAdd, postFinish, step, get, load, Result, result}
+use Rattle.def_terms.specs.declared.Sizes.{Sizes}
+use Rattle.def_terms.specs.declared.Answer.the-variants.{Ended, Refused}
+use Rattle.def_words.specs.Layout.{jobShape, LABEL, OUTCOME, SPOILED, HELD, PLACE, LIST-COUNT, MARKING}
+use Rattle.def_words.specs.Layout.{MINUTES, Tables, view, longEnough, sizesFit, bareWorker}
+use Rattle.def_words.specs.Words.{countersOk, findOf, nameAt, planTally, planLink, planLinks, planCall, planPhase}
+use Rattle.def_words.specs.Words.{planStep, admitted, answerOf, applied, stepWords, planGetOf, appliedGet}
+use Rattle.def_words.specs.Words.{getWords, refusal, judgedAdd, judgedFinish, addingWorker, posted, addWords}
+use Rattle.def_words.specs.Words.{finishWords}
+use Rattle.def_words.specs.Words.{judgedLoad, loading, loadWords, perform}
+use Rattle.def_words.specs.declared.Found.the-variants.{At}
+use Rattle.def_words.specs.declared.Plan.{Plan}
+use Rattle.def_words.specs.declared.Plan.the-variants.{Refuse}
+use Rattle.def_words.specs.declared.GetPlan.{GetPlan}
+use Rattle.def_words.specs.declared.GetPlan.the-variants.{RefuseGet, Wait, Take}
 use Rattle.thm_words_tests.specs.Tests.{test, parts, Long, long}
 use Rattle.thm_words_tests.specs.Judged.{Admitted, admits, did}
 use Rattle.thm_words_tests.specs.OneWord.{ownWord, jobWord, own-by-word, job-by-word}
 use Rattle.thm_words_need.specs.Plans.{Inside, marking, phase-alike, admit}
 use Rattle.thm_words_steps.specs.Buckets.{LooksFor, look-up-means}
-use Rattle.thm_words_outcomes.specs.OutcomeWords.{MarkAfter, OutcomeAfter, NoteAfter, same, posted-add}
+use Rattle.thm_words_outcomes.specs.OutcomeWords.{SpoiledAfter, OutcomeAfter, NoteAfter, same, posted-add}
 use Rattle.thm_words_outcomes.specs.OutcomeWords.{posted-finish, Served, WritesOutcomes}
 use Rattle.thm_words_outcomes.specs.Origins.{From, plan-from}
 use Rattle.thm_words_outcomes.specs.Fields.{field-off}
-use Rattle.thm_words_outcomes.specs.OutcomeSteps.{mark-after, outcome-after, spoils-own, spoils-dependent}
+use Rattle.thm_words_outcomes.specs.OutcomeSteps.{spoiled-after, outcome-after, spoils-own, spoils-dependent}
 use Rattle.thm_words_outcomes.specs.OutcomeSteps.{keeps-outcome, arc-word, made-word, clears}
 use Rattle.thm_words_outcomes.specs.NoteSteps.{apart, mine-at, mine-off, at-note, note-after}
 
@@ -54,11 +55,11 @@ by-plan s t w Q f g =
     g (long full) k (planPhase s (view t) w) (plan-from s (view t) w o) (phase-alike s (view t) w k o .1))
 
 module _ (s : Sizes) (t : Tables) where
-  step-marks : (w j : ℕ) → MarkAfter t (perform t (step s w) .state) j (step s w)
+  step-spoiled : (w j : ℕ) → SpoiledAfter t (perform t (step s w) .state) j (step s w)
   unfolding perform stepWords applied
-  step-marks w j =
-      by-plan s t w (λ p. MarkAfter t (applied p t w) j (step s w)) (λ n. same refl)
-      (λ h k p f i. mark-after s t w h (marking (view t) w) p f i j)
+  step-spoiled w j =
+      by-plan s t w (λ p. SpoiledAfter t (applied p t w) j (step s w)) (λ n. same refl)
+      (λ h k p f i. spoiled-after s t w h (marking (view t) w) p f i j)
 
   step-outcomes : (w j : ℕ) → OutcomeAfter t (perform t (step s w) .state) j (step s w)
   unfolding perform stepWords applied
@@ -87,7 +88,7 @@ module _ (s : Sizes) (t : Tables) where
   get-notes w x (Take o e) = apart w (t .workers) HELD (o .job) x (omega arith) (omega arith)
 
   -- a post stores the words z of its worker
-  module _ (w x : ℕ) (z : List ℕ) (whole : length z ≡ 43) (i : Item) (fresh : x ≡ w → (o : Outcome Tables)
+  module _ (w x : ℕ) (z : List ℕ) (whole : length z ≡ 43) (i : Item) (fresh : x ≡ w → (o : Result Tables)
       → ownWord (o .state) x 10 ≡ getD z 10 0 → NoteAfter t o x i) where
     posts : Long s t → ltb w (s .workers) ≡ true → (n : ℕ) → NoteAfter t (posted n t w z) x i
     unfolding posted
@@ -161,7 +162,7 @@ module _ (s : Sizes) (t : Tables) where
       outcome-word : view t .job OUTCOME p ≡ jobWord t p 8
       outcome-word = job-by-word t p 8 (omega arith)
 
-      outcome-by-9 : Admitted s t w → 1 < jobWord t p 8 → perform t (step s w) ≡ outcome (Refused 9 0) t
+      outcome-by-9 : Admitted s t w → 1 < jobWord t p 8 → perform t (step s w) ≡ result (Refused 9 0) t
       unfolding perform stepWords applied planTally
       outcome-by-9 d b =
           rw (
@@ -214,13 +215,13 @@ module _ (s : Sizes) (t : Tables) where
         a
 
 -- ---- every item
-item-marks : (t : Tables) (i : Item) (j : ℕ) → MarkAfter t (perform t i .state) j i
+item-spoiled : (t : Tables) (i : Item) (j : ℕ) → SpoiledAfter t (perform t i .state) j i
 unfolding perform addWords finishWords getWords
-item-marks t (postAdd s w a) j = same (ap (λ l. getD l (21 + 10 * j + 9) 0) (post-jobs s t _ w _))
-item-marks t (postFinish s w f) j = same (ap (λ l. getD l (21 + 10 * j + 9) 0) (post-jobs s t _ w _))
-item-marks t (step s w) j = step-marks s t w j
-item-marks t (get s w) j = same (gets s t w j MARK (omega arith) (omega arith) (planGetOf s t w))
-item-marks t (load s m) j = same (load-words s t m j 9)
+item-spoiled t (postAdd s w a) j = same (ap (λ l. getD l (21 + 10 * j + 9) 0) (post-jobs s t _ w _))
+item-spoiled t (postFinish s w f) j = same (ap (λ l. getD l (21 + 10 * j + 9) 0) (post-jobs s t _ w _))
+item-spoiled t (step s w) j = step-spoiled s t w j
+item-spoiled t (get s w) j = same (gets s t w j SPOILED (omega arith) (omega arith) (planGetOf s t w))
+item-spoiled t (load s m) j = same (load-words s t m j 9)
 
 item-outcomes : (t : Tables) (i : Item) (j : ℕ) → OutcomeAfter t (perform t i .state) j i
 unfolding perform addWords finishWords getWords
@@ -249,7 +250,7 @@ found s t w p = look-up-means s t (nameAt (view t) w) (At p) .0
 
 pub writes-outcomes : WritesOutcomes perform
 writes-outcomes = record {
-  marks = item-marks;
+  spoiled = item-spoiled;
   outcomes = item-outcomes;
   notes = item-notes;
   entering-clears = entering;

@@ -1,5 +1,4 @@
--- For ALL tables: what each plan of a step does to the words of outcome and mark. Follows docs/RULES.md, "Steps".
--- Assumes nothing.
+-- For ALL tables: what each plan of a step does to the outcome and the spoiled word. Follows docs/RULES.md, "Steps".
 use mathlib.Core.Path.{_≡_, refl, sym, ap, _∙_}
 use mathlib.Core.Logic.{_≢_}
 use mathlib.Core.Bool.{Bool, true, false}
@@ -11,22 +10,24 @@ use lib.Dec.{ltb, eqb}
 use lib.ListN.{getD}
 use lib.Seq.{sets, getD-set-other}
 use borrow.Author.Tests.{eqb-true}
-use Rattle.basics.specs.Base.{pick}
-use Rattle.basics.specs.Laws.{never}
-use Rattle.terms.specs.Runs.{step}
-use Rattle.terms.specs.declared.Sizes.{Sizes}
-use Rattle.terms.specs.declared.Answer.the-variants.{Ended}
-use Rattle.words.specs.Columns.{place, Rows, columns, header, put, putHeader, rows-put}
-use Rattle.words.specs.Layout.{jobShape, LABEL, COUNT, FIRST, LAST, OUTCOME, MARK, DEPENDENT, PHASE, HELD, LIST-COUNT}
-use Rattle.words.specs.Layout.{PLACE, OWN-JOB, OWN-ARC, NOTE, LOOKING, LINKING, MARKING, NOTIFYING, Tables, View, view}
-use Rattle.words.specs.Words.{answerOf, enteredJob, lowered, putOutcome, applied}
-use Rattle.words.specs.declared.Plan.{Plan}
-use Rattle.words.specs.declared.Plan.the-variants.{Refuse, Quit, Pass, Enter, Tally, LinkFirst, LinkAfter, Settle}
-use Rattle.words.specs.declared.Plan.the-variants.{SettleQueue, Mark, Notify, NotifyQueue}
+use Rattle.def_basics.specs.Base.{pick}
+use Rattle.def_basics.specs.Laws.{never}
+use Rattle.def_terms.specs.Runs.{step}
+use Rattle.def_terms.specs.declared.Sizes.{Sizes}
+use Rattle.def_terms.specs.declared.Answer.the-variants.{Ended}
+use Rattle.def_words.specs.Columns.{offset, Rows, columns, header, put, putHeader, rows-put}
+use Rattle.def_words.specs.Layout.{jobShape, LABEL, COUNT, FIRST, LAST, OUTCOME, SPOILED, DEPENDENT, PHASE, HELD}
+use Rattle.def_words.specs.Layout.{LIST-COUNT}
+use Rattle.def_words.specs.Layout.{PLACE, OWN-JOB, OWN-ARC, NOTE, LOOKING, LINKING, MARKING, NOTIFYING, Tables, View}
+use Rattle.def_words.specs.Layout.{view}
+use Rattle.def_words.specs.Words.{answerOf, enteredJob, lowered, putOutcome, applied}
+use Rattle.def_words.specs.declared.Plan.{Plan}
+use Rattle.def_words.specs.declared.Plan.the-variants.{Refuse, Quit, Pass, Enter, Tally, LinkFirst, LinkAfter, Settle}
+use Rattle.def_words.specs.declared.Plan.the-variants.{SettleQueue, Mark, Notify, NotifyQueue}
 use Rattle.thm_words_tests.specs.Tests.{test, Long}
 use Rattle.thm_words_tests.specs.OneWord.{ownWord, own-by-word}
 use Rattle.thm_words_need.specs.Plans.{Inside}
-use Rattle.thm_words_outcomes.specs.OutcomeWords.{MarkAfter, OutcomeAfter, same, entered, settled, notified}
+use Rattle.thm_words_outcomes.specs.OutcomeWords.{SpoiledAfter, OutcomeAfter, same, entered, settled, notified}
 use Rattle.thm_words_outcomes.specs.OutcomeWords.{marked, Served}
 use Rattle.thm_words_outcomes.specs.Origins.{From, FromSettling, FromArc}
 use Rattle.thm_words_outcomes.specs.Fields.{field-at, field-off, record-at, record-off}
@@ -41,7 +42,7 @@ module _ (s : Sizes) (t : Tables) (w : ℕ) (h : Long s t) where
   own : (k : ℕ) → k < 43 → ownWord t w k ≡ v .worker k w
   own k b = sym (own-by-word t w k b)
 
-  -- a job's count, and its mark by the note
+  -- a job's count, and its spoiled word by the note
   abbrev word : List ℕ → ℕ → ℕ → ℕ
   word m j k = getD m (21 + 10 * j + k) 0
 
@@ -61,39 +62,40 @@ module _ (s : Sizes) (t : Tables) (w : ℕ) (h : Long s t) where
       rows = rows-put jobShape (s .jobs) l q COUNT c ∙ h .jobs
 
       go : (b : Bool) → eqb (v .worker NOTE w) 1 ≡ b
-          → (word (pick b (put jobShape (put jobShape l q COUNT c) q MARK 1) (put jobShape l q COUNT c)) j 9
+          → (word (pick b (put jobShape (put jobShape l q COUNT c) q SPOILED 1) (put jobShape l q COUNT c)) j 9
           ≡ word l j 9 → X)
           → (q ≡ j → ownWord t w 10 ≡ 1
-          → word (pick b (put jobShape (put jobShape l q COUNT c) q MARK 1) (put jobShape l q COUNT c)) j 9 ≡ 1 → X)
+          → word (pick b (put jobShape (put jobShape l q COUNT c) q SPOILED 1) (put jobShape l q COUNT c)) j 9 ≡ 1 → X)
           → X
       go true e f g = elim (ℕ-discrete q j) [
         | yes z ↦ g z (own NOTE (omega arith) ∙ eqb-true (v .worker NOTE w) 1 e)
-            (rw (← z) (field-at jobShape (s .jobs) m q MARK 1 rows o (omega arith)))
-        | no z ↦ f (field-off jobShape (s .jobs) m q MARK 1 j MARK (omega arith) (omega arith) (λ e _. z (sym e))
-            ∙ counts q c j MARK (omega arith) (omega arith))
+            (rw (← z) (field-at jobShape (s .jobs) m q SPOILED 1 rows o (omega arith)))
+        | no z ↦ f (field-off jobShape (s .jobs) m q SPOILED 1 j SPOILED (omega arith) (omega arith) (λ e _. z (sym e))
+            ∙ counts q c j SPOILED (omega arith) (omega arith))
       ]
-      go false e f g = f (counts q c j MARK (omega arith) (omega arith))
+      go false e f g = f (counts q c j SPOILED (omega arith) (omega arith))
 
   -- and no outcome
   lowers-no-outcome : (q c j : ℕ) → word (lowered v w l q c) j 8 ≡ word l j 8
   lowers-no-outcome q c j = test (eqb (v .worker NOTE w) 1)
-      (λ e. rw e (field-off jobShape (s .jobs) (put jobShape l q COUNT c) q MARK 1 j OUTCOME (omega arith) (omega arith)
+      (λ e. rw e
+      (field-off jobShape (s .jobs) (put jobShape l q COUNT c) q SPOILED 1 j OUTCOME (omega arith) (omega arith)
       (λ _ z. omega arith) ∙ counts q c j OUTCOME (omega arith) (omega arith)))
       (λ e. rw e (counts q c j OUTCOME (omega arith) (omega arith)))
 
   lowers-at : (q c : ℕ) → ltb q (s .jobs) ≡ true → v .worker NOTE w ≡ 1 → word (lowered v w l q c) q 9 ≡ 1
   lowers-at q c o e =
-      rw e (field-at jobShape (s .jobs) (put jobShape l q COUNT c) q MARK 1
+      rw e (field-at jobShape (s .jobs) (put jobShape l q COUNT c) q SPOILED 1
       (rows-put jobShape (s .jobs) l q COUNT c ∙ h .jobs) o (omega arith))
 
   -- the words of a job that is entered, and of the others
   module _ (q x y : ℕ) (o : ltb q (s .jobs) ≡ true) where
     abbrev grown : List ℕ
-    grown = putHeader (sets l (place jobShape q 0) (enteredJob v w x)) 4 y
+    grown = putHeader (sets l (offset jobShape q 0) (enteredJob v w x)) 4 y
 
-    past-counter : (j k : ℕ) → word grown j k ≡ word (sets l (place jobShape q 0) (enteredJob v w x)) j k
+    past-counter : (j k : ℕ) → word grown j k ≡ word (sets l (offset jobShape q 0) (enteredJob v w x)) j k
     unfolding putHeader
-    past-counter j k = getD-set-other (sets l (place jobShape q 0) (enteredJob v w x)) 4 (21 + 10 * j + k) y 0
+    past-counter j k = getD-set-other (sets l (offset jobShape q 0) (enteredJob v w x)) 4 (21 + 10 * j + k) y 0
         (λ e. omega arith)
 
     clear : (k : ℕ) → k < 10 → getD (enteredJob v w x) k 0 ≡ 0 → word grown q k ≡ 0
@@ -106,7 +108,7 @@ module _ (s : Sizes) (t : Tables) (w : ℕ) (h : Long s t) where
       | no e ↦ f (past-counter j k ∙ record-off jobShape (s .jobs) l q (enteredJob v w x) refl j k e b)
     ]
 
-  -- two fields of a job that are neither its outcome nor its mark
+  -- two fields of a job that are neither its outcome nor its spoiled word
   others : (q a b x y j k : ℕ) → a < 10 → b < 10 → k < 10 → k ≢ a → k ≢ b
       → word (put jobShape (put jobShape l q a x) q b y) j k ≡ word l j k
   others q a b x y j k ha hb hk na nb =
@@ -136,7 +138,7 @@ module _ (s : Sizes) (t : Tables) (w : ℕ) (h : Long s t) where
 
   module _ (m : Bool) where
     settles : (q c j : ℕ) → ltb q (s .jobs) ≡ true → FromSettling s v w q → (u : Tables) → u .jobs ≡ lowered v w l q c
-        → MarkAfter t u j (step s w)
+        → SpoiledAfter t u j (step s w)
     settles q c j o f u e =
         lowers q c o j (λ z. same (rw e z))
         (λ z n x. settled (own PHASE (omega arith) ∙ f .linking)
@@ -144,31 +146,32 @@ module _ (s : Sizes) (t : Tables) (w : ℕ) (h : Long s t) where
         (own OWN-JOB (omega arith) ∙ f .job ∙ z) n (rw e x))
 
     notifies : (q c j : ℕ) → ltb q (s .jobs) ≡ true → FromArc s v w q → (u : Tables) → u .jobs ≡ lowered v w l q c
-        → MarkAfter t u j (step s w)
+        → SpoiledAfter t u j (step s w)
     notifies q c j o f u e =
         lowers q c o j (λ z. same (rw e z))
         (λ z n x. notified (own PHASE (omega arith) ∙ f .notifying) (arc-word ∙ f .dependent ∙ z) n (rw e x))
 
-    pub mark-after : (p : Plan) → From s v w p → Inside s v m p → (j : ℕ) → MarkAfter t (applied p t w) j (step s w)
+    pub spoiled-after : (p : Plan) → From s v w p → Inside s v m p → (j : ℕ)
+        → SpoiledAfter t (applied p t w) j (step s w)
     unfolding applied
-    mark-after (Refuse n) f i j = same refl
-    mark-after (Quit n k) f i j = same refl
-    mark-after Pass f i j = same refl
-    mark-after (Enter q k x y) f i j =
-        enters q x (q + 1) (i .0) j MARK (omega arith) refl same
+    spoiled-after (Refuse n) f i j = same refl
+    spoiled-after (Quit n k) f i j = same refl
+    spoiled-after Pass f i j = same refl
+    spoiled-after (Enter q k x y) f i j =
+        enters q x (q + 1) (i .0) j SPOILED (omega arith) refl same
         (λ z e. entered (own PHASE (omega arith) ∙ f .0) (looked-up (f .1)) (made-word ∙ f .2 ∙ z) e)
-    mark-after (Tally o) f i j = same refl
-    mark-after (LinkFirst p x q) f i j =
-        same (others p FIRST LAST x x j MARK (omega arith) (omega arith) (omega arith) (omega arith) (omega arith))
-    mark-after (LinkAfter p y x q) f i j =
-        same (field-off jobShape (s .jobs) l p LAST x j MARK (omega arith) (omega arith) (λ _ z. omega arith))
-    mark-after (Settle q c) f i j = settles q c j (i .0) f _ refl
-    mark-after (SettleQueue q c e) f i j = settles q c j (i .0) f _ refl
-    mark-after (Mark p x) f i j =
-        same (others p LABEL OUTCOME 2 (v .worker NOTE w) j MARK (omega arith) (omega arith) (omega arith)
+    spoiled-after (Tally o) f i j = same refl
+    spoiled-after (LinkFirst p x q) f i j =
+        same (others p FIRST LAST x x j SPOILED (omega arith) (omega arith) (omega arith) (omega arith) (omega arith))
+    spoiled-after (LinkAfter p y x q) f i j =
+        same (field-off jobShape (s .jobs) l p LAST x j SPOILED (omega arith) (omega arith) (λ _ z. omega arith))
+    spoiled-after (Settle q c) f i j = settles q c j (i .0) f _ refl
+    spoiled-after (SettleQueue q c e) f i j = settles q c j (i .0) f _ refl
+    spoiled-after (Mark p x) f i j =
+        same (others p LABEL OUTCOME 2 (v .worker NOTE w) j SPOILED (omega arith) (omega arith) (omega arith)
         (omega arith) (omega arith))
-    mark-after (Notify q c x) f i j = notifies q c j (i .0) f _ refl
-    mark-after (NotifyQueue q c x e) f i j = notifies q c j (i .0) f _ refl
+    spoiled-after (Notify q c x) f i j = notifies q c j (i .0) f _ refl
+    spoiled-after (NotifyQueue q c x e) f i j = notifies q c j (i .0) f _ refl
 
     pub outcome-after : (p : Plan) → From s v w p → Inside s v m p → (j : ℕ)
         → OutcomeAfter t (applied p t w) j (step s w)

@@ -1,7 +1,8 @@
 -- For ALL tables: what the post of a finish does with its outcome, of any machine over the tables, and that the words'
--- post does it; and that a get tells the mark. By the words of docs/TABLES.md. Follows docs/RULES.md: "Finish now
--- brings an outcome, good or failed", "19, good for a spoiled job, after 11, nothing changed". (OutcomeWords.antt:
--- which calls write outcomes, marks and notes. Wrong/Outcomes.antt: machines that do otherwise.) Assumes nothing.
+-- post does it; and that a get tells whether a job is spoiled. By the words of docs/TABLES.md. Follows docs/RULES.md:
+-- "Finish now brings an outcome, good or failed", "19, good for a spoiled job, after 11, nothing changed".
+-- (OutcomeWords.antt: which calls write outcomes, spoiled words and notes. Wrong/Outcomes.antt: machines that do
+-- otherwise.)
 use mathlib.Core.Path.{_≡_, refl, sym, ap, _∙_}
 use mathlib.Core.Logic.{_≢_}
 use mathlib.Core.Bool.{true, false, and-false}
@@ -11,20 +12,20 @@ use lib.Dec.{eqb}
 use lib.ListN.{length, getD}
 use lib.Seq.{length-sets}
 use borrow.Author.Tests.{lt-ltb, lt-leb}
-use Rattle.basics.specs.Stores.{sets-off}
-use Rattle.terms.specs.Terms.{Finish, bit}
-use Rattle.terms.specs.Runs.{postFinish, get, Outcome, outcome}
-use Rattle.terms.specs.declared.Sizes.{Sizes}
-use Rattle.terms.specs.declared.HandOut.{HandOut}
-use Rattle.terms.specs.declared.Answer.the-variants.{Posted, Handed, Refused}
-use Rattle.words.specs.Columns.{place, columns, header}
-use Rattle.words.specs.Layout.{none, workerShape, LABEL, MARK, HELD, MARKING, Tables, View, view, longEnough}
-use Rattle.words.specs.Layout.{bareWorker}
-use Rattle.words.specs.Words.{nextJob, finishWords, getWords, perform}
+use Rattle.def_basics.specs.Stores.{sets-off}
+use Rattle.def_terms.specs.Terms.{Finish, bit}
+use Rattle.def_terms.specs.Runs.{postFinish, get, Result, result}
+use Rattle.def_terms.specs.declared.Sizes.{Sizes}
+use Rattle.def_terms.specs.declared.HandOut.{HandOut}
+use Rattle.def_terms.specs.declared.Answer.the-variants.{Posted, Handed, Refused}
+use Rattle.def_words.specs.Columns.{offset, columns, header}
+use Rattle.def_words.specs.Layout.{none, workerShape, LABEL, SPOILED, HELD, MARKING, Tables, View, view, longEnough}
+use Rattle.def_words.specs.Layout.{bareWorker, PHASE, NAME}
+use Rattle.def_words.specs.Words.{nextJob, finishWords, getWords, perform}
 use Rattle.thm_words_tests.specs.Tests.{parts, long}
 use Rattle.thm_words_tests.specs.Judged.{Sized, sized-means, Counters, Admitted, TurnedAway}
-use Rattle.thm_words_tests.specs.OneWord.{ownWord, jobWord, own-by-word, job-by-word, Counted, markWord, MayPost}
-use Rattle.thm_words_refusals.specs.Comes.{first-of-all, Holds, by-3, by-11, counters, mark, by-19, FinishFits}
+use Rattle.thm_words_tests.specs.OneWord.{ownWord, jobWord, own-by-word, job-by-word, Counted, spoiledWord, MayPost}
+use Rattle.thm_words_refusals.specs.Comes.{first-of-all, Holds, by-3, by-11, counters, off-spoiled, by-19, FinishFits}
 use Rattle.thm_words_refusals.specs.Comes.{finish-is-refused, finish-is-posted, withWorker, MayGet, at-index}
 use Rattle.thm_words_refusals.specs.Refusals.{wordsOf, put-back}
 use Rattle.thm_words_order.specs.IndexFirst.{first-taken}
@@ -33,7 +34,7 @@ use Rattle.thm_words_order.specs.Looked.{lookedByGet, eachWaits, takesFirst, re
 -- ---- the statement of a finish's post
 -- a call that posts a finish, of any machine over the tables
 abbrev pub Post : Type 0
-Post = Sizes → Tables → ℕ → Finish → Outcome Tables
+Post = Sizes → Tables → ℕ → Finish → Result Tables
 
 -- it holds a job of that name: its word 1 is a job, whose word 0 is the name
 pub record HoldsJob (t : Tables) (w name : ℕ) : Type 0 where
@@ -53,32 +54,33 @@ pub record PostedBy (t : Tables) (w o : ℕ) (u : Tables) : Type 0 where
   pub buckets : u .buckets ≡ t .buckets
   pub queue : u .queue ≡ t .queue
 
--- "Order: 1, 2, 9 for the worker's own words", 3, 11, 9 for a counter or the mark, 19, each "with nothing changed"; and
--- what none of them turns away is posted
+-- "Order: 1, 2, 9 for the worker's own words", 3, 11, 9 for a counter or the spoiled word, 19, each "with nothing
+-- changed"; and what none of them turns away is posted
 pub record FinishesExactly (post : Post) (s : Sizes) (t : Tables) (w : ℕ) (f : Finish) : Type 0 where
-  pub first : (n : ℕ) → TurnedAway s t w n → post s t w f ≡ outcome (Refused n 0) t
-  pub by-3 : Admitted s t w → ownWord t w 0 ≢ 0 → post s t w f ≡ outcome (Refused 3 0) t
-  pub by-11 : MayPost s t w → (HoldsJob t w (f .name) → ⊥) → post s t w f ≡ outcome (Refused 11 0) t
-  pub counter-by-9 : MayPost s t w → HoldsJob t w (f .name) → (Counted s t → ⊥) → post s t w f ≡ outcome (Refused 9 0) t
-  pub mark-by-9 : MayPost s t w → HoldsJob t w (f .name) → 1 < markWord t w → post s t w f ≡ outcome (Refused 9 0) t
-  pub by-19 : MayPost s t w → HoldsJob t w (f .name) → Counted s t → markWord t w ≡ 1 → f .failed ≡ false
-      → post s t w f ≡ outcome (Refused 19 0) t
-  pub posts : MayPost s t w → HoldsJob t w (f .name) → Counted s t → markWord t w ≤ 1
-      → (markWord t w ≡ 1 → f .failed ≡ true)
+  pub first : (n : ℕ) → TurnedAway s t w n → post s t w f ≡ result (Refused n 0) t
+  pub by-3 : Admitted s t w → ownWord t w 0 ≢ 0 → post s t w f ≡ result (Refused 3 0) t
+  pub by-11 : MayPost s t w → (HoldsJob t w (f .name) → ⊥) → post s t w f ≡ result (Refused 11 0) t
+  pub counter-by-9 : MayPost s t w → HoldsJob t w (f .name) → (Counted s t → ⊥) → post s t w f ≡ result (Refused 9 0) t
+  pub spoiled-by-9 : MayPost s t w → HoldsJob t w (f .name) → 1 < spoiledWord t w
+      → post s t w f ≡ result (Refused 9 0) t
+  pub by-19 : MayPost s t w → HoldsJob t w (f .name) → Counted s t → spoiledWord t w ≡ 1 → f .failed ≡ false
+      → post s t w f ≡ result (Refused 19 0) t
+  pub posts : MayPost s t w → HoldsJob t w (f .name) → Counted s t → spoiledWord t w ≤ 1
+      → (spoiledWord t w ≡ 1 → f .failed ≡ true)
       → (post s t w f .answer ≡ Posted) × PostedBy t w (bit (f .failed)) (post s t w f .state)
 
 -- ---- the words' post
 module _ (s : Sizes) (t : Tables) (w : ℕ) where
-  phase-word : view t .worker 0 w ≡ ownWord t w 0
+  phase-word : view t .worker PHASE w ≡ ownWord t w 0
   phase-word = own-by-word t w 0 (omega arith)
 
   held-word : view t .worker HELD w ≡ ownWord t w 1
   held-word = own-by-word t w 1 (omega arith)
 
-  mark-word : view t .job MARK (view t .worker HELD w) ≡ markWord t w
-  mark-word = ap (view t .job MARK) held-word ∙ job-by-word t (ownWord t w 1) 9 (omega arith)
+  spoiled-word : view t .job SPOILED (view t .worker HELD w) ≡ spoiledWord t w
+  spoiled-word = ap (view t .job SPOILED) held-word ∙ job-by-word t (ownWord t w 1) 9 (omega arith)
 
-  name-word : view t .job 0 (view t .worker HELD w) ≡ jobWord t (ownWord t w 1) 0
+  name-word : view t .job NAME (view t .worker HELD w) ≡ jobWord t (ownWord t w 1) 0
   name-word = ap (view t .job 0) held-word ∙ job-by-word t (ownWord t w 1) 0 (omega arith)
 
   holds : {name : ℕ} → HoldsJob t w name → Holds (view t) w name
@@ -104,9 +106,9 @@ module _ (s : Sizes) (t : Tables) (w : ℕ) where
       record {
         words = put-back (s .workers) (t .workers) w r (long full .workers) (lt-ltb w (s .workers) known) refl
             ∙ ap (λ h. bareWorker MARKING h o) held-word;
-        below = λ i h. sets-off r (t .workers) (place workerShape w 0) i (λ o. absurd (omega arith));
-        past = λ i h. sets-off r (t .workers) (place workerShape w 0) i (λ o. omega arith);
-        long = length-sets (t .workers) (place workerShape w 0) r;
+        below = λ i h. sets-off r (t .workers) (offset workerShape w 0) i (λ o. absurd (omega arith));
+        past = λ i h. sets-off r (t .workers) (offset workerShape w 0) i (λ o. omega arith);
+        long = length-sets (t .workers) (offset workerShape w 0) r;
         jobs = refl;
         arcs = refl;
         buckets = refl;
@@ -121,17 +123,18 @@ module _ (s : Sizes) (t : Tables) (w : ℕ) where
     by-11 = λ m h. finish-is-refused s t w (m .admitted) f 11 (by-11 (here m) (λ x. h (holds-by-word x)));
     counter-by-9 = λ m h c. finish-is-refused s t w (m .admitted) f 9
         (counters (here m) (holds h) (λ x. c (counts-by-word x)));
-    mark-by-9 = λ m h c. finish-is-refused s t w (m .admitted) f 9 (mark (here m) (holds h) (rw mark-word c));
+    spoiled-by-9 = λ m h c. finish-is-refused s t w (m .admitted) f 9
+        (off-spoiled (here m) (holds h) (rw spoiled-word c));
     by-19 = λ m h c e g. finish-is-refused s t w (m .admitted) f 19
-        (by-19 (here m) (holds h) (counts c) (mark-word ∙ e) g);
+        (by-19 (here m) (holds h) (counts c) (spoiled-word ∙ e) g);
     posts = λ m h c l g.
         let fits : FinishFits (view t) w f =
-        record { holds = holds h; marked = rw mark-word l; ends = λ e. g (sym mark-word ∙ e) } in
+        record { holds = holds h; within = rw spoiled-word l; ends = λ e. g (sym spoiled-word ∙ e) } in
         rw (finish-is-posted s t w (m .admitted) (here m) (counts c) f fits)
         (refl, stored (bit (f .failed)) (m .admitted .sizes) (m .admitted .known));
   }
     where
-      here : MayPost s t w → view t .worker 0 w ≡ 0
+      here : MayPost s t w → view t .worker PHASE w ≡ 0
       here m = phase-word ∙ m .idle
 
 -- the same of the item of a list
@@ -140,43 +143,44 @@ pub item-finishes-exactly : (s : Sizes) (t : Tables) (w : ℕ) (f : Finish)
 unfolding perform
 item-finishes-exactly s t w f = finishes-exactly s t w f
 
--- ---- a get tells the mark
--- the job that the index has first: that in the cell of the place in slot 0
+-- ---- a get tells whether a job is spoiled
+-- the job that the index has first: that of the cell in slot 0
 abbrev pub firstJob : Tables → ℕ
 firstJob t = getD (t .queue) (2 + 3 * getD (t .queue) 3 0) 0
 
--- "marked spoiled, which the get's answer tells": of a job that is handed out the mark is 0 or 1, and it is told; and a
--- get that comes to the index is refused by 9 where the mark of its first job is another, with nothing changed
-pub record TellsMark (get : Sizes → Tables → ℕ → Outcome Tables) (s : Sizes) (t : Tables) (w : ℕ) : Type 0 where
-  pub marked : (h : HandOut) → get s t w .answer ≡ Handed h → jobWord t (h .job) 9 ≤ 1
+-- "marked spoiled, which the get's answer tells": of a job that is handed out the spoiled word is 0 or 1, and it is
+-- told; and a get that comes to the index is refused by 9 where the spoiled word of its first job is another, with
+-- nothing changed
+pub record TellsSpoiled (get : Sizes → Tables → ℕ → Result Tables) (s : Sizes) (t : Tables) (w : ℕ) : Type 0 where
+  pub within : (h : HandOut) → get s t w .answer ≡ Handed h → jobWord t (h .job) 9 ≤ 1
   pub told : (h : HandOut) → get s t w .answer ≡ Handed h → h .spoiled ≡ eqb (jobWord t (h .job) 9) 1
   pub by-9 : MayGet s t w → getD (t .queue) 0 0 ≢ getD (t .queue) 1 0 → 1 < jobWord t (firstJob t) 9
-      → get s t w ≡ outcome (Refused 9 0) t
+      → get s t w ≡ result (Refused 9 0) t
 
--- the place in slot 0 is word 3 of the queue's table, and the first job the word of that place's cell
+-- the cell in slot 0 is word 3 of the queue's table, and the first job is that cell's
 first-job : (t : Tables) → nextJob (view t) ≡ firstJob t
 unfolding columns
 first-job t =
     let p = getD (t .queue) 3 0 in
     ap (λ n. getD (t .queue) n 0) {x = 2 + 3 * p + 0} {y = 2 + 3 * p} (omega arith)
 
-unmarked : (v : View) → 1 < v .job MARK (nextJob v) → takesFirst v ≡ false
-unmarked v h =
+off-spoiled-first : (v : View) → 1 < v .job SPOILED (nextJob v) → takesFirst v ≡ false
+off-spoiled-first v h =
     rw (
-      lt-leb (v .job MARK (nextJob v)) 1 h,
+      lt-leb (v .job SPOILED (nextJob v)) 1 h,
       and-false (eqb (v .job LABEL (nextJob v)) 0),
       and-false (eachWaits v (lookedByGet v)),
     )
 
-pub tells-mark : (s : Sizes) (t : Tables) (w : ℕ) → TellsMark getWords s t w
+pub tells-spoiled : (s : Sizes) (t : Tables) (w : ℕ) → TellsSpoiled getWords s t w
 unfolding header
-tells-mark s t w = record {
-  marked = λ h e. rw (← (job-by-word t (h .job) 9 (omega arith))) (first-taken s t w h e .marked);
+tells-spoiled s t w = record {
+  within = λ h e. rw (← (job-by-word t (h .job) 9 (omega arith))) (first-taken s t w h e .within);
   told = λ h e. rw (← (job-by-word t (h .job) 9 (omega arith))) (first-taken s t w h e .spoiled);
-  by-9 = λ m n o. refused-at-index s t w (at-index s t w m n) (unmarked (view t)
+  by-9 = λ m n o. refused-at-index s t w (at-index s t w m n) (off-spoiled-first (view t)
       (rw (first-job t, job-by-word t (firstJob t) 9 (omega arith)) o));
 }
 
-pub item-tells-mark : (s : Sizes) (t : Tables) (w : ℕ) → TellsMark (λ q u v. perform u (get q v)) s t w
+pub item-tells-spoiled : (s : Sizes) (t : Tables) (w : ℕ) → TellsSpoiled (λ q u v. perform u (get q v)) s t w
 unfolding perform
-item-tells-mark s t w = tells-mark s t w
+item-tells-spoiled s t w = tells-spoiled s t w

@@ -1,5 +1,5 @@
 -- For ALL tables: a post, a load, and a step that neither settles nor goes along an arc, reads no word of the queue's
--- table and changes none. Follows docs/TABLES.md, "What each step reads and writes". Assumes nothing.
+-- table and changes none. Follows docs/TABLES.md, "What each step reads and writes".
 use mathlib.Core.Path.{_≡_, refl}
 use mathlib.Core.Bool.{Bool, true, false, _&&_, _||_}
 use mathlib.Core.List.{List}
@@ -7,21 +7,21 @@ use Prim.Native.Nat.{ℕ, zero, suc, _+_, _<_}
 use lib.Dec.{leb, ltb, eqb}
 use lib.ListN.{length}
 use borrow.Author.Tests.{lt-ltb}
-use Rattle.basics.specs.Base.{pick}
-use Rattle.terms.specs.Terms.{bit}
-use Rattle.terms.specs.Runs.{Outcome, outcome, Item, postAdd, postFinish, step, get, load}
-use Rattle.terms.specs.declared.Sizes.{Sizes}
-use Rattle.words.specs.Layout.{none, LABEL, FIRST, LAST, OWN-NAME, OWN-JOB, OWN-ARC, HELD, PHASE, PLACE, LIST-COUNT}
-use Rattle.words.specs.Layout.{IDLE, LOOKING, LINKING, MARKING, Tables, tables, View, view, longEnough, sizesFit}
-use Rattle.words.specs.Layout.{OUTCOME, bareWorker}
-use Rattle.words.specs.Words.{isPlace, placeOk, countersOk, ownOk, findOf, nameAt, planLookUp, planEnter}
-use Rattle.words.specs.Words.{planAppend, planTally, planLink, planMark, planAdd, planLinks, planCall, planPhase}
-use Rattle.words.specs.Words.{admitted, answerOf, applied, stepWords, posted, refusal, judgedAdd, judgedFinish}
-use Rattle.words.specs.Words.{addingWorker, addWords, finishWords, judgedLoad, loading, loadWords, perform}
-use Rattle.words.specs.declared.Found.{Found}
-use Rattle.words.specs.declared.Found.the-variants.{At, Missing, Damaged}
-use Rattle.words.specs.declared.Plan.{Plan}
-use Rattle.words.specs.declared.Plan.the-variants.{Refuse}
+use Rattle.def_basics.specs.Base.{pick}
+use Rattle.def_terms.specs.Terms.{bit}
+use Rattle.def_terms.specs.Runs.{Result, result, Item, postAdd, postFinish, step, get, load}
+use Rattle.def_terms.specs.declared.Sizes.{Sizes}
+use Rattle.def_words.specs.Layout.{none, LABEL, FIRST, LAST, OWN-NAME, OWN-JOB, OWN-ARC, HELD, PHASE, PLACE, LIST-COUNT}
+use Rattle.def_words.specs.Layout.{IDLE, LOOKING, LINKING, MARKING, Tables, tables, View, view, longEnough, sizesFit}
+use Rattle.def_words.specs.Layout.{OUTCOME, bareWorker}
+use Rattle.def_words.specs.Words.{isPlace, placeOk, countersOk, ownOk, findOf, nameAt, planLookUp, planEnter}
+use Rattle.def_words.specs.Words.{planAppend, planTally, planLink, planMark, planAdd, planLinks, planCall, planPhase}
+use Rattle.def_words.specs.Words.{admitted, answerOf, applied, stepWords, posted, refusal, judgedAdd, judgedFinish}
+use Rattle.def_words.specs.Words.{addingWorker, addWords, finishWords, judgedLoad, loading, loadWords, perform}
+use Rattle.def_words.specs.declared.Found.{Found}
+use Rattle.def_words.specs.declared.Found.the-variants.{At, Missing, Damaged}
+use Rattle.def_words.specs.declared.Plan.{Plan}
+use Rattle.def_words.specs.declared.Plan.the-variants.{Refuse}
 
 -- the same tables with another queue
 abbrev pub withQueue : Tables → List ℕ → Tables
@@ -50,12 +50,12 @@ module _ (t : Tables) (q : List ℕ) (same : length q ≡ length (t .queue)) whe
   v′ = view (withQueue t q)
 
   -- what is done with the other queue is what is done with this one
-  abbrev Did : Outcome Tables → Outcome Tables → Type 0
-  Did o′ o = o′ ≡ outcome (o .answer) (withQueue (o .state) q)
+  abbrev Did : Result Tables → Result Tables → Type 0
+  Did o′ o = o′ ≡ result (o .answer) (withQueue (o .state) q)
 
   -- of a plan
   abbrev Alike : ℕ → Plan → Plan → Type 0
-  Alike w p′ p = Did (outcome (answerOf p′) (applied p′ (withQueue t q) w)) (outcome (answerOf p) (applied p t w))
+  Alike w p′ p = Did (result (answerOf p′) (applied p′ (withQueue t q) w)) (result (answerOf p) (applied p t w))
 
   looks : (w i : ℕ) (f : Found) → Alike w (planLookUp i f) (planLookUp i f)
   unfolding planLookUp applied

@@ -1,6 +1,6 @@
--- For ALL tables: what is stored where a job enters the queue and where one is taken: its cell, its place in the index,
--- and the counters; no move of places in the index touches a cell or a counter. Follows docs/RULES.md, "Tables and
--- their measures" (the queue) and "The index". Assumes nothing.
+-- For ALL tables: what is stored where a job enters the queue and where one is taken: its cell, its slot in the index,
+-- and the counters; no move of cells in the index touches a job or a counter. Follows docs/RULES.md, "Tables and
+-- their measures" (the queue) and "The index".
 use mathlib.Core.Path.{_≡_, refl, ap, _∙_}
 use mathlib.Core.Logic.{_≢_}
 use mathlib.Core.Bool.{true, _&&_}
@@ -12,35 +12,36 @@ use lib.Dec.{ltb, leb, eqb}
 use lib.ListN.{length}
 use lib.Pow.{pow-pos}
 use borrow.Author.Tests.{ltb-true}
-use Rattle.numbers.specs.Numbers.{mostClass}
-use Rattle.basics.specs.Base.{update}
-use Rattle.basics.specs.Laws.{never, pick-by}
-use Rattle.heap.specs.Sift.{above, siftUp, siftDown, shiftDown, shiftUp, positionsDown, positionsUp}
-use Rattle.heap.specs.Heap.{Below, Leads}
-use Rattle.heap.specs.Same.{RestsBelow, down-below}
-use Rattle.heap.specs.Way.{leads-up, leads-first, up-weaker, first-weaker, Overtaken, up-leads, up-stays}
-use Rattle.heap.specs.Way.{Raised, down-leads, down-stays}
-use Rattle.heap.specs.Shifted.{wayUp, On, way-between, way-holds, way-ends, log-way, Shifts, down-rests, down-moves}
-use Rattle.heap.specs.Shifted.{down-shifts, up-rests, up-moves, up-shifts}
-use Rattle.heap.specs.declared.Sifted.{Sifted}
-use Rattle.heap.specs.declared.Sifted.the-variants.{Rests, Astray}
-use Rattle.terms.specs.declared.Sizes.{Sizes}
-use Rattle.words.specs.Columns.{Rows, rows, columns, columns-put, columns-putHeader, header, header-other, header-put}
-use Rattle.words.specs.Columns.{header-putHeader, put, putHeader, rows-put, store, stores}
-use Rattle.words.specs.Layout.{none, queueShape, TAKEN, PUT, CELL, SLOT, POSITION, CLASS, Tables, View, view}
-use Rattle.words.specs.Index.{levels, rankIn, rankOf, placeIn, waits, filled, slotIn, seated, seatFor, putSlot}
-use Rattle.words.specs.Index.{firstPlace, lastSlot, lastPlace, firstSeatBy, firstSeat, shiftedDown, shiftedUp}
-use Rattle.words.specs.Index.{putSeat, takeSeat, emptied}
-use Rattle.words.specs.declared.Seat.{Seat}
-use Rattle.words.specs.declared.Seating.{Seating}
-use Rattle.words.specs.declared.Seating.the-variants.{Seated}
+use Rattle.def_numbers.specs.Numbers.{mostClass}
+use Rattle.def_basics.specs.Base.{update}
+use Rattle.def_basics.specs.Laws.{never, pick-by}
+use Rattle.def_heap.specs.Sift.{above, siftUp, siftDown, shiftDown, shiftUp, positionsDown, positionsUp}
+use Rattle.def_heap.specs.Heap.{Below, Leads}
+use Rattle.def_heap.specs.Same.{RestsBelow, down-below}
+use Rattle.def_heap.specs.Way.{leads-up, leads-first, up-weaker, first-weaker, Overtaken, up-leads, up-stays}
+use Rattle.def_heap.specs.Way.{Raised, down-leads, down-stays}
+use Rattle.def_heap.specs.Shifted.{wayUp, On, way-between, way-holds, way-ends, log-way, Shifts, down-rests, down-moves}
+use Rattle.def_heap.specs.Shifted.{down-shifts, up-rests, up-moves, up-shifts}
+use Rattle.def_heap.specs.declared.Sifted.{Sifted}
+use Rattle.def_heap.specs.declared.Sifted.the-variants.{Rests, Astray}
+use Rattle.def_terms.specs.declared.Sizes.{Sizes}
+use Rattle.def_words.specs.Columns.{Rows, rows, columns, columns-put, columns-putHeader, header, header-other}
+use Rattle.def_words.specs.Columns.{header-put}
+use Rattle.def_words.specs.Columns.{header-putHeader, put, putHeader, rows-put, store, stores}
+use Rattle.def_words.specs.Layout.{none, queueShape, TAKEN, PUT, QUEUED, SLOT, POSITION, CLASS, Tables, View, view}
+use Rattle.def_words.specs.Index.{levels, rankIn, rankOf, cellIn, waits, filled, slotIn, seated, seatFor, putSlot}
+use Rattle.def_words.specs.Index.{firstCell, lastSlot, lastCell, firstSeatBy, firstSeat, shiftedDown, shiftedUp}
+use Rattle.def_words.specs.Index.{putSeat, takeSeat, emptied}
+use Rattle.def_words.specs.declared.Seat.{Seat}
+use Rattle.def_words.specs.declared.Seating.{Seating}
+use Rattle.def_words.specs.declared.Seating.the-variants.{Seated}
 use Rattle.thm_words_tests.specs.Tests.{parts}
 use Rattle.thm_words_queue.specs.Waits.{waits-means, one-slot}
 use Rattle.thm_words_queue.specs.Slots.{other-column, down-slots, up-slots}
 
--- l after moves of places in the index of q
+-- l after moves of cells in the index of q
 record Moved (q l : List ℕ) : Type 0 where
-  cells : columns queueShape l CELL ≡ columns queueShape q CELL
+  cells : columns queueShape l QUEUED ≡ columns queueShape q QUEUED
   counters : (k : ℕ) → ltb k (queueShape .head) ≡ true → header l k ≡ header q k
   rows : (R : ℕ) → rows queueShape R l ≡ rows queueShape R q
 
@@ -51,9 +52,9 @@ further a b = record {
   rows = λ R. b .rows R ∙ a .rows R;
 }
 
-move : (q : List ℕ) (i k v : ℕ) → ltb k (queueShape .width) ≡ true → CELL ≢ k → Moved q (put queueShape q i k v)
+move : (q : List ℕ) (i k v : ℕ) → ltb k (queueShape .width) ≡ true → QUEUED ≢ k → Moved q (put queueShape q i k v)
 move q i k v e n = record {
-  cells = other-column queueShape q i k v CELL e n;
+  cells = other-column queueShape q i k v QUEUED e n;
   counters = λ c. header-put queueShape q i k v c;
   rows = λ R. rows-put queueShape R q i k v;
 }
@@ -75,25 +76,25 @@ up zero q x k = in-slot q k x
 up (suc n) q x k =
     pick-by (Moved q) (eqb k 0) (λ _. in-slot q k x) (λ _. further (in-slot q k x) (up n _ (slotIn q k) (above k)))
 
--- ---- a job that enters: "put in the next place"
+-- ---- a job that enters: "put in the next cell"
 -- the words of its seat
 pub record Next (s : Sizes) (v : View) (e : Seat) : Type 0 where
-  pub place : e .place ≡ v .put
+  pub cell : e .cell ≡ v .put
   pub last : e .last ≡ filled v
   pub room : v .put < s .jobs
 
 -- and the way up to its slot
 record Way (s : Sizes) (v : View) (j : ℕ) (e : Seat) : Type 0 where
   next : Next s v e
-  passed : Leads (λ i. Overtaken (rankOf v) (waits v) (placeIn v) (rankIn v j (v .put)) (above i)) (e .slot) levels
+  passed : Leads (λ i. Overtaken (rankOf v) (waits v) (cellIn v) (rankIn v j (v .put)) (above i)) (e .slot) levels
       (e .last)
-  stays : s .jobs ≤ 4096 → e .slot ≢ 0 → rankOf v (placeIn v (above (e .slot))) ≤ rankIn v j (v .put)
+  stays : s .jobs ≤ 4096 → e .slot ≢ 0 → rankOf v (cellIn v (above (e .slot))) ≤ rankIn v j (v .put)
 
 seat-way : (s : Sizes) (v : View) (j : ℕ) (e : Seat) → seatFor s v j ≡ Seated e → Way s v j e
 unfolding seatFor
 seat-way s v j e =
     pick-by Q (leb (v .taken) (v .put) && ltb (v .put) (s .jobs) && leb (v .job CLASS j) mostClass)
-    (λ a. go (siftUp (rankOf v) (waits v) (placeIn v) levels (rankIn v j (v .put)) (filled v)) refl
+    (λ a. go (siftUp (rankOf v) (waits v) (cellIn v) levels (rankIn v j (v .put)) (filled v)) refl
     (ltb-true (v .put) (s .jobs) (search parts)))
     (λ _ z. never cc)
   where
@@ -101,28 +102,28 @@ seat-way s v j e =
     Q r = r ≡ Seated e → Way s v j e
 
     go : (f : Sifted)
-        → siftUp (rankOf v) (waits v) (placeIn v) levels (rankIn v j (v .put)) (filled v) ≡ f
+        → siftUp (rankOf v) (waits v) (cellIn v) levels (rankIn v j (v .put)) (filled v) ≡ f
         → v .put < s .jobs → Q (seated f (v .put) (filled v))
     go (Rests k) g h z =
         let last : e .last ≡ filled v = cc in
         let slot : e .slot ≡ k = cc in
         let from = rankIn v j (v .put) in
         record {
-          next = record { place = cc; last = last; room = h };
-          passed = rw (last, slot) (up-leads (rankOf v) (waits v) (placeIn v) levels from (filled v) k g);
+          next = record { cell = cc; last = last; room = h };
+          passed = rw (last, slot) (up-leads (rankOf v) (waits v) (cellIn v) levels from (filled v) k g);
           stays = λ most. rw slot
-              (up-stays (rankOf v) (waits v) (placeIn v) levels from (filled v) k g (omega arith));
+              (up-stays (rankOf v) (waits v) (cellIn v) levels from (filled v) k g (omega arith));
         }
     go Astray g h z = never cc
 
 pub seat-next : (s : Sizes) (v : View) (j : ℕ) (e : Seat) → seatFor s v j ≡ Seated e → Next s v e
 seat-next s v j e f = seat-way s v j e f .next
 
--- the queue's words q after the job j entered: it has a seat, whose place is the next, that place's cell has the job,
--- its slot has the place, which has that slot as its position, one more was put, and every other cell and the other
--- counter are as before. On the way from the slot past the filled ones up to its slot each place moves down a slot, no
--- other slot changes, and no other place's position; the way grows with the logarithm of the jobs that wait. It passes
--- places of a higher rank, and the one above its slot has none
+-- the queue's words q after the job j entered: it has a seat, whose cell is the next, that cell has the job,
+-- its slot has the cell, which has that slot as its position, one more was put, and every other cell and the other
+-- counter are as before. On the way from the slot past the filled ones up to its slot each cell moves down a slot, no
+-- other slot changes, and no other cell's position; the way grows with the logarithm of the jobs that wait. It passes
+-- cells of a higher rank, and the one above its slot has none
 pub record Entered (s : Sizes) (t : Tables) (j : ℕ) (q : List ℕ) : Type 0 where
   pub seat : Seat
   pub found : seatFor s (view t) j ≡ Seated seat
@@ -130,7 +131,7 @@ pub record Entered (s : Sizes) (t : Tables) (j : ℕ) (q : List ℕ) : Type 0 wh
   pub stored : q ≡ putSeat (t .queue) seat j
   pub put : header q PUT ≡ view t .put + 1
   pub taken : header q TAKEN ≡ view t .taken
-  pub cells : columns queueShape q CELL ≡ update (view t .cell CELL) (view t .put) j
+  pub cells : columns queueShape q QUEUED ≡ update (view t .cell QUEUED) (view t .put) j
   pub slot : columns queueShape q SLOT (seat .slot) ≡ view t .put
   pub position : columns queueShape q POSITION (view t .put) ≡ seat .slot
   pub index : Shifts (view t .cell SLOT) (view t .cell POSITION) (columns queueShape q SLOT)
@@ -151,17 +152,17 @@ unfolding putSeat
 entered s t j e r most f =
     let found = seat-way s (view t) j e f in
     let n = found .next in
-    let p = e .place in
-    let l : List ℕ = put queueShape (t .queue) p CELL j in
+    let p = e .cell in
+    let l : List ℕ = put queueShape (t .queue) p QUEUED j in
     let m : List ℕ = shiftedDown levels l p (e .last) (e .slot) in
     let d = down levels l p (e .last) (e .slot) in
-    let h : p < s .jobs = rw (n .place) (n .room) in
-    let rl : Rows queueShape (s .jobs) l = rows-put queueShape (s .jobs) (t .queue) p CELL j ∙ r in
+    let h : p < s .jobs = rw (n .cell) (n .room) in
+    let rl : Rows queueShape (s .jobs) l = rows-put queueShape (s .jobs) (t .queue) p QUEUED j ∙ r in
     let v = view t in
     let way = found .passed in
-    let Passed = Overtaken (rankOf v) (waits v) (placeIn v) (rankIn v j (v .put)) in
-    let same = other-column queueShape (t .queue) p CELL j SLOT refl (omega arith) in
-    let same′ = other-column queueShape (t .queue) p CELL j POSITION refl (omega arith) in
+    let Passed = Overtaken (rankOf v) (waits v) (cellIn v) (rankIn v j (v .put)) in
+    let same = other-column queueShape (t .queue) p QUEUED j SLOT refl (omega arith) in
+    let same′ = other-column queueShape (t .queue) p QUEUED j POSITION refl (omega arith) in
     let has = down-slots (s .jobs) levels l p (e .last) (e .slot) rl (omega (arith, n .last, n .room)) h
     (up-weaker {P = Passed} {R = λ i. columns queueShape l SLOT i < s .jobs}
     (λ i w. rw same (omega (arith, waits-means v i .0 (w .waits) .put, n .room))) levels (e .last) (e .slot)
@@ -173,7 +174,7 @@ entered s t j e r most f =
     ∙ ap (λ f. positionsDown levels (v .cell SLOT) f p (e .last) (e .slot)) same′ in
     let shifts = down-shifts p levels way (v .cell SLOT) (v .cell POSITION) (λ i o d.
     let w = waits-means v (above i) .0 (way-holds levels way i o d .waits) in
-    (w .position, omega (arith, w .put, n .place))) in
+    (w .position, omega (arith, w .put, n .cell))) in
     let top = down-rests p levels way (v .cell SLOT) in
     record {
       seat = e;
@@ -182,32 +183,32 @@ entered s t j e r most f =
       stored = refl;
       put = header-putHeader queueShape (s .jobs) m PUT (p + 1) refl
           (d .rows (s .jobs) ∙ rl)
-          ∙ ap (λ x. x + 1) (n .place);
+          ∙ ap (λ x. x + 1) (n .cell);
       taken = header-other m PUT (p + 1) TAKEN refl ∙ d .counters TAKEN refl
-          ∙ header-put queueShape (t .queue) p CELL j TAKEN refl;
-      slot = ap (λ f. f (e .slot)) slots ∙ top ∙ n .place;
-      position = rw (← (n .place))
+          ∙ header-put queueShape (t .queue) p QUEUED j TAKEN refl;
+      slot = ap (λ f. f (e .slot)) slots ∙ top ∙ n .cell;
+      position = rw (← (n .cell))
           (ap (λ f. f p) positions ∙ (rw top at (shifts .there (e .slot) (way-ends levels way))));
       index = rw (slots, positions) shifts;
       moves = λ i o d. ap (λ f. f i) slots ∙ down-moves p levels way (v .cell SLOT) i o d;
       few = λ b f. log-way levels b way (omega (arith, n .last));
       passes = λ i o d. way-holds levels way i o d .higher;
       stays = found .stays most;
-      cells = ap (λ c. c CELL) all ∙ d .cells
-          ∙ ap (λ c. c CELL) (columns-put queueShape (s .jobs) (t .queue) p CELL j refl r h)
-          ∙ ap (λ x. update (view t .cell CELL) x j) (n .place);
+      cells = ap (λ c. c QUEUED) all ∙ d .cells
+          ∙ ap (λ c. c QUEUED) (columns-put queueShape (s .jobs) (t .queue) p QUEUED j refl r h)
+          ∙ ap (λ x. update (view t .cell QUEUED) x j) (n .cell);
     }
 
 -- ---- a job that is taken
--- its seat: the first place, the last slot, both of which wait, and the way down from slot 0
+-- its seat: the first cell, the last slot, both of which wait, and the way down from slot 0
 pub record FirstSeat (v : View) (e : Seat) : Type 0 where
-  pub place : e .place ≡ firstPlace v
+  pub cell : e .cell ≡ firstCell v
   pub last : e .last ≡ lastSlot v
   pub first : waits v 0 ≡ true
   pub final : waits v (lastSlot v) ≡ true
-  pub way : Leads (Raised (rankOf v) (waits v) (placeIn v) (lastSlot v) (rankOf v (lastPlace v))) 0 levels (e .slot)
+  pub way : Leads (Raised (rankOf v) (waits v) (cellIn v) (lastSlot v) (rankOf v (lastCell v))) 0 levels (e .slot)
   pub stays : lastSlot v < 4096 → (b : ℕ) → b < lastSlot v → Below (e .slot) b
-      → rankOf v (lastPlace v) ≤ rankOf v (placeIn v b)
+      → rankOf v (lastCell v) ≤ rankOf v (cellIn v b)
   pub within : e .slot ≤ lastSlot v
   pub under : lastSlot v ≢ 0 → e .slot < lastSlot v
 
@@ -220,41 +221,41 @@ first-seat v e =
     m = lastSlot v
 
     r : ℕ
-    r = rankOf v (lastPlace v)
+    r = rankOf v (lastCell v)
 
     Q : Seating → Type 0
     Q x = x ≡ Seated e → FirstSeat v e
 
-    below : (b : ℕ) → m ≤ b → 0 < b → RestsBelow b (siftDown (rankOf v) (waits v) (placeIn v) levels m r 0)
-    below b = down-below (rankOf v) (waits v) (placeIn v) b levels m r 0
+    below : (b : ℕ) → m ≤ b → 0 < b → RestsBelow b (siftDown (rankOf v) (waits v) (cellIn v) levels m r 0)
+    below b = down-below (rankOf v) (waits v) (cellIn v) b levels m r 0
 
-    go : (f : Sifted) → siftDown (rankOf v) (waits v) (placeIn v) levels m r 0 ≡ f → waits v 0 ≡ true
-        → waits v m ≡ true → Q (seated f (firstPlace v) m)
+    go : (f : Sifted) → siftDown (rankOf v) (waits v) (cellIn v) levels m r 0 ≡ f → waits v 0 ≡ true
+        → waits v m ≡ true → Q (seated f (firstCell v) m)
     go (Rests k) g a b z =
         let slot : e .slot ≡ k = cc in
         record {
-          place = cc;
+          cell = cc;
           last = cc;
           first = a;
           final = b;
-          way = rw slot (down-leads (rankOf v) (waits v) (placeIn v) levels m r 0 k g);
+          way = rw slot (down-leads (rankOf v) (waits v) (cellIn v) levels m r 0 k g);
           stays = λ most. rw slot
-              (down-stays (rankOf v) (waits v) (placeIn v) levels m r 0 k g (omega arith));
+              (down-stays (rankOf v) (waits v) (cellIn v) levels m r 0 k g (omega arith));
           within = omega (arith, rw g at (below (suc m) (omega arith) (omega arith)));
           under = λ d. omega (arith, rw g at (below m (omega arith) (omega arith)));
         }
     go Astray g a b z = never cc
 
--- the queue's words q after the place p was taken, whose way down came to slot k, and the slot m emptied: one more was
--- taken, the place's cell is none, and every other cell and the other counter are as before. On the way from slot k up
--- to the first each place moves up a slot, and the place in slot m comes to slot k; no other slot changes, and no other
--- place's position. Then that slot is none, and the position of p. The way grows with the logarithm of the jobs that
--- wait. Each place that moves up has a lower rank than the one in slot m, and than the one beside it, and the places
+-- the queue's words q after the cell p was taken, whose way down came to slot k, and the slot m emptied: one more was
+-- taken, the cell has none, and every other cell and the other counter are as before. On the way from slot k up
+-- to the first each cell moves up a slot, and the cell in slot m comes to slot k; no other slot changes, and no other
+-- cell's position. Then that slot is none, and the position of p. The way grows with the logarithm of the jobs that
+-- wait. Each cell that moves up has a lower rank than the one in slot m, and than the one beside it, and the cells
 -- below slot k have not
 pub record Emptied (t : Tables) (p m k : ℕ) (q : List ℕ) : Type 0 where
   pub taken : header q TAKEN ≡ view t .taken + 1
   pub put : header q PUT ≡ view t .put
-  pub cells : columns queueShape q CELL ≡ update (view t .cell CELL) p none
+  pub cells : columns queueShape q QUEUED ≡ update (view t .cell QUEUED) p none
   pub within : (k ≤ m) × (m ≢ 0 → k < m)
   pub moved-slots : ℕ → ℕ
   pub moved-positions : ℕ → ℕ
@@ -273,15 +274,15 @@ pub record Emptied (t : Tables) (p m k : ℕ) (q : List ℕ) : Type 0 where
 
 pub seat-emptied : (R : ℕ) (t : Tables) (e : Seat) → Rows queueShape R (t .queue) → view t .put ≤ R → R ≤ 4096
     → view t .taken < view t .put → FirstSeat (view t) e
-    → Emptied t (e .place) (e .last) (e .slot) (takeSeat (t .queue) e)
+    → Emptied t (e .cell) (e .last) (e .slot) (takeSeat (t .queue) e)
 unfolding takeSeat
 seat-emptied R t e r full most some seat =
     let v = view t in
-    let p = e .place in
+    let p = e .cell in
     let x : ℕ = slotIn (t .queue) (e .last) in
     let first = waits-means v 0 .0 (seat .first) in
     let final = waits-means v (lastSlot v) .0 (seat .final) in
-    let a : p < R = omega (arith, seat .place, first .put) in
+    let a : p < R = omega (arith, seat .cell, first .put) in
     let b : e .last < R = omega (arith, seat .last) in
     let way = seat .way in
     let u = up levels (t .queue) x (e .slot) in
@@ -289,16 +290,16 @@ seat-emptied R t e r full most some seat =
     let rl : Rows queueShape R l = u .rows R ∙ r in
     let has = up-slots R levels (t .queue) x (e .slot) r (omega (arith, seat .within))
     (rw (seat .last) (omega (arith, final .put)))
-    (first-weaker {P = Raised (rankOf v) (waits v) (placeIn v) (lastSlot v) (rankOf v (lastPlace v))}
+    (first-weaker {P = Raised (rankOf v) (waits v) (cellIn v) (lastSlot v) (rankOf v (lastCell v))}
     {R = λ i. v .cell SLOT i < R} (λ i w. omega (arith, waits-means v i .0 (w .waits) .put)) levels (e .slot)
     (leads-first _ levels way)) in
     let all : columns queueShape (putHeader (emptied l p (e .last)) TAKEN (header (t .queue) TAKEN + 1))
-    ≡ store (store (store (columns queueShape l) (e .last) SLOT none) p CELL none) p POSITION none =
+    ≡ store (store (store (columns queueShape l) (e .last) SLOT none) p QUEUED none) p POSITION none =
     simp (stores, columns-put queueShape R, rl, a, b) in
     record {
       taken = simp (stores, header-putHeader queueShape R, rl);
       put = simp stores (u .counters PUT refl);
-      cells = ap (λ f. f CELL) all ∙ ap (λ f. update f p none) (u .cells);
+      cells = ap (λ f. f QUEUED) all ∙ ap (λ f. update f p none) (u .cells);
       within = rw (seat .last) (seat .within, seat .under);
       moved-slots = shiftUp levels (v .cell SLOT) x (e .slot);
       moved-positions = positionsUp levels (v .cell SLOT) (v .cell POSITION) x (e .slot);

@@ -1,6 +1,6 @@
 -- For ALL tables: what an arc's step does, and exactly when. Its dependent's count falls by 1, and a job whose count
 -- falls to 0 is queued in its seat; a word off its range, a count of 0 or a job without a seat is 9, and nothing else
--- is. Follows docs/RULES.md, "Steps", "The index" and "Turned-away calls". Assumes nothing.
+-- is. Follows docs/RULES.md, "Steps", "The index" and "Turned-away calls".
 use mathlib.Core.Path.{_≡_, refl, _∙_}
 use mathlib.Core.Logic.{_≢_}
 use mathlib.Core.Bool.{Bool, true, false, _&&_}
@@ -9,23 +9,24 @@ use Prim.Native.Nat.{ℕ, _+_, _-_, _≤_, _<_}
 use native.Mathlib.Omega.{arith}
 use lib.Dec.{ltb, leb, eqb}
 use borrow.Author.Tests.{eqb-true, eqb-false, leb-true, leb-false, ltb-true, ltb-false, lt-ltb, ne-eqb}
-use Rattle.numbers.specs.Numbers.{mostNames, damaged}
-use Rattle.basics.specs.Laws.{never, pick-by}
-use Rattle.terms.specs.Runs.{Outcome, outcome}
-use Rattle.terms.specs.declared.Sizes.{Sizes}
-use Rattle.terms.specs.declared.Answer.{Answer}
-use Rattle.terms.specs.declared.Answer.the-variants.{Going, Ended, Refused}
-use Rattle.words.specs.Columns.{Rows, put}
-use Rattle.words.specs.Layout.{none, queueShape, workerShape, COUNT, DEPENDENT, AFTER, OWN-ARC, NOTIFYING, Tables, View}
-use Rattle.words.specs.Layout.{view}
-use Rattle.words.specs.Index.{seatFor, putSeat}
-use Rattle.words.specs.Words.{placeOk, isPlace, inSeat, withSeat, planNotify, planCall, planPhase}
-use Rattle.words.specs.Words.{goingUnless, arcsFrom, applied, stepWords}
-use Rattle.words.specs.declared.Seat.{Seat}
-use Rattle.words.specs.declared.Seating.{Seating}
-use Rattle.words.specs.declared.Seating.the-variants.{Seated, Unseated}
-use Rattle.words.specs.declared.Plan.{Plan}
-use Rattle.words.specs.declared.Plan.the-variants.{Refuse, NotifyQueue}
+use Rattle.def_numbers.specs.Numbers.{mostNames, damaged}
+use Rattle.def_basics.specs.Laws.{never, pick-by}
+use Rattle.def_terms.specs.Runs.{Result, result}
+use Rattle.def_terms.specs.declared.Sizes.{Sizes}
+use Rattle.def_terms.specs.declared.Answer.{Answer}
+use Rattle.def_terms.specs.declared.Answer.the-variants.{Going, Ended, Refused}
+use Rattle.def_words.specs.Columns.{Rows, put}
+use Rattle.def_words.specs.Layout.{none, queueShape, workerShape, COUNT, DEPENDENT, AFTER, OWN-ARC, NOTIFYING, Tables}
+use Rattle.def_words.specs.Layout.{View}
+use Rattle.def_words.specs.Layout.{view}
+use Rattle.def_words.specs.Index.{seatFor, putSeat}
+use Rattle.def_words.specs.Words.{placeOk, isPlace, inSeat, withSeat, planNotify, planCall, planPhase}
+use Rattle.def_words.specs.Words.{goingUnless, arcsFrom, applied, stepWords}
+use Rattle.def_words.specs.declared.Seat.{Seat}
+use Rattle.def_words.specs.declared.Seating.{Seating}
+use Rattle.def_words.specs.declared.Seating.the-variants.{Seated, Unseated}
+use Rattle.def_words.specs.declared.Plan.{Plan}
+use Rattle.def_words.specs.declared.Plan.the-variants.{Refuse, NotifyQueue}
 use Rattle.thm_words_tests.specs.Tests.{test, parts}
 use Rattle.thm_words_tests.specs.Judged.{NoneOrUsed, place-means, counters-mean, admits, did, place-some}
 use Rattle.thm_words_queue.specs.Moved.{Entered, entered}
@@ -57,15 +58,15 @@ pub data Onward (t : Tables) (w : ℕ) : ℕ → Answer → List ℕ → Type 0 
 
 -- what the step answers and leaves: 9; the dependent's count, and the worker with the next arc or, with none, its call
 -- put back; or that and the dependent in the queue, "a count that reaches 0"
-pub data NotifiesRightly (s : Sizes) (t : Tables) (w x : ℕ) (o : Outcome Tables) : Type 0 where
-  refused : Unlowered s (view t) x → o ≡ outcome (Refused damaged 0) t → NotifiesRightly s t w x o
+pub data NotifiesRightly (s : Sizes) (t : Tables) (w x : ℕ) (o : Result Tables) : Type 0 where
+  refused : Unlowered s (view t) x → o ≡ result (Refused damaged 0) t → NotifiesRightly s t w x o
   waits-on : (c : ℕ) → Lowers s (view t) x c → c ≢ 0
       → (a : Answer) (r : List ℕ) → Onward t w (view t .arc AFTER x) a r
-      → o ≡ outcome a (counted t w (view t .arc DEPENDENT x) c (t .queue) r)
+      → o ≡ result a (counted t w (view t .arc DEPENDENT x) c (t .queue) r)
       → NotifiesRightly s t w x o
   queued : Lowers s (view t) x 0 → (q : List ℕ) → Entered s t (view t .arc DEPENDENT x) q
       → (a : Answer) (r : List ℕ) → Onward t w (view t .arc AFTER x) a r
-      → o ≡ outcome a (counted t w (view t .arc DEPENDENT x) 0 q r)
+      → o ≡ result a (counted t w (view t .arc DEPENDENT x) 0 q r)
       → NotifiesRightly s t w x o
 
 -- the code's own are so, and there are no others
@@ -161,7 +162,7 @@ module _ (s : Sizes) (t : Tables) (w : ℕ) (comes : Comes s t w NOTIFYING) wher
       rw (notify-here s t w comes)
       (notify-exact s t w arc (queue-rows s t (comes .admitted .sizes)) (comes .admitted .sizes .room .limits .jobs .1))
 
-  pub notifying-is-9 : Unlowered s (view t) arc → stepWords s t w ≡ outcome (Refused damaged 0) t
+  pub notifying-is-9 : Unlowered s (view t) arc → stepWords s t w ≡ result (Refused damaged 0) t
   unfolding applied
   notifying-is-9 u = notify-here s t w comes ∙ rw (notify-refused s t w arc u)
 
@@ -169,7 +170,7 @@ module _ (s : Sizes) (t : Tables) (w : ℕ) (comes : Comes s t w NOTIFYING) wher
   pub notifies-seated : (e : Seat) → Lowers s (view t) arc 0 → seatFor s (view t) (view t .arc DEPENDENT arc) ≡ Seated e
       → (a : Answer) (r : List ℕ) → Onward t w (view t .arc AFTER arc) a r
       → stepWords s t w
-      ≡ outcome a (counted t w (view t .arc DEPENDENT arc) 0 (putSeat (t .queue) e (view t .arc DEPENDENT arc)) r)
+      ≡ result a (counted t w (view t .arc DEPENDENT arc) 0 (putSeat (t .queue) e (view t .arc DEPENDENT arc)) r)
   unfolding planNotify withSeat applied
   notifies-seated e g z a r o =
       let j = view t .arc DEPENDENT arc in

@@ -1,6 +1,6 @@
 -- For ALL tables: what a settling step and an arc's step do, and exactly when. A job whose count settles, or falls to
 -- 0, is queued in its seat; a word off its range, a count that would fall below 0 or a job without a seat is 9, and
--- nothing else is. Follows docs/RULES.md, "Steps", "The index" and "Turned-away calls". Assumes nothing.
+-- nothing else is. Follows docs/RULES.md, "Steps", "The index" and "Turned-away calls".
 use mathlib.Core.Path.{_≡_, refl, _∙_}
 use mathlib.Core.Logic.{_≢_}
 use mathlib.Core.Bool.{true, false, _&&_}
@@ -9,24 +9,26 @@ use Prim.Native.Nat.{ℕ, _+_, _-_, _≤_, _<_}
 use native.Mathlib.Omega.{arith}
 use lib.Dec.{leb, eqb}
 use borrow.Author.Tests.{eqb-true, leb-true, leb-false, le-ltb, le-leb, ne-eqb}
-use Rattle.numbers.specs.Numbers.{mostNames, damaged}
-use Rattle.basics.specs.Base.{pick}
-use Rattle.basics.specs.Laws.{pick-by}
-use Rattle.terms.specs.Terms.{settles}
-use Rattle.terms.specs.Runs.{Outcome, outcome}
-use Rattle.terms.specs.declared.Sizes.{Sizes}
-use Rattle.terms.specs.declared.Answer.the-variants.{Ended, Refused}
-use Rattle.words.specs.Columns.{Rows, put}
-use Rattle.words.specs.Layout.{none, jobShape, queueShape, COUNT, MARK, PHASE, HELD, PLACE, LIST-COUNT, TALLY, OWN-JOB}
-use Rattle.words.specs.Layout.{NOTE, IDLE, LINKING, Tables, tables, View, view, longEnough, bareWorker}
-use Rattle.words.specs.Index.{seatFor, putSeat}
-use Rattle.words.specs.Words.{isPlace, inSeat, withSeat, planSettle, planLinks, planCall, planPhase, putWorker, applied}
-use Rattle.words.specs.Words.{stepWords}
-use Rattle.words.specs.declared.Seat.{Seat}
-use Rattle.words.specs.declared.Seating.{Seating}
-use Rattle.words.specs.declared.Seating.the-variants.{Seated, Unseated}
-use Rattle.words.specs.declared.Plan.{Plan}
-use Rattle.words.specs.declared.Plan.the-variants.{Refuse, SettleQueue}
+use Rattle.def_numbers.specs.Numbers.{mostNames, damaged}
+use Rattle.def_basics.specs.Base.{pick}
+use Rattle.def_basics.specs.Laws.{pick-by}
+use Rattle.def_terms.specs.Terms.{settles}
+use Rattle.def_terms.specs.Runs.{Result, result}
+use Rattle.def_terms.specs.declared.Sizes.{Sizes}
+use Rattle.def_terms.specs.declared.Answer.the-variants.{Ended, Refused}
+use Rattle.def_words.specs.Columns.{Rows, put}
+use Rattle.def_words.specs.Layout.{none, jobShape, queueShape, COUNT, SPOILED, PHASE, HELD, PLACE, LIST-COUNT, TALLY}
+use Rattle.def_words.specs.Layout.{OWN-JOB}
+use Rattle.def_words.specs.Layout.{NOTE, IDLE, LINKING, Tables, tables, View, view, longEnough, bareWorker}
+use Rattle.def_words.specs.Index.{seatFor, putSeat}
+use Rattle.def_words.specs.Words.{isPlace, inSeat, withSeat, planSettle, planLinks, planCall, planPhase, putWorker}
+use Rattle.def_words.specs.Words.{applied}
+use Rattle.def_words.specs.Words.{stepWords}
+use Rattle.def_words.specs.declared.Seat.{Seat}
+use Rattle.def_words.specs.declared.Seating.{Seating}
+use Rattle.def_words.specs.declared.Seating.the-variants.{Seated, Unseated}
+use Rattle.def_words.specs.declared.Plan.{Plan}
+use Rattle.def_words.specs.declared.Plan.the-variants.{Refuse, SettleQueue}
 use Rattle.thm_words_tests.specs.Tests.{test, parts, long}
 use Rattle.thm_words_tests.specs.Judged.{Sized, sized-means, Counters, counters-mean, Admitted, admits, did, place-some}
 use Rattle.thm_words_queue.specs.Moved.{Entered, entered}
@@ -58,11 +60,11 @@ settle-here s t w (c, e) =
     rw (admits s t w Refuse _ (c .admitted), c .here, counters-mean s (view t) .1 (c .counters), e)
     (rw (le-ltb n n (omega arith)) refl)
 
--- ---- the jobs after a count by worker w: that of the job j is c, and its mark is 1 where the worker's note is, else
--- as it was
+-- ---- the jobs after a count by worker w: that of the job j is c, and its spoiled word is 1 where the worker's note
+-- is, else as it was
 abbrev pub countedJobs : Tables → ℕ → ℕ → ℕ → List ℕ
 countedJobs t w j c =
-    pick (eqb (view t .worker NOTE w) 1) (put jobShape (put jobShape (t .jobs) j COUNT c) j MARK 1)
+    pick (eqb (view t .worker NOTE w) 1) (put jobShape (put jobShape (t .jobs) j COUNT c) j SPOILED 1)
     (put jobShape (t .jobs) j COUNT c)
 
 -- the tables then; the queue's words are q and the workers' r
@@ -89,14 +91,14 @@ pub data Unsettled (s : Sizes) (v : View) (j tally d : ℕ) : Type 0 where
       → Unsettled s v j tally d
 
 -- what the step answers and leaves: 9; the job's count, and the call put back; or that and the job in the queue
-pub data SettlesRightly (s : Sizes) (t : Tables) (w j tally d : ℕ) (o : Outcome Tables) : Type 0 where
-  refused : Unsettled s (view t) j tally d → o ≡ outcome (Refused damaged 0) t → SettlesRightly s t w j tally d o
+pub data SettlesRightly (s : Sizes) (t : Tables) (w j tally d : ℕ) (o : Result Tables) : Type 0 where
+  refused : Unsettled s (view t) j tally d → o ≡ result (Refused damaged 0) t → SettlesRightly s t w j tally d o
   waits-on : (c : ℕ) → Settles (view t) j tally c → settles c tally d ≡ false
-      → o ≡ outcome Ended (counted t w j c (t .queue) (putBack t w))
+      → o ≡ result Ended (counted t w j c (t .queue) (putBack t w))
       → SettlesRightly s t w j tally d o
   queued : (c : ℕ) → Settles (view t) j tally c → settles c tally d ≡ true
       → (q : List ℕ) → Entered s t j q
-      → o ≡ outcome Ended (counted t w j c q (putBack t w))
+      → o ≡ result Ended (counted t w j c q (putBack t w))
       → SettlesRightly s t w j tally d o
 
 module _ (s : Sizes) (t : Tables) (w j tally d : ℕ) where
@@ -164,7 +166,7 @@ module _ (s : Sizes) (t : Tables) (w : ℕ) (comes : ComesToSettle s t w) where
       rw (settle-here s t w comes) (settle-exact s t w job tallied listed (queue-rows s t (comes .0 .admitted .sizes))
       (comes .0 .admitted .sizes .room .limits .jobs .1))
 
-  pub settling-is-9 : Unsettled s (view t) job tallied listed → stepWords s t w ≡ outcome (Refused damaged 0) t
+  pub settling-is-9 : Unsettled s (view t) job tallied listed → stepWords s t w ≡ result (Refused damaged 0) t
   unfolding applied
   settling-is-9 u = settle-here s t w comes ∙ rw (settle-refused s t w job tallied listed u)
 
@@ -172,7 +174,7 @@ module _ (s : Sizes) (t : Tables) (w : ℕ) (comes : ComesToSettle s t w) where
   pub settles-seated : (c : ℕ) (e : Seat) → Settles (view t) job tallied c → settles c tallied listed ≡ true
       → seatFor s (view t) job ≡ Seated e
       → stepWords s t w
-      ≡ outcome Ended (counted t w job c (putSeat (t .queue) e job) (putBack t w))
+      ≡ result Ended (counted t w job c (putSeat (t .queue) e job) (putBack t w))
   unfolding planSettle withSeat applied
   settles-seated c e g f z =
       let n = view t .job COUNT job in

@@ -1,5 +1,5 @@
--- For ALL tables: the slots and positions after a shift over the words are those of the heap's shift, where the places
--- that it carries are places of the queue. Follows docs/RULES.md, "The index". Assumes nothing.
+-- For ALL tables: the slots and positions after a shift over the words are those of the heap's shift, where the cells
+-- that it carries are cells of the queue. Follows docs/RULES.md, "The index".
 use mathlib.Core.Path.{_≡_, refl, ap, fun-ext, _∙_}
 use mathlib.Core.Logic.{_≢_}
 use mathlib.Core.Bool.{true}
@@ -10,13 +10,13 @@ use native.Mathlib.Decide.{ℕ-discrete}
 use lib.Dec.{ltb}
 use lib.Seq.{getD-set-other}
 use borrow.Author.Tests.{ltb-true, eq-eqb, ne-eqb}
-use Rattle.basics.specs.Base.{update}
-use Rattle.basics.specs.Laws.{update-at, update-other}
-use Rattle.heap.specs.Sift.{above, shiftDown, shiftUp, positionsDown, positionsUp}
-use Rattle.heap.specs.Way.{WayUp, WayFirst, up-weaker, first-weaker}
-use Rattle.words.specs.Columns.{Shape, place, Rows, columns, columns-put, put, rows-put, sep}
-use Rattle.words.specs.Layout.{queueShape, SLOT, POSITION}
-use Rattle.words.specs.Index.{slotIn, putSlot, shiftedDown, shiftedUp}
+use Rattle.def_basics.specs.Base.{update}
+use Rattle.def_basics.specs.Laws.{update-at, update-other}
+use Rattle.def_heap.specs.Sift.{above, shiftDown, shiftUp, positionsDown, positionsUp}
+use Rattle.def_heap.specs.Way.{WayUp, WayFirst, up-weaker, first-weaker}
+use Rattle.def_words.specs.Columns.{Shape, offset, Rows, columns, columns-put, put, rows-put, sep}
+use Rattle.def_words.specs.Layout.{queueShape, SLOT, POSITION}
+use Rattle.def_words.specs.Index.{slotIn, putSlot, shiftedDown, shiftedUp}
 use Rattle.thm_words_tests.specs.Tests.{test}
 
 -- ---- a store in another column leaves a column, wherever it falls
@@ -26,7 +26,7 @@ unfolding columns put
 other-column s l i k v q e n = fun-ext (λ j. test (ltb q (s .width))
     (λ f.
     let a = ltb-true q (s .width) f in
-    rw f (getD-set-other l (place s i k) (place s j q) v 0
+    rw f (getD-set-other l (offset s i k) (offset s j q) v 0
     (λ z. n (sep s j i q k a (ltb-true k (s .width) e) z .1))))
     (λ f. rw f))
 

@@ -1,6 +1,6 @@
 -- For ALL tables: how far a call comes, by the words of the tables. Each call with a worker is turned away by 1, 2 or 9
 -- first; a get then by 3, 10 or 9, or it finds the queue empty, or it comes to the index. Follows docs/RULES.md,
--- "Turned-away calls", and docs/TABLES.md, "What each step reads and writes". Assumes nothing.
+-- "Turned-away calls", and docs/TABLES.md, "What each step reads and writes".
 use mathlib.Core.Path.{_≡_, refl}
 use mathlib.Core.Logic.{_≢_}
 use mathlib.Core.Bool.{Bool, true, false, _&&_, not, and-false}
@@ -8,15 +8,16 @@ use mathlib.Core.List.{List}
 use Prim.Native.Nat.{ℕ, _≤_, _<_}
 use lib.Dec.{leb, eqb}
 use borrow.Author.Tests.{leb-true, le-leb, lt-leb, eqb-true, eq-eqb, ne-eqb}
-use Rattle.basics.specs.Laws.{never, fails}
-use Rattle.terms.specs.Terms.{Arguments, Finish, bit, argumentsWrong}
-use Rattle.terms.specs.Runs.{Item, postAdd, postFinish, step, get, load, sizesOf, workerOf, isLoad, outcome}
-use Rattle.terms.specs.declared.Sizes.{Sizes}
-use Rattle.terms.specs.declared.Answer.the-variants.{Posted, Refused}
-use Rattle.words.specs.Layout.{none, NAME, MARK, PHASE, HELD, IDLE, MARKING, Tables, tables, View, view, bareWorker}
-use Rattle.words.specs.Words.{countersOk, applied, appliedGet, posted, addWords, finishWords, stepWords, getWords}
-use Rattle.words.specs.Words.{planPhase, refusal, holdsName, addingWorker, putWorker, perform}
-use Rattle.words.specs.declared.Plan.the-variants.{Refuse}
+use Rattle.def_basics.specs.Laws.{never, fails}
+use Rattle.def_terms.specs.Terms.{Arguments, Finish, bit, argumentsWrong}
+use Rattle.def_terms.specs.Runs.{Item, postAdd, postFinish, step, get, load, sizesOf, workerOf, isLoad, result}
+use Rattle.def_terms.specs.declared.Sizes.{Sizes}
+use Rattle.def_terms.specs.declared.Answer.the-variants.{Posted, Refused}
+use Rattle.def_words.specs.Layout.{none, NAME, SPOILED, PHASE, HELD, IDLE, MARKING, Tables, tables, View, view}
+use Rattle.def_words.specs.Layout.{bareWorker}
+use Rattle.def_words.specs.Words.{countersOk, applied, appliedGet, posted, addWords, finishWords, stepWords, getWords}
+use Rattle.def_words.specs.Words.{planPhase, refusal, holdsName, addingWorker, putWorker, perform}
+use Rattle.def_words.specs.declared.Plan.the-variants.{Refuse}
 use Rattle.thm_words_tests.specs.Tests.{test, parts}
 use Rattle.thm_words_tests.specs.Judged.{Counters, counters-mean, Admitted, TurnedAway, by-1, by-2, by-9, admits}
 use Rattle.thm_words_tests.specs.Judged.{turns-away}
@@ -24,7 +25,7 @@ use Rattle.thm_words_tests.specs.Reach.{early, empty, index, reach}
 
 -- ---- "Order: 1, 2, 9 for the worker's own words": whatever the call with a worker, and nothing is changed
 pub first-of-all : (t : Tables) (i : Item) (n : ℕ) → isLoad i ≡ false → TurnedAway (sizesOf i) t (workerOf i) n
-    → perform t i ≡ outcome (Refused n 0) t
+    → perform t i ≡ result (Refused n 0) t
 unfolding perform addWords finishWords stepWords getWords posted applied appliedGet
 first-of-all t (postAdd s w a) n l (by-1 f) = rw (turns-away s t w _ _ 1 (by-1 f))
 first-of-all t (postAdd s w a) n l (by-2 h o) = rw (turns-away s t w _ _ 2 (by-2 h o))
@@ -57,27 +58,27 @@ pub record Holds (v : View) (w name : ℕ) : Type 0 where
   pub held : v .worker HELD w ≢ none
   pub named : v .job NAME (v .worker HELD w) ≡ name
 
--- the mark of the job that it holds
-abbrev pub heldMark : View → ℕ → ℕ
-heldMark v w = v .job MARK (v .worker HELD w)
+-- the spoiled word of the job that it holds
+abbrev pub heldSpoiled : View → ℕ → ℕ
+heldSpoiled v w = v .job SPOILED (v .worker HELD w)
 
--- 9 for a counter or the mark, then "19, good for a spoiled job, after 11"
+-- 9 for a counter or the spoiled word, then "19, good for a spoiled job, after 11"
 pub data FinishRefused (s : Sizes) (t : Tables) (w : ℕ) (f : Finish) : ℕ → Type 0 where
   by-3 : view t .worker PHASE w ≢ IDLE → FinishRefused s t w f 3
   by-11 : view t .worker PHASE w ≡ IDLE → (Holds (view t) w (f .name) → ⊥) → FinishRefused s t w f 11
   counters : view t .worker PHASE w ≡ IDLE → Holds (view t) w (f .name) → (Counters s (view t) → ⊥)
       → FinishRefused s t w f 9
-  mark : view t .worker PHASE w ≡ IDLE → Holds (view t) w (f .name) → 1 < heldMark (view t) w
+  off-spoiled : view t .worker PHASE w ≡ IDLE → Holds (view t) w (f .name) → 1 < heldSpoiled (view t) w
       → FinishRefused s t w f 9
   by-19 : view t .worker PHASE w ≡ IDLE → Holds (view t) w (f .name) → Counters s (view t)
-      → heldMark (view t) w ≡ 1 → f .failed ≡ false
+      → heldSpoiled (view t) w ≡ 1 → f .failed ≡ false
       → FinishRefused s t w f 19
 
--- else: the mark is 0 or 1, and a spoiled job ends as failed
+-- else: the spoiled word is 0 or 1, and a spoiled job ends as failed
 pub record FinishFits (v : View) (w : ℕ) (f : Finish) : Type 0 where
   pub holds : Holds v w (f .name)
-  pub marked : heldMark v w ≤ 1
-  pub ends : heldMark v w ≡ 1 → f .failed ≡ true
+  pub within : heldSpoiled v w ≤ 1
+  pub ends : heldSpoiled v w ≡ 1 → f .failed ≡ true
 
 module _ (s : Sizes) (t : Tables) (w : ℕ) (a : Admitted s t w) where
   off : (Counters s (view t) → ⊥) → countersOk s (view t) ≡ false
@@ -92,30 +93,30 @@ module _ (s : Sizes) (t : Tables) (w : ℕ) (a : Admitted s t w) where
     named = eqb-true (view t .job NAME (view t .worker HELD w)) name (search parts);
   })
 
-  pub step-refused : (n : ℕ) → StepRefused s t w n → perform t (step s w) ≡ outcome (Refused n 0) t
+  pub step-refused : (n : ℕ) → StepRefused s t w n → perform t (step s w) ≡ result (Refused n 0) t
   unfolding perform stepWords planPhase applied
   step-refused n (by-4 e) = rw (admits s t w Refuse _ a, e)
   step-refused n (counters e f) = rw (admits s t w Refuse _ a, ne-eqb (view t .worker PHASE w) IDLE e, off f)
 
   pub add-is-refused : (x : Arguments) (n : ℕ) → AddRefused s t w x n
-      → perform t (postAdd s w x) ≡ outcome (Refused n 0) t
+      → perform t (postAdd s w x) ≡ result (Refused n 0) t
   unfolding perform addWords posted
   add-is-refused x n (by-3 e) = rw (admits s t w refusal _ a, ne-eqb (view t .worker PHASE w) IDLE e)
   add-is-refused x n (by-5 e h) = rw (admits s t w refusal _ a, e, h)
   add-is-refused x n (counters e h f) = rw (admits s t w refusal _ a, e, h, off f)
 
   pub finish-is-refused : (f : Finish) (n : ℕ) → FinishRefused s t w f n
-      → perform t (postFinish s w f) ≡ outcome (Refused n 0) t
+      → perform t (postFinish s w f) ≡ result (Refused n 0) t
   unfolding perform finishWords posted
   finish-is-refused x n (by-3 e) = rw (admits s t w refusal _ a, ne-eqb (view t .worker PHASE w) IDLE e)
   finish-is-refused x n (by-11 e h) = rw (admits s t w refusal _ a, e, holds-not (x .name) h)
   finish-is-refused x n (counters e h f) = rw (admits s t w refusal _ a, e, holds (x .name) h, off f)
-  finish-is-refused x n (mark e h o) =
+  finish-is-refused x n (off-spoiled e h o) =
       rw (
         admits s t w refusal _ a,
         e,
         holds (x .name) h,
-        lt-leb (heldMark (view t) w) 1 o,
+        lt-leb (heldSpoiled (view t) w) 1 o,
         and-false (countersOk s (view t)),
       )
   finish-is-refused x n (by-19 e h c m g) =
@@ -124,18 +125,19 @@ module _ (s : Sizes) (t : Tables) (w : ℕ) (a : Admitted s t w) where
   -- and what no number refuses is posted: the worker's words are written, and nothing else
   module _ (here : view t .worker PHASE w ≡ IDLE) (sound : Counters s (view t)) where
     pub add-is-posted : (x : Arguments) → argumentsWrong x ≡ false
-        → perform t (postAdd s w x) ≡ outcome Posted (withWorker t w (addingWorker (view t .worker HELD w) x))
+        → perform t (postAdd s w x) ≡ result Posted (withWorker t w (addingWorker (view t .worker HELD w) x))
     unfolding perform addWords posted
     add-is-posted x h = rw (admits s t w refusal _ a, here, h, counters-mean s (view t) .1 sound)
 
-    -- with a mark of 1 the outcome is failed
-    not-good : (f : Finish) → (heldMark (view t) w ≡ 1 → f .failed ≡ true)
-        → (eqb (heldMark (view t) w) 1 && not (f .failed)) ≡ false
-    not-good f h = test (eqb (heldMark (view t) w) 1) (λ e. rw (e, h (eqb-true (heldMark (view t) w) 1 e))) (λ e. rw e)
+    -- with a spoiled word of 1 the outcome is failed
+    not-good : (f : Finish) → (heldSpoiled (view t) w ≡ 1 → f .failed ≡ true)
+        → (eqb (heldSpoiled (view t) w) 1 && not (f .failed)) ≡ false
+    not-good f h = test (eqb (heldSpoiled (view t) w) 1) (λ e. rw (e, h (eqb-true (heldSpoiled (view t) w) 1 e)))
+        (λ e. rw e)
 
     pub finish-is-posted : (f : Finish) → FinishFits (view t) w f
         → perform t (postFinish s w f)
-        ≡ outcome Posted (withWorker t w (bareWorker MARKING (view t .worker HELD w) (bit (f .failed))))
+        ≡ result Posted (withWorker t w (bareWorker MARKING (view t .worker HELD w) (bit (f .failed))))
     unfolding perform finishWords posted
     finish-is-posted f h =
         rw (
@@ -143,7 +145,7 @@ module _ (s : Sizes) (t : Tables) (w : ℕ) (a : Admitted s t w) where
           here,
           holds (f .name) (h .holds),
           counters-mean s (view t) .1 sound,
-          le-leb (heldMark (view t) w) 1 (h .marked),
+          le-leb (heldSpoiled (view t) w) 1 (h .within),
           not-good f (h .ends),
         )
 

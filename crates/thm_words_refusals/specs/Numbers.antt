@@ -1,6 +1,6 @@
 -- Every item, over all tables, damaged ones too, is served or turned away by a number of the paper's list that its kind
 -- can meet; laying out has its own theorem, `laid-out` of thm_words_loads. Follows docs/RULES.md, "Turned-away calls"
--- and "Steps". Assumes nothing.
+-- and "Steps".
 use mathlib.Core.Path.{_≡_, refl, subst}
 use mathlib.Core.Bool.{Bool, true, false}
 use mathlib.Core.List.{List, [], _∷_}
@@ -8,30 +8,32 @@ use Prim.Native.Nat.{ℕ, _<_}
 use native.Mathlib.Omega.{arith}
 use lib.Dec.{ltb, leb}
 use borrow.Author.Tests.{ltb-true, leb-true}
-use Rattle.numbers.specs.Numbers.{mostNames, wrongSize, noSuchWorker, halfDone, workerIdle, wrongArguments, unknownName}
-use Rattle.numbers.specs.Numbers.{namePresent, tablesFull, damaged, alreadyHolding, notHeld, wrongMinutes, jobsEntered}
-use Rattle.numbers.specs.Numbers.{goodForSpoiled}
-use Rattle.basics.specs.Base.{pick, contains}
-use Rattle.terms.specs.Terms.{Arguments, Finish, bit}
-use Rattle.terms.specs.Runs.{Item, postAdd, postFinish, step, get, load, isLoad}
-use Rattle.terms.specs.declared.Sizes.{Sizes}
-use Rattle.terms.specs.declared.HandOut.{HandOut}
-use Rattle.terms.specs.declared.Answer.{Answer}
-use Rattle.terms.specs.declared.Answer.the-variants.{Loaded, Posted, Going, Ended, NoneReady, Handed, Refused}
-use Rattle.words.specs.Layout.{HELD, LIST-COUNT, PLACE, MARKING, Tables, View, view, bareWorker}
-use Rattle.words.specs.Words.{ownOk, planLookUp, planEnter, planAppend, planLink, inSeat, withSeat, planSettle}
-use Rattle.words.specs.Words.{planTally, planMark}
-use Rattle.words.specs.Words.{planNotify, planAdd, planLinks, planCall, planPhase, admitted, planStep, goingUnless}
-use Rattle.words.specs.Words.{answerOf, stepWords, takeFrom, planTake, planQueue, planGet, answerGet, planGetOf}
-use Rattle.words.specs.Words.{getWords}
-use Rattle.words.specs.Words.{judgedAdd, judgedFinish, addingWorker, posted, refusal, addWords, finishWords}
-use Rattle.words.specs.Words.{judgedLoad, loading, loadWords, perform}
-use Rattle.words.specs.declared.Seat.{Seat}
-use Rattle.words.specs.declared.Seating.{Seating}
-use Rattle.words.specs.declared.Seating.the-variants.{Seated, Unseated}
-use Rattle.words.specs.declared.Found.{Found}
-use Rattle.words.specs.declared.Found.the-variants.{At, Missing, Damaged}
-use Rattle.words.specs.declared.Plan.{Plan}
+use Rattle.def_numbers.specs.Numbers.{mostNames, wrongSize, noSuchWorker, halfDone, workerIdle, wrongArguments}
+use Rattle.def_numbers.specs.Numbers.{unknownName}
+use Rattle.def_numbers.specs.Numbers.{namePresent, tablesFull, damaged, alreadyHolding, notHeld, wrongMinutes}
+use Rattle.def_numbers.specs.Numbers.{jobsEntered}
+use Rattle.def_numbers.specs.Numbers.{goodForSpoiled}
+use Rattle.def_basics.specs.Base.{pick, contains}
+use Rattle.def_terms.specs.Terms.{Arguments, Finish, bit}
+use Rattle.def_terms.specs.Runs.{Item, postAdd, postFinish, step, get, load, isLoad}
+use Rattle.def_terms.specs.declared.Sizes.{Sizes}
+use Rattle.def_terms.specs.declared.HandOut.{HandOut}
+use Rattle.def_terms.specs.declared.Answer.{Answer}
+use Rattle.def_terms.specs.declared.Answer.the-variants.{Loaded, Posted, Going, Ended, NoneReady, Handed, Refused}
+use Rattle.def_words.specs.Layout.{HELD, LIST-COUNT, PLACE, MARKING, Tables, View, view, bareWorker}
+use Rattle.def_words.specs.Words.{ownOk, planLookUp, planEnter, planAppend, planLink, inSeat, withSeat, planSettle}
+use Rattle.def_words.specs.Words.{planTally, planMark}
+use Rattle.def_words.specs.Words.{planNotify, planAdd, planLinks, planCall, planPhase, admitted, planStep, goingUnless}
+use Rattle.def_words.specs.Words.{answerOf, stepWords, takeFrom, planTake, planQueue, planGet, answerGet, planGetOf}
+use Rattle.def_words.specs.Words.{getWords}
+use Rattle.def_words.specs.Words.{judgedAdd, judgedFinish, addingWorker, posted, refusal, addWords, finishWords}
+use Rattle.def_words.specs.Words.{judgedLoad, loading, loadWords, perform}
+use Rattle.def_words.specs.declared.Seat.{Seat}
+use Rattle.def_words.specs.declared.Seating.{Seating}
+use Rattle.def_words.specs.declared.Seating.the-variants.{Seated, Unseated}
+use Rattle.def_words.specs.declared.Found.{Found}
+use Rattle.def_words.specs.declared.Found.the-variants.{At, Missing, Damaged}
+use Rattle.def_words.specs.declared.Plan.{Plan}
 use Rattle.thm_words_tests.specs.Tests.{parts}
 
 -- ---- the answers of each kind of item

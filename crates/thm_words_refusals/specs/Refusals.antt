@@ -1,6 +1,6 @@
 -- What each answer leaves behind, for all tables, damaged ones too. Follows docs/RULES.md: the last column of the table
 -- in "Turned-away calls", "none ready" in "Steps", and "A call that ends puts the words of its call back" in "Tables
--- and their measures". Assumes nothing.
+-- and their measures".
 use mathlib.Core.Path.{_≡_, refl, ap, subst, _∙_}
 use mathlib.Core.Bool.{Bool, true, false}
 use mathlib.Core.List.{List, _++_, append-assoc}
@@ -9,26 +9,27 @@ use native.Mathlib.Omega.{arith}
 use lib.Dec.{ltb, leb, eqb}
 use lib.ListN.{length, take, drop}
 use lib.Seq.{sets-eq, length-take-le, take-at, drop-at}
-use Rattle.basics.specs.Base.{pick}
-use Rattle.basics.specs.Laws.{pick-by}
-use Rattle.minutes.specs.Rising.{isRising}
-use Rattle.terms.specs.Terms.{bit}
-use Rattle.terms.specs.Runs.{Item, postAdd, postFinish, step, get, load, Outcome, outcome, workerOf}
-use Rattle.terms.specs.Cases.{ifEnded, ifRefused}
-use Rattle.terms.specs.declared.Sizes.{Sizes}
-use Rattle.terms.specs.declared.Answer.{Answer}
-use Rattle.terms.specs.declared.Answer.the-variants.{Laid, Loaded, Posted, Going, Ended, NoneReady, Handed, Refused}
-use Rattle.words.specs.Columns.{place, Rows}
-use Rattle.words.specs.Layout.{none, workerShape, HELD, IDLE, MARKING, Tables, tables, View, view, bareWorker}
-use Rattle.words.specs.Layout.{longEnough, sizesFit}
-use Rattle.words.specs.Words.{planPhase, answerOf, putWorker, idleWorker, applied, stepWords, planGet, answerGet}
-use Rattle.words.specs.Words.{appliedGet, getWords, judgedAdd, judgedFinish, addingWorker, refusal, posted, addWords}
-use Rattle.words.specs.Words.{finishWords, judgedLoad, loading, loadWords, perform}
-use Rattle.words.specs.declared.Plan.{Plan}
-use Rattle.words.specs.declared.Plan.the-variants.{Refuse, Quit, Pass, Enter, Tally, LinkFirst, LinkAfter, Settle}
-use Rattle.words.specs.declared.Plan.the-variants.{SettleQueue, Mark, Notify, NotifyQueue}
-use Rattle.words.specs.declared.GetPlan.{GetPlan}
-use Rattle.words.specs.declared.GetPlan.the-variants.{RefuseGet, Wait, Take}
+use Rattle.def_basics.specs.Base.{pick}
+use Rattle.def_basics.specs.Laws.{pick-by}
+use Rattle.def_minutes.specs.Rising.{isRising}
+use Rattle.def_terms.specs.Terms.{bit}
+use Rattle.def_terms.specs.Runs.{Item, postAdd, postFinish, step, get, load, Result, result, workerOf}
+use Rattle.def_terms.specs.Cases.{ifEnded, ifRefused}
+use Rattle.def_terms.specs.declared.Sizes.{Sizes}
+use Rattle.def_terms.specs.declared.Answer.{Answer}
+use Rattle.def_terms.specs.declared.Answer.the-variants.{Laid, Loaded, Posted, Going, Ended, NoneReady, Handed, Refused}
+use Rattle.def_words.specs.Columns.{offset, Rows}
+use Rattle.def_words.specs.Layout.{none, workerShape, HELD, IDLE, MARKING, Tables, tables, View, view, bareWorker}
+use Rattle.def_words.specs.Layout.{longEnough, sizesFit}
+use Rattle.def_words.specs.Words.{planPhase, answerOf, putWorker, idleWorker, applied, stepWords, planGet, answerGet}
+use Rattle.def_words.specs.Words.{appliedGet, getWords, judgedAdd, judgedFinish, addingWorker, refusal, posted}
+use Rattle.def_words.specs.Words.{addWords}
+use Rattle.def_words.specs.Words.{finishWords, judgedLoad, loading, loadWords, perform}
+use Rattle.def_words.specs.declared.Plan.{Plan}
+use Rattle.def_words.specs.declared.Plan.the-variants.{Refuse, Quit, Pass, Enter, Tally, LinkFirst, LinkAfter, Settle}
+use Rattle.def_words.specs.declared.Plan.the-variants.{SettleQueue, Mark, Notify, NotifyQueue}
+use Rattle.def_words.specs.declared.GetPlan.{GetPlan}
+use Rattle.def_words.specs.declared.GetPlan.the-variants.{RefuseGet, Wait, Take}
 use Rattle.thm_words_tests.specs.Tests.{test, parts, Long, long, record-ends}
 use Rattle.thm_words_need.specs.Plans.{quitsBy, Inside, InsideGet, marking, phase-alike, get-alike, add-alike}
 use Rattle.thm_words_need.specs.Plans.{finish-alike, admit}
@@ -43,7 +44,7 @@ ends x = ifEnded x true (ifRefused x (λ n p. quitsBy n) false)
 
 -- a worker's 43 words
 abbrev pub record-of : ℕ → List ℕ → List ℕ
-record-of w l = take (workerShape .width) (drop (place workerShape w 0) l)
+record-of w l = take (workerShape .width) (drop (offset workerShape w 0) l)
 
 abbrev pub wordsOf : ℕ → Tables → List ℕ
 wordsOf w t = record-of w (t .workers)
@@ -68,7 +69,7 @@ Back t w u =
     (u .workers ≡ putWorker (t .workers) w (bareWorker IDLE (holdAfter (view t) w) 0))
     × (wordsOf w u ≡ bareWorker IDLE (holdAfter (view t) w) 0)
 
-abbrev Left : Tables → ℕ → Outcome Tables → Type 0
+abbrev Left : Tables → ℕ → Result Tables → Type 0
 Left t w o = Changed t w (o .state) (o .answer) × pick (ends (o .answer)) (Back t w (o .state)) (Unit {0})
 
 -- a worker's words that were put are read again
@@ -76,7 +77,7 @@ pub put-back : (P : ℕ) (l : List ℕ) (w : ℕ) (x : List ℕ) → Rows worker
     → length x ≡ workerShape .width
     → record-of w (putWorker l w x) ≡ x
 put-back P l w x r k e =
-    let i = place workerShape w 0 in
+    let i = offset workerShape w 0 in
     let h = record-ends workerShape P l w r k in
     let z = drop (i + length x) l in
     let o : length (take i l) ≡ i = length-take-le i l (omega arith) in
@@ -88,7 +89,7 @@ module _ (s : Sizes) (t : Tables) (w : ℕ) (h : Long s t) (known : ltb w (s .wo
   bare : (held : ℕ) → record-of w (putWorker (t .workers) w (bareWorker IDLE held 0)) ≡ bareWorker IDLE held 0
   bare held = put-back (s .workers) (t .workers) w (bareWorker IDLE held 0) (h .workers) known refl
 
-  step-left : (p : Plan) → Inside s (view t) (marking (view t) w) p → Left t w (outcome (answerOf p) (applied p t w))
+  step-left : (p : Plan) → Inside s (view t) (marking (view t) w) p → Left t w (result (answerOf p) (applied p t w))
   unfolding applied
   step-left (Refuse n) i = (rw i, rw i tt)
   step-left (Quit n j) i = (rw (i .0), rw (i .0, i .1) (refl, bare _))
@@ -104,7 +105,7 @@ module _ (s : Sizes) (t : Tables) (w : ℕ) (h : Long s t) (known : ltb w (s .wo
   step-left (NotifyQueue j c x d) i = test (eqb x none) (λ e. rw e (tt, rw (i .2) (refl, bare _))) (λ e. rw e (tt, tt))
 
 get-left : (s : Sizes) (t : Tables) (w : ℕ) (p : GetPlan) → InsideGet s (view t) p
-    → Left t w (outcome (answerGet p) (appliedGet p t w))
+    → Left t w (result (answerGet p) (appliedGet p t w))
 unfolding appliedGet
 get-left s t w (RefuseGet n) i = (rw i, rw i tt)
 get-left s t w Wait i = (refl, tt)
@@ -143,12 +144,12 @@ left-behind t (postFinish s w f) =
     (λ n. post-left t w x (suc n))
     (λ _ k o. post-left t w x (judgedFinish s (view t) w f) (finish-alike s (view t) w k o f .1))
 left-behind t (step s w) =
-    admit (λ p. Left t w (outcome (answerOf p) (applied p t w))) s t w Refuse (planPhase s (view t) w)
+    admit (λ p. Left t w (result (answerOf p) (applied p t w))) s t w Refuse (planPhase s (view t) w)
     (λ n e. (rw e, rw e tt))
     (λ fit k o. let h : longEnough s t ≡ true = search parts in
     step-left s t w (long h) k (planPhase s (view t) w) (phase-alike s (view t) w k o .1))
 left-behind t (get s w) =
-    admit (λ p. Left t w (outcome (answerGet p) (appliedGet p t w))) s t w RefuseGet (planGet s (view t) w)
+    admit (λ p. Left t w (result (answerGet p) (appliedGet p t w))) s t w RefuseGet (planGet s (view t) w)
     (λ n e. (rw e, rw e tt))
     (λ _ k o. get-left s t w (planGet s (view t) w) (get-alike s (view t) w k o .1))
 left-behind t (load s m) = load-left t 0 m (judgedLoad s t m) (load-keeps s t m)

@@ -2,7 +2,7 @@
 -- head, and name and next of each job passed. It ends in one way and no other, and the words' look-up tells which.
 -- Follows docs/RULES.md: "The bucket of a name is the top b bits of its product with 2654435769, kept to 32 bits", and
 -- 9 where "a bucket walk passes more jobs than were made". (LookUpSteps.antt, EnterSteps.antt, LinkSteps.antt: what a
--- step does by it. Wrong/LookUps.antt: walks that end otherwise.) Assumes nothing.
+-- step does by it. Wrong/LookUps.antt: walks that end otherwise.)
 use mathlib.Core.Path.{_≡_, refl, sym, ap}
 use mathlib.Core.Logic.{_↔_, _≢_}
 use Prim.Native.Nat.{ℕ, zero, suc, _+_, _*_, _-_, _/_, _%_, _^_, _≤_, _<_}
@@ -10,14 +10,14 @@ use native.Mathlib.Omega.{arith}
 use lib.Dec.{ltb, eqb}
 use lib.ListN.{getD}
 use borrow.Author.Tests.{eqb-true, eqb-false, ltb-true, ltb-false, eq-eqb, ne-eqb, lt-ltb, le-ltb}
-use Rattle.bucket.specs.Bucket.{bucketOf}
-use Rattle.bucket.specs.Laws.{by-numbers}
-use Rattle.terms.specs.declared.Sizes.{Sizes}
-use Rattle.words.specs.Columns.{header, columns}
-use Rattle.words.specs.Layout.{NAME, NEXT, Tables, view}
-use Rattle.words.specs.Words.{walk, findOf}
-use Rattle.words.specs.declared.Found.{Found}
-use Rattle.words.specs.declared.Found.the-variants.{At, Missing, Damaged}
+use Rattle.def_bucket.specs.Bucket.{bucketOf}
+use Rattle.def_bucket.specs.Laws.{by-numbers}
+use Rattle.def_terms.specs.declared.Sizes.{Sizes}
+use Rattle.def_words.specs.Columns.{header, columns}
+use Rattle.def_words.specs.Layout.{NAME, NEXT, Tables, view, NEWEST}
+use Rattle.def_words.specs.Words.{walk, findOf}
+use Rattle.def_words.specs.declared.Found.{Found}
+use Rattle.def_words.specs.declared.Found.the-variants.{At, Missing, Damaged}
 use Rattle.thm_words_tests.specs.Tests.{test}
 use Rattle.thm_words_tests.specs.OneWord.{jobWord, job-by-word}
 
@@ -108,7 +108,7 @@ module _ (t : Tables) (name : ℕ) where
 
 -- ---- the head of a name's bucket
 pub head-by-word : (s : Sizes) (t : Tables) (name : ℕ)
-    → view t .bucket 0 (bucketOf name (s .bits)) ≡ headWord s t name
+    → view t .bucket NEWEST (bucketOf name (s .bits)) ≡ headWord s t name
 unfolding columns
 head-by-word s t name =
     rw (by-numbers name (s .bits))

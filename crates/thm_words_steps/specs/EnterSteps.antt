@@ -2,7 +2,7 @@
 -- of docs/TABLES.md. A damaged walk is 9; a name that is present is 7, before 8; no room is 8; and in every other case
 -- the job is made. Follows docs/RULES.md, "Steps": "it makes the job with remaining count d, the list's length, at the
 -- head of its bucket, and reserves the next d arcs", and the rows of 7, 8 and 9 in "Turned-away calls". (Buckets.antt:
--- what a walk finds. Wrong/LookUps.antt: machines that do otherwise.) Assumes nothing.
+-- what a walk finds. Wrong/LookUps.antt: machines that do otherwise.)
 use mathlib.Core.Path.{_≡_, sym, ap, _∙_}
 use mathlib.Core.Bool.{true, or-true}
 use mathlib.Core.List.{List, [], _∷_}
@@ -13,17 +13,17 @@ use lib.Dec.{ltb, leb}
 use lib.ListN.{getD, set}
 use lib.Seq.{sets}
 use borrow.Author.Tests.{eq-eqb, ne-eqb, lt-ltb, le-ltb, lt-leb, le-leb}
-use Rattle.bucket.specs.Laws.{by-numbers}
-use Rattle.terms.specs.Runs.{step, outcome}
-use Rattle.terms.specs.declared.Sizes.{Sizes}
-use Rattle.terms.specs.declared.Answer.the-variants.{Going, Refused}
-use Rattle.words.specs.Columns.{header, put, putHeader}
-use Rattle.words.specs.Layout.{workerShape, bucketShape, OWN-NAME, LIST-COUNT, OWN-CLASS, OWN-GROWER, PLACE}
-use Rattle.words.specs.Layout.{Tables, tables, view}
-use Rattle.words.specs.Words.{planEnter, planAdd, planCall, planPhase, applied, stepWords, perform}
-use Rattle.words.specs.declared.Found.{Found}
-use Rattle.words.specs.declared.Found.the-variants.{At, Missing, Damaged}
-use Rattle.words.specs.declared.Plan.the-variants.{Refuse}
+use Rattle.def_bucket.specs.Laws.{by-numbers}
+use Rattle.def_terms.specs.Runs.{step, result}
+use Rattle.def_terms.specs.declared.Sizes.{Sizes}
+use Rattle.def_terms.specs.declared.Answer.the-variants.{Going, Refused}
+use Rattle.def_words.specs.Columns.{header, put, putHeader}
+use Rattle.def_words.specs.Layout.{workerShape, bucketShape, OWN-NAME, LIST-COUNT, OWN-CLASS, OWN-GROWER, PLACE}
+use Rattle.def_words.specs.Layout.{Tables, tables, view, NEWEST}
+use Rattle.def_words.specs.Words.{planEnter, planAdd, planCall, planPhase, applied, stepWords, perform}
+use Rattle.def_words.specs.declared.Found.{Found}
+use Rattle.def_words.specs.declared.Found.the-variants.{At, Missing, Damaged}
+use Rattle.def_words.specs.declared.Plan.the-variants.{Refuse}
 use Rattle.thm_words_tests.specs.Judged.{counters-mean, Admitted, admits, did}
 use Rattle.thm_words_tests.specs.OneWord.{ownWord, own-by-word, Counted}
 use Rattle.thm_words_steps.specs.Buckets.{jobsMade, bucketNumber, headWord, LooksFor, head-by-word, look-up-means}
@@ -58,7 +58,7 @@ pub record Room (s : Sizes) (t : Tables) (w : ℕ) : Type 0 where
 
 -- ---- what it leaves
 -- the ten words of the job: name, label 0, count d, class and grower as the worker has them, no first and no last arc,
--- the bucket's old head as next, outcome and mark 0
+-- the bucket's old head as next, outcome and spoiled word 0
 abbrev pub jobWords : Sizes → Tables → ℕ → List ℕ
 jobWords s t w =
     ownWord t w 2 ∷ 0 ∷ ownWord t w 3 ∷ ownWord t w 4 ∷ ownWord t w 5 ∷ 4294967295 ∷ 4294967295
@@ -77,17 +77,17 @@ enteredWith s t w arc =
 -- ---- the statement, by where the walk for its own name ends and by the room. With no listed name no arc is reserved,
 -- and the call's arc is none
 pub record EntersExactly (make : Stepper) (s : Sizes) (t : Tables) (w : ℕ) : Type 0 where
-  pub damaged-by-9 : ComesToEnter s t w → OwnName s t w Damaged → make s t w ≡ outcome (Refused 9 0) t
+  pub damaged-by-9 : ComesToEnter s t w → OwnName s t w Damaged → make s t w ≡ result (Refused 9 0) t
   pub present-by-7 : (p : ℕ) → ComesToEnter s t w → OwnName s t w (At p)
-      → make s t w ≡ outcome (Refused 7 0) (idleAgain t w)
+      → make s t w ≡ result (Refused 7 0) (idleAgain t w)
   pub jobs-by-8 : ComesToEnter s t w → OwnName s t w Missing → jobsMade t ≡ s .jobs
-      → make s t w ≡ outcome (Refused 8 0) (idleAgain t w)
+      → make s t w ≡ result (Refused 8 0) (idleAgain t w)
   pub arcs-by-8 : ComesToEnter s t w → OwnName s t w Missing → FewArcs s t w
-      → make s t w ≡ outcome (Refused 8 0) (idleAgain t w)
+      → make s t w ≡ result (Refused 8 0) (idleAgain t w)
   pub enters-bare : ComesToEnter s t w → OwnName s t w Missing → Room s t w → ownWord t w 3 ≡ 0
-      → make s t w ≡ outcome Going (enteredWith s t w 4294967295)
+      → make s t w ≡ result Going (enteredWith s t w 4294967295)
   pub enters : ComesToEnter s t w → OwnName s t w Missing → Room s t w → 0 < ownWord t w 3
-      → make s t w ≡ outcome Going (enteredWith s t w (arcsReserved t))
+      → make s t w ≡ result Going (enteredWith s t w (arcsReserved t))
 
 -- it settles the step: two machines of which it holds do the same
 pub one-entering : (make other : Stepper) (s : Sizes) (t : Tables) (w : ℕ)
@@ -169,7 +169,7 @@ module _ (s : Sizes) (t : Tables) (w : ℕ) where
       )
       (own-put _ w 9 arc)
 
-  bucket-put : (k : ℕ) → put bucketShape (t .buckets) k 0 (jobsMade t) ≡ set (t .buckets) k (jobsMade t)
+  bucket-put : (k : ℕ) → put bucketShape (t .buckets) k NEWEST (jobsMade t) ≡ set (t .buckets) k (jobsMade t)
   unfolding put
   bucket-put k = ap (λ n. set (t .buckets) n (jobsMade t)) {x = 0 + 1 * k + 0} {y = k} (omega arith)
 
@@ -179,17 +179,17 @@ module _ (s : Sizes) (t : Tables) (w : ℕ) where
       (omega arith)
 
   module _ (c : ComesToEnter s t w) (l : OwnName s t w Missing) where
-    full-of-jobs : jobsMade t ≡ s .jobs → stepWords s t w ≡ outcome (Refused 8 0) (idleAgain t w)
+    full-of-jobs : jobsMade t ≡ s .jobs → stepWords s t w ≡ result (Refused 8 0) (idleAgain t w)
     unfolding planEnter applied
-    full-of-jobs e = enter-here Missing c l ∙ rw (no-job e) (ap (outcome (Refused 8 0)) (idle-by-word t w))
+    full-of-jobs e = enter-here Missing c l ∙ rw (no-job e) (ap (result (Refused 8 0)) (idle-by-word t w))
 
-    full-of-arcs : FewArcs s t w → stepWords s t w ≡ outcome (Refused 8 0) (idleAgain t w)
+    full-of-arcs : FewArcs s t w → stepWords s t w ≡ result (Refused 8 0) (idleAgain t w)
     unfolding planEnter applied
     full-of-arcs h =
         enter-here Missing c l
-        ∙ rw (no-arcs h, or-true (leb (s .jobs) (view t .made))) (ap (outcome (Refused 8 0)) (idle-by-word t w))
+        ∙ rw (no-arcs h, or-true (leb (s .jobs) (view t .made))) (ap (result (Refused 8 0)) (idle-by-word t w))
 
-    made-bare : Room s t w → ownWord t w 3 ≡ 0 → stepWords s t w ≡ outcome Going (enteredWith s t w 4294967295)
+    made-bare : Room s t w → ownWord t w 3 ≡ 0 → stepWords s t w ≡ result Going (enteredWith s t w 4294967295)
     unfolding planEnter applied header putHeader
     made-bare r e =
         enter-here Missing c l
@@ -208,7 +208,7 @@ module _ (s : Sizes) (t : Tables) (w : ℕ) where
         )
         (rw (worker-put 4294967295))
 
-    made-it : Room s t w → 0 < ownWord t w 3 → stepWords s t w ≡ outcome Going (enteredWith s t w (arcsReserved t))
+    made-it : Room s t w → 0 < ownWord t w 3 → stepWords s t w ≡ result Going (enteredWith s t w (arcsReserved t))
     unfolding planEnter applied header putHeader
     made-it r h =
         enter-here Missing c l
@@ -231,7 +231,7 @@ module _ (s : Sizes) (t : Tables) (w : ℕ) where
   unfolding planEnter applied
   enters-exactly = record {
     damaged-by-9 = λ c l. enter-here Damaged c l;
-    present-by-7 = λ p c l. enter-here (At p) c l ∙ ap (outcome (Refused 7 0)) (idle-by-word t w);
+    present-by-7 = λ p c l. enter-here (At p) c l ∙ ap (result (Refused 7 0)) (idle-by-word t w);
     jobs-by-8 = full-of-jobs;
     arcs-by-8 = full-of-arcs;
     enters-bare = made-bare;

@@ -2,8 +2,7 @@
 -- docs/TABLES.md. A name that is not found, a damaged walk and a word off its range are 9, with nothing changed, and
 -- nothing else is. Follows docs/RULES.md, "Steps": "A finished prerequisite adds 1 to the worker's tally, and one that
 -- failed is noted beside it; any other gets the arc reserved for that list place appended to its list". (Buckets.antt:
--- what a walk finds. MarkSteps.antt: the mark of a finish. Wrong/Steps.antt: machines that do otherwise.) Assumes
--- nothing.
+-- what a walk finds. MarkSteps.antt: the mark of a finish. Wrong/Steps.antt: machines that do otherwise.)
 use mathlib.Core.Path.{_≡_, sym, ap, _∙_}
 use mathlib.Core.Logic.{_≢_}
 use mathlib.Core.Bool.{Bool, true, _&&_}
@@ -14,18 +13,19 @@ use native.Mathlib.Decide.{ℕ-discrete, decLt}
 use lib.Dec.{ltb}
 use lib.ListN.{getD, set}
 use borrow.Author.Tests.{ltb-true, lt-ltb, lt-leb, le-leb, ne-eqb}
-use Rattle.basics.specs.Laws.{never, fails}
-use Rattle.terms.specs.Runs.{step, Outcome, outcome}
-use Rattle.terms.specs.declared.Sizes.{Sizes}
-use Rattle.terms.specs.declared.Answer.the-variants.{Going, Refused}
-use Rattle.words.specs.Columns.{header, put}
-use Rattle.words.specs.Layout.{none, workerShape, LAST, LIST-COUNT, TALLY, PLACE, OWN-JOB, OWN-ARC, NOTE}
-use Rattle.words.specs.Layout.{Tables, tables, view}
-use Rattle.words.specs.Words.{placeOk, findOf, nameAt, planAppend, planTally, planLink, planLinks, planCall, planPhase}
-use Rattle.words.specs.Words.{applied, stepWords, perform}
-use Rattle.words.specs.declared.Found.{Found}
-use Rattle.words.specs.declared.Found.the-variants.{At, Missing, Damaged}
-use Rattle.words.specs.declared.Plan.the-variants.{Refuse}
+use Rattle.def_basics.specs.Laws.{never, fails}
+use Rattle.def_terms.specs.Runs.{step, Result, result}
+use Rattle.def_terms.specs.declared.Sizes.{Sizes}
+use Rattle.def_terms.specs.declared.Answer.the-variants.{Going, Refused}
+use Rattle.def_words.specs.Columns.{header, put}
+use Rattle.def_words.specs.Layout.{none, workerShape, LAST, LIST-COUNT, TALLY, PLACE, OWN-JOB, OWN-ARC, NOTE}
+use Rattle.def_words.specs.Layout.{Tables, tables, view, LABEL, OUTCOME}
+use Rattle.def_words.specs.Words.{placeOk, findOf, nameAt, planAppend, planTally, planLink, planLinks, planCall}
+use Rattle.def_words.specs.Words.{planPhase}
+use Rattle.def_words.specs.Words.{applied, stepWords, perform}
+use Rattle.def_words.specs.declared.Found.{Found}
+use Rattle.def_words.specs.declared.Found.the-variants.{At, Missing, Damaged}
+use Rattle.def_words.specs.declared.Plan.the-variants.{Refuse}
 use Rattle.thm_words_tests.specs.Tests.{test, parts}
 use Rattle.thm_words_tests.specs.Judged.{NoneOrUsed, place-means, Counters, counters-mean, Admitted, admits, did}
 use Rattle.thm_words_tests.specs.OneWord.{ownWord, jobWord, own-by-word, job-by-word, Counted}
@@ -33,7 +33,7 @@ use Rattle.thm_words_steps.specs.Buckets.{LooksFor, look-up-means, one-e
 
 -- a step, of any machine over the tables
 abbrev pub Stepper : Type 0
-Stepper = Sizes → Tables → ℕ → Outcome Tables
+Stepper = Sizes → Tables → ℕ → Result Tables
 
 -- the words of all workers, jobs and arcs with x as word k of worker w, of job j, of arc y
 abbrev pub ownPut : List ℕ → ℕ → ℕ → ℕ → List ℕ
@@ -102,21 +102,21 @@ pub record Appends (s : Sizes) (t : Tables) (w p : ℕ) : Type 0 where
 -- damaged walk, a label above 2, an outcome of a finished job above 1 or an arc that cannot be appended, and the link
 -- is made in every other case
 pub record LinksExactly (make : Stepper) (s : Sizes) (t : Tables) (w : ℕ) : Type 0 where
-  pub missing-by-9 : ComesToLink s t w → Listed s t w Missing → make s t w ≡ outcome (Refused 9 0) t
-  pub damaged-by-9 : ComesToLink s t w → Listed s t w Damaged → make s t w ≡ outcome (Refused 9 0) t
-  pub label-by-9 : (p : ℕ) → LinksTo s t w p → 2 < jobWord t p 1 → make s t w ≡ outcome (Refused 9 0) t
+  pub missing-by-9 : ComesToLink s t w → Listed s t w Missing → make s t w ≡ result (Refused 9 0) t
+  pub damaged-by-9 : ComesToLink s t w → Listed s t w Damaged → make s t w ≡ result (Refused 9 0) t
+  pub label-by-9 : (p : ℕ) → LinksTo s t w p → 2 < jobWord t p 1 → make s t w ≡ result (Refused 9 0) t
   pub outcome-by-9 : (p : ℕ) → LinksTo s t w p → jobWord t p 1 ≡ 2 → 1 < jobWord t p 8
-      → make s t w ≡ outcome (Refused 9 0) t
+      → make s t w ≡ result (Refused 9 0) t
   pub good : (p : ℕ) → LinksTo s t w p → jobWord t p 1 ≡ 2 → jobWord t p 8 ≡ 0
-      → make s t w ≡ outcome Going (tallied t w (ownWord t w 10))
+      → make s t w ≡ result Going (tallied t w (ownWord t w 10))
   pub failed : (p : ℕ) → LinksTo s t w p → jobWord t p 1 ≡ 2 → jobWord t p 8 ≡ 1
-      → make s t w ≡ outcome Going (tallied t w 1)
+      → make s t w ≡ result Going (tallied t w 1)
   pub arc-by-9 : (p : ℕ) → LinksTo s t w p → jobWord t p 1 < 2 → (Appends s t w p → ⊥)
-      → make s t w ≡ outcome (Refused 9 0) t
+      → make s t w ≡ result (Refused 9 0) t
   pub first-arc : (p : ℕ) → LinksTo s t w p → jobWord t p 1 < 2 → Appends s t w p → jobWord t p 6 ≡ none
-      → make s t w ≡ outcome Going (linkedFirst t w p)
+      → make s t w ≡ result Going (linkedFirst t w p)
   pub next-arc : (p : ℕ) → LinksTo s t w p → jobWord t p 1 < 2 → Appends s t w p → jobWord t p 6 ≢ none
-      → make s t w ≡ outcome Going (linkedAfter t w p)
+      → make s t w ≡ result Going (linkedAfter t w p)
 
 -- it settles the step: two machines of which it holds do the same
 appends-or-not : {A : Type 0} (s : Sizes) (t : Tables) (w p : ℕ) → (Appends s t w p → A) → ((Appends s t w p → ⊥) → A)
@@ -236,31 +236,31 @@ module _ (s : Sizes) (t : Tables) (w : ℕ) where
     found : stepWords s t w ≡ did (planLink s (view t) (ownArc t w) (ownWord t w 8) (At p)) t w
     found = link-here (At p) (c .0) (c .1)
 
-    label-word : view t .job 1 p ≡ jobWord t p 1
+    label-word : view t .job LABEL p ≡ jobWord t p 1
     label-word = job-by-word t p 1 (omega arith)
 
-    outcome-word : view t .job 8 p ≡ jobWord t p 8
+    outcome-word : view t .job OUTCOME p ≡ jobWord t p 8
     outcome-word = job-by-word t p 8 (omega arith)
 
     last-word : view t .job LAST p ≡ jobWord t p 6
     last-word = job-by-word t p 6 (omega arith)
 
-    label-refused : 2 < jobWord t p 1 → stepWords s t w ≡ outcome (Refused 9 0) t
+    label-refused : 2 < jobWord t p 1 → stepWords s t w ≡ result (Refused 9 0) t
     unfolding planLink applied
     label-refused h = found ∙ rw (label-word, lt-leb (jobWord t p 1) 2 h)
 
     -- a finished one
     module _ (e : jobWord t p 1 ≡ 2) where
-      outcome-refused : 1 < jobWord t p 8 → stepWords s t w ≡ outcome (Refused 9 0) t
+      outcome-refused : 1 < jobWord t p 8 → stepWords s t w ≡ result (Refused 9 0) t
       unfolding planLink planTally applied
       outcome-refused h = found ∙ rw (label-word, e, outcome-word, lt-leb (jobWord t p 8) 1 h)
 
-      good-tallied : jobWord t p 8 ≡ 0 → stepWords s t w ≡ outcome Going (tallied t w (ownWord t w 10))
+      good-tallied : jobWord t p 8 ≡ 0 → stepWords s t w ≡ result Going (tallied t w (ownWord t w 10))
       unfolding planLink planTally applied
       good-tallied z =
           found ∙ rw (label-word, e, outcome-word, z, place-word, tally-word, note-word, own-puts)
 
-      failed-noted : jobWord t p 8 ≡ 1 → stepWords s t w ≡ outcome Going (tallied t w 1)
+      failed-noted : jobWord t p 8 ≡ 1 → stepWords s t w ≡ result Going (tallied t w 1)
       unfolding planLink planTally applied
       failed-noted z =
           found ∙ rw (label-word, e, outcome-word, z, place-word, tally-word, own-puts)
@@ -285,7 +285,7 @@ module _ (s : Sizes) (t : Tables) (w : ℕ) where
         last = rw (← last-word) (place-means (view t .job LAST p) (view t .reserved) (s .arcs) .0 (search parts));
       }
 
-      arc-refused : (Appends s t w p → ⊥) → stepWords s t w ≡ outcome (Refused 9 0) t
+      arc-refused : (Appends s t w p → ⊥) → stepWords s t w ≡ result (Refused 9 0) t
       unfolding planAppend applied
       arc-refused n = appended ∙ rw (fails fits fits-means n)
 
@@ -303,12 +303,12 @@ module _ (s : Sizes) (t : Tables) (w : ℕ) where
         unfolding header
         last-sound = place-means (jobWord t p 6) (view t .reserved) (s .arcs) .1 (a .last)
 
-        first-made : jobWord t p 6 ≡ none → stepWords s t w ≡ outcome Going (linkedFirst t w p)
+        first-made : jobWord t p 6 ≡ none → stepWords s t w ≡ result Going (linkedFirst t w p)
         unfolding planAppend applied put
         first-made e =
             appended ∙ rw (job-made, arc-reserved, last-word, e, place-word, own-put)
 
-        next-made : jobWord t p 6 ≢ none → stepWords s t w ≡ outcome Going (linkedAfter t w p)
+        next-made : jobWord t p 6 ≢ none → stepWords s t w ≡ result Going (linkedAfter t w p)
         unfolding planAppend applied put
         next-made n =
             appended

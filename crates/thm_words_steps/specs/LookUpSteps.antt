@@ -2,7 +2,7 @@
 -- docs/TABLES.md. A name that the walk finds is passed, one that it does not find is 6, and a damaged walk is 9; there
 -- is no fourth. Follows docs/RULES.md, "Steps": "First one look-up for each listed name, in list order", and the rows
 -- of 6 and 9 in "Turned-away calls". (Buckets.antt: what a walk finds. EnterSteps.antt: the step after the look-ups.
--- Wrong/LookUps.antt: machines that do otherwise.) Assumes nothing.
+-- Wrong/LookUps.antt: machines that do otherwise.)
 use mathlib.Core.Path.{_≡_, sym, ap, _∙_}
 use mathlib.Core.List.{_∷_}
 use Prim.Native.Nat.{ℕ, _+_, _*_, _<_}
@@ -10,14 +10,14 @@ use native.Mathlib.Omega.{arith}
 use lib.ListN.{replicate}
 use lib.Seq.{sets}
 use borrow.Author.Tests.{lt-ltb}
-use Rattle.terms.specs.Runs.{step, outcome}
-use Rattle.terms.specs.declared.Sizes.{Sizes}
-use Rattle.terms.specs.declared.Answer.the-variants.{Going, Refused}
-use Rattle.words.specs.Layout.{LIST-COUNT, PLACE, HELD, IDLE, Tables, tables, view, bareWorker}
-use Rattle.words.specs.Words.{planLookUp, planAdd, planCall, planPhase, putWorker, applied, stepWords, perform}
-use Rattle.words.specs.declared.Found.{Found}
-use Rattle.words.specs.declared.Found.the-variants.{At, Missing, Damaged}
-use Rattle.words.specs.declared.Plan.the-variants.{Refuse}
+use Rattle.def_terms.specs.Runs.{step, result}
+use Rattle.def_terms.specs.declared.Sizes.{Sizes}
+use Rattle.def_terms.specs.declared.Answer.the-variants.{Going, Refused}
+use Rattle.def_words.specs.Layout.{LIST-COUNT, PLACE, HELD, IDLE, Tables, tables, view, bareWorker}
+use Rattle.def_words.specs.Words.{planLookUp, planAdd, planCall, planPhase, putWorker, applied, stepWords, perform}
+use Rattle.def_words.specs.declared.Found.{Found}
+use Rattle.def_words.specs.declared.Found.the-variants.{At, Missing, Damaged}
+use Rattle.def_words.specs.declared.Plan.the-variants.{Refuse}
 use Rattle.thm_words_tests.specs.Judged.{counters-mean, Admitted, admits, did}
 use Rattle.thm_words_tests.specs.OneWord.{ownWord, own-by-word, Counted}
 use Rattle.thm_words_steps.specs.Buckets.{one-end}
@@ -46,10 +46,10 @@ idleAgain t w =
 
 -- ---- the statement, by where the walk for the listed name ends; the place in the list is told with 6
 pub record LooksUpExactly (make : Stepper) (s : Sizes) (t : Tables) (w : ℕ) : Type 0 where
-  pub found : (p : ℕ) → ComesToLookUp s t w → Listed s t w (At p) → make s t w ≡ outcome Going (onePlaceOn t w)
+  pub found : (p : ℕ) → ComesToLookUp s t w → Listed s t w (At p) → make s t w ≡ result Going (onePlaceOn t w)
   pub missing-by-6 : ComesToLookUp s t w → Listed s t w Missing
-      → make s t w ≡ outcome (Refused 6 (ownWord t w 7)) (idleAgain t w)
-  pub damaged-by-9 : ComesToLookUp s t w → Listed s t w Damaged → make s t w ≡ outcome (Refused 9 0) t
+      → make s t w ≡ result (Refused 6 (ownWord t w 7)) (idleAgain t w)
+  pub damaged-by-9 : ComesToLookUp s t w → Listed s t w Damaged → make s t w ≡ result (Refused 9 0) t
 
 -- it settles the step: two machines of which it holds do the same
 pub one-look-up : (make other : Stepper) (s : Sizes) (t : Tables) (w : ℕ)
@@ -101,7 +101,7 @@ module _ (s : Sizes) (t : Tables) (w : ℕ) where
   unfolding planLookUp applied
   looks-up-exactly = record {
     found = λ p c l. look-up-here (At p) c l ∙ rw (place-word, own-put);
-    missing-by-6 = λ c l. look-up-here Missing c l ∙ ap (outcome (Refused 6 (ownWord t w 7))) (idle-by-word t w);
+    missing-by-6 = λ c l. look-up-here Missing c l ∙ ap (result (Refused 6 (ownWord t w 7))) (idle-by-word t w);
     damaged-by-9 = λ c l. look-up-here Damaged c l;
   }
 

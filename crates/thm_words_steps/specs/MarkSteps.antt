@@ -1,8 +1,8 @@
 -- For ALL tables: what the mark of a finish does, and exactly when, of any machine over the tables, by the words of
 -- docs/TABLES.md. A hold of none, a label that is not 1 and a first arc off its range are 9, with nothing changed, and
--- nothing else is: the mark of the job, its word 9, is neither read nor written. Follows docs/RULES.md, "Steps": a
--- finish's "first step labels the job finished, keeps the outcome and frees the worker's hold; it is called the mark".
--- (Wrong/Steps.antt: machines that do otherwise.) Assumes nothing.
+-- nothing else is: the spoiled word of the job, its word 9, is neither read nor written. Follows docs/RULES.md,
+-- "Steps": a finish's "first step labels the job finished, keeps the outcome and frees the worker's hold; it is called
+-- the mark". (Wrong/Steps.antt: machines that do otherwise.)
 use mathlib.Core.Path.{_≡_, sym, ap, _∙_}
 use mathlib.Core.Logic.{_≢_}
 use mathlib.Core.Bool.{Bool, true, _&&_}
@@ -13,14 +13,14 @@ use lib.Dec.{eqb}
 use lib.ListN.{getD}
 use lib.Seq.{sets}
 use borrow.Author.Tests.{eqb-true, ne-eqb}
-use Rattle.basics.specs.Laws.{fails}
-use Rattle.terms.specs.Runs.{step, outcome}
-use Rattle.terms.specs.declared.Sizes.{Sizes}
-use Rattle.terms.specs.declared.Answer.the-variants.{Going, Ended, Refused}
-use Rattle.words.specs.Columns.{header, put}
-use Rattle.words.specs.Layout.{none, LABEL, FIRST, HELD, NOTE, Tables, tables, view, bareWorker}
-use Rattle.words.specs.Words.{placeOk, isPlace, planMark, planCall, planPhase, applied, stepWords, perform}
-use Rattle.words.specs.declared.Plan.the-variants.{Refuse}
+use Rattle.def_basics.specs.Laws.{fails}
+use Rattle.def_terms.specs.Runs.{step, result}
+use Rattle.def_terms.specs.declared.Sizes.{Sizes}
+use Rattle.def_terms.specs.declared.Answer.the-variants.{Going, Ended, Refused}
+use Rattle.def_words.specs.Columns.{header, put}
+use Rattle.def_words.specs.Layout.{none, LABEL, FIRST, HELD, NOTE, Tables, tables, view, bareWorker}
+use Rattle.def_words.specs.Words.{placeOk, isPlace, planMark, planCall, planPhase, applied, stepWords, perform}
+use Rattle.def_words.specs.declared.Plan.the-variants.{Refuse}
 use Rattle.thm_words_tests.specs.Tests.{parts}
 use Rattle.thm_words_tests.specs.Judged.{NoneOrUsed, place-means, counters-mean, Admitted, admits, did, place-some}
 use Rattle.thm_words_tests.specs.OneWord.{ownWord, jobWord, own-by-word, job-by-word, Counted}
@@ -66,11 +66,11 @@ markGoes t w = ownPut (ownPut (ownPut (t .workers) w 0 4) w 1 none) w 9 (heldWor
 
 -- ---- the statement: each of the three is 9, and the mark is made in every other case
 pub record MarksExactly (make : Stepper) (s : Sizes) (t : Tables) (w : ℕ) : Type 0 where
-  pub hold-by-9 : ComesToMark s t w → held t w ≡ none → make s t w ≡ outcome (Refused 9 0) t
-  pub label-by-9 : ComesToMark s t w → heldWord t w 1 ≢ 1 → make s t w ≡ outcome (Refused 9 0) t
-  pub first-by-9 : ComesToMark s t w → (SoundFirst s t w → ⊥) → make s t w ≡ outcome (Refused 9 0) t
-  pub ends : Marks s t w → heldWord t w 5 ≡ none → make s t w ≡ outcome Ended (markedBy t w (markEnds t w))
-  pub goes-on : Marks s t w → heldWord t w 5 ≢ none → make s t w ≡ outcome Going (markedBy t w (markGoes t w))
+  pub hold-by-9 : ComesToMark s t w → held t w ≡ none → make s t w ≡ result (Refused 9 0) t
+  pub label-by-9 : ComesToMark s t w → heldWord t w 1 ≢ 1 → make s t w ≡ result (Refused 9 0) t
+  pub first-by-9 : ComesToMark s t w → (SoundFirst s t w → ⊥) → make s t w ≡ result (Refused 9 0) t
+  pub ends : Marks s t w → heldWord t w 5 ≡ none → make s t w ≡ result Ended (markedBy t w (markEnds t w))
+  pub goes-on : Marks s t w → heldWord t w 5 ≢ none → make s t w ≡ result Going (markedBy t w (markGoes t w))
 
 -- ---- the words' step
 module _ (s : Sizes) (t : Tables) (w : ℕ) where
@@ -101,7 +101,7 @@ module _ (s : Sizes) (t : Tables) (w : ℕ) where
       isPlace (held t w) && eqb (view t .job LABEL (held t w)) 1
       && placeOk (view t .job FIRST (held t w)) (view t .reserved) (s .arcs)
 
-  refused : ComesToMark s t w → (fits ≡ true → ⊥) → stepWords s t w ≡ outcome (Refused 9 0) t
+  refused : ComesToMark s t w → (fits ≡ true → ⊥) → stepWords s t w ≡ result (Refused 9 0) t
   unfolding planMark applied
   refused c n = mark-here c ∙ rw (fails fits (λ e. e) n)
 
@@ -115,7 +115,7 @@ module _ (s : Sizes) (t : Tables) (w : ℕ) where
   sound-first h = place-means (heldWord t w 5) (view t .reserved) (s .arcs) .1 h
 
   module _ (m : Marks s t w) where
-    ended : heldWord t w 5 ≡ none → stepWords s t w ≡ outcome Ended (markedBy t w (markEnds t w))
+    ended : heldWord t w 5 ≡ none → stepWords s t w ≡ result Ended (markedBy t w (markEnds t w))
     unfolding planMark applied put
     ended e =
         mark-here (m .comes)
@@ -125,10 +125,10 @@ module _ (s : Sizes) (t : Tables) (w : ℕ) where
           first-word ∙ e,
           note-word,
         )
-        (ap (λ n. outcome Ended (markedBy t w (sets (t .workers) n (bareWorker 0 none 0)))) {x = 0 + 43 * w + 0}
+        (ap (λ n. result Ended (markedBy t w (sets (t .workers) n (bareWorker 0 none 0)))) {x = 0 + 43 * w + 0}
         {y = 43 * w} (omega arith))
 
-    gone-on : heldWord t w 5 ≢ none → stepWords s t w ≡ outcome Going (markedBy t w (markGoes t w))
+    gone-on : heldWord t w 5 ≢ none → stepWords s t w ≡ result Going (markedBy t w (markGoes t w))
     unfolding planMark applied put
     gone-on n =
         mark-here (m .comes)

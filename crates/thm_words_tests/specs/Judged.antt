@@ -1,6 +1,5 @@
 -- For ALL tables: what the tests mean that come before the words of a step, both ways: the sizes, a worker's own words
 -- and the counters. Follows docs/TABLES.md, "What each step reads and writes", and docs/RULES.md, "Turned-away calls".
--- Assumes nothing.
 use mathlib.Core.Path.{_≡_}
 use mathlib.Core.Logic.{_↔_, _≢_}
 use mathlib.Core.Bool.{true}
@@ -9,14 +8,14 @@ use native.Mathlib.Omega.{arith}
 use lib.Dec.{eqb}
 use lib.ListN.{length}
 use borrow.Author.Tests.{ltb-true, leb-true, eqb-false, lt-ltb, le-ltb, le-leb, ne-eqb}
-use Rattle.basics.specs.Laws.{never, fails}
-use Rattle.terms.specs.Runs.{Outcome, outcome}
-use Rattle.terms.specs.declared.Sizes.{Sizes}
-use Rattle.words.specs.Layout.{none, PHASE, HELD, LIST-COUNT, OWN-CLASS, OWN-GROWER, TALLY, PLACE, OWN-JOB, OWN-ARC}
-use Rattle.words.specs.Layout.{NOTE, Tables, View, view, longEnough, roomFor, sizesFit}
-use Rattle.words.specs.Words.{isPlace, placeOk, countersOk, ownOk, admitted, answerOf, applied}
-use Rattle.words.specs.declared.Plan.{Plan}
-use Rattle.words.specs.Sized.{Limited, limited-means, Kept, kept-means}
+use Rattle.def_basics.specs.Laws.{never, fails}
+use Rattle.def_terms.specs.Runs.{Result, result}
+use Rattle.def_terms.specs.declared.Sizes.{Sizes}
+use Rattle.def_words.specs.Layout.{none, PHASE, HELD, LIST-COUNT, OWN-CLASS, OWN-GROWER, TALLY, PLACE, OWN-JOB, OWN-ARC}
+use Rattle.def_words.specs.Layout.{NOTE, Tables, View, view, longEnough, roomFor, sizesFit}
+use Rattle.def_words.specs.Words.{isPlace, placeOk, countersOk, ownOk, admitted, answerOf, applied}
+use Rattle.def_words.specs.declared.Plan.{Plan}
+use Rattle.def_words.specs.Sized.{Limited, limited-means, Kept, kept-means}
 use Rattle.thm_words_tests.specs.Tests.{test, parts}
 
 -- ---- what laying out asks for: sizes in their limits, and each table as long as its counters and records need
@@ -167,5 +166,5 @@ module _ {A : Type 0} (s : Sizes) (t : Tables) (w : ℕ) (refuse : ℕ → A) (p
       )
 
 -- ---- what is carried out of a plan
-abbrev pub did : Plan → Tables → ℕ → Outcome Tables
-did p t w = outcome (answerOf p) (applied p t w)
+abbrev pub did : Plan → Tables → ℕ → Result Tables
+did p t w = result (answerOf p) (applied p t w)

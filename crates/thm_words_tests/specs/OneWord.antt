@@ -1,13 +1,13 @@
 -- For ALL tables: a single word of a worker, of a job and of the counters, by the places of docs/TABLES.md; and when a
--- worker may post. Assumes nothing.
+-- worker may post.
 use mathlib.Core.Path.{_≡_, ap}
 use Prim.Native.Nat.{ℕ, _+_, _*_, _≤_, _<_}
 use native.Mathlib.Omega.{arith}
 use lib.ListN.{getD}
 use borrow.Author.Tests.{lt-ltb}
-use Rattle.terms.specs.declared.Sizes.{Sizes}
-use Rattle.words.specs.Columns.{columns}
-use Rattle.words.specs.Layout.{Tables, view}
+use Rattle.def_terms.specs.declared.Sizes.{Sizes}
+use Rattle.def_words.specs.Columns.{columns}
+use Rattle.def_words.specs.Layout.{Tables, view}
 use Rattle.thm_words_tests.specs.Judged.{Admitted}
 
 -- ---- the words: word k of worker w's 43, and of job j's 10
@@ -31,9 +31,9 @@ pub record Counted (s : Sizes) (t : Tables) : Type 0 where
   pub made : getD (t .jobs) 4 0 ≤ s .jobs
   pub reserved : getD (t .arcs) 0 0 ≤ s .arcs
 
--- word 9 of the held job: its mark
-abbrev pub markWord : Tables → ℕ → ℕ
-markWord t w = jobWord t (ownWord t w 1) 9
+-- word 9 of the held job: its spoiled word
+abbrev pub spoiledWord : Tables → ℕ → ℕ
+spoiledWord t w = jobWord t (ownWord t w 1) 9
 
 -- the worker is idle and none of its own words turns it away
 pub record MayPost (s : Sizes) (t : Tables) (w : ℕ) : Type 0 where

@@ -1,17 +1,17 @@
 -- For ALL tables: how far a get comes. It is refused before it looks at the queue, finds the queue empty, or comes to
--- the index. Follows docs/RULES.md, "Turned-away calls". Assumes nothing.
+-- the index. Follows docs/RULES.md, "Turned-away calls".
 use mathlib.Core.Path.{_≡_, refl}
 use mathlib.Core.Bool.{Bool, true, false, _&&_}
 use Prim.Native.Nat.{ℕ}
 use lib.Dec.{ltb, leb, eqb}
-use Rattle.numbers.specs.Numbers.{wrongSize, noSuchWorker, halfDone, damaged, alreadyHolding}
-use Rattle.basics.specs.Base.{pick}
-use Rattle.terms.specs.declared.Sizes.{Sizes}
-use Rattle.words.specs.Layout.{none, PHASE, HELD, IDLE, Tables, View, view, sizesFit}
-use Rattle.words.specs.Index.{firstSeat}
-use Rattle.words.specs.Words.{countersOk, ownOk, admitted, takeFrom, planTake, planQueue, planGet, planGetOf}
-use Rattle.words.specs.declared.GetPlan.{GetPlan}
-use Rattle.words.specs.declared.GetPlan.the-variants.{RefuseGet, Wait}
+use Rattle.def_numbers.specs.Numbers.{wrongSize, noSuchWorker, halfDone, damaged, alreadyHolding}
+use Rattle.def_basics.specs.Base.{pick}
+use Rattle.def_terms.specs.declared.Sizes.{Sizes}
+use Rattle.def_words.specs.Layout.{none, PHASE, HELD, IDLE, Tables, View, view, sizesFit}
+use Rattle.def_words.specs.Index.{firstSeat}
+use Rattle.def_words.specs.Words.{countersOk, ownOk, admitted, takeFrom, planTake, planQueue, planGet, planGetOf}
+use Rattle.def_words.specs.declared.GetPlan.{GetPlan}
+use Rattle.def_words.specs.declared.GetPlan.the-variants.{RefuseGet, Wait}
 
 pub data Reach : Type 0 where
   early : ℕ → Reach

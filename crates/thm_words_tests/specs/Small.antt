@@ -1,5 +1,4 @@
 -- Small tables over which machines that are wrong are refuted, numbers that differ, and the number of an answer.
--- Assumes nothing.
 use mathlib.Core.Path.{_≡_}
 use mathlib.Core.Bool.{false}
 use mathlib.Core.List.{List, [], _∷_, _++_}
@@ -7,17 +6,17 @@ use Prim.Native.Nat.{ℕ}
 use lib.Dec.{eqb}
 use lib.ListN.{replicate}
 use borrow.Author.Tests.{eqb-false}
-use Rattle.terms.specs.declared.Sizes.{Sizes}
-use Rattle.terms.specs.declared.Answer.{Answer}
-use Rattle.terms.specs.declared.Answer.the-variants.{Laid, Loaded, Posted, Going, Ended, NoneReady, Handed, Refused}
-use Rattle.words.specs.Layout.{none, IDLE, Tables, tables, bareWorker}
+use Rattle.def_terms.specs.declared.Sizes.{Sizes}
+use Rattle.def_terms.specs.declared.Answer.{Answer}
+use Rattle.def_terms.specs.declared.Answer.the-variants.{Laid, Loaded, Posted, Going, Ended, NoneReady, Handed, Refused}
+use Rattle.def_words.specs.Layout.{none, IDLE, Tables, tables, bareWorker}
 
 -- ---- tables of R 1, A 0, b 1 and P 1, with one job, of name 7, and one worker
 abbrev pub one : Sizes
 one = record { jobs = 1; arcs = 0; bits = 1; workers = 1 }
 
--- with a number of jobs made, the job's label, count and mark, the queue's words and the worker's
-abbrev pub with : ℕ → ℕ → ℕ → ℕ → List ℕ → List ℕ → Tables
+-- with a number of jobs made, the job's label, count and spoiled word, the queue's words and the worker's
+abbrev pub with : (made label count word : ℕ) (queue worker : List ℕ) → Tables
 with made label count mark queue worker =
     tables
     (1 ∷ 0 ∷ 1 ∷ 1 ∷ made
@@ -38,8 +37,8 @@ graph made first second arcs buckets worker =
     tables (2 ∷ 1 ∷ 1 ∷ 1 ∷ made ∷ (replicate 16 7 ++ (first ++ second))) arcs buckets
     (1 ∷ 1 ∷ replicate 6 none) worker
 
--- a job's words: name, label, count, first arc (its last too), outcome and mark
-abbrev pub jobOf : ℕ → ℕ → ℕ → ℕ → ℕ → ℕ → List ℕ
+-- a job's words: name, label, count, first arc (its last too), outcome and spoiled word
+abbrev pub jobOf : (name label count arc outcome spoiled : ℕ) → List ℕ
 jobOf name label count arc outcome mark =
     name ∷ label ∷ count ∷ 0 ∷ 0 ∷ arc ∷ arc ∷ none ∷ outcome ∷ mark ∷ []
 

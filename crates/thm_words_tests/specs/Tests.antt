@@ -1,5 +1,5 @@
 -- Tests, and what a passed test is made of; tables that have the words that the sizes need. Follows docs/RULES.md,
--- "Tables and their measures". Assumes nothing.
+-- "Tables and their measures".
 use mathlib.Core.Path.{_≡_, refl}
 use mathlib.Core.Bool.{Bool, true, false}
 use mathlib.Core.List.{List}
@@ -9,10 +9,10 @@ use native.Mathlib.Nat.{mul-suc, mul-le-mul-left}
 use lib.Dec.{ltb}
 use lib.ListN.{length}
 use borrow.Author.Tests.{ltb-true, leb-true}
-use Rattle.basics.specs.Laws.{and-left, and-right}
-use Rattle.terms.specs.declared.Sizes.{Sizes}
-use Rattle.words.specs.Columns.{Shape, place, Rows, rows}
-use Rattle.words.specs.Layout.{jobShape, arcShape, bucketShape, queueShape, workerShape, Tables, longEnough}
+use Rattle.def_basics.specs.Laws.{and-left, and-right}
+use Rattle.def_terms.specs.declared.Sizes.{Sizes}
+use Rattle.def_words.specs.Columns.{Shape, offset, Rows, rows}
+use Rattle.def_words.specs.Layout.{jobShape, arcShape, bucketShape, queueShape, workerShape, Tables, longEnough}
 
 -- ---- tests, and what a passed test is made of
 pub test : {A : Type 0} (b : Bool) → (b ≡ true → A) → (b ≡ false → A) → A
@@ -43,7 +43,7 @@ long {s} {t} e =
 
 -- ---- a whole record is within its table
 pub record-ends : (s : Shape) (R : ℕ) (l : List ℕ) (i : ℕ) → Rows s R l → ltb i R ≡ true
-    → place s i 0 + s .width ≤ length l
+    → offset s i 0 + s .width ≤ length l
 unfolding rows
 record-ends s R l i r h =
     let fits = leb-true (s .head + s .width * R) (length l) r in

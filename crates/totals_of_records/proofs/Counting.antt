@@ -1,6 +1,5 @@
 -- The invariant of the loop over a row of records, by minutes that were judged: its running totals are those of the
--- records that it has passed, or the refusal of the minutes. docs/RULES.md, "The board and the day list". Assumes
--- nothing.
+-- records that it has passed, or the refusal of the minutes. docs/RULES.md, "The board and the day list".
 use mathlib.Core.Path.{_≡_, refl}
 use mathlib.Core.Bool.{Bool, true, false}
 use mathlib.Core.List.{List}
@@ -10,13 +9,13 @@ use borrow.Author.Tests.{le-ltb, lt-ltb, eqb-true}
 use lib.Dec.{eqb}
 use lib.ListN.{length, getD, take}
 use lib.Seq.{take-all}
-use Rattle.numbers.specs.Numbers.{wrongSize, accepted, mostRecords}
-use Rattle.basics.specs.Base.{pick}
-use Rattle.minutes.specs.Rising.{rising}
-use Rattle.minutes.specs.declared.GraphMinutes.{GraphMinutes}
-use Rattle.totals.specs.declared.JobRecord.{JobRecord}
-use Rattle.totals.specs.declared.Totals.{Totals}
-use Rattle.totals.specs.Board.{refused, totalsOf}
+use Rattle.def_numbers.specs.Numbers.{wrongSize, accepted, mostRecords}
+use Rattle.def_basics.specs.Base.{pick}
+use Rattle.def_minutes.specs.Rising.{rising}
+use Rattle.def_minutes.specs.declared.GraphMinutes.{GraphMinutes}
+use Rattle.def_totals.specs.declared.JobRecord.{JobRecord}
+use Rattle.def_totals.specs.declared.Totals.{Totals}
+use Rattle.def_totals.specs.Board.{refused, totalsOf}
 use Rattle.totals_step.specs.Step.{withRecord}
 use Rattle.totals_step.proofs.Running.{Running, start as starts, next as adds}
 use Rattle.totals_of_records.specs.By.{Judged, unlessRefused, totalsWith}

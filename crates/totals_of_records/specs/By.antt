@@ -1,5 +1,5 @@
 -- The board of a lent row of records by minutes that were judged: a refusal of the minutes is one of the board, after
--- number 1. docs/RULES.md, "The board and the day list". Assumes nothing.
+-- number 1. docs/RULES.md, "The board and the day list".
 use mathlib.Core.Path.{_≡_, refl, _∙_}
 use mathlib.Core.Bool.{Bool, true, false}
 use mathlib.Core.List.{List}
@@ -7,15 +7,15 @@ use Prim.Native.Nat.{ℕ}
 use lib.Dec.{eqb, ltb}
 use lib.ListN.{length}
 use native.Mathlib.Omega.{arith}
-use Rattle.numbers.specs.Numbers.{wrongSize, wrongMinutes, mostRecords}
-use Rattle.basics.specs.Base.{pick}
-use Rattle.minutes.specs.Minutes.{fixedMinutes}
-use Rattle.minutes.specs.Rising.{isRising}
-use Rattle.minutes.specs.Judged.{allMinutes, judgedAs, judgedMinutes, fixed-passes}
-use Rattle.minutes.specs.declared.GraphMinutes.{GraphMinutes}
-use Rattle.totals.specs.declared.JobRecord.{JobRecord}
-use Rattle.totals.specs.declared.Totals.{Totals}
-use Rattle.totals.specs.Board.{refused, totalsOf, totalsBy}
+use Rattle.def_numbers.specs.Numbers.{wrongSize, wrongMinutes, mostRecords}
+use Rattle.def_basics.specs.Base.{pick}
+use Rattle.def_minutes.specs.Minutes.{fixedMinutes}
+use Rattle.def_minutes.specs.Rising.{isRising}
+use Rattle.def_minutes.specs.Judged.{allMinutes, judgedAs, judgedMinutes, fixed-passes}
+use Rattle.def_minutes.specs.declared.GraphMinutes.{GraphMinutes}
+use Rattle.def_totals.specs.declared.JobRecord.{JobRecord}
+use Rattle.def_totals.specs.declared.Totals.{Totals}
+use Rattle.def_totals.specs.Board.{refused, totalsOf, totalsBy}
 
 -- minutes that are served rise
 abbrev pub Judged : GraphMinutes → Type 0

@@ -1,13 +1,13 @@
-// The board over a lent row of records. docs/RULES.md, "The board and the day list"; specs/Board.antt of `totals` has
-// the definitions. Assumes nothing.
+// The board over a lent row of records. docs/RULES.md, "The board and the day list"; specs/Board.antt of `def_totals`
+// has the definitions.
 ghost use mathlib.Core.Path.{_≡_};
 ghost use Rattle.totals_of_records.specs.By.{Judged, totalsWith};
-use minutes::GraphMinutes;
-use numbers::MOST_RECORDS;
-use numbers::WRONG_SIZE;
-use totals::JobRecord;
-use totals::Totals;
-use totals::blank;
+use def_minutes::GraphMinutes;
+use def_numbers::MOST_RECORDS;
+use def_numbers::WRONG_SIZE;
+use def_totals::JobRecord;
+use def_totals::Totals;
+use def_totals::blank;
 use totals_step::with_record;
 
 // The board on a lent row of records, by minutes that were judged: each record is taken apart, and the covered step

@@ -1,5 +1,5 @@
 -- The records that stand in a table of words: how many, which, and what one more does to the running totals; and a row
--- of words as such a table. docs/RULES.md, "The board and the day list". Assumes nothing.
+-- of words as such a table. docs/RULES.md, "The board and the day list".
 use mathlib.Core.Path.{_≡_, refl, sym, _∙_}
 use mathlib.Core.Bool.{Bool, true, false, _&&_, and-eq-true-iff}
 use mathlib.Core.List.{List, [], _∷_}
@@ -10,13 +10,13 @@ use borrow.Author.Tests.{eq-eqb, ne-eqb, le-leb, lt-ltb, ltb-true, leb-true, leb
 use lib.Dec.{leb, ltb}
 use lib.ListN.{length, getD}
 use lib.Seq.{ext-getD}
-use Rattle.numbers.specs.Numbers.{wrongSize, damaged, accepted, mostRecords}
-use Rattle.basics.specs.Base.{pick}
-use Rattle.minutes.specs.Rising.{Rising}
-use Rattle.totals.specs.declared.JobRecord.{JobRecord}
-use Rattle.totals.specs.declared.Totals.{Totals}
-use Rattle.totals.specs.Board.{wellFormed, refused, totalsOf, recordsFrom, recordAt}
-use Rattle.totals.specs.Board.{rowsOfTable, standsInTable, totalsOfTable, rowsOfWords, totalsOfWords}
+use Rattle.def_numbers.specs.Numbers.{wrongSize, damaged, accepted, mostRecords}
+use Rattle.def_basics.specs.Base.{pick}
+use Rattle.def_minutes.specs.Rising.{Rising}
+use Rattle.def_totals.specs.declared.JobRecord.{JobRecord}
+use Rattle.def_totals.specs.declared.Totals.{Totals}
+use Rattle.def_totals.specs.Board.{wellFormed, refused, totalsOf, recordsFrom, recordAt}
+use Rattle.def_totals.specs.Board.{rowsOfTable, standsInTable, totalsOfTable, rowsOfWords, totalsOfWords}
 use Rattle.totals_step.specs.Step.{withRecord}
 use Rattle.totals_of_words.specs.Standing.{standing}
 use Rattle.totals_step.proofs.Running.{Running, start, next, last, too-many, leaves}

@@ -1,22 +1,23 @@
-// The board over a table of words. docs/RULES.md, "The board and the day list"; specs/Board.antt of `totals` has the
-// definitions. Assumes nothing: the sums wrap at 32 bits, which those of a row of at most 4,096 records never reach.
+// The board over a table of words. docs/RULES.md, "The board and the day list"; specs/Board.antt of `def_totals` has
+// the definitions. The sums wrap at 32 bits, which those of a row of at most 4,096 records never reach.
 ghost use mathlib.Core.Path.{_≡_};
 ghost use mathlib.Core.Bool.{true};
-ghost use Rattle.minutes.specs.Minutes.{fixedMinutes};
-ghost use Rattle.minutes.specs.Rising.{isRising};
-ghost use Rattle.totals.specs.Board.{totalsOfWords, totalsOfTable};
+ghost use Rattle.def_minutes.specs.Minutes.{fixedMinutes};
+ghost use Rattle.def_minutes.specs.Rising.{isRising};
+ghost use Rattle.def_totals.specs.Board.{totalsOfWords, totalsOfTable};
 ghost use Rattle.totals_of_words.specs.Standing.{standing};
-use minutes::GraphMinutes;
-use numbers::ACCEPTED;
-use numbers::DAMAGED;
-use numbers::MOST_CLASS;
-use numbers::MOST_RECORDS;
-use numbers::WRONG_SIZE;
-use totals::Totals;
-use totals::blank;
+use def_minutes::GraphMinutes;
+use def_minutes::fixed_minutes;
+use def_numbers::ACCEPTED;
+use def_numbers::DAMAGED;
+use def_numbers::MOST_CLASS;
+use def_numbers::MOST_RECORDS;
+use def_numbers::WRONG_SIZE;
+use def_totals::Totals;
+use def_totals::blank;
 use totals_step::FINISHED;
 
-// Whether `count` records of `width` words stand in a table of `length` words after its first `head`, and the places
+// Whether `count` records of `width` words stand in a table of `length` words after its first `head`, and the fields
 // `label` and `class` lie inside a record.
 fn stands(length: usize, head: u32, width: u32, label: u32, class: u32, count: usize) -> bool
     ensures { λ r. ⌜ r ≡ standing head width label class length count ⌝ }
@@ -31,7 +32,7 @@ fn stands(length: usize, head: u32, width: u32, label: u32, class: u32, count: u
 }
 
 // The board on a table of words: `count` records of `width` words follow the first `head`, and words `label` and
-// `class` of a record are its label and class. A shorter table is refused, and so is a place outside the record. The
+// `class` of a record are its label and class. A shorter table is refused, and so is a field outside the record. The
 // minutes have passed the rising rule.
 pub fn of_table(
     by: GraphMinutes,
@@ -77,5 +78,5 @@ pub fn of_words(words: &[u32]) -> Totals
     if words.len() % 2 != 0 {
         return blank(WRONG_SIZE);
     }
-    of_table(minutes::fixed_minutes(), words, 0, 2, 0, 1, words.len() / 2)
+    of_table(fixed_minutes(), words, 0, 2, 0, 1, words.len() / 2)
 }

@@ -1,5 +1,5 @@
 -- The invariant of a loop over a row of records: its running totals are those of the records that it has passed.
--- docs/RULES.md, "The board and the day list". Assumes nothing.
+-- docs/RULES.md, "The board and the day list".
 use mathlib.Core.Path.{_≡_}
 use mathlib.Core.Bool.{false, and-false}
 use mathlib.Core.List.{List, [], _∷_}
@@ -9,12 +9,12 @@ use native.Mathlib.Omega.{arith}
 use borrow.Author.Tests.{eq-eqb, le-leb, lt-ltb}
 use lib.ListN.{length, getD, take}
 use lib.Seq.{take-suc, take-all, length-take-le}
-use Rattle.numbers.specs.Numbers.{wrongSize, damaged, classes, accepted, mostRecords}
-use Rattle.minutes.specs.Minutes.{minutesIn}
-use Rattle.minutes.specs.Rising.{Rising}
-use Rattle.totals.specs.declared.JobRecord.{JobRecord}
-use Rattle.totals.specs.declared.Totals.{Totals}
-use Rattle.totals.specs.Board.{finished, sumOver, wellFormed, allWellFormed, refused, counted, totalsOf}
+use Rattle.def_numbers.specs.Numbers.{wrongSize, damaged, classes, accepted, mostRecords}
+use Rattle.def_minutes.specs.Minutes.{minutesIn}
+use Rattle.def_minutes.specs.Rising.{Rising}
+use Rattle.def_totals.specs.declared.JobRecord.{JobRecord}
+use Rattle.def_totals.specs.declared.Totals.{Totals}
+use Rattle.def_totals.specs.Board.{finished, sumOver, wellFormed, allWellFormed, refused, counted, totalsOf}
 use Rattle.totals_step.specs.Step.{raised, withRecord}
 use Rattle.totals_step.proofs.Sums.{few-totals, with-record-totals}
 

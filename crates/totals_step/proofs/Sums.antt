@@ -1,5 +1,5 @@
 -- What one record more does to the totals of a row, and how large the totals of a row can be. docs/RULES.md, "The board
--- and the day list". Assumes nothing.
+-- and the day list".
 use mathlib.Core.Path.{_≡_, refl, sym, ap, _∙_}
 use mathlib.Core.Bool.{Bool, true, false, _&&_, and-true, and-assoc}
 use mathlib.Core.List.{List, [], _∷_, _++_}
@@ -9,13 +9,13 @@ use native.Mathlib.Omega.{arith}
 use borrow.Author.Tests.{ltb-true, ltb-false, le-ltb, lt-leb}
 use lib.Dec.{eqb, ltb}
 use lib.ListN.{length, getD, set, length-append}
-use Rattle.numbers.specs.Numbers.{damaged, classes, mostMinutes, accepted, mostRecords}
-use Rattle.basics.specs.Base.{pick}
-use Rattle.minutes.specs.Minutes.{minutesIn}
-use Rattle.minutes.specs.Rising.{Rising}
-use Rattle.totals.specs.declared.JobRecord.{JobRecord}
-use Rattle.totals.specs.Board.{finished, sumOver, under, oneJob, itsMinutes}
-use Rattle.totals.specs.Board.{wellFormed, allWellFormed, refused, counted, totalsOf}
+use Rattle.def_numbers.specs.Numbers.{damaged, classes, mostMinutes, accepted, mostRecords}
+use Rattle.def_basics.specs.Base.{pick}
+use Rattle.def_minutes.specs.Minutes.{minutesIn}
+use Rattle.def_minutes.specs.Rising.{Rising}
+use Rattle.def_totals.specs.declared.JobRecord.{JobRecord}
+use Rattle.def_totals.specs.Board.{finished, sumOver, under, oneJob, itsMinutes}
+use Rattle.def_totals.specs.Board.{wellFormed, allWellFormed, refused, counted, totalsOf}
 use Rattle.totals_step.specs.Step.{raised, withRecord, Room}
 
 pub few-totals : (table : List ℕ) (rows : List JobRecord) → length rows ≤ mostRecords
@@ -93,14 +93,14 @@ module _ (r : JobRecord) where
       ap (λ b. wellFormed x && b) (well-formed-snoc rows)
       ∙ sym (and-assoc (wellFormed x) (allWellFormed rows) (wellFormed r))
 
--- a sum with one entry raised, where that is a word
+-- three sums with one raised, where that is a word
 abbrev lifted : List ℕ → ℕ → ℕ → List ℕ
 lifted sums at by = set sums at (getD sums at 0 + by)
 
 raised-is : (sums : List ℕ) (at by : ℕ) → getD sums at 0 + by < 2 ^ 32 → raised sums at by ≡ lifted sums at by
 raised-is sums at by h = ap (set sums at) (mod-eq-of-lt h)
 
--- a well-formed record raises the entries of its label
+-- a well-formed record raises the sums of its label
 counted-snoc : (table : List ℕ) (rows : List JobRecord) (label class : ℕ)
     → wellFormed (record { label = label; class = class }) ≡ true
     → counted table (rows ++ (record { label = label; class = class } ∷ []))

@@ -1,16 +1,16 @@
 -- One job record more on running totals: what the loops over a row of records do at each turn. docs/RULES.md, "The
--- board and the day list". Assumes nothing.
+-- board and the day list".
 use mathlib.Core.List.{List}
 use Prim.Native.Nat.{ℕ, _+_, _*_, _%_, _^_, _<_}
 use lib.Dec.{eqb}
 use lib.ListN.{getD, set}
-use Rattle.numbers.specs.Numbers.{damaged, mostMinutes, accepted, mostRecords}
-use Rattle.basics.specs.Base.{pick}
-use Rattle.minutes.specs.Minutes.{minutesIn}
-use Rattle.totals.specs.declared.Totals.{Totals}
-use Rattle.totals.specs.Board.{refused, wellFormed}
+use Rattle.def_numbers.specs.Numbers.{damaged, mostMinutes, accepted, mostRecords}
+use Rattle.def_basics.specs.Base.{pick}
+use Rattle.def_minutes.specs.Minutes.{minutesIn}
+use Rattle.def_totals.specs.declared.Totals.{Totals}
+use Rattle.def_totals.specs.Board.{refused, wellFormed}
 
--- a sum with one entry raised, at 32 bits
+-- three sums with one raised, at 32 bits
 abbrev pub raised : List ℕ → ℕ → ℕ → List ℕ
 raised sums at by = set sums at ((getD sums at 0 + by) % 2 ^ 32)
 
@@ -27,7 +27,7 @@ withRecord table t label class =
     (refused damaged))
     t
 
--- room for one record more under a label: its entries lie below what the most records can come to
+-- room for one record more under a label: its sums lie below what the most records can come to
 pub record Room (t : Totals) (label : ℕ) : Type 0 where
   pub jobs-room : getD (t .jobs) label 0 < mostRecords
   pub minutes-room : getD (t .minutes) label 0 < mostRecords * mostMinutes

@@ -1,13 +1,13 @@
 // One record more on running totals. docs/RULES.md, "The board and the day list"; specs/Step.antt has the definition.
-// Assumes nothing: the sums wrap at 32 bits, which those of a row of at most 4,096 records never reach.
+// The sums wrap at 32 bits, which those of a row of at most 4,096 records never reach.
 ghost use mathlib.Core.Path.{_≡_};
 ghost use Rattle.totals_step.specs.Step.{withRecord};
-use minutes::GraphMinutes;
-use numbers::ACCEPTED;
-use numbers::DAMAGED;
-use numbers::MOST_CLASS;
-use totals::Totals;
-use totals::blank;
+use def_minutes::GraphMinutes;
+use def_numbers::ACCEPTED;
+use def_numbers::DAMAGED;
+use def_numbers::MOST_CLASS;
+use def_totals::Totals;
+use def_totals::blank;
 
 // The labels.
 const UNEXECUTED: u32 = 0;
@@ -31,7 +31,7 @@ pub fn with_record(by: GraphMinutes, t: Totals, label: u32, class: u32) -> Total
     }
     let minutes = by.minutes[class as usize];
     let mut next = t;
-    // Constant places: the compiler keeps the sums in registers.
+    // Constant offsets: the compiler keeps the sums in registers.
     if label == UNEXECUTED {
         next.jobs[0] = std::num::wrapping_add_u32(next.jobs[0], 1);
         next.minutes[0] = std::num::wrapping_add_u32(next.minutes[0], minutes);

@@ -1,16 +1,16 @@
-// An add run whole: posted, and stepped to its end, in one go. Follows docs/RULES.md, "Whole calls". Assumes nothing.
+// An add run whole: posted, and stepped to its end, in one go. Follows docs/RULES.md, "Whole calls".
 ghost use mathlib.Core.Path.{_≡_};
-ghost use Rattle.terms.specs.Runs.{outcome};
-ghost use Rattle.words.specs.Layout.{atEntry, atExit};
-ghost use Rattle.whole_words.specs.Whole.{wholeAdd};
-ghost use Rattle.sheet_rows.specs.Arguments.{argumentsOf};
+ghost use Rattle.def_terms.specs.Runs.{result};
+ghost use Rattle.def_words.specs.Layout.{asLent, asLeft};
+ghost use Rattle.def_whole_calls.specs.Whole.{wholeAdd};
+ghost use Rattle.def_sheet_rows.specs.Arguments.{argumentsOf};
+use def_numbers::*;
+use def_sheets::Entry;
+use def_terms::Answer;
+use def_terms::Sizes;
 use fused_add::add_if_idle;
 use graph_own::own_ok;
 use graph_sizes::sizes_fit;
-use numbers::*;
-use sheet_format::Entry;
-use terms::Answer;
-use terms::Sizes;
 
 // An add run whole. The tests that come first stand here as in a step: docs/DECISIONS.md, 43.
 pub fn add_whole(
@@ -23,8 +23,8 @@ pub fn add_whole(
     worker: u32,
     entry: Entry,
 ) -> Answer
-    ensures { λ r. ⌜ outcome r (atExit jobs arcs buckets queue workers)
-        ≡ wholeAdd sizes (atEntry jobs arcs buckets queue workers) worker (argumentsOf entry) ⌝ }
+    ensures { λ r. ⌜ result r (asLeft jobs arcs buckets queue workers)
+        ≡ wholeAdd sizes (asLent jobs arcs buckets queue workers) worker (argumentsOf entry) ⌝ }
 {
     let fit = sizes_fit(sizes, jobs, arcs, buckets, queue, workers);
     if fit {

@@ -1,15 +1,15 @@
-// A finish run whole: posted, and stepped to its end, in one go. Follows docs/RULES.md, "Whole calls". Assumes nothing.
+// A finish run whole: posted, and stepped to its end, in one go. Follows docs/RULES.md, "Whole calls".
 ghost use mathlib.Core.Path.{_≡_};
-ghost use Rattle.terms.specs.Terms.{finishOf};
-ghost use Rattle.terms.specs.Runs.{outcome};
-ghost use Rattle.words.specs.Layout.{atEntry, atExit};
-ghost use Rattle.whole_words.specs.Whole.{wholeFinish};
+ghost use Rattle.def_terms.specs.Terms.{finishOf};
+ghost use Rattle.def_terms.specs.Runs.{result};
+ghost use Rattle.def_words.specs.Layout.{asLent, asLeft};
+ghost use Rattle.def_whole_calls.specs.Whole.{wholeFinish};
+use def_numbers::*;
+use def_terms::Answer;
+use def_terms::Sizes;
 use fused_finish::finish_if_idle;
 use graph_own::own_ok;
 use graph_sizes::sizes_fit;
-use numbers::*;
-use terms::Answer;
-use terms::Sizes;
 
 // A finish run whole. The tests that come first stand here as in a step: docs/DECISIONS.md, 43.
 pub fn finish_whole(
@@ -23,8 +23,8 @@ pub fn finish_whole(
     name: u32,
     failed: bool,
 ) -> Answer
-    ensures { λ r. ⌜ outcome r (atExit jobs arcs buckets queue workers)
-        ≡ wholeFinish sizes (atEntry jobs arcs buckets queue workers) worker (finishOf name failed) ⌝ }
+    ensures { λ r. ⌜ result r (asLeft jobs arcs buckets queue workers)
+        ≡ wholeFinish sizes (asLent jobs arcs buckets queue workers) worker (finishOf name failed) ⌝ }
 {
     let fit = sizes_fit(sizes, jobs, arcs, buckets, queue, workers);
     if fit {

@@ -1,15 +1,15 @@
 // A worker's phase, and whether damage stopped a call run whole half done: by the number that the call answers, and the
-// phase before and after it. Follows docs/RULES.md, "Whole calls". Assumes nothing.
+// phase before and after it. Follows docs/RULES.md, "Whole calls".
 ghost use mathlib.Core.Path.{_≡_};
 ghost use lib.Dec.{ltb};
-ghost use Rattle.basics.specs.Base.{pick};
-ghost use Rattle.words.specs.Columns.{columns};
-ghost use Rattle.words.specs.Layout.{workerShape, PHASE};
-ghost use Rattle.whole_stops.specs.Stopped.{stoppedAs};
+ghost use Rattle.def_basics.specs.Base.{pick};
+ghost use Rattle.def_words.specs.Columns.{columns};
+ghost use Rattle.def_words.specs.Layout.{workerShape, PHASE};
+ghost use Rattle.def_stops.specs.Stopped.{stoppedAs};
+use def_numbers::DAMAGED;
 use graph_words::layout::IDLE;
 use graph_words::layout::PHASE;
 use graph_words::worker_word;
-use numbers::DAMAGED;
 
 // The phase of a worker below a number of workers; no word is read for any other.
 pub fn phase_of(workers: &[u32], most: u32, worker: u32) -> u32

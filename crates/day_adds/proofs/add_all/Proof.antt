@@ -1,13 +1,12 @@
 -- `add_all` adds every entry. The loop's invariant: the entries that are left, added to what stands, make the whole.
--- Assumes nothing.
 use Prim.Native.Nat.{_-_, _≤_}
 use mathlib.Core.Path.{_≡_, refl, _∙_}
 use native.Mathlib.Omega.{arith}
 use native.Mathlib.Numerals.{add-one}
 use borrow.Author.Needs.{needs}
 use lib.ListN.{length}
-use Rattle.words.specs.Layout.{tables}
-use Rattle.day_rounds.specs.Rounds.{addAll}
+use Rattle.def_words.specs.Layout.{tables}
+use Rattle.def_day.specs.Rounds.{addAll}
 use Rattle.day_text.specs.Page.{page}
 use Rattle.day_entry.specs.Entered.{wrote}
 use Rattle.day_adds.specs.Adding.{entriesAt}
@@ -16,8 +15,8 @@ use Rattle.day_adds.proofs.add_all.Statement.{statement}
 use Rattle.day_adds.proofs.add_all.Tie as tie
 
 abbrev Inv-loop : tie.InvT-loop
-Inv-loop sheet sizes jobs₀ arcs₀ buckets₀ queue₀ workers₀ out₀ limit at₀ number₀ place₀ jobs arcs buckets queue workers
-    out at number place =
+Inv-loop sheet sizes jobs₀ arcs₀ buckets₀ queue₀ workers₀ out₀ limit at₀ number₀ offset₀ jobs arcs buckets queue workers
+    out at number offset =
     (length jobs ≡ length jobs₀)
     × (length arcs ≡ length arcs₀)
     × (length buckets ≡ length buckets₀)
@@ -25,13 +24,13 @@ Inv-loop sheet sizes jobs₀ arcs₀ buckets₀ queue₀ workers₀ out₀ limit
     × (length workers ≡ length workers₀)
     × (length out ≡ length out₀)
     × (number ≤ at)
-    × (wrote limit (page place out) (addAll sizes number (entriesAt sheet at) (tables jobs arcs buckets queue workers))
+    × (wrote limit (page offset out) (addAll sizes number (entriesAt sheet at) (tables jobs arcs buckets queue workers))
     ≡ wrote limit (page 0 out₀)
     (addAll sizes 0 (entriesAt sheet 0) (tables jobs₀ arcs₀ buckets₀ queue₀ workers₀)))
 
 abbrev μ-loop : tie.MeasureT-loop
-μ-loop sheet sizes jobs₀ arcs₀ buckets₀ queue₀ workers₀ out₀ limit at₀ number₀ place₀ jobs arcs buckets queue workers
-    out at number place =
+μ-loop sheet sizes jobs₀ arcs₀ buckets₀ queue₀ workers₀ out₀ limit at₀ number₀ offset₀ jobs arcs buckets queue workers
+    out at number offset =
     length sheet - at
 
 loop-holds : tie.Need-loop-holds Inv-loop μ-loop

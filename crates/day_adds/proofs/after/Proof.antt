@@ -1,4 +1,4 @@
--- `after` tells whether an entry was read. Assumes nothing.
+-- `after` tells whether an entry was read.
 use borrow.Author.Needs.{needs}
 use Rattle.day_adds.proofs.after.Statement.{statement}
 use Rattle.day_adds.proofs.after.Tie as tie

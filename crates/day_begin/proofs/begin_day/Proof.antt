@@ -1,8 +1,8 @@
--- `begin_day` adds the entries on a fresh graph, and prints the first line. Assumes nothing.
+-- `begin_day` adds the entries on a fresh graph, and prints the first line.
 use mathlib.Core.Path.{ap}
 use borrow.Author.Needs.{needs}
-use Rattle.terms.specs.Runs.{Outcome}
-use Rattle.words.specs.Layout.{Tables}
+use Rattle.def_terms.specs.Runs.{Result}
+use Rattle.def_words.specs.Layout.{Tables}
 use Rattle.day_begin.proofs.Laws.{begin-parts}
 use Rattle.day_begin.proofs.begin_day.Statement.{statement}
 use Rattle.day_begin.proofs.begin_day.Tie as tie
@@ -44,7 +44,7 @@ returns c =
     let c24 = c16 .before .before .before .before .before .before .before .before in
     let c32 = c24 .before .before .before .before .before .before .before .before in
     begin-parts _ _ _ _ _ _ _ _ _
-    (ap (λ (o : Outcome Tables). o .state)
+    (ap (λ (o : Result Tables). o .state)
     (c32 .before .before .before .lay-out .ensures))
     (c16 .before .before .add-all .ensures) (c4 .header .ensures) (c .before .before .jobs-line .ensures)
 

@@ -1,15 +1,15 @@
--- Finishes one after the other. Assumes nothing.
+-- Finishes one after the other.
 use mathlib.Core.Path.{_≡_, refl}
 use mathlib.Core.Bool.{false}
 use mathlib.Core.List.{List, [], _∷_, _++_}
 use Prim.Native.Nat.{ℕ, suc}
 use lib.ListN.{getD}
-use Rattle.terms.specs.Terms.{finishOf}
-use Rattle.terms.specs.declared.Sizes.{Sizes}
-use Rattle.words.specs.Layout.{Tables}
-use Rattle.whole_words.specs.Whole.{wholeFinish}
-use Rattle.day_rounds.specs.Rounds.{Holder, finishAll}
-use Rattle.day_rounds.specs.Rows.{holdersIn}
+use Rattle.def_terms.specs.Terms.{finishOf}
+use Rattle.def_terms.specs.declared.Sizes.{Sizes}
+use Rattle.def_words.specs.Layout.{Tables}
+use Rattle.def_whole_calls.specs.Whole.{wholeFinish}
+use Rattle.def_day.specs.Rounds.{Holder, finishAll}
+use Rattle.def_day.specs.Rows.{holdersIn}
 
 finish-last : (s : Sizes) (hs : List Holder) (h : Holder) (t : Tables)
     → finishAll s (hs ++ (h ∷ [])) t ≡ wholeFinish s (finishAll s hs t) (h .worker) (finishOf (h .name) false) .state

@@ -1,4 +1,4 @@
--- Gets one after the other, and that none is left to make. Assumes nothing.
+-- Gets one after the other, and that none is left to make.
 use mathlib.Core.Path.{_≡_, refl}
 use mathlib.Core.Bool.{Bool, true, false, _&&_}
 use mathlib.Core.List.{List, [], _∷_, _++_, append-nil, append-assoc}
@@ -6,23 +6,23 @@ use Prim.Native.Nat.{ℕ, zero, suc, _-_, _<_}
 use native.Mathlib.Omega.{arith}
 use lib.Dec.{ltb, leb}
 use borrow.Author.Tests.{ltb-true, ltb-false, lt-leb}
-use Rattle.numbers.specs.Numbers.{mostJobs, mostArcs, mostBits, mostWorkers, wrongSize}
-use Rattle.basics.specs.Base.{pick}
-use Rattle.terms.specs.Terms.{withinLimits}
-use Rattle.terms.specs.Runs.{outcome}
-use Rattle.terms.specs.declared.Sizes.{Sizes}
-use Rattle.terms.specs.declared.Answer.{Answer}
-use Rattle.terms.specs.declared.Answer.the-variants.{Refused}
-use Rattle.words.specs.Layout.{Tables}
-use Rattle.words.specs.Words.{getWords, admitted, appliedGet}
-use Rattle.day_rounds.specs.Rounds.{Holder, holder, handOut, Gets, gets, getAll}
+use Rattle.def_numbers.specs.Numbers.{mostJobs, mostArcs, mostBits, mostWorkers, wrongSize}
+use Rattle.def_basics.specs.Base.{pick}
+use Rattle.def_terms.specs.Terms.{withinLimits}
+use Rattle.def_terms.specs.Runs.{result}
+use Rattle.def_terms.specs.declared.Sizes.{Sizes}
+use Rattle.def_terms.specs.declared.Answer.{Answer}
+use Rattle.def_terms.specs.declared.Answer.the-variants.{Refused}
+use Rattle.def_words.specs.Layout.{Tables}
+use Rattle.def_words.specs.Words.{getWords, admitted, appliedGet}
+use Rattle.def_day.specs.Rounds.{Holder, holder, handOut, Gets, gets, getAll}
 use Rattle.day_told.specs.Told.{toldOf, hand-out-told}
 use Rattle.day_told.specs.declared.Told.{Told}
 use Rattle.day_calls.specs.Gotten.{gotten}
 
 -- ---- one get
 pub got-told : (s : Sizes) (w : ℕ) (t u : Tables) (hs ks : List Holder) (a : Answer) (x : Told)
-    → outcome a u ≡ getWords s t w → x ≡ toldOf a
+    → result a u ≡ getWords s t w → x ≡ toldOf a
     → ks ≡ hs ++ pick (x .handed) (holder w (x .value) ∷ []) []
     → gets u ks ≡ gotten s w t hs
 unfolding gotten
@@ -54,7 +54,7 @@ second-false true b e = e
 second-false false b e = refl
 
 refused-get : (s : Sizes) (t : Tables) (w : ℕ) → withinLimits s ≡ false
-    → getWords s t w ≡ outcome (Refused wrongSize 0) t
+    → getWords s t w ≡ result (Refused wrongSize 0) t
 unfolding getWords admitted appliedGet
 refused-get s t w e = rw e
 

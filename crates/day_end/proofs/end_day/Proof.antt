@@ -1,4 +1,4 @@
--- `end_day` runs the rounds, and prints their lines and the last. Assumes nothing.
+-- `end_day` runs the rounds, and prints their lines and the last.
 use borrow.Author.Needs.{needs}
 use Rattle.day_end.proofs.Laws.{end-parts}
 use Rattle.day_end.proofs.end_day.Statement.{statement}

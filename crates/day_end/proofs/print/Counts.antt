@@ -1,10 +1,10 @@
--- Jobs not finished, counted one by one. Assumes nothing.
+-- Jobs not finished, counted one by one.
 use mathlib.Core.Path.{_≡_}
 use mathlib.Core.Logic.{_≢_}
 use Prim.Native.Nat.{ℕ, suc, _+_}
 use native.Mathlib.Omega.{arith}
 use borrow.Author.Tests.{eq-eqb, ne-eqb}
-use Rattle.day_rounds.specs.Rounds.{unfinished}
+use Rattle.def_day.specs.Rounds.{unfinished}
 
 pub unfinished-done : (label : ℕ → ℕ) (n : ℕ) → label n ≡ 2 → unfinished label (suc n) ≡ unfinished label n
 unfolding unfinished

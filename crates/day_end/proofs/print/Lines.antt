@@ -1,11 +1,11 @@
--- The hand-outs of a row, printed one after the other. Assumes nothing.
+-- The hand-outs of a row, printed one after the other.
 use mathlib.Core.Path.{_≡_}
 use mathlib.Core.List.{List, []}
 use Prim.Native.Nat.{ℕ, suc, _+_, _*_}
 use lib.ListN.{getD}
-use Rattle.day_rounds.specs.Rounds.{holder}
-use Rattle.day_rounds.specs.Rows.{fromRow}
-use Rattle.day_format.specs.Day.{handOutLine, handOutLines}
+use Rattle.def_day.specs.Rounds.{holder}
+use Rattle.def_day.specs.Rows.{fromRow}
+use Rattle.def_day_lines.specs.Day.{handOutLine, handOutLines}
 use Rattle.day_text.specs.Page.{Page, printLine, printLines, no-lines}
 
 -- n hand-outs from number i on, printed

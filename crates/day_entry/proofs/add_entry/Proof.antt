@@ -1,4 +1,4 @@
--- `add_entry` adds an entry whole, and prints its refusal. Assumes nothing.
+-- `add_entry` adds an entry whole, and prints its refusal.
 use borrow.Author.Needs.{needs}
 use Rattle.day_entry.specs.Entered.{entered, wrote}
 use Rattle.day_entry.proofs.add_entry.Statement.{statement}

@@ -1,4 +1,4 @@
--- `print_refusal` prints a line for a refused entry, and nothing for any other. Assumes nothing.
+-- `print_refusal` prints a line for a refused entry, and nothing for any other.
 use borrow.Author.Needs.{needs}
 use denote.Ref.{now}
 use Rattle.day_text.specs.Page.{page}

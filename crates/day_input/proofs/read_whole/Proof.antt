@@ -1,5 +1,5 @@
 -- `read_whole` counts bytes at the start of the buffer: each read adds at most what is left, and the buffer keeps its
--- length. Assumes nothing.
+-- length.
 use mathlib.Core.Path.{_≡_, refl}
 use Prim.Native.Nat.{_-_, _≤_}
 use native.Mathlib.Omega.{arith}

@@ -1,7 +1,7 @@
--- `day_list` answers what the definition says, for every sheet, number of workers and output. Assumes nothing.
+-- `day_list` answers what the definition says, for every sheet, number of workers and output.
 use denote.Ref.{now}
 use borrow.Author.Needs.{needs}
-use Rattle.day_format.specs.Day.{dayList}
+use Rattle.def_day_lines.specs.Day.{dayList}
 use Rattle.day_list.proofs.Measure.{few-workers, too-short, written}
 use Rattle.day_list.proofs.day_list.Statement.{statement}
 use Rattle.day_list.proofs.day_list.Tie as tie

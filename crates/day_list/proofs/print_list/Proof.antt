@@ -1,12 +1,12 @@
--- `print_list` prints what the day list prints, or that the sheet is broken. Assumes nothing.
+-- `print_list` prints what the day list prints, or that the sheet is broken.
 use mathlib.Core.Path.{sym, _∙_}
 use denote.Ref.{now}
 use borrow.Author.Needs.{needs}
 use borrow.Author.Tests.{le-leb, lt-leb}
 use lib.ListN.{length}
-use Rattle.numbers.specs.Numbers.{mostDaySheet}
-use Rattle.sheet_format.specs.Decode.{decodeSheet}
-use Rattle.day_format.specs.Day.{dayText}
+use Rattle.def_numbers.specs.Numbers.{mostDaySheet}
+use Rattle.def_sheets.specs.Decode.{decodeSheet}
+use Rattle.def_day_lines.specs.Day.{dayText}
 use Rattle.day_list.proofs.Days.{whole-day, whole-scanned, broken-scanned}
 use Rattle.day_list.proofs.print_list.Statement.{statement}
 use Rattle.day_list.proofs.print_list.Tie as tie

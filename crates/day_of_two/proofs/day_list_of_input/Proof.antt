@@ -10,7 +10,7 @@ use lib.Seq.{take-all, length-take-le}
 use denote.Ref.{now}
 use borrow.Author.Needs.{needs}
 use borrow.Author.Tests.{lt-leb}
-use Rattle.day_format.specs.Day.{dayText}
+use Rattle.def_day_lines.specs.Day.{dayText}
 use Rattle.day_of_two.proofs.day_list_of_input.Statement.{statement}
 use Rattle.day_of_two.proofs.day_list_of_input.Tie as tie
 

@@ -1,12 +1,12 @@
--- `day_list_of_two` prints the whole list of every sheet: the output suffices, so nothing is refused. Assumes nothing.
+-- `day_list_of_two` prints the whole list of every sheet: the output suffices, so nothing is refused.
 use mathlib.Core.Path.{_≡_, _∙_, ap}
 use Prim.Native.Nat.{ℕ}
 use native.Mathlib.Omega.{arith}
 use denote.Ref.{now}
 use borrow.Author.Needs.{needs}
-use Rattle.sheet_format.specs.NumberLaws.{Bytes}
-use Rattle.day_format.specs.Day.{Printing}
-use Rattle.day_history.specs.Theorem.{nothing-is-refused}
+use Rattle.def_sheets.specs.NumberLaws.{Bytes}
+use Rattle.def_day_lines.specs.Day.{Printing}
+use Rattle.thm_day_history.specs.Theorem.{nothing-is-refused}
 use Rattle.day_of_two.proofs.day_list_of_two.Statement.{statement}
 use Rattle.day_of_two.proofs.day_list_of_two.Tie as tie
 

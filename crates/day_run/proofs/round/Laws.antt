@@ -1,9 +1,9 @@
--- The parts of a round. Assumes nothing.
+-- The parts of a round.
 use mathlib.Core.Path.{_≡_, ap}
 use mathlib.Core.List.{List}
-use Rattle.terms.specs.declared.Sizes.{Sizes}
-use Rattle.words.specs.Layout.{Tables}
-use Rattle.day_rounds.specs.Rounds.{Holder, Gets, gets, getRound, finishAll, finished, roundOf}
+use Rattle.def_terms.specs.declared.Sizes.{Sizes}
+use Rattle.def_words.specs.Layout.{Tables}
+use Rattle.def_day.specs.Rounds.{Holder, Gets, gets, getRound, finishAll, finished, roundOf}
 
 pub round-parts : (s : Sizes) (t u v : Tables) (hs : List Holder) → gets u hs ≡ getRound s t → v ≡ finishAll s hs u
     → gets v hs ≡ roundOf s t

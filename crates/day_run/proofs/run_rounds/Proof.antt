@@ -1,14 +1,14 @@
 -- `run_rounds` runs rounds until one hands out nothing. The loop's invariant: the rounds that are left, after those
--- made, make the whole. Assumes nothing.
+-- made, make the whole.
 use Prim.Native.Nat.{suc, _+_, _*_, _-_, _≤_}
 use mathlib.Core.Path.{_≡_, refl, sym, _∙_}
 use native.Mathlib.Omega.{arith}
 use borrow.Author.Needs.{needs}
 use lib.ListN.{length}
-use Rattle.numbers.specs.Numbers.{mostWorkers}
-use Rattle.words.specs.Layout.{tables}
-use Rattle.day_rounds.specs.Rounds.{rounds, runDay}
-use Rattle.day_rounds.specs.Rows.{length-holders}
+use Rattle.def_numbers.specs.Numbers.{mostWorkers}
+use Rattle.def_words.specs.Layout.{tables}
+use Rattle.def_day.specs.Rounds.{rounds, runDay}
+use Rattle.def_day.specs.Rows.{length-holders}
 use Rattle.day_run.specs.Kept.{runKept}
 use Rattle.day_run.proofs.Laws.{round-on, round-last, no-round}
 use Rattle.day_run.proofs.run_rounds.Statement.{statement}

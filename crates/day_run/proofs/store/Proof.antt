@@ -1,11 +1,11 @@
--- `store` stores the hand-outs of a round. The loop's invariant: those passed are stored. Assumes nothing.
+-- `store` stores the hand-outs of a round. The loop's invariant: those passed are stored.
 use Prim.Native.Nat.{_-_, _≤_}
 use mathlib.Core.Path.{_≡_, refl, _∙_}
 use native.Mathlib.Omega.{arith}
 use native.Mathlib.Numerals.{add-one}
 use borrow.Author.Needs.{needs}
 use lib.ListN.{length}
-use Rattle.day_rounds.specs.Rows.{holdersIn, no-holders, stored, stored-none, stored-more}
+use Rattle.def_day.specs.Rows.{holdersIn, no-holders, stored, stored-none, stored-more}
 use Rattle.day_run.proofs.store.Statement.{statement}
 use Rattle.day_run.proofs.store.Tie as tie
 
@@ -19,13 +19,13 @@ abbrev μ-loop : tie.MeasureT-loop
 loop-holds : tie.Need-loop-holds Inv-loop μ-loop
 loop-holds c = (refl, omega arith, rw (no-holders, stored-none))
 
-add-place : tie.Need-add-place Inv-loop μ-loop
-add-place c =
+add-offset : tie.Need-add-offset Inv-loop μ-loop
+add-offset c =
     let c4 = c .before .before .before .before in
     omega (arith, c4 .before .pre, c .loop-test .taken)
 
-mul-place : tie.Need-mul-place Inv-loop μ-loop
-mul-place c =
+mul-offset : tie.Need-mul-offset Inv-loop μ-loop
+mul-offset c =
     let c4 = c .before .before .before .before in
     omega (arith, c4 .before .pre, c .loop-test .taken)
 
@@ -113,5 +113,5 @@ returns c =
 pub store-spec : {M : Type 1} → statement M
 store-spec =
     tie.close
-    (tie.spec Inv-loop μ-loop loop-holds add-place mul-place slice-aggregate-word word-requires slice-aggregate-word-2
+    (tie.spec Inv-loop μ-loop loop-holds add-offset mul-offset slice-aggregate-word word-requires slice-aggregate-word-2
     word-requires-2 put-word-requires add-put-word put-word-requires-2 add-i loop-less loop-again same-length returns)

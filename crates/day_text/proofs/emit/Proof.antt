@@ -1,4 +1,4 @@
--- `emit` prints a byte. Assumes nothing.
+-- `emit` prints a byte.
 use borrow.Author.Needs.{needs}
 use borrow.Author.Tests.{le-ltb, lt-ltb}
 use Rattle.day_text.specs.Page.{print, emitted}

@@ -1,6 +1,5 @@
--- `emit_from` prints bytes one after the other. The loop's invariant: what is left, printed from the running place on,
+-- `emit_from` prints bytes one after the other. The loop's invariant: what is left, printed from the running offset on,
 -- makes the whole.
--- Assumes nothing.
 use Prim.Native.Nat.{_+_, _-_, _≤_}
 use mathlib.Core.Path.{_≡_, _∙_}
 use native.Mathlib.Omega.{arith}
@@ -10,7 +9,7 @@ use lib.Seq.{drop-cons}
 use borrow.Author.Needs.{needs}
 use denote.Ref.{now}
 use Rattle.day_text.specs.Page.{page, print, print-nothing, print-append}
-use Rattle.day_text.proofs.Laws.{placed}
+use Rattle.day_text.proofs.Laws.{moved-on}
 use Rattle.day_text.proofs.emit_from.Statement.{statement}
 use Rattle.day_text.proofs.emit_from.Tie as tie
 
@@ -45,7 +44,7 @@ loop-again c =
     let l = c .before .before .before .before .before .before in
     let f = c .before .before .emit .ensures in
     let a = l .before .before .before .args in
-    let e = placed _ _ _ _ f in
+    let e = moved-on _ _ _ _ f in
     let d = drop-cons (now (a .text)) (l .loop .i) 0 (omega arith) in
     let w = l .loop .inv .4 in (
       omega arith,

@@ -1,4 +1,4 @@
--- `emit_last` prints a number that ends a line. Assumes nothing.
+-- `emit_last` prints a number that ends a line.
 use native.Mathlib.Omega.{arith}
 use borrow.Author.Needs.{needs}
 use Rattle.day_text.proofs.Laws.{next, numbered}

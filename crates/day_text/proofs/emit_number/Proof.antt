@@ -1,4 +1,4 @@
--- `emit_number` prints a number in decimal. Assumes nothing.
+-- `emit_number` prints a number in decimal.
 use mathlib.Core.Path.{_∙_}
 use borrow.Author.Needs.{needs}
 use Rattle.day_text.proofs.emit_number.Statement.{statement}

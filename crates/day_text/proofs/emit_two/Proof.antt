@@ -1,8 +1,8 @@
--- `emit_two` prints two numbers that end a line. Assumes nothing.
+-- `emit_two` prints two numbers that end a line.
 use mathlib.Core.List.{append-assoc}
 use native.Mathlib.Omega.{arith}
 use borrow.Author.Needs.{needs}
-use Rattle.day_text.proofs.Laws.{next, numbered, placed}
+use Rattle.day_text.proofs.Laws.{next, numbered, moved-on}
 use Rattle.day_text.proofs.emit_two.Statement.{statement}
 use Rattle.day_text.proofs.emit_two.Tie as tie
 
@@ -18,7 +18,7 @@ emit-last-requires c κs =
     omega (
       arith,
       numbered _ _ _ _ (c4 .before .before .before .emit-number .ensures),
-      placed _ _ _ _ (c .before .before .before .emit .ensures),
+      moved-on _ _ _ _ (c .before .before .before .emit .ensures),
     )
 
 same-length : tie.Need-same-length

@@ -1,8 +1,8 @@
--- `handed_line` prints a middle line. Assumes nothing.
+-- `handed_line` prints a middle line.
 use mathlib.Core.List.{append-assoc}
 use native.Mathlib.Omega.{arith}
 use borrow.Author.Needs.{needs}
-use Rattle.day_text.proofs.Laws.{left-out, next, numbered, placed, printed}
+use Rattle.day_text.proofs.Laws.{left-out, next, numbered, moved-on, printed}
 use Rattle.day_text.proofs.handed_line.Statement.{statement}
 use Rattle.day_text.proofs.handed_line.Tie as tie
 
@@ -23,7 +23,7 @@ emit-two-requires c κs =
     omega (
       arith,
       numbered _ _ _ _ (c7 .emit-number .ensures),
-      placed _ _ _ _ (c3 .emit .ensures),
+      moved-on _ _ _ _ (c3 .emit .ensures),
     )
 
 same-length : tie.Need-same-length

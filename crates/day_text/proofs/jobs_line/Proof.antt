@@ -1,8 +1,8 @@
--- `jobs_line` prints the first line. Assumes nothing.
+-- `jobs_line` prints the first line.
 use mathlib.Core.List.{append-assoc}
 use native.Mathlib.Omega.{arith}
 use borrow.Author.Needs.{needs}
-use Rattle.day_text.proofs.Laws.{left-out, next, numbered, placed, printed}
+use Rattle.day_text.proofs.Laws.{left-out, next, numbered, moved-on, printed}
 use Rattle.day_text.proofs.jobs_line.Statement.{statement}
 use Rattle.day_text.proofs.jobs_line.Tie as tie
 
@@ -17,7 +17,7 @@ emit-from-requires c κs = omega arith
 
 emit-number-requires : tie.Need-emit-number-requires
 emit-number-requires c κs =
-    omega (arith, placed _ _ _ _ (c .before .before .before .emit-from .ensures))
+    omega (arith, moved-on _ _ _ _ (c .before .before .before .emit-from .ensures))
 
 slice-aggregate-emit-from-2 : tie.Need-slice-aggregate-emit-from-2
 slice-aggregate-emit-from-2 c = search needs
@@ -28,7 +28,7 @@ emit-from-requires-2 c κs =
     let c8 = c4 .before .before .before .before in
     omega (
       arith,
-      placed _ _ _ _ (c8 .emit-from .ensures),
+      moved-on _ _ _ _ (c8 .emit-from .ensures),
       numbered _ _ _ _ (c4 .emit-number .ensures),
     )
 
@@ -38,10 +38,10 @@ emit-last-requires c κs =
     let c12 = c8 .before .before .before .before in
     omega (
       arith,
-      placed _ _ _ _
+      moved-on _ _ _ _
           (c12 .emit-from .ensures),
       numbered _ _ _ _ (c8 .emit-number .ensures),
-      placed _ _ _ _ (c .before .before .before .emit-from2 .ensures),
+      moved-on _ _ _ _ (c .before .before .before .emit-from2 .ensures),
     )
 
 same-length : tie.Need-same-length

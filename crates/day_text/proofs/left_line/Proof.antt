@@ -1,7 +1,7 @@
--- `left_line` prints the last line. Assumes nothing.
+-- `left_line` prints the last line.
 use native.Mathlib.Omega.{arith}
 use borrow.Author.Needs.{needs}
-use Rattle.day_text.proofs.Laws.{left-out, placed, printed}
+use Rattle.day_text.proofs.Laws.{left-out, moved-on, printed}
 use Rattle.day_text.proofs.left_line.Statement.{statement}
 use Rattle.day_text.proofs.left_line.Tie as tie
 
@@ -15,7 +15,7 @@ emit-from-requires : tie.Need-emit-from-requires
 emit-from-requires c κs = omega arith
 
 emit-last-requires : tie.Need-emit-last-requires
-emit-last-requires c κs = omega (arith, placed _ _ _ _ (c .before .before .before .emit-from .ensures))
+emit-last-requires c κs = omega (arith, moved-on _ _ _ _ (c .before .before .before .emit-from .ensures))
 
 same-length : tie.Need-same-length
 same-length c = search needs

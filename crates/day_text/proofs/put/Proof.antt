@@ -1,4 +1,4 @@
--- `put` stores a byte, or nothing past the end. Assumes nothing.
+-- `put` stores a byte, or nothing past the end.
 use mathlib.Core.Path.{sym}
 use borrow.Author.Needs.{needs}
 use denote.Ref.{now}

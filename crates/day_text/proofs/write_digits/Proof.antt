@@ -1,13 +1,13 @@
 -- `write_digits` writes a number's digits from the last on. The loop's invariant: what is left of the number, before
 -- the digits written, makes the
--- whole. Assumes nothing.
+-- whole.
 use Prim.Native.Nat.{suc, _+_, _-_, _≤_, _%_}
 use mathlib.Core.Path.{_≡_, sym, _∙_}
 use native.Mathlib.Omega.{arith}
 use lib.ListN.{length, drop, length-set, drop-of-length-le}
 use borrow.Author.Needs.{needs}
 use denote.Ref.{now}
-use Rattle.day_format.specs.Text.{digits, decimal}
+use Rattle.def_day_lines.specs.Text.{digits, decimal}
 use Rattle.day_text.proofs.Laws.{digits-end, digits-on, digits-none, drop-set}
 use Rattle.day_text.proofs.write_digits.Statement.{statement}
 use Rattle.day_text.proofs.write_digits.Tie as tie

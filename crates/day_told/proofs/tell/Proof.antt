@@ -1,4 +1,4 @@
--- `tell` tells a name or a number. Assumes nothing.
+-- `tell` tells a name or a number.
 use mathlib.Core.Path.{_≡_, refl}
 use mathlib.Core.Bool.{false}
 use mathlib.Core.List.{List, [], _∷_}
@@ -6,9 +6,9 @@ use Prim.Native.Nat.{ℕ}
 use types.Run.{OneOf, miss}
 use borrow.Author.Needs.{needs}
 use denote.Enum.Declared.{tagOf}
-use Rattle.terms.specs.declared.Answer.{Answer}
-use Rattle.terms.proofs.Answer.{the-type}
-use Rattle.terms.specs.declared.Answer.the-variants.{Laid, Loaded, Posted, Going, Ended, NoneReady, Handed, Refused}
+use Rattle.def_terms.specs.declared.Answer.{Answer}
+use Rattle.def_terms.proofs.Answer.{the-type}
+use Rattle.def_terms.specs.declared.Answer.the-variants.{Laid, Loaded, Posted, Going, Ended, NoneReady, Handed, Refused}
 use Rattle.day_told.specs.Told.{told, toldOf}
 use Rattle.day_told.proofs.tell.Statement.{statement}
 use Rattle.day_told.proofs.tell.Tie as tie

@@ -1,4 +1,4 @@
--- `main` shows the front of the output, which is as long after the list was printed as before. Assumes nothing.
+-- `main` shows the front of the output, which is as long after the list was printed as before.
 use mathlib.Core.Path.{sym, ap, _∙_}
 use Prim.Native.Nat.{ℕ}
 use lib.ListN.{length, length-replicate}

@@ -1,4 +1,4 @@
--- `show` writes the first bytes of the output. Assumes nothing.
+-- `show` writes the first bytes of the output.
 use mathlib.Core.Path.{sym}
 use lib.Seq.{length-take-le}
 use borrow.Author.Needs.{needs}

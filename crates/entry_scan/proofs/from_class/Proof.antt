@@ -1,4 +1,4 @@
--- `from_class` answers the numbers of an entry whose fields before the class were read. Assumes nothing.
+-- `from_class` answers the numbers of an entry whose fields before the class were read.
 use Prim.Native.Nat.{_/_, _%_}
 use mathlib.Core.Path.{sym, _∙_}
 use borrow.Author.Needs.{needs}

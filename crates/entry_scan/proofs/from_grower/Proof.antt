@@ -1,4 +1,4 @@
--- `from_grower` answers the numbers of an entry whose fields before the grower were read. Assumes nothing.
+-- `from_grower` answers the numbers of an entry whose fields before the grower were read.
 use borrow.Author.Needs.{needs}
 use Rattle.entry_scan.specs.Stages.{fromGrower, judgedThen}
 use Rattle.entry_scan.proofs.from_grower.Statement.{statement}

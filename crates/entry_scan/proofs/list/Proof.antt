@@ -1,7 +1,7 @@
--- `list` answers what `listAt` says: a cut count, a count off its limits, cut names, or the count. Assumes nothing.
+-- `list` answers what `listAt` says: a cut count, a count off its limits, cut names, or the count.
 use borrow.Author.Tests.{le-leb, lt-leb}
 use borrow.Author.Needs.{needs}
-use Rattle.sheet_format.specs.Decode.{limitedAt, listAt}
+use Rattle.def_sheets.specs.Decode.{limitedAt, listAt}
 use Rattle.entry_scan.proofs.Fields.{number1-at}
 use Rattle.entry_scan.proofs.list.Statement.{statement}
 use Rattle.entry_scan.proofs.list.Tie as tie

@@ -1,4 +1,4 @@
--- `list_if` answers a list that its bit lets stand. Assumes nothing.
+-- `list_if` answers a list that its bit lets stand.
 use borrow.Author.Tests.{eq-eqb, ne-eqb}
 use borrow.Author.Needs.{needs}
 use Rattle.entry_scan.proofs.list_if.Statement.{statement}

@@ -1,7 +1,7 @@
--- `name` answers what `nameAt` says of four bytes. Assumes nothing.
+-- `name` answers what `nameAt` says of four bytes.
 use borrow.Author.Tests.{le-leb, lt-leb}
 use borrow.Author.Needs.{needs}
-use Rattle.sheet_format.specs.Decode.{nameAt}
+use Rattle.def_sheets.specs.Decode.{nameAt}
 use Rattle.entry_scan.proofs.Fields.{number4-at}
 use Rattle.entry_scan.proofs.name.Statement.{statement}
 use Rattle.entry_scan.proofs.name.Tie as tie

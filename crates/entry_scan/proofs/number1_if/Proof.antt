@@ -1,7 +1,7 @@
--- `number1_if` answers a number of one byte that its bit lets stand, or a cut. Assumes nothing.
+-- `number1_if` answers a number of one byte that its bit lets stand, or a cut.
 use borrow.Author.Tests.{le-leb, lt-leb, eq-eqb, ne-eqb}
 use borrow.Author.Needs.{needs}
-use Rattle.sheet_format.specs.Decode.{nameAt}
+use Rattle.def_sheets.specs.Decode.{nameAt}
 use Rattle.entry_scan.proofs.Fields.{number1-at}
 use Rattle.entry_scan.proofs.number1_if.Statement.{statement}
 use Rattle.entry_scan.proofs.number1_if.Tie as tie

@@ -1,11 +1,11 @@
--- `scan` answers the numbers of what `decode` finds. Assumes nothing.
+-- `scan` answers the numbers of what `decode` finds.
 use Prim.Native.Nat.{_/_, _%_}
 use mathlib.Core.Path.{sym, ap, _∙_}
 use borrow.Author.Tests.{lt-ltb, le-ltb}
 use borrow.Author.Needs.{needs}
-use Rattle.numbers.specs.Numbers.{nameBytes}
-use Rattle.sheet_format.specs.NumberLaws.{length-namesAt}
-use Rattle.sheet_format.specs.Decode.{mapAt, decode, scanOf}
+use Rattle.def_numbers.specs.Numbers.{nameBytes}
+use Rattle.def_sheets.specs.NumberLaws.{length-namesAt}
+use Rattle.def_sheets.specs.Decode.{mapAt, decode, scanOf}
 use Rattle.entry_scan.proofs.Fields.{number-passed, listed, from-class-is}
 use Rattle.entry_scan.proofs.scan.Statement.{statement}
 use Rattle.entry_scan.proofs.scan.Tie as tie

@@ -1,6 +1,5 @@
 -- `add_if_idle` meets its contract: each plan is a case of the definition; where the job is to enter there is room, and
 -- both counters stay words.
--- Assumes nothing.
 use mathlib.Core.Path.{refl, sym, _∙_}
 use native.Mathlib.Omega.{arith}
 use borrow.Author.Needs.{needs}

@@ -1,9 +1,8 @@
 -- `finish_if_idle` meets its contract: each way through the code is a case of the definition.
--- Assumes nothing.
 use mathlib.Core.Path.{refl}
 use mathlib.Core.List.{[]}
 use borrow.Author.Needs.{needs}
-use Rattle.fused_words.specs.FusedFinish.{finishIn, finishIfIdle}
+use Rattle.def_fused.specs.FusedFinish.{finishIn, finishIfIdle}
 use Rattle.fused_finish.proofs.Laws.{goes, judged}
 use Rattle.fused_finish.proofs.finish_if_idle.Statement.{statement}
 use Rattle.fused_finish.proofs.finish_if_idle.Tie as tie

@@ -1,11 +1,10 @@
 -- `plan_add` meets its contract: each way through the code is a case of the definition; arguments that are not wrong
 -- list at most 32 names.
--- Assumes nothing.
 use mathlib.Core.Path.{sym, _∙_}
 use mathlib.Core.List.{[]}
 use native.Mathlib.Nat.{le-trans}
 use borrow.Author.Needs.{needs}
-use Rattle.fused_words.specs.FusedAdd.{planAdd}
+use Rattle.def_fused.specs.FusedAdd.{planAdd}
 use Rattle.fused_plan.proofs.Plans.{unknown-name, damaged-name, all-found, not-rejected, not-away, not-stopped}
 use Rattle.fused_plan.proofs.Plans.{short}
 use Rattle.fused_plan.proofs.plan_add.Statement.{statement}

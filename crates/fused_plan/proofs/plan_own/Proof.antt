@@ -1,5 +1,4 @@
 -- `plan_own` meets its contract: each way through the code is a case of the definition.
--- Assumes nothing.
 use borrow.Author.Needs.{needs}
 use Rattle.fused_plan.proofs.Plans.{present, damaged-own, full, free}
 use Rattle.fused_plan.proofs.plan_own.Statement.{statement}

@@ -1,7 +1,6 @@
 -- `graph_apply::apply` meets its contract: a plan is stored by the function of its kind.
--- Assumes nothing.
-use Rattle.words.specs.Words.{applied}
-use Rattle.fitting.specs.Fitting.{Fitting}
+use Rattle.def_words.specs.Words.{applied}
+use Rattle.thm_counters_fit.specs.Fitting.{Fitting}
 use borrow.Author.Needs.{needs}
 use Rattle.graph_apply.proofs.apply.Statement.{statement}
 use Rattle.graph_apply.proofs.apply.Tie as tie

@@ -1,8 +1,7 @@
 -- `graph_apply::apply_own` meets its contract: each arm's stores are those of its plan.
--- Assumes nothing.
-use Rattle.words.specs.Words.{applied}
-use Rattle.fitting.specs.Fitting.{Fitting}
-use Rattle.fitting.specs.Kinds.{apart}
+use Rattle.def_words.specs.Words.{applied}
+use Rattle.thm_counters_fit.specs.Fitting.{Fitting}
+use Rattle.thm_counters_fit.specs.Kinds.{apart}
 use mathlib.Core.List.{[], _∷_}
 use borrow.Author.Needs.{needs}
 use Rattle.graph_apply.proofs.apply_own.Statement.{statement}

@@ -1,11 +1,11 @@
 -- `graph_arguments::any_repeats` meets its contract. The loop's invariant: whether one of the names left comes
 -- again is whether one of all does.
--- The measure is the number of names left. Assumes nothing.
+-- The measure is the number of names left.
 use mathlib.Core.Path.{_≡_, refl, sym, _∙_}
 use Prim.Native.Nat.{_≤_, _-_}
 use native.Mathlib.Omega.{arith}
 use lib.ListN.{drop}
-use Rattle.basics.specs.Base.{repeats, prefix}
+use Rattle.def_basics.specs.Base.{repeats, prefix}
 use Rattle.graph_arguments.proofs.Listed.{again, once, not-again}
 use Rattle.graph_arguments.proofs.any_repeats.Statement.{statement}
 use Rattle.graph_arguments.proofs.any_repeats.Tie as tie

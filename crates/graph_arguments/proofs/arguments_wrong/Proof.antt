@@ -1,14 +1,13 @@
 -- `graph_arguments::arguments_wrong` meets its contract: past the first test the count is at most 32.
--- Assumes nothing.
 use mathlib.Core.Path.{_≡_}
 use mathlib.Core.Bool.{false, _||_}
 use Prim.Native.Nat.{ℕ, _≤_}
 use native.Mathlib.Omega.{arith}
 use lib.Dec.{ltb}
 use borrow.Author.Tests.{ltb-false}
-use Rattle.numbers.specs.Numbers.{mostNames, mostClass, mostGrower}
-use Rattle.basics.specs.Laws.{or-right}
-use Rattle.terms.specs.Terms.{argumentsWrong}
+use Rattle.def_numbers.specs.Numbers.{mostNames, mostClass, mostGrower}
+use Rattle.def_basics.specs.Laws.{or-right}
+use Rattle.def_terms.specs.Terms.{argumentsWrong}
 use Rattle.graph_arguments.proofs.arguments_wrong.Statement.{statement}
 use Rattle.graph_arguments.proofs.arguments_wrong.Tie as tie
 

@@ -1,11 +1,11 @@
 -- `graph_arguments::listed_from` meets its contract. The loop's invariant: whether the name is among those left
 -- is whether it is among all.
--- The measure is the number of names left. Assumes nothing.
+-- The measure is the number of names left.
 use mathlib.Core.Path.{_≡_, refl, _∙_}
 use Prim.Native.Nat.{_≤_, _-_}
 use native.Mathlib.Omega.{arith}
 use lib.ListN.{drop}
-use Rattle.basics.specs.Base.{contains, prefix}
+use Rattle.def_basics.specs.Base.{contains, prefix}
 use Rattle.graph_arguments.proofs.Listed.{found, passed, not-found}
 use Rattle.graph_arguments.proofs.listed_from.Statement.{statement}
 use Rattle.graph_arguments.proofs.listed_from.Tie as tie

@@ -1,13 +1,13 @@
 -- `graph_drained::all_free` meets its contract. The loop's invariant: the test of the workers passed so far.
--- The measure is the number of workers left. Assumes nothing.
+-- The measure is the number of workers left.
 use mathlib.Core.Path.{_≡_, refl, ap, _∙_}
 use Prim.Native.Nat.{_≤_, _-_}
 use native.Mathlib.Omega.{arith}
 use denote.Ref.{now}
 use borrow.Author.Needs.{needs}
-use Rattle.words.specs.Columns.{columns}
-use Rattle.words.specs.Layout.{workerShape}
-use Rattle.worker_state.specs.Drained.{every, free}
+use Rattle.def_words.specs.Columns.{columns}
+use Rattle.def_words.specs.Layout.{workerShape}
+use Rattle.def_worker_state.specs.Drained.{every, free}
 use Rattle.graph_drained.proofs.Every.{every-suc}
 use Rattle.graph_drained.proofs.all_free.Statement.{statement}
 use Rattle.graph_drained.proofs.all_free.Tie as tie

@@ -1,14 +1,14 @@
 -- `graph_drained::all_sound` meets its contract. The loop's invariant: the test of the workers passed so far.
--- The measure is the number of workers left. Assumes nothing.
+-- The measure is the number of workers left.
 use mathlib.Core.Path.{_≡_, refl, ap, _∙_}
 use Prim.Native.Nat.{_≤_, _-_}
 use native.Mathlib.Omega.{arith}
 use denote.Ref.{now}
 use borrow.Author.Needs.{needs}
 use borrow.Author.Tests.{lt-ltb}
-use Rattle.words.specs.Layout.{tables, view}
-use Rattle.words.specs.Words.{ownOk}
-use Rattle.worker_state.specs.Drained.{every}
+use Rattle.def_words.specs.Layout.{tables, view}
+use Rattle.def_words.specs.Words.{ownOk}
+use Rattle.def_worker_state.specs.Drained.{every}
 use Rattle.graph_own.proofs.Admitted.{own-is}
 use Rattle.graph_drained.proofs.Every.{every-suc}
 use Rattle.graph_drained.proofs.all_sound.Statement.{statement}

@@ -1,8 +1,7 @@
 -- `graph_drained::drained` meets its contract: each way through the code is a case of the definition.
--- Assumes nothing.
 use mathlib.Core.Path.{sym, _∙_}
 use borrow.Author.Needs.{needs}
-use Rattle.worker_state.specs.Drained.{drainedWords}
+use Rattle.def_worker_state.specs.Drained.{drainedWords}
 use Rattle.graph_drained.proofs.drained.Statement.{statement}
 use Rattle.graph_drained.proofs.drained.Tie as tie
 

@@ -1,5 +1,4 @@
 -- `graph_drained::judged` meets its contract: each way through the code is a case of the definition.
--- Assumes nothing.
 use Rattle.graph_drained.proofs.judged.Statement.{statement}
 use Rattle.graph_drained.proofs.judged.Tie as tie
 

@@ -1,7 +1,6 @@
 -- `graph_find::find` meets its contract: each way through the code is a case of the definition.
--- Assumes nothing.
 use borrow.Author.Needs.{needs}
-use Rattle.words.specs.Words.{findOf}
+use Rattle.def_words.specs.Words.{findOf}
 use Rattle.graph_find.proofs.find.Statement.{statement}
 use Rattle.graph_find.proofs.find.Tie as tie
 

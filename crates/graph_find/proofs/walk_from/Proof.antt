@@ -1,12 +1,12 @@
 -- `graph_find::walk_from` meets its contract. The loop's invariant: what is left of the walk answers as the whole walk
 -- does.
--- The measure is the number of jobs that it may still pass. Assumes nothing.
+-- The measure is the number of jobs that it may still pass.
 use mathlib.Core.Path.{_≡_, refl, sym, _∙_}
 use native.Mathlib.Omega.{arith}
 use borrow.Author.Needs.{needs}
-use Rattle.words.specs.Columns.{columns}
-use Rattle.words.specs.Layout.{jobShape}
-use Rattle.words.specs.Words.{walk}
+use Rattle.def_words.specs.Columns.{columns}
+use Rattle.def_words.specs.Layout.{jobShape}
+use Rattle.def_words.specs.Words.{walk}
 use Rattle.graph_find.proofs.Laws.{ends, spent, outside, here, on}
 use Rattle.graph_find.proofs.walk_from.Statement.{statement}
 use Rattle.graph_find.proofs.walk_from.Tie as tie

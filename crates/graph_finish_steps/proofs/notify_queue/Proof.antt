@@ -1,6 +1,5 @@
 -- `graph_finish_steps::notify_queue` meets its contract: each way through the code is a case of the definition.
--- Assumes nothing.
-use Rattle.words.specs.Words.{withSeat}
+use Rattle.def_words.specs.Words.{withSeat}
 use borrow.Author.Needs.{needs}
 use Rattle.graph_finish_steps.proofs.notify_queue.Statement.{statement}
 use Rattle.graph_finish_steps.proofs.notify_queue.Tie as tie

@@ -1,7 +1,6 @@
 -- `graph_finish_steps::plan_mark` meets its contract: each way through the code is a case of the definition.
--- Assumes nothing.
 use borrow.Author.Needs.{needs}
-use Rattle.words.specs.Words.{planMark}
+use Rattle.def_words.specs.Words.{planMark}
 use Rattle.graph_finish_steps.proofs.plan_mark.Statement.{statement}
 use Rattle.graph_finish_steps.proofs.plan_mark.Tie as tie
 

@@ -1,8 +1,7 @@
 -- `graph_finish_steps::plan_notify` meets its contract: each way through the code is a case of the definition.
--- Assumes nothing.
 use denote.Ref.{now}
 use borrow.Author.Needs.{needs}
-use Rattle.words.specs.Words.{planNotify}
+use Rattle.def_words.specs.Words.{planNotify}
 use Rattle.graph_finish_steps.proofs.plan_notify.Statement.{statement}
 use Rattle.graph_finish_steps.proofs.plan_notify.Tie as tie
 

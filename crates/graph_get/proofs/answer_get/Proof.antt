@@ -1,5 +1,4 @@
 -- `graph_get::answer_get` meets its contract: case by case.
--- Assumes nothing.
 use borrow.Author.Needs.{needs}
 use Rattle.graph_get.proofs.answer_get.Statement.{statement}
 use Rattle.graph_get.proofs.answer_get.Tie as tie

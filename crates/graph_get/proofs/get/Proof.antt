@@ -1,7 +1,6 @@
 -- `graph_get::get` meets its contract: a fitting plan, its stores and its answer are the definition's.
--- Assumes nothing.
-use Rattle.words.specs.Words.{getWords}
-use Rattle.fitting.specs.Fits.{planGet-fits}
+use Rattle.def_words.specs.Words.{getWords}
+use Rattle.thm_counters_fit.specs.Fits.{planGet-fits}
 use borrow.Author.Needs.{needs}
 use Rattle.graph_get.proofs.get.Statement.{statement}
 use Rattle.graph_get.proofs.get.Tie as tie

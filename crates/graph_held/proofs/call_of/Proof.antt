@@ -1,5 +1,4 @@
 -- `graph_held::call_of` meets its contract: each way through the code is a case of the definition.
--- Assumes nothing.
 use Rattle.graph_held.proofs.call_of.Statement.{statement}
 use Rattle.graph_held.proofs.call_of.Tie as tie
 

@@ -1,7 +1,6 @@
 -- `graph_held::counted` meets its contract: each way through the code is a case of the definition.
--- Assumes nothing.
 use borrow.Author.Needs.{needs}
-use Rattle.worker_state.specs.Held.{counted}
+use Rattle.def_worker_state.specs.Held.{counted}
 use Rattle.graph_held.proofs.counted.Statement.{statement}
 use Rattle.graph_held.proofs.counted.Tie as tie
 

@@ -1,8 +1,7 @@
 -- `graph_held::held` meets its contract: each way through the code is a case of the definition.
--- Assumes nothing.
 use borrow.Author.Needs.{needs}
 use Rattle.graph_own.proofs.Admitted.{wrong-sizes, no-such-worker, unsound, admits}
-use Rattle.worker_state.specs.Held.{heldWords}
+use Rattle.def_worker_state.specs.Held.{heldWords}
 use Rattle.graph_held.proofs.held.Statement.{statement}
 use Rattle.graph_held.proofs.held.Tie as tie
 

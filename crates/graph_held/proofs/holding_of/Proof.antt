@@ -1,7 +1,6 @@
 -- `graph_held::holding_of` meets its contract: each way through the code is a case of the definition.
--- Assumes nothing.
 use borrow.Author.Needs.{needs}
-use Rattle.worker_state.specs.Held.{holdingOf}
+use Rattle.def_worker_state.specs.Held.{holdingOf}
 use Rattle.graph_held.proofs.holding_of.Statement.{statement}
 use Rattle.graph_held.proofs.holding_of.Tie as tie
 

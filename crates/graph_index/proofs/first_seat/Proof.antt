@@ -1,5 +1,4 @@
 -- `graph_index::first_seat` meets its contract: what is counted is left out.
--- Assumes nothing.
 use borrow.Author.Needs.{needs}
 use Rattle.graph_index.proofs.first_seat.Statement.{statement}
 use Rattle.graph_index.proofs.first_seat.Tie as tie

@@ -1,5 +1,4 @@
 -- `graph_index::first_seat_counted` meets its contract: by what it reads and finds on the way.
--- Assumes nothing.
 use Rattle.graph_index.proofs.Seats.{first-none, last-none, first-found}
 use mathlib.Core.Path.{sym, _∙_}
 use borrow.Author.Needs.{needs}

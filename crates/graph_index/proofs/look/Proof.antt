@@ -1,6 +1,5 @@
 -- `graph_index::look` meets its contract: each way through the code is a case of the definition.
--- Assumes nothing.
-use Rattle.words.specs.Index.{waits}
+use Rattle.def_words.specs.Index.{waits}
 use borrow.Author.Needs.{needs}
 use Rattle.graph_index.proofs.look.Statement.{statement}
 use Rattle.graph_index.proofs.look.Tie as tie

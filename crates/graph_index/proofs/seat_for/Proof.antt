@@ -1,5 +1,4 @@
 -- `graph_index::seat_for` meets its contract: by what it reads and finds on the way.
--- Assumes nothing.
 use Rattle.graph_index.proofs.Seats.{seat-found, seat-none}
 use mathlib.Core.Path.{_∙_}
 use borrow.Author.Needs.{needs}

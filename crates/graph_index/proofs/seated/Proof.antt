@@ -1,5 +1,4 @@
 -- `graph_index::seated` meets its contract: each way through the code is a case of the definition.
--- Assumes nothing.
 use borrow.Author.Needs.{needs}
 use Rattle.graph_index.proofs.seated.Statement.{statement}
 use Rattle.graph_index.proofs.seated.Tie as tie

@@ -1,6 +1,6 @@
 -- `graph_index::sift_down` meets its contract. The loop's invariant: what is left of the way down ends as the whole way
 -- does, the pairs that were compared and those that are left are those of the whole way, the slot fits its word, and at
--- most two pairs were compared for each level passed. The measure is the number of levels that are left. Assumes nothing.
+-- most two pairs were compared for each level passed. The measure is the number of levels that are left.
 use mathlib.Core.Path.{_≡_, refl}
 use mathlib.Core.List.{List}
 use Prim.Native.Nat.{ℕ, _+_, _*_, _≤_, _<_}
@@ -8,21 +8,21 @@ use native.Mathlib.Omega.{arith}
 use lib.ListN.{length}
 use borrow.Author.Tests.{ltb-true}
 use borrow.Author.Needs.{needs}
-use Rattle.heap.specs.Compared.{pairsDown}
-use Rattle.heap.specs.Sift.{left, siftDown}
-use Rattle.heap.specs.declared.Sifted.{Sifted}
-use Rattle.words.specs.Layout.{tables, view, View}
-use Rattle.words.specs.Index.{rankOf, waits, placeIn, levels}
+use Rattle.def_heap.specs.Compared.{pairsDown}
+use Rattle.def_heap.specs.Sift.{left, siftDown}
+use Rattle.def_heap.specs.declared.Sifted.{Sifted}
+use Rattle.def_words.specs.Layout.{tables, view, View}
+use Rattle.def_words.specs.Index.{rankOf, waits, cellIn, levels}
 use Rattle.graph_index.proofs.Laws.{down-none, down-one, count-none, count-one}
 use Rattle.graph_index.proofs.sift_down.Statement.{statement}
 use Rattle.graph_index.proofs.sift_down.Tie as tie
 
 -- the way down of what a view holds, and how many pairs are compared on it
 abbrev down : View → ℕ → ℕ → ℕ → ℕ → Sifted
-down v = siftDown (rankOf v) (waits v) (placeIn v)
+down v = siftDown (rankOf v) (waits v) (cellIn v)
 
 abbrev pairs : View → ℕ → ℕ → ℕ → ℕ → ℕ
-pairs v n m moved i = length (pairsDown (rankOf v) (waits v) (placeIn v) n m moved i)
+pairs v n m moved i = length (pairsDown (rankOf v) (waits v) (cellIn v) n m moved i)
 
 abbrev Inv-loop : tie.InvT-loop
 Inv-loop jobs queue filled rank at₀ compared₀ levels₀ at compared left =

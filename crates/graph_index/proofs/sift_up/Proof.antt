@@ -1,22 +1,22 @@
 -- `graph_index::sift_up` meets its contract. The loop's invariant: what is left of the way up ends as the whole way
--- does. The measure is the number of levels that are left. Assumes nothing.
+-- does. The measure is the number of levels that are left.
 use mathlib.Core.Path.{_≡_, refl}
 use mathlib.Core.List.{List}
 use Prim.Native.Nat.{ℕ}
 use native.Mathlib.Omega.{arith}
 use borrow.Author.Tests.{eqb-false}
 use borrow.Author.Needs.{needs}
-use Rattle.heap.specs.Sift.{siftUp}
-use Rattle.heap.specs.declared.Sifted.{Sifted}
-use Rattle.words.specs.Layout.{tables, view, View}
-use Rattle.words.specs.Index.{rankOf, waits, placeIn, levels}
+use Rattle.def_heap.specs.Sift.{siftUp}
+use Rattle.def_heap.specs.declared.Sifted.{Sifted}
+use Rattle.def_words.specs.Layout.{tables, view, View}
+use Rattle.def_words.specs.Index.{rankOf, waits, cellIn, levels}
 use Rattle.graph_index.proofs.Laws.{up-none, up-one}
 use Rattle.graph_index.proofs.sift_up.Statement.{statement}
 use Rattle.graph_index.proofs.sift_up.Tie as tie
 
 -- the way up of what a view holds
 abbrev up : View → ℕ → ℕ → ℕ → Sifted
-up v = siftUp (rankOf v) (waits v) (placeIn v)
+up v = siftUp (rankOf v) (waits v) (cellIn v)
 
 abbrev Inv-loop : tie.InvT-loop
 Inv-loop jobs queue rank slot at₀ left₀ at left =

@@ -1,5 +1,4 @@
 -- `graph_judge::judge_add` meets its contract: the tests that come first, and then what the worker's words ask for.
--- Assumes nothing.
 use mathlib.Core.Path.{refl}
 use borrow.Author.Needs.{needs}
 use Rattle.graph_own.proofs.Admitted.{wrong-sizes, no-such-worker, unsound, admits}

@@ -1,5 +1,4 @@
 -- `graph_judge::judge_finish` meets its contract: the tests that come first, and then what the worker's words ask for.
--- Assumes nothing.
 use mathlib.Core.Path.{refl}
 use mathlib.Core.List.{[]}
 use borrow.Author.Needs.{needs}

@@ -1,4 +1,4 @@
--- Runs of equal records: one record of what is left to store, and records of equal words. Assumes nothing.
+-- Runs of equal records: one record of what is left to store, and records of equal words.
 use mathlib.Core.Path.{_≡_}
 use mathlib.Core.List.{List}
 use Prim.Native.Nat.{ℕ, zero, suc, _+_, _*_, _-_, _≤_, _<_}
@@ -7,21 +7,21 @@ use native.Mathlib.Nat.{add-comm, mul-suc}
 use native.Mathlib.Numerals.{add-one}
 use lib.ListN.{length, replicate, replicate-append-replicate}
 use lib.Seq.{sets}
-use Rattle.basics.specs.Stores.{sets-append}
-use Rattle.words.specs.Columns.{Shape, place}
-use Rattle.words.specs.Layout.{repeated}
+use Rattle.def_basics.specs.Stores.{sets-append}
+use Rattle.def_words.specs.Columns.{Shape, offset}
+use Rattle.def_words.specs.Layout.{repeated}
 
 module _ (s : Shape) (r : List ℕ) (whole : length r ≡ s .width) where
   pub record-one : (l : List ℕ) (i n : ℕ) → i < n
-      → sets (sets l (place s i 0) r) (place s (i + 1) 0) (repeated (n - (i + 1)) r)
-      ≡ sets l (place s i 0) (repeated (n - i) r)
+      → sets (sets l (offset s i 0) r) (offset s (i + 1) 0) (repeated (n - (i + 1)) r)
+      ≡ sets l (offset s i 0) (repeated (n - i) r)
   unfolding repeated
   record-one l i n h =
       let z : n - i ≡ suc (n - (i + 1)) = omega arith in
-      rw z (sets-append l r (repeated (n - (i + 1)) r) (place s i 0) (place s (i + 1) 0)
+      rw z (sets-append l r (repeated (n - (i + 1)) r) (offset s i 0) (offset s (i + 1) 0)
       (rw (add-one i, mul-suc (s .width) i) (omega arith)))
 
-  pub record-none : (l : List ℕ) (i n : ℕ) → n ≤ i → l ≡ sets l (place s i 0) (repeated (n - i) r)
+  pub record-none : (l : List ℕ) (i n : ℕ) → n ≤ i → l ≡ sets l (offset s i 0) (repeated (n - i) r)
   unfolding repeated
   record-none l i n h = let z : n - i ≡ 0 = omega arith in rw z
 

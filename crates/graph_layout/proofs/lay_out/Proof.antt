@@ -1,8 +1,7 @@
 -- `graph_layout::lay_out` meets its contract: the code's test is the definition's, and sizes that have room have at
 -- most 8 bits.
--- Assumes nothing.
 use mathlib.Core.Path.{sym, _∙_}
-use Rattle.words.specs.Words.{layOut}
+use Rattle.def_words.specs.Words.{layOut}
 use Rattle.graph_layout.proofs.Laws.{room-bits}
 use borrow.Author.Needs.{needs}
 use Rattle.graph_layout.proofs.lay_out.Statement.{statement}

@@ -1,5 +1,4 @@
 -- `graph_layout::words_needed` meets its contract: the code's test and sums are the definition's.
--- Assumes nothing.
 use mathlib.Core.Path.{sym, _∙_}
 use Rattle.graph_sizes.proofs.Laws.{bits-within}
 use Rattle.graph_layout.proofs.Laws.{buckets-need}

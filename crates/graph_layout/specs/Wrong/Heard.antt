@@ -1,12 +1,12 @@
 -- Tellings of the words needed by which something is lost, and needs that are too small or too large, each refuted by
--- one answer or by one table of sizes. Assumes nothing.
+-- one answer or by one table of sizes.
 use mathlib.Core.Path.{_≡_, refl, ap}
 use Prim.Native.Nat.{ℕ, _+_, _*_, _^_}
 use native.Mathlib.Omega.{arith}
 use borrow.Author.Tests.{eqb-false}
-use Rattle.terms.specs.Terms.{withinLimits}
-use Rattle.terms.specs.declared.Sizes.{Sizes}
-use Rattle.words.specs.Sized.{Limited, limited-means}
+use Rattle.def_terms.specs.Terms.{withinLimits}
+use Rattle.def_terms.specs.declared.Sizes.{Sizes}
+use Rattle.def_words.specs.Sized.{Limited, limited-means}
 use Rattle.graph_layout.specs.Needed.{wordsNeeded}
 use Rattle.graph_layout.specs.Heard.{Lengths, Told, refused, lengths, needTold, Tells, NeedsHeard, NeedsExactly}
 use Rattle.graph_layout.specs.declared.Need.{Need}
@@ -26,7 +26,7 @@ noWords (lengths l) = needTold (lengths l)
 pub refused-as-no-words : NeedsHeard noWords → ⊥
 refused-as-no-words h = let z : _≡_ {A = ℕ} 0 1 = cc (h .heard-as-told (refused 1) Tells.by-1) in omega arith
 
--- the length of the jobs table is told for the queue's too, which has as many places
+-- the length of the jobs table is told for the queue's too, which has as many cells
 abbrev oneLength : Told → Need
 oneLength (refused n) = needTold (refused n)
 oneLength (lengths l) =

@@ -1,10 +1,9 @@
 -- `graph_link_steps::plan_append` meets its contract: the arc is below the number reserved, so that it fits 32 bits.
--- Assumes nothing.
 use native.Mathlib.Omega.{arith}
 use lib.Dec.{ltb}
 use borrow.Author.Tests.{ltb-true}
 use borrow.Author.Needs.{needs}
-use Rattle.words.specs.Words.{planAppend}
+use Rattle.def_words.specs.Words.{planAppend}
 use Rattle.graph_link_steps.proofs.Tests.{second}
 use Rattle.graph_link_steps.proofs.plan_append.Statement.{statement}
 use Rattle.graph_link_steps.proofs.plan_append.Tie as tie

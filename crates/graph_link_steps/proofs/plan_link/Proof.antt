@@ -1,7 +1,6 @@
 -- `graph_link_steps::plan_link` meets its contract: each way through the code is a case of the definition.
--- Assumes nothing.
 use borrow.Author.Needs.{needs}
-use Rattle.words.specs.Words.{planTally, planLink}
+use Rattle.def_words.specs.Words.{planTally, planLink}
 use Rattle.graph_link_steps.proofs.plan_link.Statement.{statement}
 use Rattle.graph_link_steps.proofs.plan_link.Tie as tie
 

@@ -1,7 +1,6 @@
 -- `graph_link_steps::plan_links` meets its contract: each way through the code is a case of the definition.
--- Assumes nothing.
 use borrow.Author.Needs.{needs}
-use Rattle.words.specs.Words.{planLinks}
+use Rattle.def_words.specs.Words.{planLinks}
 use Rattle.graph_link_steps.proofs.plan_links.Statement.{statement}
 use Rattle.graph_link_steps.proofs.plan_links.Tie as tie
 

@@ -1,7 +1,6 @@
 -- `graph_link_steps::plan_settle` meets its contract: each way through the code is a case of the definition.
--- Assumes nothing.
 use borrow.Author.Needs.{needs}
-use Rattle.words.specs.Words.{planSettle}
+use Rattle.def_words.specs.Words.{planSettle}
 use Rattle.graph_link_steps.proofs.plan_settle.Statement.{statement}
 use Rattle.graph_link_steps.proofs.plan_settle.Tie as tie
 

@@ -1,6 +1,5 @@
 -- `graph_link_steps::settle_queue` meets its contract: each way through the code is a case of the definition.
--- Assumes nothing.
-use Rattle.words.specs.Words.{withSeat}
+use Rattle.def_words.specs.Words.{withSeat}
 use borrow.Author.Needs.{needs}
 use Rattle.graph_link_steps.proofs.settle_queue.Statement.{statement}
 use Rattle.graph_link_steps.proofs.settle_queue.Tie as tie

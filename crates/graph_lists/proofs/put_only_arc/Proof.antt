@@ -1,5 +1,4 @@
 -- `graph_lists::put_only_arc` meets its contract: its two stores are the definition's.
--- Assumes nothing.
 use borrow.Author.Needs.{needs}
 use Rattle.graph_lists.proofs.put_only_arc.Statement.{statement}
 use Rattle.graph_lists.proofs.put_only_arc.Tie as tie

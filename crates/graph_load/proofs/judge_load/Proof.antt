@@ -1,5 +1,4 @@
 -- `graph_load::judge_load` meets its contract: the code's tests are the definition's, in its order.
--- Assumes nothing.
 use borrow.Author.Needs.{needs}
 use Rattle.graph_load.proofs.judge_load.Statement.{statement}
 use Rattle.graph_load.proofs.judge_load.Tie as tie

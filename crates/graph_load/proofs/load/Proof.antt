@@ -1,6 +1,5 @@
 -- `graph_load::load` meets its contract: the number that refuses is the definition's, and so are the stored words.
--- Assumes nothing.
-use Rattle.words.specs.Words.{loadWords, loading}
+use Rattle.def_words.specs.Words.{loadWords, loading}
 use Rattle.graph_load.proofs.Loading.{loading-not}
 use borrow.Author.Needs.{needs}
 use Rattle.graph_load.proofs.load.Statement.{statement}

@@ -1,5 +1,4 @@
 -- `graph_own::counters_ok` meets its contract: the code's test is the definition's.
--- Assumes nothing.
 use borrow.Author.Needs.{needs}
 use Rattle.graph_own.proofs.counters_ok.Statement.{statement}
 use Rattle.graph_own.proofs.counters_ok.Tie as tie

@@ -1,5 +1,4 @@
 -- `graph_own::own_ok` meets its contract: the words are looked at only where they are within the table.
--- Assumes nothing.
 use borrow.Author.Needs.{needs}
 use Rattle.graph_own.proofs.own_ok.Statement.{statement}
 use Rattle.graph_own.proofs.own_ok.Tie as tie

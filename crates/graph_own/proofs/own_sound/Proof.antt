@@ -1,7 +1,6 @@
 -- `graph_own::own_sound` meets its contract: each way through the code is a case of the definition.
--- Assumes nothing.
 use borrow.Author.Needs.{needs}
-use Rattle.words.specs.Words.{ownOk}
+use Rattle.def_words.specs.Words.{ownOk}
 use Rattle.graph_own.proofs.own_sound.Statement.{statement}
 use Rattle.graph_own.proofs.own_sound.Tie as tie
 

@@ -1,5 +1,4 @@
 -- `graph_own::place_ok` meets its contract: each way through the code is a case of the definition.
--- Assumes nothing.
 use Rattle.graph_own.proofs.place_ok.Statement.{statement}
 use Rattle.graph_own.proofs.place_ok.Tie as tie
 

@@ -1,7 +1,6 @@
 -- `graph_plan_get::plan_admitted_get` meets its contract: each way through the code is a case of the definition.
--- Assumes nothing.
 use borrow.Author.Needs.{needs}
-use Rattle.words.specs.Words.{planGet}
+use Rattle.def_words.specs.Words.{planGet}
 use Rattle.graph_plan_get.proofs.plan_admitted_get.Statement.{statement}
 use Rattle.graph_plan_get.proofs.plan_admitted_get.Tie as tie
 

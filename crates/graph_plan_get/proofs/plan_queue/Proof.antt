@@ -1,7 +1,6 @@
 -- `graph_plan_get::plan_queue` meets its contract: each way through the code is a case of the definition.
--- Assumes nothing.
 use denote.Ref.{now}
-use Rattle.words.specs.Words.{planQueue}
+use Rattle.def_words.specs.Words.{planQueue}
 use borrow.Author.Needs.{needs}
 use Rattle.graph_plan_get.proofs.plan_queue.Statement.{statement}
 use Rattle.graph_plan_get.proofs.plan_queue.Tie as tie

@@ -1,6 +1,5 @@
 -- `graph_plan_get::plan_take` meets its contract: each way through the code is a case of the definition.
--- Assumes nothing.
-use Rattle.words.specs.Words.{planTake}
+use Rattle.def_words.specs.Words.{planTake}
 use borrow.Author.Needs.{needs}
 use Rattle.graph_plan_get.proofs.plan_take.Statement.{statement}
 use Rattle.graph_plan_get.proofs.plan_take.Tie as tie

@@ -1,7 +1,6 @@
 -- `graph_plan_step::plan_phase` meets its contract: each way through the code is a case of the definition.
--- Assumes nothing.
 use borrow.Author.Needs.{needs}
-use Rattle.words.specs.Words.{planPhase, planCall}
+use Rattle.def_words.specs.Words.{planPhase, planCall}
 use Rattle.graph_plan_step.proofs.plan_phase.Statement.{statement}
 use Rattle.graph_plan_step.proofs.plan_phase.Tie as tie
 

@@ -1,9 +1,8 @@
 -- `graph_posted_add::put_call` meets its contract: a worker's record is stored in three runs.
--- Assumes nothing.
 use mathlib.Core.List.{[], _∷_}
 use mathlib.Core.Path.{refl}
-use Rattle.numbers.specs.Numbers.{mostNames}
-use Rattle.basics.specs.Base.{prefix}
+use Rattle.def_numbers.specs.Numbers.{mostNames}
+use Rattle.def_basics.specs.Base.{prefix}
 use Rattle.graph_posted_add.proofs.Laws.{worker-record}
 use borrow.Author.Needs.{needs}
 use Rattle.graph_posted_add.proofs.put_call.Statement.{statement}

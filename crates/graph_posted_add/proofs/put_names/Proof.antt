@@ -1,14 +1,13 @@
 -- `graph_posted_add::put_names` meets its contract: what is left to store, from the present name on, makes the same
 -- record as all of it; past the last listed name that is 0.
--- Assumes nothing.
 use Prim.Native.Nat.{_+_, _-_, _≤_}
 use mathlib.Core.Path.{_≡_, refl, _∙_}
 use native.Mathlib.Omega.{arith}
 use borrow.Author.Needs.{needs}
 use lib.ListN.{length, drop}
 use lib.Seq.{sets}
-use Rattle.numbers.specs.Numbers.{mostNames}
-use Rattle.basics.specs.Base.{prefix}
+use Rattle.def_numbers.specs.Numbers.{mostNames}
+use Rattle.def_basics.specs.Base.{prefix}
 use Rattle.graph_posted_add.proofs.Laws.{names-one, names-rest}
 use Rattle.graph_posted_add.proofs.put_names.Statement.{statement}
 use Rattle.graph_posted_add.proofs.put_names.Tie as tie

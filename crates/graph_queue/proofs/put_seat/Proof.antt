@@ -1,6 +1,6 @@
--- `graph_queue::put_seat` meets its contract: its stores are the definition's, and the counter is a word. Assumes nothing.
+-- `graph_queue::put_seat` meets its contract: its stores are the definition's, and the counter is a word.
 use native.Mathlib.Omega.{arith}
-use Rattle.words.specs.Index.{putSeat}
+use Rattle.def_words.specs.Index.{putSeat}
 use borrow.Author.Needs.{needs}
 use Rattle.graph_queue.proofs.put_seat.Statement.{statement}
 use Rattle.graph_queue.proofs.put_seat.Tie as tie

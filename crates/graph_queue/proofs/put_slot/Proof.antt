@@ -1,4 +1,4 @@
--- `graph_queue::put_slot` meets its contract: its stores are the definition's. Assumes nothing.
+-- `graph_queue::put_slot` meets its contract: its stores are the definition's.
 use borrow.Author.Needs.{needs}
 use Rattle.graph_queue.proofs.put_slot.Statement.{statement}
 use Rattle.graph_queue.proofs.put_slot.Tie as tie

@@ -1,20 +1,20 @@
 -- `graph_queue::shift_down` meets its contract. The loop's invariant: what is left to shift makes the same table as all
--- of it. The measure is the number of levels that are left. Assumes nothing.
+-- of it. The measure is the number of levels that are left.
 use mathlib.Core.Path.{_≡_, refl, _∙_}
 use native.Mathlib.Omega.{arith}
 use borrow.Author.Needs.{needs}
 use lib.ListN.{length}
-use Rattle.words.specs.Index.{levels, shiftedDown}
+use Rattle.def_words.specs.Index.{levels, shiftedDown}
 use Rattle.graph_queue.proofs.Laws.{levels-left, down-on, down-rests}
 use Rattle.graph_queue.proofs.shift_down.Statement.{statement}
 use Rattle.graph_queue.proofs.shift_down.Tie as tie
 
 abbrev Inv-loop : tie.InvT-loop
-Inv-loop queue₀ place from to at₀ left₀ queue at left =
-    (shiftedDown left queue place at to ≡ shiftedDown levels queue₀ place from to) × (length queue ≡ length queue₀)
+Inv-loop queue₀ cell from to at₀ left₀ queue at left =
+    (shiftedDown left queue cell at to ≡ shiftedDown levels queue₀ cell from to) × (length queue ≡ length queue₀)
 
 abbrev μ-loop : tie.MeasureT-loop
-μ-loop queue₀ place from to at₀ left₀ queue at left = left
+μ-loop queue₀ cell from to at₀ left₀ queue at left = left
 
 loop-holds : tie.Need-loop-holds Inv-loop μ-loop
 loop-holds c = (refl, refl)

@@ -1,20 +1,20 @@
 -- `graph_queue::shift_up` meets its contract. The loop's invariant: what is left to shift makes the same table as all
--- of it. The measure is the number of levels that are left. Assumes nothing.
+-- of it. The measure is the number of levels that are left.
 use mathlib.Core.Path.{_≡_, refl, _∙_}
 use native.Mathlib.Omega.{arith}
 use borrow.Author.Needs.{needs}
 use lib.ListN.{length}
-use Rattle.words.specs.Index.{levels, shiftedUp}
+use Rattle.def_words.specs.Index.{levels, shiftedUp}
 use Rattle.graph_queue.proofs.Laws.{levels-left, up-on, up-rests}
 use Rattle.graph_queue.proofs.shift_up.Statement.{statement}
 use Rattle.graph_queue.proofs.shift_up.Tie as tie
 
 abbrev Inv-loop : tie.InvT-loop
-Inv-loop queue₀ place slot moved₀ at₀ left₀ queue moved at left =
-    (shiftedUp left queue moved at ≡ shiftedUp levels queue₀ place slot) × (length queue ≡ length queue₀)
+Inv-loop queue₀ cell slot moved₀ at₀ left₀ queue moved at left =
+    (shiftedUp left queue moved at ≡ shiftedUp levels queue₀ cell slot) × (length queue ≡ length queue₀)
 
 abbrev μ-loop : tie.MeasureT-loop
-μ-loop queue₀ place slot moved₀ at₀ left₀ queue moved at left = left
+μ-loop queue₀ cell slot moved₀ at₀ left₀ queue moved at left = left
 
 loop-holds : tie.Need-loop-holds Inv-loop μ-loop
 loop-holds c = (refl, refl)

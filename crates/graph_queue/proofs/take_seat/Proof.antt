@@ -1,6 +1,6 @@
--- `graph_queue::take_seat` meets its contract: its stores are the definition's, and the counter is a word. Assumes nothing.
+-- `graph_queue::take_seat` meets its contract: its stores are the definition's, and the counter is a word.
 use native.Mathlib.Omega.{arith}
-use Rattle.words.specs.Index.{takeSeat}
+use Rattle.def_words.specs.Index.{takeSeat}
 use borrow.Author.Needs.{needs}
 use Rattle.graph_queue.proofs.take_seat.Statement.{statement}
 use Rattle.graph_queue.proofs.take_seat.Tie as tie

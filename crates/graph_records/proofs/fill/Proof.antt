@@ -1,5 +1,4 @@
 -- `graph_records::fill` meets its contract: past the table's end a run stores nothing.
--- Assumes nothing.
 use Prim.Native.Nat.{_+_, _-_}
 use mathlib.Core.Path.{_≡_, sym}
 use native.Mathlib.Omega.{arith}

@@ -1,5 +1,4 @@
 -- `graph_records::put_bare_worker` meets its contract: a record of 0, and then the words that are not.
--- Assumes nothing.
 use borrow.Author.Needs.{needs}
 use Rattle.graph_records.proofs.Laws.{bare-record}
 use Rattle.graph_records.proofs.put_bare_worker.Statement.{statement}

@@ -1,8 +1,7 @@
 -- `graph_records::put_job_record` meets its contract: stores field by field are one run.
--- Assumes nothing.
 use mathlib.Core.Path.{_∙_}
 use mathlib.Core.List.{[], _∷_}
-use Rattle.words.specs.Layout.{jobShape}
+use Rattle.def_words.specs.Layout.{jobShape}
 use Rattle.graph_records.proofs.Laws.{puts-sets}
 use borrow.Author.Needs.{needs}
 use Rattle.graph_records.proofs.put_job_record.Statement.{statement}

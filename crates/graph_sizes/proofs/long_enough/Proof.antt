@@ -1,7 +1,6 @@
 -- `graph_sizes::long_enough` meets its contract: within the limits 2 to the power of the bits is a word.
--- Assumes nothing.
 use borrow.Author.Needs.{needs}
-use Rattle.words.specs.Layout.{longEnough}
+use Rattle.def_words.specs.Layout.{longEnough}
 use Rattle.graph_sizes.proofs.Laws.{bits-within}
 use Rattle.graph_sizes.proofs.long_enough.Statement.{statement}
 use Rattle.graph_sizes.proofs.long_enough.Tie as tie

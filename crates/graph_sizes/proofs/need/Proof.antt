@@ -1,5 +1,4 @@
 -- `graph_sizes::need` meets its contract: the sum fits 64 bits.
--- Assumes nothing.
 use native.Mathlib.Omega.{arith}
 use borrow.Author.Needs.{needs}
 use Rattle.graph_words.proofs.Laws.{product}

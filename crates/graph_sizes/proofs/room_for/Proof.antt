@@ -1,5 +1,4 @@
 -- `graph_sizes::room_for` meets its contract: the lengths are looked at only within the limits.
--- Assumes nothing.
 use mathlib.Core.Path.{sym, _∙_}
 use borrow.Author.Needs.{needs}
 use Rattle.graph_sizes.proofs.room_for.Statement.{statement}

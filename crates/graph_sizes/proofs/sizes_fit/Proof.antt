@@ -1,5 +1,4 @@
 -- `graph_sizes::sizes_fit` meets its contract: the words are looked at only where there is room.
--- Assumes nothing.
 use borrow.Author.Needs.{needs}
 use Rattle.graph_sizes.proofs.sizes_fit.Statement.{statement}
 use Rattle.graph_sizes.proofs.sizes_fit.Tie as tie

@@ -1,7 +1,6 @@
 -- `graph_sizes::sizes_kept` meets its contract: the code's test is the definition's.
--- Assumes nothing.
 use borrow.Author.Needs.{needs}
-use Rattle.words.specs.Layout.{sizesKept}
+use Rattle.def_words.specs.Layout.{sizesKept}
 use Rattle.graph_sizes.proofs.sizes_kept.Statement.{statement}
 use Rattle.graph_sizes.proofs.sizes_kept.Tie as tie
 

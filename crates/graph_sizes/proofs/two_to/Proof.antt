@@ -1,5 +1,4 @@
 -- `graph_sizes::two_to` meets its contract: a shift of 1 by at most 8 loses nothing.
--- Assumes nothing.
 use Prim.Native.Nat.{_+_, _≤_}
 use native.Mathlib.Nat.{one-mul}
 use native.Mathlib.Omega.{arith}

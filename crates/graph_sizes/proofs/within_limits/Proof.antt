@@ -1,7 +1,6 @@
 -- `graph_sizes::within_limits` meets its contract: the code's test is the definition's.
--- Assumes nothing.
 use mathlib.Core.Path.{refl}
-use Rattle.terms.specs.Terms.{withinLimits}
+use Rattle.def_terms.specs.Terms.{withinLimits}
 use Rattle.graph_sizes.proofs.within_limits.Statement.{statement}
 use Rattle.graph_sizes.proofs.within_limits.Tie as tie
 

@@ -1,5 +1,4 @@
 -- `graph_step::answer_of` meets its contract: case by case.
--- Assumes nothing.
 use borrow.Author.Needs.{needs}
 use Rattle.graph_step.proofs.answer_of.Statement.{statement}
 use Rattle.graph_step.proofs.answer_of.Tie as tie

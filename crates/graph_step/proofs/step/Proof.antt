@@ -1,7 +1,6 @@
 -- `graph_step::step` meets its contract: a fitting plan, its stores and its answer are the definition's.
--- Assumes nothing.
-use Rattle.words.specs.Words.{stepWords}
-use Rattle.fitting.specs.Fits.{planStep-fits}
+use Rattle.def_words.specs.Words.{stepWords}
+use Rattle.thm_counters_fit.specs.Fits.{planStep-fits}
 use borrow.Author.Needs.{needs}
 use Rattle.graph_step.proofs.step.Statement.{statement}
 use Rattle.graph_step.proofs.step.Tie as tie

@@ -1,8 +1,7 @@
 -- `graph_totals::jobs_fit` meets its contract: the code's test is the definition's.
--- Assumes nothing.
 use borrow.Author.Needs.{needs}
-use Rattle.words.specs.Layout.{sizesKept}
-use Rattle.graph_board.specs.Board.{jobsFit}
+use Rattle.def_words.specs.Layout.{sizesKept}
+use Rattle.def_graph_board.specs.Board.{jobsFit}
 use Rattle.graph_totals.proofs.jobs_fit.Statement.{statement}
 use Rattle.graph_totals.proofs.jobs_fit.Tie as tie
 

@@ -1,9 +1,8 @@
 -- `graph_totals::minutes_of_graph` meets its contract: the part that is judged are the stored minutes.
--- Assumes nothing.
 use mathlib.Core.Path.{sym, _∙_}
 use native.Mathlib.Omega.{arith}
 use borrow.Author.Needs.{needs}
-use Rattle.graph_board.specs.Board.{graphMinutes}
+use Rattle.def_graph_board.specs.Board.{graphMinutes}
 use Rattle.graph_totals.proofs.Stored.{cells-part, fit-room}
 use Rattle.graph_totals.proofs.minutes_of_graph.Statement.{statement}
 use Rattle.graph_totals.proofs.minutes_of_graph.Tie as tie

@@ -1,5 +1,5 @@
 -- `graph_totals::totals_of_graph` meets its contract: the code's tests are the definition's, and the graph's row stands
--- in its table of jobs. Assumes nothing.
+-- in its table of jobs.
 use mathlib.Core.Path.{_≡_, refl}
 use mathlib.Core.Bool.{true}
 use mathlib.Core.List.{List}
@@ -9,11 +9,11 @@ use native.Mathlib.Omega.{arith}
 use borrow.Author.Needs.{needs}
 use borrow.Author.Tests.{le-leb, lt-leb}
 use lib.ListN.{length}
-use Rattle.terms.specs.declared.Sizes.{Sizes}
-use Rattle.totals.specs.Board.{recordsFrom, recordAt, standsInTable, totalsOfTable}
-use Rattle.words.specs.Columns.{columns}
-use Rattle.words.specs.Layout.{jobShape, LABEL, CLASS}
-use Rattle.graph_board.specs.Board.{rowsFrom, jobsFit, graphTotals}
+use Rattle.def_terms.specs.declared.Sizes.{Sizes}
+use Rattle.def_totals.specs.Board.{recordsFrom, recordAt, standsInTable, totalsOfTable}
+use Rattle.def_words.specs.Columns.{columns}
+use Rattle.def_words.specs.Layout.{jobShape, LABEL, CLASS}
+use Rattle.def_graph_board.specs.Board.{rowsFrom, jobsFit, graphTotals}
 use Rattle.graph_totals.proofs.Stored.{fit-room, served, not-served}
 use Rattle.graph_totals.proofs.totals_of_graph.Statement.{statement}
 use Rattle.graph_totals.proofs.totals_of_graph.Tie as tie

@@ -1,9 +1,8 @@
--- `graph_words::column` meets its contract: the place fits 64 bits, and a field past the width answers 0.
--- Assumes nothing.
+-- `graph_words::column` meets its contract: the offset fits 64 bits, and a field past the width answers 0.
 use native.Mathlib.Omega.{arith}
 use borrow.Author.Tests.{lt-ltb, le-ltb}
 use borrow.Author.Needs.{needs}
-use Rattle.words.specs.Columns.{columns}
+use Rattle.def_words.specs.Columns.{columns}
 use Rattle.graph_words.proofs.Laws.{product}
 use Rattle.graph_words.proofs.column.Statement.{statement}
 use Rattle.graph_words.proofs.column.Tie as tie

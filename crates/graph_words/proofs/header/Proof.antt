@@ -1,7 +1,6 @@
 -- `graph_words::header` meets its contract: a counter is a word.
--- Assumes nothing.
 use borrow.Author.Needs.{needs}
-use Rattle.words.specs.Columns.{header}
+use Rattle.def_words.specs.Columns.{header}
 use Rattle.graph_words.proofs.header.Statement.{statement}
 use Rattle.graph_words.proofs.header.Tie as tie
 

@@ -1,8 +1,7 @@
--- `graph_words::put_column` meets its contract: the place fits 64 bits, and the store is the definition's.
--- Assumes nothing.
+-- `graph_words::put_column` meets its contract: the offset fits 64 bits, and the store is the definition's.
 use native.Mathlib.Omega.{arith}
 use borrow.Author.Needs.{needs}
-use Rattle.words.specs.Columns.{put}
+use Rattle.def_words.specs.Columns.{put}
 use Rattle.graph_words.proofs.Laws.{product}
 use Rattle.graph_words.proofs.put_column.Statement.{statement}
 use Rattle.graph_words.proofs.put_column.Tie as tie

@@ -1,5 +1,4 @@
 -- `graph_words::put_count` meets its contract: each way through the code is a case of the definition.
--- Assumes nothing.
 use borrow.Author.Needs.{needs}
 use Rattle.graph_words.proofs.put_count.Statement.{statement}
 use Rattle.graph_words.proofs.put_count.Tie as tie

@@ -1,7 +1,6 @@
 -- `graph_words::put_header` meets its contract: a counter is a word.
--- Assumes nothing.
 use borrow.Author.Needs.{needs}
-use Rattle.words.specs.Columns.{putHeader}
+use Rattle.def_words.specs.Columns.{putHeader}
 use Rattle.graph_words.proofs.put_header.Statement.{statement}
 use Rattle.graph_words.proofs.put_header.Tie as tie
 

@@ -1,5 +1,4 @@
 -- `graph_words::put_outcome` meets its contract: its stores are those of the definition.
--- Assumes nothing.
 use borrow.Author.Needs.{needs}
 use Rattle.graph_words.proofs.put_outcome.Statement.{statement}
 use Rattle.graph_words.proofs.put_outcome.Tie as tie

@@ -1,5 +1,4 @@
 -- `graph_words::put_word` meets its contract: a store past the end of a list leaves it.
--- Assumes nothing.
 use mathlib.Core.Path.{sym}
 use lib.Seq.{set-out}
 use borrow.Author.Needs.{needs}

@@ -1,5 +1,4 @@
 -- `graph_words::word` meets its contract: past the end a list answers its default.
--- Assumes nothing.
 use lib.ListN.{List·getD-eq-default}
 use denote.Ref.{now}
 use borrow.Author.Needs.{needs}

@@ -1,5 +1,4 @@
 -- `graph_worker_words::arcs_from` meets its contract: the code's test is the definition's.
--- Assumes nothing.
 use borrow.Author.Needs.{needs}
 use Rattle.graph_worker_words.proofs.arcs_from.Statement.{statement}
 use Rattle.graph_worker_words.proofs.arcs_from.Tie as tie

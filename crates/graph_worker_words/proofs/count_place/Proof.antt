@@ -1,5 +1,4 @@
 -- `graph_worker_words::count_place` meets its contract: the store is the definition's, and the sum is a word.
--- Assumes nothing.
 use native.Mathlib.Omega.{arith}
 use borrow.Author.Needs.{needs}
 use Rattle.graph_worker_words.proofs.count_place.Statement.{statement}

@@ -1,5 +1,4 @@
 -- `graph_worker_words::count_tally` meets its contract: the stores are the definition's, and the sums are words.
--- Assumes nothing.
 use native.Mathlib.Omega.{arith}
 use borrow.Author.Needs.{needs}
 use Rattle.graph_worker_words.proofs.count_tally.Statement.{statement}

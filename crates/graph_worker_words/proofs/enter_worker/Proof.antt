@@ -1,5 +1,4 @@
 -- `graph_worker_words::enter_worker` meets its contract: its four stores are the definition's.
--- Assumes nothing.
 use borrow.Author.Needs.{needs}
 use Rattle.graph_worker_words.proofs.enter_worker.Statement.{statement}
 use Rattle.graph_worker_words.proofs.enter_worker.Tie as tie

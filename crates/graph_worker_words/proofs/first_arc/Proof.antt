@@ -1,5 +1,4 @@
 -- `graph_worker_words::first_arc` meets its contract: the code's test is the definition's.
--- Assumes nothing.
 use Rattle.graph_worker_words.proofs.first_arc.Statement.{statement}
 use Rattle.graph_worker_words.proofs.first_arc.Tie as tie
 

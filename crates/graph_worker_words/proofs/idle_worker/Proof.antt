@@ -1,5 +1,4 @@
 -- `graph_worker_words::idle_worker` meets its contract: the stored record is the definition's.
--- Assumes nothing.
 use borrow.Author.Needs.{needs}
 use Rattle.graph_worker_words.proofs.idle_worker.Statement.{statement}
 use Rattle.graph_worker_words.proofs.idle_worker.Tie as tie

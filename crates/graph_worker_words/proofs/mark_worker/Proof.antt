@@ -1,5 +1,4 @@
 -- `graph_worker_words::mark_worker` meets its contract: the code's test is the definition's.
--- Assumes nothing.
 use borrow.Author.Needs.{needs}
 use Rattle.graph_worker_words.proofs.mark_worker.Statement.{statement}
 use Rattle.graph_worker_words.proofs.mark_worker.Tie as tie

@@ -1,5 +1,4 @@
 -- `graph_worker_words::note_of` meets its contract: each way through the code is a case of the definition.
--- Assumes nothing.
 use Rattle.graph_worker_words.proofs.note_of.Statement.{statement}
 use Rattle.graph_worker_words.proofs.note_of.Tie as tie
 

@@ -1,11 +1,11 @@
--- `add_rows` adds the rows in order. The loop's invariant: what is left makes the whole. Assumes nothing.
+-- `add_rows` adds the rows in order. The loop's invariant: what is left makes the whole.
 use mathlib.Core.Path.{_≡_, refl, sym, _∙_}
 use Prim.Native.Nat.{suc, _≤_, _+_, _-_}
 use native.Mathlib.Omega.{arith}
 use lib.ListN.{length}
 use borrow.Author.Needs.{needs}
-use Rattle.words.specs.Layout.{tables}
-use Rattle.sheet_rows.specs.SheetRows.{noEntries}
+use Rattle.def_words.specs.Layout.{tables}
+use Rattle.def_sheet_rows.specs.SheetRows.{noEntries}
 use Rattle.sheet_adds.specs.Left.{left, stops, told, row-told, none-left, all-left, added}
 use Rattle.sheet_adds.proofs.add_rows.Statement.{statement}
 use Rattle.sheet_adds.proofs.add_rows.Tie as tie

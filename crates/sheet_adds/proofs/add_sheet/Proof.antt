@@ -1,9 +1,9 @@
--- `add_sheet` judges a sheet and adds its rows. Assumes nothing.
+-- `add_sheet` judges a sheet and adds its rows.
 use Prim.Native.Nat.{_/_}
 use native.Mathlib.Omega.{arith}
 use lib.ListN.{length}
 use borrow.Author.Needs.{needs}
-use Rattle.numbers.specs.Numbers.{entryWords}
+use Rattle.def_numbers.specs.Numbers.{entryWords}
 use Rattle.sheet_adds.specs.Judged.{few, no-whole-rows, turned-rows, served-rows}
 use Rattle.sheet_adds.proofs.add_sheet.Statement.{statement}
 use Rattle.sheet_adds.proofs.add_sheet.Tie as tie

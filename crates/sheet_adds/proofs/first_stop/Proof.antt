@@ -1,4 +1,4 @@
--- `sheet_adds::first_stop` meets its contract: each way through the code is a case of the definition. Assumes nothing.
+-- `sheet_adds::first_stop` meets its contract: each way through the code is a case of the definition.
 use native.Mathlib.Omega.{arith}
 use borrow.Author.Needs.{needs}
 use Rattle.sheet_adds.proofs.first_stop.Statement.{statement}

@@ -1,4 +1,4 @@
--- `row_entry` reads the entry of a row. Assumes nothing.
+-- `row_entry` reads the entry of a row.
 use borrow.Author.Needs.{needs}
 use Rattle.sheet_adds.proofs.row_entry.Statement.{statement}
 use Rattle.sheet_adds.proofs.row_entry.Tie as tie

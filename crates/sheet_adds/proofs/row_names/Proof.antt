@@ -1,4 +1,4 @@
--- `row_names` copies the names of a row. The loop's invariant: so many of them stand in the array. Assumes nothing.
+-- `row_names` copies the names of a row. The loop's invariant: so many of them stand in the array.
 use mathlib.Core.Path.{_≡_, refl, _∙_}
 use Prim.Native.Nat.{_≤_, _<_, _-_}
 use native.Mathlib.Omega.{arith}

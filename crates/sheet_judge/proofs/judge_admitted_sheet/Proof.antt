@@ -1,5 +1,4 @@
 -- `sheet_judge::judge_admitted_sheet` meets its contract: each way through the code is a case of the definition.
--- Assumes nothing.
 use borrow.Author.Needs.{needs}
 use Rattle.sheet_judge.proofs.judge_admitted_sheet.Statement.{statement}
 use Rattle.sheet_judge.proofs.judge_admitted_sheet.Tie as tie

@@ -1,5 +1,5 @@
 -- `sheet_judge::judge_sheet` meets its contract: the tests that come first, and then what the worker's phase and the
--- entries ask for. Assumes nothing.
+-- entries ask for.
 use mathlib.Core.Path.{refl}
 use borrow.Author.Needs.{needs}
 use Rattle.graph_own.proofs.Admitted.{wrong-sizes, no-such-worker, unsound, admits}

@@ -1,4 +1,4 @@
--- `bit` is 1 exactly for a number that is not 0. Assumes nothing.
+-- `bit` is 1 exactly for a number that is not 0.
 use mathlib.Core.Path.{sym}
 use borrow.Author.Needs.{needs}
 use Rattle.sheet_limits.proofs.Sizes.{bit-some}

@@ -1,4 +1,4 @@
--- `has_room` is the test of the sum that it does not make. Assumes nothing.
+-- `has_room` is the test of the sum that it does not make.
 use Prim.Native.Nat.{_+_}
 use mathlib.Core.Path.{sym}
 use native.Mathlib.Omega.{arith}

@@ -1,9 +1,9 @@
--- `judge` finds the first field off its limits, or the bytes of the entry (docs/NUMBERS.md, 14). Assumes nothing.
+-- `judge` finds the first field off its limits, or the bytes of the entry (docs/NUMBERS.md, 14).
 use native.Mathlib.Omega.{arith}
 use borrow.Author.Tests.{le-leb, lt-leb}
 use borrow.Author.Needs.{needs}
-use Rattle.numbers.specs.Numbers.{mostNames, mostClass, mostGrower}
-use Rattle.sheet_format.specs.Write.{faultOf}
+use Rattle.def_numbers.specs.Numbers.{mostNames, mostClass, mostGrower}
+use Rattle.def_sheets.specs.Write.{faultOf}
 use Rattle.sheet_limits.specs.Judge.{judged}
 use Rattle.sheet_limits.proofs.Sizes.{encode-length}
 use Rattle.sheet_limits.proofs.judge.Statement.{statement}
@@ -16,8 +16,8 @@ returns c = λ name names all. rw (lt-leb (c .before .args .count) mostNames (om
 list-bytes-requires : tie.Need-list-bytes-requires
 list-bytes-requires c κs = search needs
 
-add-place : tie.Need-add-place
-add-place c = search needs
+add-offset : tie.Need-add-offset
+add-offset c = search needs
 
 returns-2 : tie.Need-returns-2
 unfolding judged faultOf
@@ -32,11 +32,11 @@ returns-2 c = λ name names all.
 bit-requires : tie.Need-bit-requires
 bit-requires c κs = search needs
 
-mul-place : tie.Need-mul-place
-mul-place c = search needs
+mul-offset : tie.Need-mul-offset
+mul-offset c = search needs
 
-add-place-2 : tie.Need-add-place-2
-add-place-2 c = search needs
+add-offset-2 : tie.Need-add-offset-2
+add-offset-2 c = search needs
 
 returns-3 : tie.Need-returns-3
 unfolding judged faultOf
@@ -55,11 +55,11 @@ returns-3 c =
 bit-requires-2 : tie.Need-bit-requires-2
 bit-requires-2 c κs = search needs
 
-mul-place-2 : tie.Need-mul-place-2
-mul-place-2 c = search needs
+mul-offset-2 : tie.Need-mul-offset-2
+mul-offset-2 c = search needs
 
-add-place-3 : tie.Need-add-place-3
-add-place-3 c = search needs
+add-offset-3 : tie.Need-add-offset-3
+add-offset-3 c = search needs
 
 returns-4 : tie.Need-returns-4
 unfolding judged faultOf
@@ -80,5 +80,5 @@ returns-4 c =
 pub judge-spec : {M : Type 1} → statement M
 judge-spec =
     tie.close
-    (tie.spec returns list-bytes-requires add-place returns-2 bit-requires mul-place add-place-2
-    returns-3 bit-requires-2 mul-place-2 add-place-3 returns-4)
+    (tie.spec returns list-bytes-requires add-offset returns-2 bit-requires mul-offset add-offset-2
+    returns-3 bit-requires-2 mul-offset-2 add-offset-3 returns-4)

@@ -1,4 +1,4 @@
--- `judge_row` judges the entry that a row of words holds. Assumes nothing.
+-- `judge_row` judges the entry that a row of words holds.
 use borrow.Author.Needs.{needs}
 use denote.Ref.{now}
 use Rattle.sheet_limits.proofs.Rows.{names-all}

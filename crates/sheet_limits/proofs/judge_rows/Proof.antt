@@ -2,7 +2,6 @@
 -- rows left is
 -- the sheet's, and the sum with their bytes is the sheet's size; a row's entry takes no more bytes than the row, so the
 -- sum fits.
--- Assumes nothing.
 use Prim.Native.Nat.{_+_, _*_, _-_, _≤_}
 use mathlib.Core.Path.{ap, _≡_, sym, _∙_}
 use native.Mathlib.Omega.{arith}
@@ -10,12 +9,12 @@ use native.Mathlib.Nat.{sub-zero}
 use lib.ListN.{length}
 use borrow.Author.Needs.{needs}
 use denote.Ref.{now}
-use Rattle.sheet_format.specs.Job.{encode}
-use Rattle.sheet_format.specs.Write.{entryAt, entriesFrom, jobOf, sheetFault}
+use Rattle.def_sheets.specs.Job.{encode}
+use Rattle.def_sheets.specs.Write.{entryAt, entriesFrom, jobOf, sheetFault}
 use Rattle.sheet_limits.specs.declared.SheetJudged.{SheetJudged}
 use Rattle.sheet_limits.specs.Judge.{sheetJudged}
 use Rattle.sheet_limits.proofs.Judging.{refused, takes}
-use Rattle.sheet_format.specs.SheetPlace.{sheetSoFar}
+use Rattle.def_sheets.specs.SheetOffset.{sheetSoFar}
 use Rattle.sheet_limits.proofs.Rows.{rest, restBytes, rowBytes, names-all, entry-small, next-length}
 use Rattle.sheet_limits.proofs.Rows.{next-fault, end-fault, end-bytes}
 use Rattle.sheet_limits.proofs.judge_rows.Statement.{statement}

@@ -1,4 +1,4 @@
--- `list_bytes` is the size of a list of n names, with its count, and 0 for the empty list. Assumes nothing.
+-- `list_bytes` is the size of a list of n names, with its count, and 0 for the empty list.
 use mathlib.Core.Path.{sym}
 use native.Mathlib.Omega.{arith}
 use borrow.Author.Needs.{needs}

@@ -1,6 +1,6 @@
--- `map_byte` is the map byte of every job with such numbers, whatever its name and its list are. Assumes nothing.
+-- `map_byte` is the map byte of every job with such numbers, whatever its name and its list are.
 use borrow.Author.Needs.{needs}
-use Rattle.sheet_format.specs.Job.{mapByte}
+use Rattle.def_sheets.specs.Job.{mapByte}
 use Rattle.sheet_limits.proofs.map_byte.Statement.{statement}
 use Rattle.sheet_limits.proofs.map_byte.Tie as tie
 

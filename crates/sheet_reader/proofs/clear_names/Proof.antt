@@ -1,11 +1,11 @@
--- `clear_names` stores 0 in every place of the names. The loop's invariant: the places passed are 0. Assumes nothing.
+-- `clear_names` stores 0 in every place of the names. The loop's invariant: the places passed are 0.
 use Prim.Native.Nat.{ℕ, _≤_, _-_}
 use mathlib.Core.Path.{_≡_, ap, _∙_}
 use native.Mathlib.Omega.{arith}
 use lib.Seq.{sets}
 use lib.ListN.{length, replicate, length-set}
 use borrow.Author.Needs.{needs}
-use Rattle.numbers.specs.Numbers.{mostNames}
+use Rattle.def_numbers.specs.Numbers.{mostNames}
 use Rattle.sheet_reader.proofs.Stores.{zero-more}
 use Rattle.sheet_reader.proofs.clear_names.Statement.{statement}
 use Rattle.sheet_reader.proofs.clear_names.Tie as tie

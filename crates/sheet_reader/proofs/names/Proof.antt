@@ -1,8 +1,8 @@
--- `names` answers the names with 0 behind them. Assumes nothing.
+-- `names` answers the names with 0 behind them.
 use mathlib.Core.Path.{_∙_}
 use native.Mathlib.Omega.{arith}
 use borrow.Author.Needs.{needs}
-use Rattle.numbers.specs.Numbers.{nameBytes}
+use Rattle.def_numbers.specs.Numbers.{nameBytes}
 use Rattle.sheet_reader.proofs.Stores.{names-over}
 use Rattle.sheet_reader.proofs.names.Statement.{statement}
 use Rattle.sheet_reader.proofs.names.Tie as tie

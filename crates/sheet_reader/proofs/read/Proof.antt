@@ -1,7 +1,7 @@
--- `read` answers the entry that `decode` finds. Assumes nothing.
+-- `read` answers the entry that `decode` finds.
 use native.Mathlib.Omega.{arith}
 use borrow.Author.Needs.{needs}
-use Rattle.sheet_format.specs.NumberLaws.{length-namesAt}
+use Rattle.def_sheets.specs.NumberLaws.{length-namesAt}
 use Rattle.entry_scan.proofs.Entries.{scan-job, scan-end, scan-refused}
 use Rattle.sheet_reader.proofs.read.Statement.{statement}
 use Rattle.sheet_reader.proofs.read.Tie as tie

@@ -1,8 +1,8 @@
--- `read_sheet` answers for a whole sheet, and leaves the rows as they were where it refuses. Assumes nothing.
+-- `read_sheet` answers for a whole sheet, and leaves the rows as they were where it refuses.
 use mathlib.Core.Path.{sym, _∙_}
 use native.Mathlib.Omega.{arith}
 use borrow.Author.Needs.{needs}
-use Rattle.sheet_format.specs.Decode.{decodeSheet}
+use Rattle.def_sheets.specs.Decode.{decodeSheet}
 use Rattle.sheet_reader.proofs.Rows.{read-refused, read-no-room}
 use Rattle.sheet_reader.proofs.read_sheet.Statement.{statement}
 use Rattle.sheet_reader.proofs.read_sheet.Tie as tie

@@ -1,13 +1,12 @@
--- `store_names` stores so many names. The loop's invariant: the names passed are stored, and nothing else. Assumes
--- nothing.
+-- `store_names` stores so many names. The loop's invariant: the names passed are stored, and nothing else.
 use Prim.Native.Nat.{_≤_, _-_}
 use mathlib.Core.Path.{_≡_}
 use native.Mathlib.Omega.{arith}
 use lib.Seq.{sets}
 use lib.ListN.{length, length-set}
 use borrow.Author.Needs.{needs}
-use Rattle.numbers.specs.Numbers.{nameBytes}
-use Rattle.sheet_format.specs.Decode.{namesAt}
+use Rattle.def_numbers.specs.Numbers.{nameBytes}
+use Rattle.def_sheets.specs.Decode.{namesAt}
 use Rattle.entry_scan.proofs.Fields.{number4-at}
 use Rattle.sheet_reader.proofs.Stores.{name-more}
 use Rattle.sheet_reader.proofs.store_names.Statement.{statement}
@@ -24,11 +23,11 @@ loop-holds : tie.Need-loop-holds Inv-loop μ-loop
 unfolding namesAt
 loop-holds c = search needs
 
-mul-place : tie.Need-mul-place Inv-loop μ-loop
-mul-place c = search needs
+mul-offset : tie.Need-mul-offset Inv-loop μ-loop
+mul-offset c = search needs
 
-add-place : tie.Need-add-place Inv-loop μ-loop
-add-place c = search needs
+add-offset : tie.Need-add-offset Inv-loop μ-loop
+add-offset c = search needs
 
 shared-slice-read-spelt4 : tie.Need-shared-slice-read-spelt4 Inv-loop μ-loop
 shared-slice-read-spelt4 c = search needs
@@ -91,6 +90,6 @@ returns c =
 pub store-names-spec : {M : Type 1} → statement M
 store-names-spec =
     tie.close
-    (tie.spec Inv-loop μ-loop loop-holds mul-place add-place shared-slice-read-spelt4 add-spelt4
+    (tie.spec Inv-loop μ-loop loop-holds mul-offset add-offset shared-slice-read-spelt4 add-spelt4
     shared-slice-read-spelt4-2 add-spelt4-2 shared-slice-read-spelt4-3 add-spelt4-3 shared-slice-read-spelt4-4
     spelt4-requires add-words mul-words slice-write-words add-i loop-less loop-again same-length returns)

@@ -1,8 +1,8 @@
--- `store_row` stores an entry's row. Assumes nothing.
+-- `store_row` stores an entry's row.
 use native.Mathlib.Omega.{arith}
 use lib.ListN.{length-set}
 use borrow.Author.Needs.{needs}
-use Rattle.numbers.specs.Numbers.{mostNames, nameBytes}
+use Rattle.def_numbers.specs.Numbers.{mostNames, nameBytes}
 use Rattle.sheet_reader.proofs.Stores.{row-stored}
 use Rattle.sheet_reader.proofs.store_row.Statement.{statement}
 use Rattle.sheet_reader.proofs.store_row.Tie as tie

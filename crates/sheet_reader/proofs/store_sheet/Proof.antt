@@ -1,11 +1,10 @@
 -- `store_sheet` stores the rows of a sheet. The loop's invariant is `Left`: the rows that are left make the whole.
--- Assumes nothing.
 use Prim.Native.Nat.{_-_}
 use native.Mathlib.Omega.{arith}
 use lib.ListN.{length}
 use borrow.Author.Needs.{needs}
 use Rattle.sheet_reader.proofs.Rows.{Left, left-start, left-room, left-more, left-none, left-refused, left-sound}
-use Rattle.sheet_format.specs.NumberLaws.{length-namesAt}
+use Rattle.def_sheets.specs.NumberLaws.{length-namesAt}
 use Rattle.entry_scan.proofs.Entries.{scan-job, scan-end, scan-refused}
 use Rattle.sheet_reader.proofs.store_sheet.Statement.{statement}
 use Rattle.sheet_reader.proofs.store_sheet.Tie as tie

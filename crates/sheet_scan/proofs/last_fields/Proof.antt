@@ -1,8 +1,8 @@
--- `last_fields` answers the last two fields, multiplied by their bits. Assumes nothing.
+-- `last_fields` answers the last two fields, multiplied by their bits.
 use Prim.Native.Nat.{ℕ, _+_, _*_, _/_, _%_}
 use mathlib.Core.Path.{_≡_, ap}
 use native.Mathlib.Omega.{arith}
-use Rattle.sheet_scan.specs.Places.{classPlace, growerPlace}
+use Rattle.sheet_scan.specs.Offsets.{classOffset, growerOffset}
 use Rattle.sheet_scan.proofs.Bits.{bit-times}
 use borrow.Author.Needs.{needs}
 use Rattle.sheet_scan.proofs.last_fields.Statement.{statement}
@@ -55,8 +55,8 @@ add-t16 c = search needs
 returns : tie.Need-returns
 returns c =
     let a = c .before .before .before .args in
-    let p : a .at + 5 + a .map / 2 % 2 + 4 * a .count ≡ classPlace (a .at) (a .map) (a .count) = omega arith in
-    let q : a .at + 5 + a .map / 2 % 2 + 4 * a .count + a .map / 4 % 2 ≡ growerPlace (a .at) (a .map) (a .count) =
+    let p : a .at + 5 + a .map / 2 % 2 + 4 * a .count ≡ classOffset (a .at) (a .map) (a .count) = omega arith in
+    let q : a .at + 5 + a .map / 2 % 2 + 4 * a .count + a .map / 4 % 2 ≡ growerOffset (a .at) (a .map) (a .count) =
     omega arith in (
       ap (λ (x : ℕ). (a .map / 4 % 2) * x) (rw p at (c .before .number1 .ensures)),
       ap (λ (x : ℕ). (a .map / 8 % 2) * x) (rw q at (c .number2 .ensures)),

@@ -1,7 +1,7 @@
--- `number1` answers the number in one byte. Assumes nothing.
+-- `number1` answers the number in one byte.
 use native.Mathlib.Omega.{arith}
 use borrow.Author.Needs.{needs}
-use Rattle.sheet_format.specs.Number.{numberAt}
+use Rattle.def_sheets.specs.Number.{numberAt}
 use Rattle.sheet_scan.proofs.number1.Statement.{statement}
 use Rattle.sheet_scan.proofs.number1.Tie as tie
 

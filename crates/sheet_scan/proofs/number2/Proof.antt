@@ -1,7 +1,7 @@
--- `number2` answers the number in two bytes. Assumes nothing.
+-- `number2` answers the number in two bytes.
 use native.Mathlib.Omega.{arith}
 use borrow.Author.Needs.{needs}
-use Rattle.sheet_format.specs.Number.{numberAt}
+use Rattle.def_sheets.specs.Number.{numberAt}
 use Rattle.sheet_scan.proofs.number2.Statement.{statement}
 use Rattle.sheet_scan.proofs.number2.Tie as tie
 

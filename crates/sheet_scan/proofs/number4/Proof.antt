@@ -1,4 +1,4 @@
--- `number4` answers the number in four bytes. Assumes nothing.
+-- `number4` answers the number in four bytes.
 use borrow.Author.Needs.{needs}
 use Rattle.entry_scan.proofs.Fields.{number4-at}
 use Rattle.sheet_scan.proofs.number4.Statement.{statement}

@@ -1,4 +1,4 @@
--- `scan_again` answers the numbers of an entry that is no refusal. Assumes nothing.
+-- `scan_again` answers the numbers of an entry that is no refusal.
 use Prim.Native.Nat.{_/_, _%_}
 use native.Mathlib.Omega.{arith}
 use Rattle.sheet_scan.proofs.Bits.{bit-times, unrefused}

@@ -1,11 +1,11 @@
--- `scan_by_bits` answers the numbers of an entry where the longest would fit. Assumes nothing.
+-- `scan_by_bits` answers the numbers of an entry where the longest would fit.
 use Prim.Native.Nat.{_/_, _%_}
 use mathlib.Core.Path.{sym, _∙_}
 use mathlib.Core.Bool.{_&&_}
 use native.Mathlib.Omega.{arith}
 use lib.Dec.{ltb, eqb}
-use Rattle.numbers.specs.Numbers.{mostNames}
-use Rattle.sheet_format.specs.Choice.{both}
+use Rattle.def_numbers.specs.Numbers.{mostNames}
+use Rattle.def_sheets.specs.Choice.{both}
 use Rattle.sheet_scan.proofs.Bits.{bit-times, within-most, sure}
 use borrow.Author.Needs.{needs}
 use Rattle.sheet_scan.proofs.scan_by_bits.Statement.{statement}

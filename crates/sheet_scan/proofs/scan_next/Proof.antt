@@ -1,11 +1,11 @@
--- `scan_next` answers the numbers of the entry at an offset. Assumes nothing.
+-- `scan_next` answers the numbers of the entry at an offset.
 use mathlib.Core.Path.{sym, _∙_}
 use mathlib.Core.Bool.{_&&_}
 use native.Mathlib.Omega.{arith}
 use lib.Dec.{leb, eqb}
 use borrow.Author.Tests.{eqb-true}
-use Rattle.numbers.specs.Numbers.{mostNames}
-use Rattle.sheet_format.specs.Choice.{both}
+use Rattle.def_numbers.specs.Numbers.{mostNames}
+use Rattle.def_sheets.specs.Choice.{both}
 use Rattle.sheet_scan.proofs.Bits.{name-alone, name-and-list}
 use borrow.Author.Needs.{needs}
 use Rattle.sheet_scan.proofs.scan_next.Statement.{statement}

@@ -1,12 +1,12 @@
 -- `scan_sheet` counts the entries of a sheet. The loop's invariant: the entries counted and those that are left make
--- the whole. Assumes nothing.
+-- the whole.
 use Prim.Native.Nat.{_≤_, _-_}
 use mathlib.Core.Path.{_≡_}
 use native.Mathlib.Nat.{add-zero}
 use native.Mathlib.Omega.{arith}
 use lib.ListN.{length}
 use borrow.Author.Needs.{needs}
-use Rattle.sheet_format.specs.Decode.{decodeSheet, scanSheet}
+use Rattle.def_sheets.specs.Decode.{decodeSheet, scanSheet}
 use Rattle.sheet_scan.proofs.Sheets.{rest, rest-start, rest-on, counted, counted-none, counted-more}
 use Rattle.entry_scan.proofs.Entries.{scan-job, scan-end, scan-refused}
 use Rattle.sheet_scan.proofs.scan_sheet.Statement.{statement}

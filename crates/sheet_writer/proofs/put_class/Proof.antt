@@ -1,9 +1,9 @@
--- `put_class` stores the byte of a class, and nothing for class 0. Assumes nothing.
+-- `put_class` stores the byte of a class, and nothing for class 0.
 use native.Mathlib.Omega.{arith}
 use native.Mathlib.Nat.{add-zero}
-use Rattle.numbers.specs.Numbers.{classBytes}
-use Rattle.sheet_format.specs.Number.{spelt}
-use Rattle.sheet_format.specs.EntryTrip.{length-optional}
+use Rattle.def_numbers.specs.Numbers.{classBytes}
+use Rattle.def_sheets.specs.Number.{spelt}
+use Rattle.def_sheets.specs.EntryTrip.{length-optional}
 use Rattle.sheet_limits.proofs.Sizes.{bit-some, spelt-some}
 use Rattle.sheet_writer.proofs.Puts.{part-fits}
 use borrow.Author.Needs.{needs}

@@ -1,7 +1,7 @@
--- `put_entry` stores the parts of an entry one after the other. Assumes nothing.
+-- `put_entry` stores the parts of an entry one after the other.
 use mathlib.Core.Path.{ap, _∙_}
 use denote.Ref.{now}
-use Rattle.sheet_format.specs.Place.{Part, put}
+use Rattle.def_sheets.specs.Offset.{Part, put}
 use Rattle.sheet_writer.specs.Put.{jobIn}
 use Rattle.sheet_writer.proofs.Puts.{due}
 use borrow.Author.Needs.{needs}

@@ -1,4 +1,4 @@
--- `put_grower` stores the two bytes of a grower, least first, and nothing for grower 0. Assumes nothing.
+-- `put_grower` stores the two bytes of a grower, least first, and nothing for grower 0.
 use Prim.Native.Nat.{_+_, _≤_}
 use mathlib.Core.Path.{_≡_}
 use native.Mathlib.Omega.{arith}
@@ -6,9 +6,9 @@ use native.Mathlib.Nat.{add-zero}
 use native.Mathlib.Numerals.{towards-suc}
 use lib.ListN.{length, length-set}
 use denote.Ref.{now}
-use Rattle.numbers.specs.Numbers.{growerBytes}
-use Rattle.sheet_format.specs.Number.{spelt}
-use Rattle.sheet_format.specs.EntryTrip.{length-optional}
+use Rattle.def_numbers.specs.Numbers.{growerBytes}
+use Rattle.def_sheets.specs.Number.{spelt}
+use Rattle.def_sheets.specs.EntryTrip.{length-optional}
 use Rattle.sheet_limits.proofs.Sizes.{bit-some, spelt-some}
 use Rattle.sheet_writer.proofs.Puts.{part-fits}
 use borrow.Author.Needs.{needs}
@@ -17,7 +17,7 @@ use Rattle.sheet_writer.proofs.put_grower.Tie as tie
 
 -- room for both bytes
 room : (s : tie.Start) → (s .args .fields .grower ≡ 0 → ⊥)
-    → s .args .place + growerBytes ≤ length (now (s .args .out))
+    → s .args .offset + growerBytes ≤ length (now (s .args .out))
 room s some =
     let k = length-optional growerBytes (s .args .fields .grower) in
     omega (arith, part-fits (s .pre), bit-some _ some)

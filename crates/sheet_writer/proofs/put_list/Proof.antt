@@ -1,12 +1,12 @@
--- `put_list` stores a list, its count first, and nothing for the empty list. Assumes nothing.
+-- `put_list` stores a list, its count first, and nothing for the empty list.
 use Prim.Native.Nat.{_+_, _*_, _≤_}
 use mathlib.Core.Path.{_≡_, _∙_}
 use native.Mathlib.Omega.{arith}
 use native.Mathlib.Nat.{add-zero}
 use lib.ListN.{length, length-set, take, drop}
 use denote.Ref.{now}
-use Rattle.numbers.specs.Numbers.{nameBytes, countBytes}
-use Rattle.sheet_format.specs.Number.{spelt}
+use Rattle.def_numbers.specs.Numbers.{nameBytes, countBytes}
+use Rattle.def_sheets.specs.Number.{spelt}
 use Rattle.sheet_limits.proofs.Sizes.{bytes-some, list-bytes, list-some, taken}
 use Rattle.sheet_writer.proofs.Puts.{one, after, part-fits, was-put}
 use borrow.Author.Needs.{needs}
@@ -15,7 +15,7 @@ use Rattle.sheet_writer.proofs.put_list.Tie as tie
 
 -- room for the count and the names
 room : (s : tie.Start) → (s .args .fields .count ≡ 0 → ⊥)
-    → s .args .place + (countBytes + nameBytes * s .args .fields .count) ≤ length (now (s .args .out))
+    → s .args .offset + (countBytes + nameBytes * s .args .fields .count) ≤ length (now (s .args .out))
 room s some =
     let f = s .args .fields in
     let k = list-bytes (now (s .args .words)) (f .first) (f .count) (f .class) (f .grower) (s .pre .fits .names) in
@@ -59,7 +59,7 @@ returns-2 c =
     let f = s .args .fields in
     rw (list-some (f .count) (c4 .before .before .if1 .left) _ (take (f .count) (drop (f .first) words))
     (taken words (f .first) (f .count) (s .pre .fits .names)))
-    (was-put (after (one (now (s .args .out)) (s .args .place) _) (c .before .before .put-names .ensures)))
+    (was-put (after (one (now (s .args .out)) (s .args .offset) _) (c .before .before .put-names .ensures)))
 
 pub put-list-spec : {M : Type 1} → statement M
 put-list-spec =

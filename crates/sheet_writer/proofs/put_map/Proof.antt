@@ -1,4 +1,4 @@
--- `put_map` stores the map byte. Assumes nothing.
+-- `put_map` stores the map byte.
 use native.Mathlib.Omega.{arith}
 use lib.ListN.{take, drop}
 use denote.Ref.{now}

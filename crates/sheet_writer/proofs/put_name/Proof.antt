@@ -1,10 +1,10 @@
--- `put_name` stores the four bytes of a name, least first. Assumes nothing.
+-- `put_name` stores the four bytes of a name, least first.
 use mathlib.Core.Path.{refl}
 use native.Mathlib.Omega.{arith}
 use native.Mathlib.Numerals.{towards-suc}
 use lib.ListN.{length-set}
 use borrow.Author.Needs.{needs}
-use Rattle.sheet_format.specs.Number.{spelt}
+use Rattle.def_sheets.specs.Number.{spelt}
 use Rattle.sheet_writer.proofs.put_name.Statement.{statement}
 use Rattle.sheet_writer.proofs.put_name.Tie as tie
 

@@ -1,5 +1,5 @@
 -- `put_names` stores names one after the other. The loop's invariant: what is left to store, stored from the running
--- place on, makes the whole. Assumes nothing.
+-- offset on, makes the whole.
 use Prim.Native.Nat.{_+_, _*_, _-_, _≤_}
 use mathlib.Core.Path.{_≡_, _∙_}
 use native.Mathlib.Nat.{sub-zero, add-zero}
@@ -8,24 +8,24 @@ use lib.ListN.{getD, length, take, drop}
 use lib.Seq.{sets}
 use borrow.Author.Needs.{needs}
 use denote.Ref.{now}
-use Rattle.numbers.specs.Numbers.{nameBytes}
-use Rattle.sheet_format.specs.Job.{speltNames}
-use Rattle.sheet_format.specs.NumberLaws.{length-spelt, length-speltNames}
+use Rattle.def_numbers.specs.Numbers.{nameBytes}
+use Rattle.def_sheets.specs.Job.{speltNames}
+use Rattle.def_sheets.specs.NumberLaws.{length-spelt, length-speltNames}
 use Rattle.sheet_limits.proofs.Sizes.{taken}
 use Rattle.sheet_writer.proofs.Puts.{onward, next-name}
 use Rattle.sheet_writer.proofs.put_names.Statement.{statement}
 use Rattle.sheet_writer.proofs.put_names.Tie as tie
 
 abbrev Inv-loop : tie.InvT-loop
-Inv-loop out₀ place words from n next₀ i₀ out next i =
+Inv-loop out₀ offset words from n next₀ i₀ out next i =
     (i ≤ n)
-    × (next ≡ place + nameBytes * i)
+    × (next ≡ offset + nameBytes * i)
     × (length out ≡ length out₀)
     × (sets out next (speltNames nameBytes (take (n - i) (drop (from + i) words)))
-    ≡ sets out₀ place (speltNames nameBytes (take n (drop from words))))
+    ≡ sets out₀ offset (speltNames nameBytes (take n (drop from words))))
 
 abbrev μ-loop : tie.MeasureT-loop
-μ-loop out₀ place words from n next₀ i₀ out next i = n - i
+μ-loop out₀ offset words from n next₀ i₀ out next i = n - i
 
 loop-holds : tie.Need-loop-holds Inv-loop μ-loop
 unfolding speltNames

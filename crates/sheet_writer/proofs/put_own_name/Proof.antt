@@ -1,7 +1,7 @@
--- `put_own_name` stores the job's own name. Assumes nothing.
+-- `put_own_name` stores the job's own name.
 use native.Mathlib.Omega.{arith}
-use Rattle.numbers.specs.Numbers.{nameBytes}
-use Rattle.sheet_format.specs.NumberLaws.{length-spelt}
+use Rattle.def_numbers.specs.Numbers.{nameBytes}
+use Rattle.def_sheets.specs.NumberLaws.{length-spelt}
 use Rattle.sheet_writer.proofs.Puts.{part-fits, was-put}
 use borrow.Author.Needs.{needs}
 use Rattle.sheet_writer.proofs.put_own_name.Statement.{statement}

@@ -1,7 +1,7 @@
--- `put_row` stores the entry that a row of words holds, with the names read where they stand. Assumes nothing.
+-- `put_row` stores the entry that a row of words holds, with the names read where they stand.
 use native.Mathlib.Omega.{arith}
 use denote.Ref.{now}
-use Rattle.sheet_format.specs.Write.{entryAt}
+use Rattle.def_sheets.specs.Write.{entryAt}
 use Rattle.sheet_limits.proofs.Judging.{few}
 use Rattle.sheet_limits.proofs.Rows.{job-at}
 use Rattle.sheet_writer.proofs.Puts.{entry-put}

@@ -1,5 +1,5 @@
 -- `put_rows` stores the entries of the rows one after the other. The loop's invariant: what is left to store, stored
--- from the running place on, makes the whole. Assumes nothing.
+-- from the running offset on, makes the whole.
 use Prim.Native.Nat.{_+_, _-_, _≤_}
 use mathlib.Core.Path.{refl, ap, _≡_, _∙_}
 use native.Mathlib.Omega.{arith}
@@ -8,9 +8,9 @@ use lib.ListN.{length}
 use lib.Seq.{sets}
 use borrow.Author.Needs.{needs}
 use denote.Ref.{now}
-use Rattle.sheet_format.specs.Job.{encodeSheet}
-use Rattle.sheet_format.specs.Write.{sheetFault, SheetFault, entriesFrom}
-use Rattle.sheet_format.specs.SheetPlace.{sheetSoFar, so-far-length}
+use Rattle.def_sheets.specs.Job.{encodeSheet}
+use Rattle.def_sheets.specs.Write.{sheetFault, SheetFault, entriesFrom}
+use Rattle.def_sheets.specs.SheetOffset.{sheetSoFar, so-far-length}
 use Rattle.sheet_writer.proofs.Puts.{onward}
 use Rattle.sheet_limits.proofs.Rows.{rest, restBytes, next-bytes, next-length, next-sound, end-bytes}
 use Rattle.sheet_writer.proofs.put_rows.Statement.{statement}

@@ -1,8 +1,8 @@
--- `put_whole` stores an entry with its own names. Assumes nothing.
+-- `put_whole` stores an entry with its own names.
 use mathlib.Core.Path.{_≡_}
 use native.Mathlib.Omega.{arith}
 use lib.ListN.{length}
-use Rattle.numbers.specs.Numbers.{mostNames}
+use Rattle.def_numbers.specs.Numbers.{mostNames}
 use Rattle.sheet_limits.proofs.Judging.{few}
 use Rattle.sheet_writer.proofs.Puts.{entry-put}
 use borrow.Author.Needs.{needs}

@@ -1,12 +1,12 @@
--- `write` answers and leaves what `writeEntry` says, for every entry, output and offset. Assumes nothing.
+-- `write` answers and leaves what `writeEntry` says, for every entry, output and offset.
 use Prim.Native.Nat.{_+_}
 use mathlib.Core.Path.{_≡_, sym, _∙_}
 use lib.ListN.{length}
 use borrow.Author.Tests.{leb-true}
 use borrow.Author.Needs.{needs}
 use denote.Ref.{now}
-use Rattle.sheet_format.specs.Write.{Fault, faultOf, writeEntry, jobOf}
-use Rattle.sheet_format.specs.Job.{encode}
+use Rattle.def_sheets.specs.Write.{Fault, faultOf, writeEntry, jobOf}
+use Rattle.def_sheets.specs.Job.{encode}
 use Rattle.sheet_limits.proofs.Judging.{refused, takes}
 use Rattle.sheet_writer.proofs.write.Statement.{statement}
 use Rattle.sheet_writer.proofs.write.Tie as tie
@@ -23,8 +23,8 @@ takes-at c =
 judge-requires : tie.Need-judge-requires
 judge-requires c κs = search needs
 
-enum-known-place : tie.Need-enum-known-place
-enum-known-place c = search needs
+enum-known-offset : tie.Need-enum-known-offset
+enum-known-offset c = search needs
 
 enum-known-bytes : tie.Need-enum-known-bytes
 enum-known-bytes c = search needs
@@ -47,7 +47,7 @@ returns c =
     let c4 = c .before .before .before .before in
     let e = c4 .before .args .entry in
     rw (refused e _ (sym (c .before .before .before .judge .ensures (e .name) (e .names) (search needs))
-    ∙ c .before .place .given .1))
+    ∙ c .before .offset .given .1))
 
 same-length : tie.Need-same-length
 same-length c = search needs
@@ -71,5 +71,5 @@ returns-3 c =
 pub write-spec : {M : Type 1} → statement M
 write-spec =
     tie.close
-    (tie.spec judge-requires enum-known-place enum-known-bytes has-room-requires put-whole-requires returns
+    (tie.spec judge-requires enum-known-offset enum-known-bytes has-room-requires put-whole-requires returns
     same-length returns-2 returns-3)

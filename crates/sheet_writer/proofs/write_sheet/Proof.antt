@@ -1,4 +1,4 @@
--- `write_sheet` answers and leaves what `writeSheet` says, for all rows and every output. Assumes nothing.
+-- `write_sheet` answers and leaves what `writeSheet` says, for all rows and every output.
 use Prim.Native.Nat.{_/_}
 use mathlib.Core.Path.{_≡_, sym, _∙_}
 use native.Mathlib.Nat.{zero-add}
@@ -7,11 +7,11 @@ use lib.ListN.{length, length-map}
 use borrow.Author.Tests.{eq-eqb, ne-eqb, le-leb, lt-leb}
 use borrow.Author.Needs.{needs}
 use denote.Ref.{now}
-use Rattle.numbers.specs.Numbers.{entryWords}
-use Rattle.sheet_format.specs.Write.{SheetFault, sheetFault, writeSheet, jobOf, entriesOf}
-use Rattle.sheet_format.specs.CodeLaws.{length-entriesFrom}
+use Rattle.def_numbers.specs.Numbers.{entryWords}
+use Rattle.def_sheets.specs.Write.{SheetFault, sheetFault, writeSheet, jobOf, entriesOf}
+use Rattle.def_sheets.specs.CodeLaws.{length-entriesFrom}
 use Rattle.sheet_limits.proofs.Judging.{sheet-refused, sheet-takes}
-use Rattle.sheet_format.specs.SheetPlace.{sheetSoFar}
+use Rattle.def_sheets.specs.SheetOffset.{sheetSoFar}
 use Rattle.sheet_writer.proofs.write_sheet.Statement.{statement}
 use Rattle.sheet_writer.proofs.write_sheet.Tie as tie
 

@@ -1,5 +1,4 @@
 -- `taskgraph_answer::answered` meets its contract: each arm is given which answer it has.
--- Assumes nothing.
 use mathlib.Core.Path.{sym, ap, _∙_}
 use borrow.Author.Needs.{needs}
 use Rattle.taskgraph_answer.specs.Answers.{graphAnswer}

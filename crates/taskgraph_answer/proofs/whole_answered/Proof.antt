@@ -1,5 +1,4 @@
 -- `taskgraph_answer::whole_answered` meets its contract: each way through the code is a case of the definition.
--- Assumes nothing.
 use Rattle.taskgraph_answer.proofs.whole_answered.Statement.{statement}
 use Rattle.taskgraph_answer.proofs.whole_answered.Tie as tie
 

@@ -1,15 +1,15 @@
 -- Tellings of the graph's answers by which something is lost or said otherwise than include/taskgraph.h has it, each
--- refuted by one answer or by two that are told alike. Assumes nothing.
+-- refuted by one answer or by two that are told alike.
 use mathlib.Core.Path.{_≡_, refl, ap, sym, _∙_}
 use mathlib.Core.Bool.{Bool, true, false}
 use mathlib.Core.Option.{some}
 use Prim.Native.Nat.{ℕ}
 use native.Mathlib.Omega.{arith}
 use borrow.Author.Tests.{eqb-false}
-use Rattle.terms.specs.Terms.{bit}
-use Rattle.terms.specs.declared.Answer.{Answer}
-use Rattle.terms.specs.declared.Answer.the-variants.{Laid, Loaded, Posted, Going, Ended, NoneReady, Handed, Refused}
-use Rattle.terms.specs.declared.HandOut.{HandOut}
+use Rattle.def_terms.specs.Terms.{bit}
+use Rattle.def_terms.specs.declared.Answer.{Answer}
+use Rattle.def_terms.specs.declared.Answer.the-variants.{Laid, Loaded, Posted, Going, Ended, NoneReady, Handed, Refused}
+use Rattle.def_terms.specs.declared.HandOut.{HandOut}
 use Rattle.taskgraph_answer.specs.Answers.{plain, graphAnswer}
 use Rattle.taskgraph_answer.specs.Heard.{heard, AnswersHeard}
 use Rattle.taskgraph_answer.specs.declared.GraphAnswer.{GraphAnswer}
@@ -42,7 +42,7 @@ out j n b = Handed (job j n b)
 pub get-as-none-ready : Wrong (handedAs λ j n b. plain 5)
 get-as-none-ready h = let z : _≡_ {A = ℕ} 0 1 = cc (alike _ h NoneReady (out 0 7 false) refl) in omega arith
 
--- its mark is not told: "and told by `spoiled`"
+-- that it is spoiled is not told: "and told by `spoiled`"
 pub spoiled-not-told : Wrong (handedAs λ j n b. record {
   kind = 6;
   number = 0;

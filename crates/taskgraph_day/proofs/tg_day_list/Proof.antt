@@ -1,9 +1,8 @@
 -- `taskgraph_day::tg_day_list` meets its contract: each arm is given the answer of `day_list`, whose contract says what
 -- that is.
--- Assumes nothing.
 use mathlib.Core.Path.{sym, ap, _∙_}
 use borrow.Author.Needs.{needs}
-use Rattle.day_format.specs.Day.{Printing}
+use Rattle.def_day_lines.specs.Day.{Printing}
 use Rattle.taskgraph_day.specs.Answers.{dayPrinted}
 use Rattle.taskgraph_day.proofs.tg_day_list.Statement.{statement}
 use Rattle.taskgraph_day.proofs.tg_day_list.Tie as tie

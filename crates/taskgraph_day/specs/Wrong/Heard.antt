@@ -1,11 +1,10 @@
 -- Tellings of the day list by which something is lost, or left where nothing is to be said, each refuted by one answer.
--- Assumes nothing.
 use mathlib.Core.Path.{_≡_, refl}
 use Prim.Native.Nat.{ℕ}
 use native.Mathlib.Omega.{arith}
 use borrow.Author.Tests.{eqb-false}
-use Rattle.day_format.specs.declared.DayAnswer.{DayAnswer}
-use Rattle.day_format.specs.declared.DayAnswer.the-variants.{Printed, Refused}
+use Rattle.def_day_lines.specs.declared.DayAnswer.{DayAnswer}
+use Rattle.def_day_lines.specs.declared.DayAnswer.the-variants.{Printed, Refused}
 use Rattle.taskgraph_day.specs.Answers.{dayPrinted}
 use Rattle.taskgraph_day.specs.Heard.{Answers, DaysHeard}
 use Rattle.taskgraph_day.specs.declared.DayPrinted.{DayPrinted}

@@ -1,5 +1,4 @@
 -- `taskgraph_get::tg_get` meets its contract: what `get` answers, as C has it, and the tables that it leaves.
--- Assumes nothing.
 use borrow.Author.Needs.{needs}
 use Rattle.taskgraph_answer.specs.InC.{in-c}
 use Rattle.taskgraph_get.proofs.tg_get.Statement.{statement}

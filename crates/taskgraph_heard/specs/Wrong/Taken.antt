@@ -6,10 +6,10 @@ use Prim.Native.Nat.{ℕ}
 use native.Mathlib.Omega.{arith}
 use lib.Dec.{eqb}
 use lib.ListN.{drop, replicate}
-use Rattle.terms.specs.Terms.{Arguments, finishOf}
-use Rattle.sheet_format.specs.Write.{entriesFrom, entriesOf}
-use Rattle.sheet_format.specs.declared.Entry.{Entry}
-use Rattle.sheet_rows.specs.Arguments.{argumentsOf}
+use Rattle.def_terms.specs.Terms.{Arguments, finishOf}
+use Rattle.def_sheets.specs.Write.{entriesFrom, entriesOf}
+use Rattle.def_sheets.specs.declared.Entry.{Entry}
+use Rattle.def_sheet_rows.specs.Arguments.{argumentsOf}
 use Rattle.taskgraph_heard.specs.ToldApart.{AddTaken, SheetTaken, FinishTaken}
 
 -- the class is taken for the grower, and the grower for the class

@@ -1,6 +1,5 @@
 -- `taskgraph_layout::tg_lay_out` meets its contract: what `lay_out` answers, as C has it, and the tables that it
 -- leaves.
--- Assumes nothing.
 use borrow.Author.Needs.{needs}
 use Rattle.taskgraph_answer.specs.InC.{in-c}
 use Rattle.taskgraph_layout.proofs.tg_lay_out.Statement.{statement}

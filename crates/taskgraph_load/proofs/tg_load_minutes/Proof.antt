@@ -1,6 +1,5 @@
 -- `taskgraph_load::tg_load_minutes` meets its contract: what `load` answers, as C has it, and the tables that it
 -- leaves.
--- Assumes nothing.
 use borrow.Author.Needs.{needs}
 use Rattle.taskgraph_answer.specs.InC.{in-c}
 use Rattle.taskgraph_load.proofs.tg_load_minutes.Statement.{statement}

@@ -1,6 +1,5 @@
 -- `taskgraph_post_add::tg_post_add` meets its contract: what `post_add` answers, as C has it, and the tables that it
 -- leaves.
--- Assumes nothing.
 use borrow.Author.Needs.{needs}
 use Rattle.taskgraph_answer.specs.InC.{in-c}
 use Rattle.taskgraph_post_add.proofs.tg_post_add.Statement.{statement}

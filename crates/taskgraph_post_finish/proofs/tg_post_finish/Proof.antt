@@ -1,7 +1,6 @@
 -- `taskgraph_post_finish::tg_post_finish` meets its contract: what `post_finish` answers, as C has it, and the tables
 -- that it
 -- leaves.
--- Assumes nothing.
 use borrow.Author.Needs.{needs}
 use Rattle.taskgraph_answer.specs.InC.{in-c}
 use Rattle.taskgraph_post_finish.proofs.tg_post_finish.Statement.{statement}

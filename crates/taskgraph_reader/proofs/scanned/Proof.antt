@@ -1,5 +1,4 @@
 -- `taskgraph_reader::scanned` meets its contract: each arm is given which answer it has.
--- Assumes nothing.
 use mathlib.Core.Path.{sym, ap}
 use borrow.Author.Needs.{needs}
 use Rattle.taskgraph_reader.specs.Answers.{sheetRead}

@@ -1,14 +1,13 @@
 -- `taskgraph_reader::tg_read_entry` meets its contract: each arm is given the answer of `read`, whose contract says
 -- what that is.
--- Assumes nothing.
 use mathlib.Core.Path.{_≡_, refl, sym, ap, _∙_}
 use Prim.Native.Nat.{ℕ}
 use borrow.Author.Needs.{needs}
-use Rattle.numbers.specs.Numbers.{accepted}
-use Rattle.sheet_format.specs.Decode.{Decoded, job, end, refused, decode, readingOf}
-use Rattle.sheet_format.specs.declared.Entry.{Entry}
-use Rattle.sheet_format.specs.declared.Read.{Read}
-use Rattle.sheet_format.specs.declared.Reading.{Reading}
+use Rattle.def_numbers.specs.Numbers.{accepted}
+use Rattle.def_sheets.specs.Decode.{Decoded, job, end, refused, decode, readingOf}
+use Rattle.def_sheets.specs.declared.Entry.{Entry}
+use Rattle.def_sheets.specs.declared.Read.{Read}
+use Rattle.def_sheets.specs.declared.Reading.{Reading}
 use Rattle.taskgraph_reader.specs.Answers.{entryRead}
 use Rattle.taskgraph_reader.specs.declared.EntryRead.{EntryRead}
 use Rattle.taskgraph_reader.proofs.tg_read_entry.Statement.{statement}

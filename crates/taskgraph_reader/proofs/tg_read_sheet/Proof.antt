@@ -1,9 +1,8 @@
 -- `taskgraph_reader::tg_read_sheet` meets its contract: what `read_sheet` answers, as C has it, and the rows that it
 -- leaves.
--- Assumes nothing.
 use mathlib.Core.Path.{ap, _∙_}
 use borrow.Author.Needs.{needs}
-use Rattle.sheet_format.specs.Decode.{SheetRows}
+use Rattle.def_sheets.specs.Decode.{SheetRows}
 use Rattle.taskgraph_reader.specs.Answers.{sheetRead}
 use Rattle.taskgraph_reader.proofs.tg_read_sheet.Statement.{statement}
 use Rattle.taskgraph_reader.proofs.tg_read_sheet.Tie as tie

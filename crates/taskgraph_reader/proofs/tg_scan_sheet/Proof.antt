@@ -1,5 +1,4 @@
 -- `taskgraph_reader::tg_scan_sheet` meets its contract: what `scan_sheet` answers, as C has it.
--- Assumes nothing.
 use mathlib.Core.Path.{ap, _∙_}
 use borrow.Author.Needs.{needs}
 use Rattle.taskgraph_reader.specs.Answers.{sheetRead}

@@ -1,5 +1,5 @@
 -- Tellings of sheets that are read by which something is lost, or left where nothing is to be said, each refuted by one
--- answer. Assumes nothing.
+-- answer.
 use mathlib.Core.Path.{_≡_, refl, ap}
 use mathlib.Core.List.{List, [], _∷_}
 use mathlib.Core.Option.{Option, none, some}
@@ -8,11 +8,11 @@ use native.Mathlib.Omega.{arith}
 use lib.Dec.{lit≤}
 use lib.ListN.{length, getD, set}
 use borrow.Author.Tests.{eqb-false}
-use Rattle.sheet_format.specs.Job.{Job}
-use Rattle.sheet_format.specs.Decode.{Decoded, job, end, refused, entryOf}
-use Rattle.sheet_format.specs.declared.Entry.{Entry}
-use Rattle.sheet_format.specs.declared.SheetRead.{SheetRead}
-use Rattle.sheet_format.specs.declared.SheetRead.the-variants.{Whole, Refused}
+use Rattle.def_sheets.specs.Job.{Job}
+use Rattle.def_sheets.specs.Decode.{Decoded, job, end, refused, entryOf}
+use Rattle.def_sheets.specs.declared.Entry.{Entry}
+use Rattle.def_sheets.specs.declared.SheetRead.{SheetRead}
+use Rattle.def_sheets.specs.declared.SheetRead.the-variants.{Whole, Refused}
 use Rattle.taskgraph_reader.specs.Answers.{entryRead, sheetRead}
 use Rattle.taskgraph_reader.specs.Heard.{JobsHeard, EntriesHeard, SheetsHeard, Stands, Scanned, ReadIn}
 use Rattle.taskgraph_reader.specs.declared.EntryRead.{EntryRead}

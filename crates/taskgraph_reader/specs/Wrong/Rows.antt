@@ -1,5 +1,4 @@
 -- Readers of a sheet into rows that lay a row out otherwise, or do not clear it, each refuted by a sheet of one entry.
--- Assumes nothing.
 use mathlib.Core.Path.{_≡_, refl, ap}
 use mathlib.Core.List.{List, [], _∷_}
 use Prim.Native.Nat.{ℕ}
@@ -7,10 +6,10 @@ use native.Mathlib.Omega.{arith}
 use lib.Dec.{lit<}
 use lib.ListN.{length, getD, replicate}
 use lib.Seq.{sets}
-use Rattle.sheet_format.specs.Number.{numberAt}
-use Rattle.sheet_format.specs.Job.{Job}
-use Rattle.sheet_format.specs.Decode.{Sheet, jobs, broken, decodeSheet, decodeFrom, decode, mapAt, nameAt, limitedAt}
-use Rattle.sheet_format.specs.Decode.{listAt, namesAt, padded}
+use Rattle.def_sheets.specs.Number.{numberAt}
+use Rattle.def_sheets.specs.Job.{Job}
+use Rattle.def_sheets.specs.Decode.{Sheet, jobs, broken, decodeSheet, decodeFrom, decode, mapAt, nameAt, limitedAt}
+use Rattle.def_sheets.specs.Decode.{listAt, namesAt, padded}
 use Rattle.taskgraph_reader.specs.Rows.{RowsHeard}
 
 -- the job 7 after 1, of class 9 and grower 513, as bytes, and rows with room for it

@@ -1,5 +1,4 @@
 -- `taskgraph_step::tg_step` meets its contract: what `step` answers, as C has it, and the tables that it leaves.
--- Assumes nothing.
 use borrow.Author.Needs.{needs}
 use Rattle.taskgraph_answer.specs.InC.{in-c}
 use Rattle.taskgraph_step.proofs.tg_step.Statement.{statement}

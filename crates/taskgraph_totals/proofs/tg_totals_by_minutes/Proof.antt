@@ -2,7 +2,6 @@
 -- the records are passed on to `of_records` with them. Of `judged` and `of_records` the walk knows only their
 -- contracts.
 -- What a lent slice owns goes to the callee, beside its lifetime's token, and the token comes back.
--- Assumes nothing.
 use mathlib.Core.Path.{_≡_, refl}
 use mathlib.Core.List.{List, [], _∷_}
 use Prim.Native.Nat.{ℕ}
@@ -41,21 +40,21 @@ use denote.Triple.Table.{entered, cited}
 use denote.Triple.Walked.{says, Stays, stay-dropped, walkOf, goes-dropped, Walks, ends-at, walked, walk-meets}
 use denote.Triple.Clauses.{ensured, lasts}
 use denote.Exit.{yes}
-use Rattle.numbers.specs.Numbers.{wrongMinutes}
-use Rattle.minutes.specs.Judged.{judgedMinutes}
-use Rattle.minutes.specs.declared.GraphMinutes.{GraphMinutes}
-use Rattle.minutes.proofs.GraphMinutes as B
-use Rattle.minutes.proofs.GraphMinutes.Laws as B′
-use Rattle.minutes.proofs.judged as judged
-use Rattle.minutes.proofs.judged.Symbol as judged-def
-use Rattle.minutes.proofs.judged.Symbol.{name as #judged}
-use Rattle.minutes.proofs.judged.Met as judged-thm
-use Rattle.totals.specs.Board.{totalsBy}
-use Rattle.totals.specs.declared.JobRecord.{JobRecord}
-use Rattle.totals.specs.declared.Totals.{Totals}
-use Rattle.totals.proofs.JobRecord as R
-use Rattle.totals.proofs.Totals as S
-use Rattle.totals.proofs.Totals.Laws as S′
+use Rattle.def_numbers.specs.Numbers.{wrongMinutes}
+use Rattle.def_minutes.specs.Judged.{judgedMinutes}
+use Rattle.def_minutes.specs.declared.GraphMinutes.{GraphMinutes}
+use Rattle.def_minutes.proofs.GraphMinutes as B
+use Rattle.def_minutes.proofs.GraphMinutes.Laws as B′
+use Rattle.def_minutes.proofs.judged as judged
+use Rattle.def_minutes.proofs.judged.Symbol as judged-def
+use Rattle.def_minutes.proofs.judged.Symbol.{name as #judged}
+use Rattle.def_minutes.proofs.judged.Met as judged-thm
+use Rattle.def_totals.specs.Board.{totalsBy}
+use Rattle.def_totals.specs.declared.JobRecord.{JobRecord}
+use Rattle.def_totals.specs.declared.Totals.{Totals}
+use Rattle.def_totals.proofs.JobRecord as R
+use Rattle.def_totals.proofs.Totals as S
+use Rattle.def_totals.proofs.Totals.Laws as S′
 use Rattle.totals_of_records.specs.By.{Judged, totalsWith, with-table}
 use Rattle.totals_of_records.proofs.of_records as of-records
 use Rattle.totals_of_records.proofs.of_records.Symbol as of-records-def
@@ -217,6 +216,6 @@ tg-totals-by-minutes-spec 𝓤 H 𝓜 𝓖 𝓡 =
     (tables 𝓤 H 𝓜 𝓡 code.env .C) (tables 𝓤 H 𝓜 𝓡 code.env .Λ) #board code.function (code.unfolded 𝓤 H 𝓜 𝓡)
     (board-meets 𝓤 H (𝓖 .A) (givenOf 𝓤 H 𝓜 𝓖) (𝓜 .mem) (𝓡 .run) (tablesOf 𝓤 H 𝓜 (tables 𝓤 H 𝓜 𝓡 code.env))
     (cited 𝓤 H (JudgedAs 𝓤 H (𝓖 .A) (𝓜 .mem) (𝓡 .run)) 𝓜 𝓡 code.env #judged judged-def.routine
-    code.calls-minutes·judged (judged-thm.met 𝓤 H 𝓜 𝓖 𝓡))
+    code.calls-def-minutes·judged (judged-thm.met 𝓤 H 𝓜 𝓖 𝓡))
     (cited 𝓤 H (OfRecords 𝓤 H (𝓖 .A) (𝓜 .mem) (𝓡 .run)) 𝓜 𝓡 code.env #of-records of-records-def.routine
     code.calls-totals-of-records·of-records (of-records-thm.met 𝓤 H 𝓜 𝓖 𝓡)))

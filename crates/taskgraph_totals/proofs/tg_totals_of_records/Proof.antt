@@ -2,7 +2,6 @@
 -- `of_records` with the fixed minutes. Of `fixed_minutes` and `of_records` the walk knows only their contracts.
 -- A `&` is Copy: what the slice owns is had twice, one copy is kept whole for the exit, and the other goes to the
 -- callee, beside the lifetime's token, which comes back.
--- Assumes nothing.
 use mathlib.Core.Path.{_≡_, refl}
 use mathlib.Core.List.{List, [], _∷_}
 use lib.ListN.{length}
@@ -37,21 +36,21 @@ use denote.Triple.Table.{entered, cited}
 use denote.Triple.Walked.{says, Stays, stay-none-slice, walkOf, goes-none-slice, Walks, ends-at, walked, walk-meets}
 use denote.Triple.Clauses.{ensured, lasts}
 use denote.Exit.{yes}
-use Rattle.minutes.specs.Minutes.{fixedMinutes}
-use Rattle.minutes.specs.Judged.{allMinutes}
-use Rattle.minutes.specs.declared.GraphMinutes.{GraphMinutes}
-use Rattle.minutes.proofs.GraphMinutes as B
-use Rattle.minutes.proofs.GraphMinutes.Laws as B′
-use Rattle.minutes.proofs.fixed_minutes as fixed-minutes
-use Rattle.minutes.proofs.fixed_minutes.Symbol as fixed-minutes-def
-use Rattle.minutes.proofs.fixed_minutes.Symbol.{name as #fixed-minutes}
-use Rattle.minutes.proofs.fixed_minutes.Met as fixed-minutes-thm
-use Rattle.totals.specs.Board.{totalsOf}
-use Rattle.totals.specs.declared.JobRecord.{JobRecord}
-use Rattle.totals.specs.declared.Totals.{Totals}
-use Rattle.totals.proofs.JobRecord as R
-use Rattle.totals.proofs.Totals as S
-use Rattle.totals.proofs.Totals.Laws as S′
+use Rattle.def_minutes.specs.Minutes.{fixedMinutes}
+use Rattle.def_minutes.specs.Judged.{allMinutes}
+use Rattle.def_minutes.specs.declared.GraphMinutes.{GraphMinutes}
+use Rattle.def_minutes.proofs.GraphMinutes as B
+use Rattle.def_minutes.proofs.GraphMinutes.Laws as B′
+use Rattle.def_minutes.proofs.fixed_minutes as fixed-minutes
+use Rattle.def_minutes.proofs.fixed_minutes.Symbol as fixed-minutes-def
+use Rattle.def_minutes.proofs.fixed_minutes.Symbol.{name as #fixed-minutes}
+use Rattle.def_minutes.proofs.fixed_minutes.Met as fixed-minutes-thm
+use Rattle.def_totals.specs.Board.{totalsOf}
+use Rattle.def_totals.specs.declared.JobRecord.{JobRecord}
+use Rattle.def_totals.specs.declared.Totals.{Totals}
+use Rattle.def_totals.proofs.JobRecord as R
+use Rattle.def_totals.proofs.Totals as S
+use Rattle.def_totals.proofs.Totals.Laws as S′
 use Rattle.totals_of_records.specs.By.{Judged, totalsWith, with-fixed}
 use Rattle.totals_of_records.proofs.of_records as of-records
 use Rattle.totals_of_records.proofs.of_records.Symbol as of-records-def
@@ -194,6 +193,6 @@ tg-totals-of-records-spec 𝓤 H 𝓜 𝓖 𝓡 =
     (tables 𝓤 H 𝓜 𝓡 code.env .C) (tables 𝓤 H 𝓜 𝓡 code.env .Λ) #board code.function (code.unfolded 𝓤 H 𝓜 𝓡)
     (board-meets 𝓤 H (𝓖 .A) (givenOf 𝓤 H 𝓜 𝓖) (𝓜 .mem) (𝓡 .run) (tablesOf 𝓤 H 𝓜 (tables 𝓤 H 𝓜 𝓡 code.env))
     (cited 𝓤 H (Fixed 𝓤 H (𝓖 .A) (𝓜 .mem) (𝓡 .run)) 𝓜 𝓡 code.env #fixed-minutes fixed-minutes-def.routine
-    code.calls-minutes·fixed-minutes (fixed-minutes-thm.met 𝓤 H 𝓜 𝓖 𝓡))
+    code.calls-def-minutes·fixed-minutes (fixed-minutes-thm.met 𝓤 H 𝓜 𝓖 𝓡))
     (cited 𝓤 H (OfRecords 𝓤 H (𝓖 .A) (𝓜 .mem) (𝓡 .run)) 𝓜 𝓡 code.env #of-records of-records-def.routine
     code.calls-totals-of-records·of-records (of-records-thm.met 𝓤 H 𝓜 𝓖 𝓡)))

@@ -1,11 +1,10 @@
 -- `taskgraph_whole::tg_add` meets its contract: what `add_whole` answers, as C has it, or that damage stopped the
 -- call half done, by the worker's phase before and after; and the tables that it leaves.
--- Assumes nothing.
 use lib.Dec.{ltb}
-use Rattle.words.specs.Layout.{tables}
+use Rattle.def_words.specs.Layout.{tables}
 use borrow.Author.Needs.{needs}
-use Rattle.sheet_rows.specs.Arguments.{argumentsOf}
-use Rattle.whole_stops.specs.Known.{unknown-add}
+use Rattle.def_sheet_rows.specs.Arguments.{argumentsOf}
+use Rattle.def_stops.specs.Known.{unknown-add}
 use Rattle.taskgraph_answer.specs.WholeAnswers.{whole-in-c}
 use Rattle.taskgraph_whole.proofs.tg_add.Statement.{statement}
 use Rattle.taskgraph_whole.proofs.tg_add.Tie as tie

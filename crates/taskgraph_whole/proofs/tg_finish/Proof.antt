@@ -1,12 +1,11 @@
 -- `taskgraph_whole::tg_finish` meets its contract: what `finish_whole` answers, as C has it, or that damage stopped the
 -- call half done, by the worker's phase before and after; and the tables that it leaves.
--- Assumes nothing.
 use mathlib.Core.Bool.{not}
 use lib.Dec.{ltb, eqb}
 use Rattle.taskgraph_answer.specs.Answers.{finishTaken}
-use Rattle.words.specs.Layout.{tables}
+use Rattle.def_words.specs.Layout.{tables}
 use borrow.Author.Needs.{needs}
-use Rattle.whole_stops.specs.Known.{unknown-finish}
+use Rattle.def_stops.specs.Known.{unknown-finish}
 use Rattle.taskgraph_answer.specs.WholeAnswers.{whole-in-c}
 use Rattle.taskgraph_whole.proofs.tg_finish.Statement.{statement}
 use Rattle.taskgraph_whole.proofs.tg_finish.Tie as tie

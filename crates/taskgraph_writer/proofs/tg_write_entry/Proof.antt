@@ -1,9 +1,8 @@
 -- `taskgraph_writer::tg_write_entry` meets its contract: each arm is given the answer of `write`, whose contract says
 -- what that is.
--- Assumes nothing.
 use mathlib.Core.Path.{sym, ap, _∙_}
 use borrow.Author.Needs.{needs}
-use Rattle.sheet_format.specs.Write.{Written}
+use Rattle.def_sheets.specs.Write.{Written}
 use Rattle.taskgraph_writer.specs.Answers.{entryWritten}
 use Rattle.taskgraph_writer.proofs.tg_write_entry.Statement.{statement}
 use Rattle.taskgraph_writer.proofs.tg_write_entry.Tie as tie

@@ -1,9 +1,8 @@
 -- `taskgraph_writer::tg_write_sheet` meets its contract: each arm is given the answer of `write_sheet`, whose contract
 -- says what that is.
--- Assumes nothing.
 use mathlib.Core.Path.{sym, ap, _∙_}
 use borrow.Author.Needs.{needs}
-use Rattle.sheet_format.specs.Write.{SheetWritten}
+use Rattle.def_sheets.specs.Write.{SheetWritten}
 use Rattle.taskgraph_writer.specs.Answers.{sheetWritten}
 use Rattle.taskgraph_writer.proofs.tg_write_sheet.Statement.{statement}
 use Rattle.taskgraph_writer.proofs.tg_write_sheet.Tie as tie

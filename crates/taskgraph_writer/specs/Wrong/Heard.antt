@@ -1,11 +1,11 @@
 -- Tellings of sheets that are written by which something is lost, or left where nothing is to be said, each refuted by
--- one answer. Assumes nothing.
+-- one answer.
 use mathlib.Core.Path.{_≡_}
 use Prim.Native.Nat.{ℕ}
 use native.Mathlib.Omega.{arith}
-use Rattle.sheet_format.specs.declared.Wrote.{Wrote}
-use Rattle.sheet_format.specs.declared.Wrote.the-variants.{Done, Refused}
-use Rattle.sheet_format.specs.declared.SheetWrote.{SheetWrote}
+use Rattle.def_sheets.specs.declared.Wrote.{Wrote}
+use Rattle.def_sheets.specs.declared.Wrote.the-variants.{Done, Refused}
+use Rattle.def_sheets.specs.declared.SheetWrote.{SheetWrote}
 use Rattle.taskgraph_writer.specs.Answers.{entryWritten, sheetWritten}
 use Rattle.taskgraph_writer.specs.Heard.{EntriesHeard, SheetsHeard, Writes, WritesAll}
 use Rattle.taskgraph_writer.specs.declared.EntryWritten.{EntryWritten}

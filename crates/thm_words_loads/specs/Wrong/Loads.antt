@@ -1,6 +1,6 @@
 -- Loads over the tables that are wrong, each with tables and values by which the statement of Loads.antt fails of it:
 -- orders of the numbers other than 1, 17, 9, 18; numbers that a load is not turned away by; loads that store too
--- little, too much or too early. Assumes nothing.
+-- little, too much or too early.
 use mathlib.Core.Path.{_≡_, refl, sym, ap, _∙_}
 use mathlib.Core.Bool.{Bool, true, false, not, _&&_}
 use mathlib.Core.List.{List, [], _∷_}
@@ -8,18 +8,18 @@ use Prim.Native.Nat.{ℕ, zero, suc}
 use lib.Dec.{leb, ltb, eqb, lit≤, lit<}
 use lib.ListN.{length, take, replicate}
 use borrow.Author.Tests.{eqb-false}
-use Rattle.numbers.specs.Numbers.{classes, wrongSize, damaged, wrongMinutes, jobsEntered}
-use Rattle.basics.specs.Base.{pick}
-use Rattle.minutes.specs.Rising.{risesAbove, isRising, SixteenRising, rising-means}
-use Rattle.terms.specs.Terms.{withinLimits}
-use Rattle.terms.specs.Runs.{Outcome, outcome}
-use Rattle.terms.specs.declared.Sizes.{Sizes}
-use Rattle.terms.specs.declared.Answer.{Answer}
-use Rattle.terms.specs.declared.Answer.the-variants.{Laid, Loaded, Posted, Going, Ended, NoneReady, Handed, Refused}
-use Rattle.words.specs.Columns.{header, columns, cells, putHeader}
-use Rattle.words.specs.Layout.{MINUTES, PHASE, IDLE, LOOKING, Tables, tables, view, longEnough, sizesKept, sizesFit}
-use Rattle.words.specs.Layout.{storedMinutes, putMinutes}
-use Rattle.words.specs.Words.{loaded, judgedLoad, loading, loadWords}
+use Rattle.def_numbers.specs.Numbers.{classes, wrongSize, damaged, wrongMinutes, jobsEntered}
+use Rattle.def_basics.specs.Base.{pick}
+use Rattle.def_minutes.specs.Rising.{risesAbove, isRising, SixteenRising, rising-means}
+use Rattle.def_terms.specs.Terms.{withinLimits}
+use Rattle.def_terms.specs.Runs.{Result, result}
+use Rattle.def_terms.specs.declared.Sizes.{Sizes}
+use Rattle.def_terms.specs.declared.Answer.{Answer}
+use Rattle.def_terms.specs.declared.Answer.the-variants.{Laid, Loaded, Posted, Going, Ended, NoneReady, Handed, Refused}
+use Rattle.def_words.specs.Columns.{header, columns, cells, putHeader}
+use Rattle.def_words.specs.Layout.{MINUTES, PHASE, IDLE, LOOKING, Tables, tables, view, longEnough, sizesKept, sizesFit}
+use Rattle.def_words.specs.Layout.{storedMinutes, putMinutes}
+use Rattle.def_words.specs.Words.{loaded, judgedLoad, loading, loadWords}
 use Rattle.thm_words_tests.specs.Tests.{test}
 use Rattle.thm_words_tests.specs.Judged.{Sized, sized-means}
 use Rattle.thm_words_loads.specs.Loads.{Load, LoadsExactly}
@@ -125,32 +125,32 @@ own-order s t m = test (sizesFit s t)
 -- 17 before 1
 pub seventeen-before-one : LoadsExactly (inOrder (minutes ∷ sizes ∷ counter ∷ entered ∷ [])) one unlaid level → ⊥
 unfolding inOrder firstMet loading isRising risesAbove
-seventeen-before-one d = apart refl (ap (λ (o : Outcome Tables). number (o .answer)) (d .by-1 not-sized))
+seventeen-before-one d = apart refl (ap (λ (o : Result Tables). number (o .answer)) (d .by-1 not-sized))
 
 -- 18 before 17
 pub eighteen-before-seventeen :
     LoadsExactly (inOrder (sizes ∷ entered ∷ minutes ∷ counter ∷ [])) one (left 1 IDLE) level → ⊥
 unfolding inOrder firstMet loading withinLimits longEnough sizesKept header
 eighteen-before-seventeen d =
-    apart refl (ap (λ (o : Outcome Tables). number (o .answer)) (d .by-17 (sized 1 IDLE) not-level))
+    apart refl (ap (λ (o : Result Tables). number (o .answer)) (d .by-17 (sized 1 IDLE) not-level))
 
 -- 9 before 17
 pub nine-before-seventeen :
     LoadsExactly (inOrder (sizes ∷ counter ∷ minutes ∷ entered ∷ [])) one (left 2 IDLE) level → ⊥
 unfolding inOrder firstMet loading withinLimits longEnough sizesKept header
 nine-before-seventeen d =
-    apart refl (ap (λ (o : Outcome Tables). number (o .answer)) (d .by-17 (sized 2 IDLE) not-level))
+    apart refl (ap (λ (o : Result Tables). number (o .answer)) (d .by-17 (sized 2 IDLE) not-level))
 
 -- 18 before 9
 pub eighteen-before-nine : LoadsExactly (inOrder (sizes ∷ minutes ∷ entered ∷ counter ∷ [])) one (left 2 IDLE) rise → ⊥
 unfolding inOrder firstMet loading withinLimits longEnough sizesKept header isRising risesAbove
 eighteen-before-nine d =
-    apart refl (ap (λ (o : Outcome Tables). number (o .answer)) (d .by-9 (sized 2 IDLE) rises (lit< tt)))
+    apart refl (ap (λ (o : Result Tables). number (o .answer)) (d .by-9 (sized 2 IDLE) rises (lit< tt)))
 
 -- ---- what a load is not turned away by, and what it is
 -- 9, because the minutes that were stored do not rise
 unfoldable pub readsOld : Load
-readsOld s t m = pick (isRising (storedMinutes (t .jobs))) (loadWords s t m) (outcome (Refused damaged 0) t)
+readsOld s t m = pick (isRising (storedMinutes (t .jobs))) (loadWords s t m) (result (Refused damaged 0) t)
 
 pub reads-old : LoadsExactly readsOld one (left 0 IDLE) rise → ⊥
 unfolding readsOld header cells isRising risesAbove
@@ -159,7 +159,7 @@ reads-old d = apart refl (ap number (d .loads (sized 0 IDLE) rises refl .0))
 -- 18, because an add is posted, though no job was made
 unfoldable pub refusesPosted : Load
 refusesPosted s t m =
-    pick (eqb (view t .worker PHASE 0) IDLE) (loadWords s t m) (outcome (Refused jobsEntered 0) t)
+    pick (eqb (view t .worker PHASE 0) IDLE) (loadWords s t m) (result (Refused jobsEntered 0) t)
 
 pub refuses-posted : LoadsExactly refusesPosted one (left 0 LOOKING) rise → ⊥
 unfolding refusesPosted header columns
@@ -173,18 +173,18 @@ climbsAbove before (x ∷ l) = ltb before x && climbsAbove x l
 unfoldable pub letsPass : Load
 letsPass s t m =
     pick (sizesFit s t && eqb (length m) classes && climbsAbove 0 m && eqb (view t .made) 0)
-    (outcome Loaded (loaded t m))
+    (result Loaded (loaded t m))
     (loadWords s t m)
 
 pub lets-pass : LoadsExactly letsPass one (left 0 IDLE) over → ⊥
 unfolding letsPass climbsAbove withinLimits longEnough sizesKept header
-lets-pass d = apart refl (ap (λ (o : Outcome Tables). number (o .answer)) (d .by-17 (sized 0 IDLE) not-over))
+lets-pass d = apart refl (ap (λ (o : Result Tables). number (o .answer)) (d .by-17 (sized 0 IDLE) not-over))
 
 -- ---- what a load stores
 -- a load that is judged rightly, and leaves other tables where it is not turned away
-unfoldable pub leaving : (Tables → List ℕ → Tables) → ℕ → Tables → List ℕ → Outcome Tables
-leaving f zero t m = outcome Loaded (f t m)
-leaving f (suc n) t m = outcome (Refused (suc n) 0) t
+unfoldable pub leaving : (Tables → List ℕ → Tables) → ℕ → Tables → List ℕ → Result Tables
+leaving f zero t m = result Loaded (f t m)
+leaving f (suc n) t m = result (Refused (suc n) 0) t
 
 unfoldable pub storing : (Tables → List ℕ → Tables) → Load
 storing f s t m = leaving f (judgedLoad s t m) t m
@@ -228,9 +228,9 @@ idles-worker d =
 
 -- and before it is judged
 unfoldable pub storesFirst : Load
-storesFirst s t m = outcome (loadWords s t m .answer) (loaded t m)
+storesFirst s t m = result (loadWords s t m .answer) (loaded t m)
 
 pub stores-first : LoadsExactly storesFirst one (left 0 IDLE) over → ⊥
 unfolding storesFirst header
 stores-first d =
-    apart refl (ap (λ (o : Outcome Tables). header (o .state .jobs) MINUTES) (d .by-17 (sized 0 IDLE) not-over))
+    apart refl (ap (λ (o : Result Tables). header (o .state .jobs) MINUTES) (d .by-17 (sized 0 IDLE) not-over))

@@ -1,31 +1,31 @@
--- Machines that read or write the stored minutes where they may not, of which the claim does not hold. Assumes nothing.
+-- Machines that read or write the stored minutes where they may not, of which the claim does not hold.
 use mathlib.Core.Path.{_≡_, refl, ap}
 use mathlib.Core.Bool.{true}
 use mathlib.Core.List.{List, [], _∷_}
 use Prim.Native.Nat.{ℕ}
 use native.Mathlib.Omega.{arith}
 use lib.ListN.{getD, replicate}
-use Rattle.numbers.specs.Numbers.{damaged}
-use Rattle.basics.specs.Base.{pick, prefix}
-use Rattle.bucket.specs.Bucket.{bucketOf, productOf}
-use Rattle.minutes.specs.Minutes.{fixedMinutes}
-use Rattle.minutes.specs.Rising.{isRising, risesAbove}
-use Rattle.terms.specs.Terms.{Arguments, withinLimits}
-use Rattle.terms.specs.Runs.{Outcome, outcome, Item, postAdd, postFinish, step, get, load}
-use Rattle.terms.specs.declared.Sizes.{Sizes}
-use Rattle.terms.specs.declared.Answer.{Answer}
-use Rattle.terms.specs.declared.Answer.the-variants.{Laid, Loaded, Posted, Going, Ended, NoneReady, Handed, Refused}
-use Rattle.words.specs.Columns.{columns, header, put, putHeader, cells}
-use Rattle.words.specs.Layout.{none, MINUTES, Tables, tables, view, longEnough, sizesKept, storedMinutes}
-use Rattle.words.specs.Layout.{freshJobs, freshArcs, freshBuckets, freshQueue, freshWorkers, repeated}
-use Rattle.words.specs.Words.{ownOk, walk, findOf, planEnter, planAdd, planCall, planPhase, planGet, planQueue}
-use Rattle.words.specs.Words.{planStep, admitted, answerOf, answerGet, applied, appliedGet, loaded, addingWorker}
-use Rattle.words.specs.Words.{getWords, perform}
-use Rattle.words.specs.declared.Plan.{Plan}
-use Rattle.words.specs.declared.Plan.the-variants.{Refuse, Quit, Pass, Enter, Tally, LinkFirst, LinkAfter, Settle}
-use Rattle.words.specs.declared.Plan.the-variants.{SettleQueue, Mark, Notify, NotifyQueue}
-use Rattle.words.specs.declared.GetPlan.{GetPlan}
-use Rattle.words.specs.declared.GetPlan.the-variants.{RefuseGet}
+use Rattle.def_numbers.specs.Numbers.{damaged}
+use Rattle.def_basics.specs.Base.{pick, prefix}
+use Rattle.def_bucket.specs.Bucket.{bucketOf, productOf}
+use Rattle.def_minutes.specs.Minutes.{fixedMinutes}
+use Rattle.def_minutes.specs.Rising.{isRising, risesAbove}
+use Rattle.def_terms.specs.Terms.{Arguments, withinLimits}
+use Rattle.def_terms.specs.Runs.{Result, result, Item, postAdd, postFinish, step, get, load}
+use Rattle.def_terms.specs.declared.Sizes.{Sizes}
+use Rattle.def_terms.specs.declared.Answer.{Answer}
+use Rattle.def_terms.specs.declared.Answer.the-variants.{Laid, Loaded, Posted, Going, Ended, NoneReady, Handed, Refused}
+use Rattle.def_words.specs.Columns.{columns, header, put, putHeader, cells}
+use Rattle.def_words.specs.Layout.{none, MINUTES, Tables, tables, view, longEnough, sizesKept, storedMinutes}
+use Rattle.def_words.specs.Layout.{freshJobs, freshArcs, freshBuckets, freshQueue, freshWorkers, repeated}
+use Rattle.def_words.specs.Words.{ownOk, walk, findOf, planEnter, planAdd, planCall, planPhase, planGet, planQueue}
+use Rattle.def_words.specs.Words.{planStep, admitted, answerOf, answerGet, applied, appliedGet, loaded, addingWorker}
+use Rattle.def_words.specs.Words.{getWords, perform}
+use Rattle.def_words.specs.declared.Plan.{Plan}
+use Rattle.def_words.specs.declared.Plan.the-variants.{Refuse, Quit, Pass, Enter, Tally, LinkFirst, LinkAfter, Settle}
+use Rattle.def_words.specs.declared.Plan.the-variants.{SettleQueue, Mark, Notify, NotifyQueue}
+use Rattle.def_words.specs.declared.GetPlan.{GetPlan}
+use Rattle.def_words.specs.declared.GetPlan.the-variants.{RefuseGet}
 use Rattle.thm_words_loads.specs.MinutesElsewhere.{MinutesAlone}
 
 -- room for one job and one worker
@@ -49,11 +49,11 @@ abbrev pub planTests : Sizes → Tables → ℕ → GetPlan
 planTests s t w =
     admitted s t w RefuseGet (pick (isRising (storedMinutes (t .jobs))) (planGet s (view t) w) (RefuseGet damaged))
 
-abbrev pub testsMinutes : Tables → Item → Outcome Tables
+abbrev pub testsMinutes : Tables → Item → Result Tables
 testsMinutes t (postAdd s w a) = perform t (postAdd s w a)
 testsMinutes t (postFinish s w f) = perform t (postFinish s w f)
 testsMinutes t (step s w) = perform t (step s w)
-testsMinutes t (get s w) = outcome (answerGet (planTests s t w)) (appliedGet (planTests s t w) t w)
+testsMinutes t (get s w) = result (answerGet (planTests s t w)) (appliedGet (planTests s t w) t w)
 testsMinutes t (load s m) = perform t (load s m)
 
 -- where they rise it does not differ from the right get
@@ -79,7 +79,7 @@ unfolding admitted longEnough sizesKept withinLimits ownOk columns header cells 
     planGet planQueue repeated
 tests-minutes a =
     let told : _≡_ {A = ℕ} 0 1 =
-    ap (λ (o : Outcome Tables). noneReady (o .answer))
+    ap (λ (o : Result Tables). noneReady (o .answer))
     (a .elsewhere (laid (freshWorkers sizes)) equals refl (get sizes 0) refl) in
     omega arith
 
@@ -98,11 +98,11 @@ entered (Mark p x) t = t
 entered (Notify j c x) t = t
 entered (NotifyQueue j c x e) t = t
 
-abbrev pub bringsBack : Tables → Item → Outcome Tables
+abbrev pub bringsBack : Tables → Item → Result Tables
 bringsBack t (postAdd s w a) = perform t (postAdd s w a)
 bringsBack t (postFinish s w f) = perform t (postFinish s w f)
 bringsBack t (step s w) =
-    outcome (answerOf (planStep s t w)) (entered (planStep s t w) (applied (planStep s t w) t w))
+    result (answerOf (planStep s t w)) (entered (planStep s t w) (applied (planStep s t w) t w))
 bringsBack t (get s w) = perform t (get s w)
 bringsBack t (load s m) = perform t (load s m)
 
@@ -120,6 +120,6 @@ unfolding admitted longEnough sizesKept withinLimits ownOk columns header cells 
     prefix bucketOf productOf
 brings-back a =
     let told : _≡_ {A = ℕ} 1 3 =
-    ap (λ (o : Outcome Tables). getD (o .state .jobs) MINUTES 0)
+    ap (λ (o : Result Tables). getD (o .state .jobs) MINUTES 0)
     (a .elsewhere (laid entering) district refl (step sizes 0) refl) in
     omega arith

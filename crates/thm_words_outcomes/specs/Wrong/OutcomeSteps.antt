@@ -1,6 +1,6 @@
 -- Machines over the tables that are wrong in a step: a link, the mark of a finish, an arc's step, a look-up, entering
 -- or a refusal, each with tables by which a statement of OutcomeWords.antt fails of it. (Wrong/Outcomes.antt: posts,
--- gets and settling.) Assumes nothing.
+-- gets and settling.)
 use mathlib.Core.Path.{_≡_, refl, sym, ap, _∙_}
 use mathlib.Core.Bool.{false}
 use mathlib.Core.List.{[], _∷_}
@@ -8,18 +8,19 @@ use Prim.Native.Nat.{ℕ, _≤_}
 use native.Mathlib.Omega.{arith}
 use lib.Dec.{eqb, lit≤, lit<}
 use lib.ListN.{replicate}
-use Rattle.numbers.specs.Numbers.{damaged}
-use Rattle.basics.specs.Base.{pick}
-use Rattle.basics.specs.Laws.{never}
-use Rattle.bucket.specs.Bucket.{productOf, bucketOf}
-use Rattle.terms.specs.Terms.{withinLimits}
-use Rattle.terms.specs.Runs.{Item, postAdd, postFinish, step, get, load, Outcome, outcome}
-use Rattle.words.specs.Columns.{header, columns, put, putHeader}
-use Rattle.words.specs.Layout.{none, jobShape, OUTCOME, MARK, DEPENDENT, PHASE, OWN-ARC, LOOKING, NOTIFYING, Tables}
-use Rattle.words.specs.Layout.{tables, view, longEnough, sizesKept}
-use Rattle.words.specs.Words.{ownOk, walk, findOf, nameAt, planLookUp, planEnter, planLink, planMark, planNotify}
-use Rattle.words.specs.Words.{planAdd, planLinks, planCall, planPhase, admitted, applied, stepWords, perform}
-use Rattle.words.specs.declared.Found.the-variants.{At}
+use Rattle.def_numbers.specs.Numbers.{damaged}
+use Rattle.def_basics.specs.Base.{pick}
+use Rattle.def_basics.specs.Laws.{never}
+use Rattle.def_bucket.specs.Bucket.{productOf, bucketOf}
+use Rattle.def_terms.specs.Terms.{withinLimits}
+use Rattle.def_terms.specs.Runs.{Item, postAdd, postFinish, step, get, load, Result, result}
+use Rattle.def_words.specs.Columns.{header, columns, put, putHeader}
+use Rattle.def_words.specs.Layout.{none, jobShape, OUTCOME, SPOILED, DEPENDENT, PHASE, OWN-ARC, LOOKING, NOTIFYING}
+use Rattle.def_words.specs.Layout.{Tables}
+use Rattle.def_words.specs.Layout.{tables, view, longEnough, sizesKept}
+use Rattle.def_words.specs.Words.{ownOk, walk, findOf, nameAt, planLookUp, planEnter, planLink, planMark, planNotify}
+use Rattle.def_words.specs.Words.{planAdd, planLinks, planCall, planPhase, admitted, applied, stepWords, perform}
+use Rattle.def_words.specs.declared.Found.the-variants.{At}
 use Rattle.thm_words_tests.specs.OneWord.{ownWord, jobWord}
 use Rattle.thm_words_tests.specs.Small.{two, graph, jobOf, apart, number}
 use Rattle.thm_words_refusals.specs.Refusals.{ends, idled}
@@ -43,7 +44,7 @@ adding d =
     (LOOKING ∷ none ∷ 8 ∷ d ∷ 0 ∷ 0 ∷ 0 ∷ 0 ∷ none ∷ none ∷ 0 ∷ 7 ∷ replicate 31 0)
 
 -- a machine whose step is this one; every other item is the words' own
-abbrev pub stepping : Stepper → Tables → Item → Outcome Tables
+abbrev pub stepping : Stepper → Tables → Item → Result Tables
 stepping make t (postAdd s w a) = perform t (postAdd s w a)
 stepping make t (postFinish s w f) = perform t (postFinish s w f)
 stepping make t (step s w) = make s t w
@@ -55,7 +56,7 @@ pub serves-seven-too : WritesOutcomes (stepping servesAll) → ⊥
 unfolding applied planPhase planCall planLinks planLink admitted withinLimits longEnough sizesKept ownOk findOf walk
     productOf bucketOf header columns put
 serves-seven-too d =
-    apart refl (ap (λ (o : Outcome Tables). number (o .answer))
+    apart refl (ap (λ (o : Result Tables). number (o .answer))
     (d .outcome-by-9 two (linking 7) 0 0 (to-link 7 .0 .admitted) refl (lit< tt)
     (look-up-means two (linking 7) (nameAt (view (linking 7)) 0) (At 0) .1 refl)
     refl (lit< tt)))
@@ -76,21 +77,21 @@ keeps-no-outcome-too d = apart refl (d .mark-keeps two (marking 0 1) 0 refl tt)
 
 -- an arc's step that does not spoil
 pub spoils-no-dependent :
-    WritesOutcomes (stepping (leaves NOTIFYING (λ v w. v .arc DEPENDENT (v .worker OWN-ARC w)) MARK)) → ⊥
+    WritesOutcomes (stepping (leaves NOTIFYING (λ v w. v .arc DEPENDENT (v .worker OWN-ARC w)) SPOILED)) → ⊥
 unfolding stepWords applied planPhase planCall planNotify admitted withinLimits longEnough sizesKept ownOk header
     columns put
 spoils-no-dependent d = apart refl (d .arc-spoils two (notifying 2) 0 refl tt refl)
 
--- an entering that leaves an old outcome, and one that leaves an old mark
+-- an entering that leaves an old outcome, and one that leaves an old spoiled word
 pub leaves-old-outcome : WritesOutcomes (stepping (leaves LOOKING (λ v w. v .made) OUTCOME)) → ⊥
 unfolding stepWords applied planPhase planCall planAdd planEnter admitted withinLimits longEnough sizesKept ownOk
     findOf walk productOf bucketOf header columns put putHeader
 leaves-old-outcome d = apart refl (d .entering-clears two (adding 0) 0 refl (lit≤ tt) tt .0)
 
-pub leaves-old-mark : WritesOutcomes (stepping (leaves LOOKING (λ v w. v .made) MARK)) → ⊥
+pub leaves-old-spoiled : WritesOutcomes (stepping (leaves LOOKING (λ v w. v .made) SPOILED)) → ⊥
 unfolding stepWords applied planPhase planCall planAdd planEnter admitted withinLimits longEnough sizesKept ownOk
     findOf walk productOf bucketOf header columns put putHeader
-leaves-old-mark d = apart refl (d .entering-clears two (adding 0) 0 refl (lit≤ tt) tt .1)
+leaves-old-spoiled d = apart refl (d .entering-clears two (adding 0) 0 refl (lit≤ tt) tt .1)
 
 -- ---- a look-up that clears the outcome of the job to be entered
 abbrev pub clearsEarly : Stepper
@@ -98,7 +99,7 @@ clearsEarly s t w =
     let v = view t in
     let o = stepWords s t w in
     let u = o .state in
-    outcome (o .answer)
+    result (o .answer)
     (pick (eqb (v .worker PHASE w) LOOKING)
     (tables (put jobShape (u .jobs) (v .made) OUTCOME 0) (u .arcs) (u .buckets) (u .queue) (u .workers)) u)
 
@@ -119,14 +120,14 @@ clears-early d = go refl (d .outcomes (adding 1) (step two 0) 1)
 abbrev pub drops : Stepper
 drops s t w =
     let o = stepWords s t w in
-    outcome (o .answer) (pick (eqb (number (o .answer)) damaged) (idled t w) (o .state))
+    result (o .answer) (pick (eqb (number (o .answer)) damaged) (idled t w) (o .state))
 
 pub drops-the-call : WritesOutcomes (stepping drops) → ⊥
 unfolding stepWords applied planPhase planCall planNotify admitted withinLimits longEnough sizesKept ownOk header
     columns put
 drops-the-call d = go refl refl (d .notes (notifying 0) (step two 0) 0)
   where
-    go : {o : Outcome Tables} → ends (o .answer) ≡ false → ownWord (o .state) 0 10 ≡ 0
+    go : {o : Result Tables} → ends (o .answer) ≡ false → ownWord (o .state) 0 10 ≡ 0
         → NoteAfter (notifying 0) o 0 (step two 0)
         → ⊥
     go b z (same e) = apart refl (sym z ∙ e)

@@ -1,6 +1,6 @@
 -- Machines over the tables that are wrong in a walk along a bucket, a look-up or the entering step of an add, each with
 -- tables by which a statement of LookUpSteps.antt or EnterSteps.antt fails of it. Follows docs/RULES.md, "Turned-away
--- calls": "a bucket walk passes more jobs than were made", "then 6, or 7 before 8". Assumes nothing.
+-- calls": "a bucket walk passes more jobs than were made", "then 6, or 7 before 8".
 use mathlib.Core.Path.{_≡_, refl, ap}
 use mathlib.Core.Bool.{Bool, true, false, _&&_, _||_, not}
 use mathlib.Core.List.{List, [], _∷_}
@@ -8,23 +8,23 @@ use Prim.Native.Nat.{ℕ, zero, suc, _+_, _*_, _-_, _/_, _%_, _^_}
 use lib.Dec.{ltb, leb, eqb, lit≤, lit<}
 use lib.ListN.{getD, set, replicate}
 use borrow.Author.Tests.{eqb-true, eqb-false, leb-true, ltb-true}
-use Rattle.numbers.specs.Numbers.{unknownName, damaged, namePresent, tablesFull}
-use Rattle.basics.specs.Base.{pick}
-use Rattle.bucket.specs.Bucket.{productOf, bucketOf}
-use Rattle.terms.specs.Terms.{withinLimits}
-use Rattle.terms.specs.Runs.{Outcome, outcome}
-use Rattle.terms.specs.declared.Sizes.{Sizes}
-use Rattle.terms.specs.declared.Answer.{Answer}
-use Rattle.terms.specs.declared.Answer.the-variants.{Laid, Loaded, Posted, Going, Ended, NoneReady, Handed, Refused}
-use Rattle.words.specs.Columns.{header, columns, put, putHeader}
-use Rattle.words.specs.Layout.{none, NAME, NEXT, PHASE, OWN-NAME, LIST-COUNT, PLACE, LOOKING, Tables, tables, View}
-use Rattle.words.specs.Layout.{view, longEnough, sizesKept, sizesFit}
-use Rattle.words.specs.Words.{placeOk, countersOk, ownOk, walk, findOf, nameAt, planLookUp, planEnter, planAdd}
-use Rattle.words.specs.Words.{planCall, planPhase, admitted, applied, stepWords}
-use Rattle.words.specs.declared.Found.{Found}
-use Rattle.words.specs.declared.Found.the-variants.{At, Missing, Damaged}
-use Rattle.words.specs.declared.Plan.{Plan}
-use Rattle.words.specs.declared.Plan.the-variants.{Refuse, Quit, Enter}
+use Rattle.def_numbers.specs.Numbers.{unknownName, damaged, namePresent, tablesFull}
+use Rattle.def_basics.specs.Base.{pick}
+use Rattle.def_bucket.specs.Bucket.{productOf, bucketOf}
+use Rattle.def_terms.specs.Terms.{withinLimits}
+use Rattle.def_terms.specs.Runs.{Result, result}
+use Rattle.def_terms.specs.declared.Sizes.{Sizes}
+use Rattle.def_terms.specs.declared.Answer.{Answer}
+use Rattle.def_terms.specs.declared.Answer.the-variants.{Laid, Loaded, Posted, Going, Ended, NoneReady, Handed, Refused}
+use Rattle.def_words.specs.Columns.{header, columns, put, putHeader}
+use Rattle.def_words.specs.Layout.{none, NAME, NEXT, PHASE, OWN-NAME, LIST-COUNT, PLACE, LOOKING, Tables, tables, View}
+use Rattle.def_words.specs.Layout.{view, longEnough, sizesKept, sizesFit, NEWEST}
+use Rattle.def_words.specs.Words.{placeOk, countersOk, ownOk, walk, findOf, nameAt, planLookUp, planEnter, planAdd}
+use Rattle.def_words.specs.Words.{planCall, planPhase, admitted, applied, stepWords}
+use Rattle.def_words.specs.declared.Found.{Found}
+use Rattle.def_words.specs.declared.Found.the-variants.{At, Missing, Damaged}
+use Rattle.def_words.specs.declared.Plan.{Plan}
+use Rattle.def_words.specs.declared.Plan.the-variants.{Refuse, Quit, Enter}
 use Rattle.thm_words_tests.specs.Tests.{test, parts}
 use Rattle.thm_words_tests.specs.Judged.{did}
 use Rattle.thm_words_tests.specs.OneWord.{ownWord, jobWord}
@@ -41,7 +41,7 @@ abbrev pub jobBefore : ℕ → ℕ → List ℕ
 jobBefore name next = name ∷ 0 ∷ 0 ∷ 0 ∷ 0 ∷ none ∷ none ∷ next ∷ 0 ∷ 0 ∷ []
 
 -- an add of a name, grower 9, that has passed so many of its d listed names, of which one is given
-abbrev pub addOf : ℕ → ℕ → ℕ → ℕ → List ℕ
+abbrev pub addOf : (name count place listed : ℕ) → List ℕ
 addOf name d place listed = LOOKING ∷ none ∷ name ∷ d ∷ 3 ∷ 9 ∷ 0 ∷ place ∷ none ∷ none ∷ 0 ∷ listed ∷ replicate 31 0
 
 -- one job was made, 7, of bucket 0: with this head of the bucket, and with this next job
@@ -92,8 +92,8 @@ job : {t : Tables} {p : ℕ} → eqb p none ≡ false → ltb p (jobsMade t) ≡
 job {t} {p} e l = record { some = eqb-false p none e; made = ltb-true p (jobsMade t) l }
 
 -- the number that is answered
-numbered : {o p : Outcome Tables} → o ≡ p → number (o .answer) ≡ number (p .answer)
-numbered e = ap (λ (o : Outcome Tables). number (o .answer)) e
+numbered : {o p : Result Tables} → o ≡ p → number (o .answer) ≡ number (p .answer)
+numbered e = ap (λ (o : Result Tables). number (o .answer)) e
 
 -- and the place that is told
 abbrev pub placed : Answer → ℕ
@@ -135,7 +135,7 @@ own-walk s t w =
     (λ e. rw e))
 
 -- a walk past at most k jobs, with what it says then at none and at any other place, and at a place that is no job
-unfoldable pub walkBy : Found → Found → Found → ℕ → (ℕ → ℕ → ℕ) → ℕ → ℕ → ℕ → Found
+unfoldable pub walkBy : (end left off : Found) (most : ℕ) → (ℕ → ℕ → ℕ) → (made name at : ℕ) → Found
 walkBy end left off zero f made name at = pick (eqb at none) end left
 walkBy end left off (suc k) f made name at =
     pick (eqb at none) Missing
@@ -145,12 +145,12 @@ walkBy end left off (suc k) f made name at =
 
 abbrev pub findBy : Found → Found → Found → (ℕ → ℕ) → Finder
 findBy end left off most s v name =
-    walkBy end left off (most (v .made)) (v .job) (v .made) name (v .bucket 0 (bucketOf name (s .bits)))
+    walkBy end left off (most (v .made)) (v .job) (v .made) name (v .bucket NEWEST (bucketOf name (s .bits)))
 
 -- with these it is the words' own
 pub own-find : (s : Sizes) (v : View) (name : ℕ) → findBy Missing Damaged Damaged (λ n. n) s v name ≡ findOf s v name
 unfolding findOf walkBy walk
-own-find s v name = same (v .made) (v .bucket 0 (bucketOf name (s .bits)))
+own-find s v name = same (v .made) (v .bucket NEWEST (bucketOf name (s .bits)))
   where
     same : (k at : ℕ) → walkBy Missing Damaged Damaged k (v .job) (v .made) name at ≡ walk k (v .job) (v .made) name at
     same zero at = refl
@@ -224,7 +224,7 @@ damages-a-full-bucket d =
 -- one that takes the newest job, made - 1, for no job
 abbrev pub missesNewest : Stepper
 missesNewest =
-    looksBy (λ s v name. walk (v .made) (v .job) (v .made - 1) name (v .bucket 0 (bucketOf name (s .bits))))
+    looksBy (λ s v name. walk (v .made) (v .job) (v .made - 1) name (v .bucket NEWEST (bucketOf name (s .bits))))
 
 pub misses-the-newest : LooksUpExactly missesNewest two (twoJobs (addOf 8 1 0 5)) 0 → ⊥
 unfolding applied planPhase planCall planAdd planLookUp planEnter walk admitted withinLimits longEnough sizesKept
@@ -237,7 +237,7 @@ misses-the-newest d =
 abbrev pub otherMultiplier : Stepper
 otherMultiplier =
     looksBy (λ s v name.
-    walk (v .made) (v .job) (v .made) name (v .bucket 0 (name * 2654435761 % 4294967296 / 2 ^ (32 - s .bits))))
+    walk (v .made) (v .job) (v .made) name (v .bucket NEWEST (name * 2654435761 % 4294967296 / 2 ^ (32 - s .bits))))
 
 abbrev pub largeName : Tables
 largeName =
@@ -267,32 +267,32 @@ judges-behind-a-hit d =
     (hit (job refl refl) (lit< tt) refl)))
 
 -- ---- look-ups that end otherwise at a missing name
-abbrev pub endsBy : (Tables → ℕ → Outcome Tables → Outcome Tables) → Stepper
+abbrev pub endsBy : (Tables → ℕ → Result Tables → Result Tables) → Stepper
 endsBy change s t w =
     let o = stepWords s t w in
     pick (eqb (number (o .answer)) unknownName) (change t w o) o
 
 -- 6 with the place counted from 1
 abbrev pub countsFromOne : Stepper
-countsFromOne = endsBy (λ t w o. outcome (Refused unknownName (ownWord t w 7 + 1)) (o .state))
+countsFromOne = endsBy (λ t w o. result (Refused unknownName (ownWord t w 7 + 1)) (o .state))
 
 pub tells-another-place : LooksUpExactly countsFromOne two (oneJob 0 none (addOf 8 1 0 5)) 0 → ⊥
 unfolding stepWords applied planPhase planCall planAdd planLookUp planEnter findOf walk admitted withinLimits
     longEnough sizesKept ownOk productOf bucketOf header columns put putHeader
 tells-another-place d =
-    apart refl (ap (λ (o : Outcome Tables). placed (o .answer))
+    apart refl (ap (λ (o : Result Tables). placed (o .answer))
     (d .missing-by-6 (to-look-up (oneJob 0 none (addOf 8 1 0 5)) refl)
     (pass (job refl refl) (lit< tt) (apart refl) (at-end refl))))
 
 -- 6 that frees the hold with the call: "The hold is no word of the call"
 abbrev pub freesHold : Stepper
-freesHold = endsBy (λ t w o. outcome (o .answer) (withHold none (o .state) w))
+freesHold = endsBy (λ t w o. result (o .answer) (withHold none (o .state) w))
 
 pub frees-the-hold : LooksUpExactly freesHold two (withHold 0 (oneJob 0 none (addOf 8 1 0 5)) 0) 0 → ⊥
 unfolding stepWords applied planPhase planCall planAdd planLookUp planEnter findOf walk admitted withinLimits
     longEnough sizesKept ownOk productOf bucketOf header columns put putHeader
 frees-the-hold d =
-    apart refl (ap (λ (o : Outcome Tables). ownWord (o .state) 0 1)
+    apart refl (ap (λ (o : Result Tables). ownWord (o .state) 0 1)
     (d .missing-by-6 (to-look-up (withHold 0 (oneJob 0 none (addOf 8 1 0 5)) 0) refl)
     (pass (job refl refl) (lit< tt) (apart refl) (at-end refl))))
 
@@ -332,7 +332,7 @@ pub stays-half-done : EntersExactly (plansEntering halfDoneBy7) two (oneJob 0 no
 unfolding applied planPhase planCall planAdd planLookUp planEnter findOf walk admitted withinLimits longEnough
     sizesKept ownOk productOf bucketOf header columns put putHeader
 stays-half-done d =
-    apart refl (ap (λ (o : Outcome Tables). ownWord (o .state) 0 0)
+    apart refl (ap (λ (o : Result Tables). ownWord (o .state) 0 0)
     (d .present-by-7 0 (to-enter (oneJob 0 none (addOf 7 0 0 0)) refl)
     (hit (job refl refl) (lit< tt) refl)))
 
@@ -344,7 +344,7 @@ abbrev pub enteringBare : Tables
 enteringBare = oneJob 0 none (addOf 5 0 0 0)
 
 made : {make : Stepper} → EntersExactly make two entering 0
-    → make two entering 0 ≡ outcome Going (enteredWith two entering 0 0)
+    → make two entering 0 ≡ result Going (enteredWith two entering 0 0)
 unfolding withinLimits longEnough sizesKept ownOk header columns
 made d =
     d .enters (to-enter entering refl) (pass (job refl refl) (lit< tt) (apart refl) (at-end refl))
@@ -355,7 +355,7 @@ abbrev pub fullBy : (Sizes → View → ℕ → Bool) → Plan → Sizes → Vie
 fullBy full end s v name d (At j) = Quit namePresent 0
 fullBy full end s v name d Missing =
     pick (full s v d) end
-    (Enter (v .made) (bucketOf name (s .bits)) (v .bucket 0 (bucketOf name (s .bits))) (v .reserved))
+    (Enter (v .made) (bucketOf name (s .bits)) (v .bucket NEWEST (bucketOf name (s .bits))) (v .reserved))
 fullBy full end s v name d Damaged = Refuse damaged
 
 -- the jobs are not counted, or the arcs; the last d arcs are never given; or the call is left half done
@@ -384,7 +384,7 @@ noArcLeft =
     graph 1 (jobBefore 7 none) (jobBefore 0 none) (1 ∷ none ∷ none ∷ []) (0 ∷ none ∷ []) (addOf 5 1 1 7)
 
 full : {make : Stepper} → EntersExactly make two noJobLeft 0
-    → make two noJobLeft 0 ≡ outcome (Refused 8 0) (idleAgain noJobLeft 0)
+    → make two noJobLeft 0 ≡ result (Refused 8 0) (idleAgain noJobLeft 0)
 unfolding withinLimits longEnough sizesKept ownOk header columns
 full d =
     d .jobs-by-8 (to-enter noJobLeft refl)
@@ -399,7 +399,7 @@ counts-no-jobs d = apart refl (numbered (full d))
 pub half-done-by-8 : EntersExactly halfDoneBy8 two noJobLeft 0 → ⊥
 unfolding applied planPhase planCall planAdd planLookUp planEnter findOf walk admitted withinLimits longEnough
     sizesKept ownOk productOf bucketOf header columns put putHeader
-half-done-by-8 d = apart refl (ap (λ (o : Outcome Tables). ownWord (o .state) 0 0) (full d))
+half-done-by-8 d = apart refl (ap (λ (o : Result Tables). ownWord (o .state) 0 0) (full d))
 
 pub counts-no-arcs : EntersExactly unjudgedArcs two noArcLeft 0 → ⊥
 unfolding applied planPhase planCall planAdd planLookUp planEnter findOf walk admitted withinLimits longEnough
@@ -418,7 +418,7 @@ abbrev pub storesEntering : (Tables → Tables → ℕ → Tables) → Stepper
 storesEntering change s t w =
     let o = stepWords s t w in
     let u = o .state in
-    outcome (o .answer) (pick (entersAt s (view t) w && eqb (number (o .answer)) 0) (change t u w) u)
+    result (o .answer) (pick (entersAt s (view t) w && eqb (number (o .answer)) 0) (change t u w) u)
 
 -- the bucket's head stays: the job is never found
 abbrev pub keepsHead : Stepper
@@ -427,7 +427,7 @@ keepsHead = storesEntering (λ t u w. tables (u .jobs) (u .arcs) (t .buckets) (u
 pub keeps-the-head : EntersExactly keepsHead two entering 0 → ⊥
 unfolding stepWords applied planPhase planCall planAdd planLookUp planEnter findOf walk admitted withinLimits
     longEnough sizesKept ownOk productOf bucketOf header columns put putHeader
-keeps-the-head d = apart refl (ap (λ (o : Outcome Tables). getD (o .state .buckets) 0 0) (made d))
+keeps-the-head d = apart refl (ap (λ (o : Result Tables). getD (o .state .buckets) 0 0) (made d))
 
 -- d + 1 arcs are reserved
 abbrev pub reservesMore : Stepper
@@ -438,7 +438,7 @@ reservesMore =
 pub reserves-one-more : EntersExactly reservesMore two entering 0 → ⊥
 unfolding stepWords applied planPhase planCall planAdd planLookUp planEnter findOf walk admitted withinLimits
     longEnough sizesKept ownOk productOf bucketOf header columns put putHeader
-reserves-one-more d = apart refl (ap (λ (o : Outcome Tables). getD (o .state .arcs) 0 0) (made d))
+reserves-one-more d = apart refl (ap (λ (o : Result Tables). getD (o .state .arcs) 0 0) (made d))
 
 -- the grower is forgotten
 abbrev pub forgetsGrower : Stepper
@@ -448,7 +448,7 @@ forgetsGrower =
 pub forgets-the-grower : EntersExactly forgetsGrower two entering 0 → ⊥
 unfolding stepWords applied planPhase planCall planAdd planLookUp planEnter findOf walk admitted withinLimits
     longEnough sizesKept ownOk productOf bucketOf header columns put putHeader
-forgets-the-grower d = apart refl (ap (λ (o : Outcome Tables). jobWord (o .state) 1 4) (made d))
+forgets-the-grower d = apart refl (ap (λ (o : Result Tables). jobWord (o .state) 1 4) (made d))
 
 -- "It starts the remaining count at 0"
 abbrev pub countsFromNought : Stepper
@@ -458,7 +458,7 @@ countsFromNought =
 pub counts-from-nought : EntersExactly countsFromNought two entering 0 → ⊥
 unfolding stepWords applied planPhase planCall planAdd planLookUp planEnter findOf walk admitted withinLimits
     longEnough sizesKept ownOk productOf bucketOf header columns put putHeader
-counts-from-nought d = apart refl (ap (λ (o : Outcome Tables). jobWord (o .state) 1 2) (made d))
+counts-from-nought d = apart refl (ap (λ (o : Result Tables). jobWord (o .state) 1 2) (made d))
 
 -- the place stays at the list's end, so that no link is made
 abbrev pub keepsPlace : Stepper
@@ -469,7 +469,7 @@ keepsPlace =
 pub keeps-the-place : EntersExactly keepsPlace two entering 0 → ⊥
 unfolding stepWords applied planPhase planCall planAdd planLookUp planEnter findOf walk admitted withinLimits
     longEnough sizesKept ownOk productOf bucketOf header columns put putHeader
-keeps-the-place d = apart refl (ap (λ (o : Outcome Tables). ownWord (o .state) 0 7) (made d))
+keeps-the-place d = apart refl (ap (λ (o : Result Tables). ownWord (o .state) 0 7) (made d))
 
 -- with no listed name the call's arc is the next unreserved one, not none
 abbrev pub namesAnArc : Stepper
@@ -481,6 +481,6 @@ pub names-an-arc : EntersExactly namesAnArc two enteringBare 0 → ⊥
 unfolding stepWords applied planPhase planCall planAdd planLookUp planEnter findOf walk admitted withinLimits
     longEnough sizesKept ownOk productOf bucketOf header columns put putHeader
 names-an-arc d =
-    apart refl (ap (λ (o : Outcome Tables). ownWord (o .state) 0 9)
+    apart refl (ap (λ (o : Result Tables). ownWord (o .state) 0 9)
     (d .enters-bare (to-enter enteringBare refl) (pass (job refl refl) (lit< tt) (apart refl) (at-end refl))
     (record { job = lit< tt; arcs = lit≤ tt }) refl))

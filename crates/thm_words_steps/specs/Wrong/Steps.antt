@@ -1,5 +1,5 @@
 -- Machines over the tables that are wrong in a link or in the mark of a finish, each with tables by which a statement
--- of LinkSteps.antt or MarkSteps.antt fails of it. Assumes nothing.
+-- of LinkSteps.antt or MarkSteps.antt fails of it.
 use mathlib.Core.Path.{_≡_, refl, ap}
 use mathlib.Core.Bool.{Bool, true, _&&_}
 use mathlib.Core.List.{[], _∷_}
@@ -7,22 +7,23 @@ use Prim.Native.Nat.{ℕ, _+_}
 use lib.Dec.{ltb, leb, eqb, lit≤, lit<}
 use lib.ListN.{replicate}
 use borrow.Author.Tests.{eqb-true}
-use Rattle.numbers.specs.Numbers.{damaged}
-use Rattle.basics.specs.Base.{pick}
-use Rattle.bucket.specs.Bucket.{productOf, bucketOf}
-use Rattle.terms.specs.Terms.{withinLimits}
-use Rattle.terms.specs.Runs.{Outcome, outcome}
-use Rattle.terms.specs.declared.Sizes.{Sizes}
-use Rattle.words.specs.Columns.{header, columns, put}
-use Rattle.words.specs.Layout.{none, jobShape, LABEL, OUTCOME, MARK, PHASE, HELD, LIST-COUNT, PLACE, OWN-JOB, OWN-ARC}
-use Rattle.words.specs.Layout.{NOTE, LINKING, MARKING, Tables, tables, View, view, longEnough, sizesKept, sizesFit}
-use Rattle.words.specs.Layout.{bareWorker}
-use Rattle.words.specs.Words.{countersOk, ownOk, walk, findOf, nameAt, planAppend, planTally, planLink, planMark}
-use Rattle.words.specs.Words.{planLinks, planCall, planPhase, admitted, applied, stepWords}
-use Rattle.words.specs.declared.Found.{Found}
-use Rattle.words.specs.declared.Found.the-variants.{At, Missing, Damaged}
-use Rattle.words.specs.declared.Plan.{Plan}
-use Rattle.words.specs.declared.Plan.the-variants.{Refuse, Tally}
+use Rattle.def_numbers.specs.Numbers.{damaged}
+use Rattle.def_basics.specs.Base.{pick}
+use Rattle.def_bucket.specs.Bucket.{productOf, bucketOf}
+use Rattle.def_terms.specs.Terms.{withinLimits}
+use Rattle.def_terms.specs.Runs.{Result, result}
+use Rattle.def_terms.specs.declared.Sizes.{Sizes}
+use Rattle.def_words.specs.Columns.{header, columns, put}
+use Rattle.def_words.specs.Layout.{none, jobShape, LABEL, OUTCOME, SPOILED, PHASE, HELD, LIST-COUNT, PLACE, OWN-JOB}
+use Rattle.def_words.specs.Layout.{OWN-ARC}
+use Rattle.def_words.specs.Layout.{NOTE, LINKING, MARKING, Tables, tables, View, view, longEnough, sizesKept, sizesFit}
+use Rattle.def_words.specs.Layout.{bareWorker}
+use Rattle.def_words.specs.Words.{countersOk, ownOk, walk, findOf, nameAt, planAppend, planTally, planLink, planMark}
+use Rattle.def_words.specs.Words.{planLinks, planCall, planPhase, admitted, applied, stepWords}
+use Rattle.def_words.specs.declared.Found.{Found}
+use Rattle.def_words.specs.declared.Found.the-variants.{At, Missing, Damaged}
+use Rattle.def_words.specs.declared.Plan.{Plan}
+use Rattle.def_words.specs.declared.Plan.the-variants.{Refuse, Tally}
 use Rattle.thm_words_tests.specs.Tests.{test, parts}
 use Rattle.thm_words_tests.specs.Judged.{sized-means, own-means, Admitted, did}
 use Rattle.thm_words_tests.specs.OneWord.{ownWord, jobWord}
@@ -38,10 +39,10 @@ linking outcome =
     graph 2 (jobOf 7 2 0 none outcome 0) (jobOf 8 0 1 none 0 0) (1 ∷ none ∷ none ∷ []) (0 ∷ 1 ∷ [])
     (LINKING ∷ none ∷ 8 ∷ 1 ∷ 0 ∷ 0 ∷ 0 ∷ 0 ∷ 1 ∷ 0 ∷ 0 ∷ 7 ∷ replicate 31 0)
 
--- a finish of 7 is to mark it, with a mark of the job and a note
+-- a finish of 7 is to mark it, with a spoiled word of the job and a note
 abbrev pub marking : ℕ → ℕ → Tables
-marking mark note =
-    graph 1 (jobOf 7 1 0 none 0 mark) (jobOf 0 0 0 none 0 0) (0 ∷ none ∷ none ∷ []) (0 ∷ none ∷ [])
+marking spoiled note =
+    graph 1 (jobOf 7 1 0 none 0 spoiled) (jobOf 0 0 0 none 0 0) (0 ∷ none ∷ none ∷ []) (0 ∷ none ∷ [])
     (bareWorker MARKING 0 note)
 
 -- ---- what is computed of them
@@ -60,11 +61,11 @@ to-link outcome = (
   hit (record { some = apart refl; made = lit< tt }) (lit< tt) refl,
 )
 
-to-mark : (mark note : ℕ) → ownOk two (view (marking mark note)) 0 ≡ true → Marks two (marking mark note) 0
+to-mark : (spoiled note : ℕ) → ownOk two (view (marking spoiled note)) 0 ≡ true → Marks two (marking spoiled note) 0
 unfolding withinLimits longEnough sizesKept header
-to-mark mark note e = record {
+to-mark spoiled note e = record {
   comes = record {
-    admitted = admits (marking mark note) refl e;
+    admitted = admits (marking spoiled note) refl e;
     counted = record { made = lit≤ tt; reserved = lit≤ tt };
     marking = refl;
   };
@@ -120,7 +121,7 @@ pub serves-seven : LinksExactly servesAll two (linking 7) 0 → ⊥
 unfolding applied planPhase planCall planLinks planLink admitted withinLimits longEnough sizesKept ownOk findOf walk
     productOf bucketOf header columns put
 serves-seven d =
-    apart refl (ap (λ (o : Outcome Tables). number (o .answer)) (d .outcome-by-9 0 (to-link 7) refl (lit< tt)))
+    apart refl (ap (λ (o : Result Tables). number (o .answer)) (d .outcome-by-9 0 (to-link 7) refl (lit< tt)))
 
 -- the note is forgotten
 abbrev pub forgets : Stepper
@@ -130,7 +131,7 @@ pub forgets-the-note : LinksExactly forgets two (linking 1) 0 → ⊥
 unfolding applied planPhase planCall planLinks planLink admitted withinLimits longEnough sizesKept ownOk findOf walk
     productOf bucketOf header columns put
 forgets-the-note d =
-    apart refl (ap (λ (o : Outcome Tables). ownWord (o .state) 0 10) (d .failed 0 (to-link 1) refl refl))
+    apart refl (ap (λ (o : Result Tables). ownWord (o .state) 0 10) (d .failed 0 (to-link 1) refl refl))
 
 -- the arc is appended, as to a job that is not finished, and nothing is tallied
 abbrev pub appends : Stepper
@@ -140,7 +141,7 @@ pub appends-to-a-finished-job : LinksExactly appends two (linking 0) 0 → ⊥
 unfolding applied planPhase planCall planLinks planLink planAppend admitted withinLimits longEnough sizesKept ownOk
     findOf walk productOf bucketOf header columns put
 appends-to-a-finished-job d =
-    apart refl (ap (λ (o : Outcome Tables). ownWord (o .state) 0 6) (d .good 0 (to-link 0) refl refl))
+    apart refl (ap (λ (o : Result Tables). ownWord (o .state) 0 6) (d .good 0 (to-link 0) refl refl))
 
 -- ---- a step in a phase that leaves word k of the job that it writes as it was
 abbrev pub leaves : ℕ → (View → ℕ → ℕ) → ℕ → Stepper
@@ -149,7 +150,7 @@ leaves phase job k s t w =
     let o = stepWords s t w in
     let u = o .state in
     let j = job v w in
-    outcome (o .answer)
+    result (o .answer)
     (pick (eqb (v .worker PHASE w) phase)
     (tables (put jobShape (u .jobs) j k (v .job k j)) (u .arcs) (u .buckets) (u .queue) (u .workers)) u)
 
@@ -161,17 +162,17 @@ pub keeps-no-outcome : MarksExactly keepsNone two (marking 0 1) 0 → ⊥
 unfolding stepWords applied planPhase planCall planMark admitted withinLimits longEnough sizesKept ownOk header columns
     put
 keeps-no-outcome d =
-    apart refl (ap (λ (o : Outcome Tables). jobWord (o .state) 0 8) (d .ends (to-mark 0 1 refl) refl))
+    apart refl (ap (λ (o : Result Tables). jobWord (o .state) 0 8) (d .ends (to-mark 0 1 refl) refl))
 
--- ---- a mark that refuses a good finish where the job's mark is 1
+-- ---- a mark that refuses a good finish where the job's spoiled word is 1
 abbrev pub refusesSpoiled : Stepper
 refusesSpoiled =
     planned (λ s v w.
-    pick (eqb (v .worker PHASE w) MARKING && eqb (v .job MARK (v .worker HELD w)) 1 && eqb (v .worker NOTE w) 0)
+    pick (eqb (v .worker PHASE w) MARKING && eqb (v .job SPOILED (v .worker HELD w)) 1 && eqb (v .worker NOTE w) 0)
     (Refuse damaged)
     (planPhase s v w))
 
 pub refuses-a-spoiled-job : MarksExactly refusesSpoiled two (marking 1 0) 0 → ⊥
 unfolding applied planPhase planCall planMark admitted withinLimits longEnough sizesKept ownOk header columns put
 refuses-a-spoiled-job d =
-    apart refl (ap (λ (o : Outcome Tables). number (o .answer)) (d .ends (to-mark 1 0 refl) refl))
+    apart refl (ap (λ (o : Result Tables). number (o .answer)) (d .ends (to-mark 1 0 refl) refl))

@@ -2,7 +2,6 @@
 -- The slice is looked into once, before the loop, and shut once, after it.
 -- A turn takes record i out, copies it, puts it back, and hands its label and class to `with_record`, with the minutes.
 -- Of `with_record` and `blank` the walk knows only their contracts.
--- Assumes nothing.
 use mathlib.Core.Path.{_≡_, refl, sym, subst}
 use Prim.Native.Nat.{ℕ, _+_, _*_, _-_, _<_, _^_}
 use native.Mathlib.Numerals.{add-one-dec}
@@ -54,24 +53,24 @@ use denote.Triple.Walked.{says, Stays, stay-none-slice, stay-dropped, walkOf, go
 use denote.Triple.Walked.{ends-at, walked, walk-meets}
 use denote.Triple.Clauses.{ensured, lasts}
 use denote.Exit.{yes}
-use Rattle.numbers.specs.Numbers.{wrongSize, mostRecords}
-use Rattle.minutes.specs.declared.GraphMinutes.{GraphMinutes}
-use Rattle.minutes.proofs.GraphMinutes as B
-use Rattle.minutes.proofs.GraphMinutes.Laws as B′
-use Rattle.totals.specs.Board.{refused}
+use Rattle.def_numbers.specs.Numbers.{wrongSize, mostRecords}
+use Rattle.def_minutes.specs.declared.GraphMinutes.{GraphMinutes}
+use Rattle.def_minutes.proofs.GraphMinutes as B
+use Rattle.def_minutes.proofs.GraphMinutes.Laws as B′
+use Rattle.def_totals.specs.Board.{refused}
 use Rattle.totals_step.specs.Step.{withRecord}
-use Rattle.totals.specs.declared.JobRecord.{JobRecord}
-use Rattle.totals.specs.declared.Totals.{Totals}
+use Rattle.def_totals.specs.declared.JobRecord.{JobRecord}
+use Rattle.def_totals.specs.declared.Totals.{Totals}
 use Rattle.totals_of_records.specs.By.{Judged, totalsWith}
 use Rattle.totals_of_records.proofs.Counting.{Counting, start, next, last, too-many}
-use Rattle.totals.proofs.JobRecord as R
-use Rattle.totals.proofs.JobRecord.Laws as R′
-use Rattle.totals.proofs.Totals as S
-use Rattle.totals.proofs.Totals.Laws as S′
-use Rattle.totals.proofs.blank as blank
-use Rattle.totals.proofs.blank.Symbol as blank-def
-use Rattle.totals.proofs.blank.Symbol.{name as #blank}
-use Rattle.totals.proofs.blank.Met as blank-thm
+use Rattle.def_totals.proofs.JobRecord as R
+use Rattle.def_totals.proofs.JobRecord.Laws as R′
+use Rattle.def_totals.proofs.Totals as S
+use Rattle.def_totals.proofs.Totals.Laws as S′
+use Rattle.def_totals.proofs.blank as blank
+use Rattle.def_totals.proofs.blank.Symbol as blank-def
+use Rattle.def_totals.proofs.blank.Symbol.{name as #blank}
+use Rattle.def_totals.proofs.blank.Met as blank-thm
 use Rattle.totals_step.proofs.with_record as with-record
 use Rattle.totals_step.proofs.with_record.Symbol as with-record-def
 use Rattle.totals_step.proofs.with_record.Symbol.{name as #with-record}
@@ -461,6 +460,6 @@ of-records-spec 𝓤 H 𝓜 𝓖 𝓡 =
     (tables 𝓤 H 𝓜 𝓡 code.env .C) (tables 𝓤 H 𝓜 𝓡 code.env .Λ) #board code.function (code.unfolded 𝓤 H 𝓜 𝓡)
     (board-meets 𝓤 H (𝓖 .A) (givenOf 𝓤 H 𝓜 𝓖) (𝓜 .mem) (𝓡 .run) (tablesOf 𝓤 H 𝓜 (tables 𝓤 H 𝓜 𝓡 code.env))
     (cited 𝓤 H (Blank 𝓤 H (𝓖 .A) (givenOf 𝓤 H 𝓜 𝓖) (𝓜 .mem) (𝓡 .run)) 𝓜 𝓡 code.env #blank blank-def.routine
-    code.calls-totals·blank (blank-thm.met 𝓤 H 𝓜 𝓖 𝓡))
+    code.calls-def-totals·blank (blank-thm.met 𝓤 H 𝓜 𝓖 𝓡))
     (cited 𝓤 H (WithRecord 𝓤 H (𝓖 .A) (givenOf 𝓤 H 𝓜 𝓖) (𝓜 .mem) (𝓡 .run)) 𝓜 𝓡
     code.env #with-record with-record-def.routine code.calls-totals-step·with-record (with-record-thm.met 𝓤 H 𝓜 𝓖 𝓡)))

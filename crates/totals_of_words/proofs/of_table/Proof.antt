@@ -1,5 +1,5 @@
 -- `totals_of_words::of_table` meets its contract: every word that is read stands in the table, and the loop's running
--- totals are those of the records that it has passed. Assumes nothing.
+-- totals are those of the records that it has passed.
 use mathlib.Core.Path.{_≡_}
 use mathlib.Core.Bool.{true}
 use Prim.Native.Nat.{_-_}
@@ -7,10 +7,10 @@ use lib.ListN.{length}
 use native.Mathlib.Omega.{arith}
 use borrow.Author.Needs.{needs}
 use borrow.Author.Tests.{lt-leb, le-leb, le-ltb}
-use Rattle.numbers.specs.Numbers.{classes, accepted}
-use Rattle.minutes.specs.Minutes.{minutesIn}
-use Rattle.minutes.specs.Rising.{isRising, rising}
-use Rattle.totals.specs.Board.{finished}
+use Rattle.def_numbers.specs.Numbers.{classes, accepted}
+use Rattle.def_minutes.specs.Minutes.{minutesIn}
+use Rattle.def_minutes.specs.Rising.{isRising, rising}
+use Rattle.def_totals.specs.Board.{finished}
 use Rattle.totals_step.proofs.Running.{raises}
 use Rattle.totals_of_words.proofs.Tables.{Stands, stands-as, inside, none-stands, Passed}
 use Rattle.totals_of_words.proofs.Tables.{start-table, next-table, last-table, wrong-table}

@@ -1,8 +1,7 @@
 -- `totals_of_words::of_words` meets its contract: a row of words is a table of records of two words.
--- Assumes nothing.
 use native.Mathlib.Omega.{arith}
-use Rattle.minutes.specs.Minutes.{fixedMinutes}
-use Rattle.minutes.specs.Judged.{fixed-passes}
+use Rattle.def_minutes.specs.Minutes.{fixedMinutes}
+use Rattle.def_minutes.specs.Judged.{fixed-passes}
 use Rattle.totals_of_words.proofs.Tables.{even-words, odd-words}
 use borrow.Author.Needs.{needs}
 use Rattle.totals_of_words.proofs.of_words.Statement.{statement}

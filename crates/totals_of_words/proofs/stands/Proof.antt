@@ -1,9 +1,8 @@
 -- `totals_of_words::stands` meets its contract: the sum is formed for at most 4,096 records, where it fits 64 bits.
--- Assumes nothing.
 use native.Mathlib.Omega.{arith}
 use borrow.Author.Needs.{needs}
 use borrow.Author.Tests.{leb-true}
-use Rattle.numbers.specs.Numbers.{mostRecords}
+use Rattle.def_numbers.specs.Numbers.{mostRecords}
 use Rattle.totals_of_words.proofs.Tables.{product}
 use Rattle.totals_of_words.proofs.stands.Statement.{statement}
 use Rattle.totals_of_words.proofs.stands.Tie as tie

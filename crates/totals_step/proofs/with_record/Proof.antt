@@ -1,12 +1,11 @@
 -- `totals_step::with_record` meets its contract: each answer is the case of `withRecord` that the tests pick.
--- Assumes nothing.
 use mathlib.Core.Path.{_≡_}
 use native.Mathlib.Omega.{arith}
 use borrow.Author.Needs.{needs}
 use borrow.Author.Tests.{eq-eqb, ne-eqb, lt-leb, le-leb, le-ltb}
-use Rattle.numbers.specs.Numbers.{classes}
-use Rattle.minutes.specs.Minutes.{minutesIn}
-use Rattle.totals.specs.Board.{finished}
+use Rattle.def_numbers.specs.Numbers.{classes}
+use Rattle.def_minutes.specs.Minutes.{minutesIn}
+use Rattle.def_totals.specs.Board.{finished}
 use Rattle.totals_step.specs.Step.{withRecord}
 use Rattle.totals_step.proofs.Running.{raises}
 use Rattle.totals_step.proofs.with_record.Statement.{statement}

@@ -1,9 +1,8 @@
 -- `add_whole` runs an add whole: the tests that come first, and then an add of an idle worker in one go.
--- Assumes nothing.
 use mathlib.Core.Path.{refl, sym, _∙_}
 use borrow.Author.Needs.{needs}
 use Rattle.graph_own.proofs.Admitted.{wrong-sizes, no-such-worker, unsound, admits}
-use Rattle.fused_add_laws.specs.Adds.{whole-add}
+use Rattle.thm_fused_add.specs.Adds.{whole-add}
 use Rattle.whole_add.proofs.add_whole.Statement.{statement}
 use Rattle.whole_add.proofs.add_whole.Tie as tie
 

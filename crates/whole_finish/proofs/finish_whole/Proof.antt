@@ -1,10 +1,9 @@
 -- `finish_whole` runs a finish whole: the tests that come first, and then a finish of an idle worker in one go.
--- Assumes nothing.
 use mathlib.Core.Path.{refl, sym, _∙_}
 use borrow.Author.Needs.{needs}
-use Rattle.terms.specs.Terms.{finishOf}
+use Rattle.def_terms.specs.Terms.{finishOf}
 use Rattle.graph_own.proofs.Admitted.{wrong-sizes, no-such-worker, unsound, admits}
-use Rattle.fused_finish_laws.specs.Finish.{whole-finish}
+use Rattle.thm_fused_finish.specs.Finish.{whole-finish}
 use Rattle.whole_finish.proofs.finish_whole.Statement.{statement}
 use Rattle.whole_finish.proofs.finish_whole.Tie as tie
 

@@ -1,4 +1,4 @@
--- `worker_phase::phase_of` meets its contract: each way through the code is a case of the definition. Assumes nothing.
+-- `worker_phase::phase_of` meets its contract: each way through the code is a case of the definition.
 use borrow.Author.Needs.{needs}
 use Rattle.worker_phase.proofs.phase_of.Statement.{statement}
 use Rattle.worker_phase.proofs.phase_of.Tie as tie

@@ -1,13 +1,13 @@
--- `finish_all` has each holder finish. The loop's invariant: the holders passed have finished. Assumes nothing.
+-- `finish_all` has each holder finish. The loop's invariant: the holders passed have finished.
 use Prim.Native.Nat.{suc, _-_, _≤_}
 use mathlib.Core.Path.{_≡_, refl, sym, ap, _∙_}
 use native.Mathlib.Omega.{arith}
 use borrow.Author.Needs.{needs}
 use lib.ListN.{length}
-use Rattle.terms.specs.Runs.{Outcome}
-use Rattle.words.specs.Layout.{Tables, tables}
-use Rattle.day_rounds.specs.Rounds.{finishAll}
-use Rattle.day_rounds.specs.Rows.{holdersIn}
+use Rattle.def_terms.specs.Runs.{Result}
+use Rattle.def_words.specs.Layout.{Tables, tables}
+use Rattle.def_day.specs.Rounds.{finishAll}
+use Rattle.def_day.specs.Rows.{holdersIn}
 use Rattle.day_calls.proofs.finishes.Laws.{finish-next, finish-none}
 use Rattle.day_calls.proofs.finishes.finish_all.Statement.{statement}
 use Rattle.day_calls.proofs.finishes.finish_all.Tie as tie
@@ -89,7 +89,7 @@ loop-again c =
         ← c18 .word .ensures,
         ← c16 .word2 .ensures,
       )
-          (ap (λ (o : Outcome Tables). o .state) (e .ensures)),
+          (ap (λ (o : Result Tables). o .state) (e .ensures)),
     )
 
 same-length : tie.Need-same-length Inv-loop μ-loop

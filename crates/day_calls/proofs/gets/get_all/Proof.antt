@@ -1,5 +1,4 @@
 -- `get_all` has every worker get. The loop's invariant: the gets that are left, after those made, make the whole.
--- Assumes nothing.
 use Prim.Native.Nat.{suc, _-_, _≤_, _<_}
 use mathlib.Core.Path.{_≡_, refl, _∙_}
 use native.Mathlib.Omega.{arith}
@@ -7,10 +6,10 @@ use native.Mathlib.Numerals.{add-one}
 use native.Mathlib.Nat.{sub-zero}
 use borrow.Author.Needs.{needs}
 use lib.ListN.{length}
-use Rattle.numbers.specs.Numbers.{mostWorkers}
-use Rattle.words.specs.Layout.{tables}
-use Rattle.day_rounds.specs.Rounds.{getAll}
-use Rattle.day_rounds.specs.Rows.{holding, no-holders}
+use Rattle.def_numbers.specs.Numbers.{mostWorkers}
+use Rattle.def_words.specs.Layout.{tables}
+use Rattle.def_day.specs.Rounds.{getAll}
+use Rattle.def_day.specs.Rows.{holding, no-holders}
 use Rattle.day_calls.proofs.gets.Laws.{onto, get-first, gets-over, below}
 use Rattle.day_calls.proofs.gets.get_all.Statement.{statement}
 use Rattle.day_calls.proofs.gets.get_all.Tie as tie

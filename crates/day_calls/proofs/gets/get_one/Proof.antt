@@ -1,4 +1,4 @@
--- `get_one` gets, and keeps what was handed out. Assumes nothing.
+-- `get_one` gets, and keeps what was handed out.
 use borrow.Author.Needs.{needs}
 use Rattle.day_calls.proofs.gets.Laws.{got-told}
 use Rattle.day_calls.proofs.gets.get_one.Statement.{statement}

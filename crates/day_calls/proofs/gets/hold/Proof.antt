@@ -1,11 +1,11 @@
--- `hold` keeps one holder more, or none. Assumes nothing.
+-- `hold` keeps one holder more, or none.
 use mathlib.Core.Path.{_≡_}
 use mathlib.Core.List.{append-nil}
 use native.Mathlib.Omega.{arith}
 use native.Mathlib.Numerals.{add-one}
 use lib.ListN.{length}
 use borrow.Author.Needs.{needs}
-use Rattle.day_rounds.specs.Rows.{holders-more}
+use Rattle.def_day.specs.Rows.{holders-more}
 use Rattle.day_calls.proofs.gets.hold.Statement.{statement}
 use Rattle.day_calls.proofs.gets.hold.Tie as tie
 

@@ -1,13 +1,13 @@
 -- `count_unfinished` counts the jobs whose label is not finished. The loop's invariant: those counted and those left
--- make the whole. Assumes nothing.
+-- make the whole.
 use Prim.Native.Nat.{suc, _+_, _-_, _≤_}
 use mathlib.Core.Path.{_≡_, sym, _∙_}
 use native.Mathlib.Omega.{arith}
 use denote.Ref.{now}
 use borrow.Author.Needs.{needs}
-use Rattle.words.specs.Columns.{columns, header}
-use Rattle.words.specs.Layout.{jobShape, LABEL}
-use Rattle.day_rounds.specs.Rounds.{unfinished}
+use Rattle.def_words.specs.Columns.{columns, header}
+use Rattle.def_words.specs.Layout.{jobShape, LABEL}
+use Rattle.def_day.specs.Rounds.{unfinished}
 use Rattle.day_end.proofs.print.Counts.{unfinished-done, unfinished-more, unfinished-none}
 use Rattle.day_end.proofs.print.count_unfinished.Statement.{statement}
 use Rattle.day_end.proofs.print.count_unfinished.Tie as tie

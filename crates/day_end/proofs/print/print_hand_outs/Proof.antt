@@ -1,5 +1,5 @@
 -- `print_hand_outs` prints the hand-outs of a row. The loop's invariant: those that are left, printed after those made,
--- make the whole. Assumes nothing.
+-- make the whole.
 use Prim.Native.Nat.{suc, _-_, _/_, _≤_}
 use mathlib.Core.Path.{_≡_, refl, _∙_}
 use native.Mathlib.Omega.{arith}
@@ -15,14 +15,14 @@ use Rattle.day_end.proofs.print.print_hand_outs.Statement.{statement}
 use Rattle.day_end.proofs.print.print_hand_outs.Tie as tie
 
 abbrev Inv-loop : tie.InvT-loop
-Inv-loop out₀ limit at row count held i₀ place₀ out i place =
+Inv-loop out₀ limit at row count held i₀ offset₀ out i offset =
     (length out ≡ length out₀)
     × (count ≤ length row / 2)
     × (i ≤ count)
-    × (rest limit (page place out) (count - i) i row ≡ rest limit (page at out₀) count 0 row)
+    × (rest limit (page offset out) (count - i) i row ≡ rest limit (page at out₀) count 0 row)
 
 abbrev μ-loop : tie.MeasureT-loop
-μ-loop out₀ limit at row count held i₀ place₀ out i place = count - i
+μ-loop out₀ limit at row count held i₀ offset₀ out i offset = count - i
 
 returns : tie.Need-returns Inv-loop μ-loop
 returns c = rw (c .if1 .left, none-held)

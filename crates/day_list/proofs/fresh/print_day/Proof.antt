@@ -1,4 +1,4 @@
--- `print_day` lends tables that just suffice, and a row for the hand-outs. Assumes nothing.
+-- `print_day` lends tables that just suffice, and a row for the hand-outs.
 use borrow.Author.Needs.{needs}
 use Rattle.day_list.specs.Pages.{dayPage}
 use Rattle.day_list.proofs.fresh.print_day.Statement.{statement}

@@ -1,4 +1,4 @@
--- `run_round` runs a round. Assumes nothing.
+-- `run_round` runs a round.
 use borrow.Author.Needs.{needs}
 use Rattle.day_run.proofs.round.Laws.{round-parts}
 use Rattle.day_run.proofs.round.run_round.Statement.{statement}

@@ -1,8 +1,7 @@
--- `settle` meets its contract: each way through the code is a case of the definition; a place is below
+-- `settle` meets its contract: each way through the code is a case of the definition; a cell is below
 -- the number of jobs, so that the counter is a word.
--- Assumes nothing.
 use native.Mathlib.Omega.{arith}
-use Rattle.fitting.specs.Seats.{seated-below}
+use Rattle.thm_counters_fit.specs.Seats.{seated-below}
 use borrow.Author.Needs.{needs}
 use Rattle.fused_ends.proofs.settling.settle.Statement.{statement}
 use Rattle.fused_ends.proofs.settling.settle.Tie as tie

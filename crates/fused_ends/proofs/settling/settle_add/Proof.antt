@@ -1,12 +1,11 @@
 -- `settle_add` meets its contract: each way through the code is a case of the definition.
--- Assumes nothing.
 use borrow.Author.Needs.{needs}
-use Rattle.terms.specs.Runs.{Outcome}
-use Rattle.words.specs.Layout.{Tables, LINKING}
-use Rattle.words.specs.Words.{firstArc}
-use Rattle.sheet_rows.specs.Arguments.{argumentsOf}
-use Rattle.fused_words.specs.FusedAdd.{settleIn}
-use Rattle.fused_words.specs.FusedWorker.{addWorker, halted}
+use Rattle.def_terms.specs.Runs.{Result}
+use Rattle.def_words.specs.Layout.{Tables, LINKING}
+use Rattle.def_words.specs.Words.{firstArc}
+use Rattle.def_sheet_rows.specs.Arguments.{argumentsOf}
+use Rattle.def_fused.specs.FusedAdd.{settleIn}
+use Rattle.def_fused.specs.FusedWorker.{addWorker, halted}
 use Rattle.fused_ends.proofs.settling.settle_add.Statement.{statement}
 use Rattle.fused_ends.proofs.settling.settle_add.Tie as tie
 
@@ -39,7 +38,7 @@ returns c =
     let c8 = c4 .before .before .before .before in
     let c12 = c8 .before .before .before .before in
     let a = c12 .before .before .before .args in
-    let stopped : Tables → Outcome Tables = λ t. halted t (a .worker) (addWorker LINKING (a .held)
+    let stopped : Tables → Result Tables = λ t. halted t (a .worker) (addWorker LINKING (a .held)
     (argumentsOf (a .entry)) (a .linked .tally) (a .linked .place) (a .new .job) (firstArc (a .entry .count) (a .new .arc))
     (a .linked .note)) in
     rw (c .before .before .put-bare-worker .ensures)
@@ -63,7 +62,7 @@ returns-2 c =
     let c12 = c8 .before .before .before .before in
     let c16 = c12 .before .before .before .before in
     let a = c16 .args in
-    let stopped : Tables → Outcome Tables = λ t. halted t (a .worker) (addWorker LINKING (a .held)
+    let stopped : Tables → Result Tables = λ t. halted t (a .worker) (addWorker LINKING (a .held)
     (argumentsOf (a .entry)) (a .linked .tally) (a .linked .place) (a .new .job) (firstArc (a .entry .count) (a .new .arc))
     (a .linked .note)) in
     rw (c .before .before .stop .ensures, c4 .first-arc .ensures)

@@ -1,5 +1,4 @@
 -- `stop` meets its contract: the record is the definition's.
--- Assumes nothing.
 use borrow.Author.Needs.{needs}
 use Rattle.fused_ends.proofs.stops.stop.Statement.{statement}
 use Rattle.fused_ends.proofs.stops.stop.Tie as tie

@@ -1,5 +1,4 @@
 -- `turn_away` meets its contract: the record is the definition's.
--- Assumes nothing.
 use borrow.Author.Needs.{needs}
 use Rattle.fused_ends.proofs.stops.turn_away.Statement.{statement}
 use Rattle.fused_ends.proofs.stops.turn_away.Tie as tie

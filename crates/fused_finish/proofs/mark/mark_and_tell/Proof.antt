@@ -1,8 +1,7 @@
 -- `mark_and_tell` meets its contract: the mark, and then the notices or the end; any other plan is a
 -- refusal.
--- Assumes nothing.
 use borrow.Author.Needs.{needs}
-use Rattle.fused_words.specs.FusedFinish.{markIn}
+use Rattle.def_fused.specs.FusedFinish.{markIn}
 use Rattle.fused_finish.proofs.Halts.{halts}
 use Rattle.fused_finish.proofs.mark.mark_and_tell.Statement.{statement}
 use Rattle.fused_finish.proofs.mark.mark_and_tell.Tie as tie

@@ -1,6 +1,5 @@
 -- `enter_job` meets its contract: the words, both counters and the bucket's head are the definition's,
 -- and the counters are words.
--- Assumes nothing.
 use native.Mathlib.Omega.{arith}
 use borrow.Author.Needs.{needs}
 use Rattle.fused_job.proofs.entering.enter_job.Statement.{statement}

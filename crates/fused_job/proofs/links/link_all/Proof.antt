@@ -1,15 +1,14 @@
 -- `link_all` meets its contract: the loop's invariant: the links that are left make the whole, and the
 -- tally is at most the place. The measure is the number of jobs left.
--- Assumes nothing.
 use mathlib.Core.List.{List}
 use mathlib.Core.Path.{_≡_, refl, _∙_}
 use Prim.Native.Nat.{ℕ, _+_, _≤_, _-_}
 use native.Mathlib.Omega.{arith}
 use lib.ListN.{length, drop}
 use borrow.Author.Needs.{needs}
-use Rattle.basics.specs.Base.{prefix}
-use Rattle.words.specs.Layout.{tables}
-use Rattle.fused_words.specs.FusedAdd.{links}
+use Rattle.def_basics.specs.Base.{prefix}
+use Rattle.def_words.specs.Layout.{tables}
+use Rattle.def_fused.specs.FusedAdd.{links}
 use Rattle.fused_job.proofs.Laws.{link-next, link-none}
 use Rattle.fused_job.proofs.links.link_all.Statement.{statement}
 use Rattle.fused_job.proofs.links.link_all.Tie as tie

@@ -1,5 +1,4 @@
 -- `link_one` meets its contract: each plan's stores are the definition's.
--- Assumes nothing.
 use native.Mathlib.Numerals.{add-one}
 use native.Mathlib.Omega.{arith}
 use borrow.Author.Needs.{needs}

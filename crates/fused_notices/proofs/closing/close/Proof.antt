@@ -1,5 +1,4 @@
 -- `close` meets its contract: each way the notices end is a case of the definition.
--- Assumes nothing.
 use borrow.Author.Needs.{needs}
 use Rattle.fused_notices.proofs.closing.close.Statement.{statement}
 use Rattle.fused_notices.proofs.closing.close.Tie as tie

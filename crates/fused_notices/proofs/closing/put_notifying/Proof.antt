@@ -1,8 +1,7 @@
 -- `put_notifying` meets its contract: a call with no arguments lists no names, and its list is kept as
 -- 0.
--- Assumes nothing.
 use borrow.Author.Needs.{needs}
-use Rattle.basics.specs.Base.{prefix}
+use Rattle.def_basics.specs.Base.{prefix}
 use Rattle.fused_notices.proofs.closing.put_notifying.Statement.{statement}
 use Rattle.fused_notices.proofs.closing.put_notifying.Tie as tie
 

@@ -1,13 +1,12 @@
 -- `notices` meets its contract: the loop's invariant: the notices that are left make the whole. The
 -- measure is the number of arcs that it may still pass.
--- Assumes nothing.
 use mathlib.Core.List.{List}
 use mathlib.Core.Path.{_≡_, refl, _∙_}
 use Prim.Native.Nat.{ℕ, _-_}
 use lib.ListN.{length}
 use borrow.Author.Needs.{needs}
-use Rattle.words.specs.Layout.{tables}
-use Rattle.fused_words.specs.FusedFinish.{notifyIn}
+use Rattle.def_words.specs.Layout.{tables}
+use Rattle.def_fused.specs.FusedFinish.{notifyIn}
 use Rattle.fused_notices.proofs.Laws.{notify-one, notify-none}
 use Rattle.fused_notices.proofs.notices.notices.Statement.{statement}
 use Rattle.fused_notices.proofs.notices.notices.Tie as tie

@@ -1,6 +1,5 @@
--- `tell` meets its contract: each plan's stores are the definition's, and a queued job's place is below
+-- `tell` meets its contract: each plan's stores are the definition's, and a queued job's cell is below
 -- the number of jobs, so that the counter is a word.
--- Assumes nothing.
 use native.Mathlib.Omega.{arith}
 use borrow.Author.Needs.{needs}
 use Rattle.fused_notices.proofs.Laws.{seat-below, halts}

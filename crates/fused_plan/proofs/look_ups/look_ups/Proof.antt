@@ -1,6 +1,5 @@
 -- `look_ups` meets its contract: the loop's invariant: the look-ups that are left end as all do, and
 -- each job found so far is kept. The measure is the number of names left.
--- Assumes nothing.
 use mathlib.Core.List.{List}
 use mathlib.Core.Path.{_≡_, refl, _∙_}
 use Prim.Native.Nat.{ℕ, _<_, _≤_, _-_}
@@ -8,10 +7,11 @@ use native.Mathlib.Nat.{lt-of-lt-of-le}
 use native.Mathlib.Omega.{arith}
 use lib.ListN.{length, drop}
 use borrow.Author.Needs.{needs}
-use Rattle.basics.specs.Base.{prefix}
-use Rattle.words.specs.Layout.{tables, view}
-use Rattle.fused_words.specs.FusedAdd.{lookUps}
-use Rattle.fused_plan.proofs.Laws.{told, on, missing, broken, done, Kept, kept-one, all-kept, not-unknown, not-broken}
+use Rattle.def_basics.specs.Base.{prefix}
+use Rattle.def_words.specs.Layout.{tables, view}
+use Rattle.def_fused.specs.FusedAdd.{lookUps}
+use Rattle.fused_plan.proofs.Laws.{told, on, missing, broken, done, Kept, kept-one, all-kept, not-unknown}
+use Rattle.fused_plan.proofs.Laws.{not-broken}
 use Rattle.fused_plan.proofs.look_ups.look_ups.Statement.{statement}
 use Rattle.fused_plan.proofs.look_ups.look_ups.Tie as tie
 

@@ -1,7 +1,6 @@
 -- `graph_get::stores::apply_get` meets its contract: each arm's stores are those of its plan.
--- Assumes nothing.
-use Rattle.words.specs.Words.{appliedGet}
-use Rattle.fitting.specs.Fitting.{FittingGet}
+use Rattle.def_words.specs.Words.{appliedGet}
+use Rattle.thm_counters_fit.specs.Fitting.{FittingGet}
 use borrow.Author.Needs.{needs}
 use Rattle.graph_get.proofs.stores.apply_get.Statement.{statement}
 use Rattle.graph_get.proofs.stores.apply_get.Tie as tie

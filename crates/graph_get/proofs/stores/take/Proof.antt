@@ -1,6 +1,5 @@
 -- `graph_get::stores::take` meets its contract: its stores are the plan's.
--- Assumes nothing.
-use Rattle.words.specs.Words.{appliedGet}
+use Rattle.def_words.specs.Words.{appliedGet}
 use borrow.Author.Needs.{needs}
 use Rattle.graph_get.proofs.stores.take.Statement.{statement}
 use Rattle.graph_get.proofs.stores.take.Tie as tie

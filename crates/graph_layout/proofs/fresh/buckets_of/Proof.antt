@@ -1,5 +1,4 @@
 -- `graph_layout::fresh::buckets_of` meets its contract: a shift of 1 by at most 8 loses nothing.
--- Assumes nothing.
 use Prim.Native.Nat.{_+_, _≤_}
 use lib.Dec.{lit<}
 use lib.Pow.{shl-exact}

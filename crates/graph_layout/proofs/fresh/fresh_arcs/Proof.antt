@@ -1,7 +1,6 @@
 -- `graph_layout::fresh::fresh_arcs` meets its contract: arcs of two equal words are one run.
--- Assumes nothing.
-use Rattle.words.specs.Columns.{putHeader}
-use Rattle.words.specs.Layout.{none}
+use Rattle.def_words.specs.Columns.{putHeader}
+use Rattle.def_words.specs.Layout.{none}
 use Rattle.graph_layout.proofs.fresh.Laws.{repeated-same}
 use borrow.Author.Needs.{needs}
 use Rattle.graph_layout.proofs.fresh.fresh_arcs.Statement.{statement}

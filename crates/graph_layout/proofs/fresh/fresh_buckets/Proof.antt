@@ -1,5 +1,4 @@
 -- `graph_layout::fresh::fresh_buckets` meets its contract: one run.
--- Assumes nothing.
 use borrow.Author.Needs.{needs}
 use Rattle.graph_layout.proofs.fresh.fresh_buckets.Statement.{statement}
 use Rattle.graph_layout.proofs.fresh.fresh_buckets.Tie as tie

@@ -1,22 +1,21 @@
 -- `graph_layout::fresh::fresh_job_records` meets its contract: what is left to store, from the present record on, makes the
 -- same table as all of it.
--- Assumes nothing.
 use Prim.Native.Nat.{_-_, _≤_}
 use mathlib.Core.Path.{_≡_, refl, _∙_}
 use native.Mathlib.Omega.{arith}
 use borrow.Author.Needs.{needs}
 use lib.ListN.{length}
 use lib.Seq.{sets}
-use Rattle.words.specs.Columns.{place}
-use Rattle.words.specs.Layout.{jobShape, repeated, freshJob}
+use Rattle.def_words.specs.Columns.{offset}
+use Rattle.def_words.specs.Layout.{jobShape, repeated, freshJob}
 use Rattle.graph_layout.proofs.fresh.Laws.{record-one, record-none}
 use Rattle.graph_layout.proofs.fresh.fresh_job_records.Statement.{statement}
 use Rattle.graph_layout.proofs.fresh.fresh_job_records.Tie as tie
 
 abbrev Inv-loop : tie.InvT-loop
 Inv-loop jobs₀ count i₀ jobs i =
-    (sets jobs (place jobShape i 0) (repeated (count - i) freshJob)
-    ≡ sets jobs₀ (place jobShape 0 0) (repeated count freshJob))
+    (sets jobs (offset jobShape i 0) (repeated (count - i) freshJob)
+    ≡ sets jobs₀ (offset jobShape 0 0) (repeated count freshJob))
     × (i ≤ count)
     × (length jobs ≡ length jobs₀)
 

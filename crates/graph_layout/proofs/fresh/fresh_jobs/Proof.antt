@@ -1,7 +1,6 @@
 -- `graph_layout::fresh::fresh_jobs` meets its contract: the counters, the minutes, then the records.
--- Assumes nothing.
-use Rattle.words.specs.Columns.{putHeader}
-use Rattle.minutes.specs.Minutes.{fixedMinutes}
+use Rattle.def_words.specs.Columns.{putHeader}
+use Rattle.def_minutes.specs.Minutes.{fixedMinutes}
 use borrow.Author.Needs.{needs}
 use Rattle.graph_layout.proofs.fresh.fresh_jobs.Statement.{statement}
 use Rattle.graph_layout.proofs.fresh.fresh_jobs.Tie as tie

@@ -1,5 +1,4 @@
 -- `graph_layout::fresh::fresh_minutes` meets its contract: the words that are stored are the fixed table.
--- Assumes nothing.
 use borrow.Author.Needs.{needs}
 use Rattle.graph_layout.proofs.fresh.fresh_minutes.Statement.{statement}
 use Rattle.graph_layout.proofs.fresh.fresh_minutes.Tie as tie

@@ -1,7 +1,6 @@
--- `graph_layout::fresh::fresh_queue` meets its contract: the counters, then places of three equal words as one run.
--- Assumes nothing.
-use Rattle.words.specs.Columns.{putHeader}
-use Rattle.words.specs.Layout.{none}
+-- `graph_layout::fresh::fresh_queue` meets its contract: the counters, then cells of three equal words as one run.
+use Rattle.def_words.specs.Columns.{putHeader}
+use Rattle.def_words.specs.Layout.{none}
 use Rattle.graph_layout.proofs.fresh.Laws.{repeated-same}
 use borrow.Author.Needs.{needs}
 use Rattle.graph_layout.proofs.fresh.fresh_queue.Statement.{statement}

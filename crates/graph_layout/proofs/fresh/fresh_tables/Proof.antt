@@ -1,6 +1,5 @@
 -- `graph_layout::fresh::fresh_tables` meets its contract: one table after another.
--- Assumes nothing.
-use Rattle.words.specs.Layout.{freshTables}
+use Rattle.def_words.specs.Layout.{freshTables}
 use borrow.Author.Needs.{needs}
 use Rattle.graph_layout.proofs.fresh.fresh_tables.Statement.{statement}
 use Rattle.graph_layout.proofs.fresh.fresh_tables.Tie as tie

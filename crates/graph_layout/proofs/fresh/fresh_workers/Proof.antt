@@ -1,22 +1,21 @@
 -- `graph_layout::fresh::fresh_workers` meets its contract: what is left to store, from the present record on, makes the same
 -- table as all of it.
--- Assumes nothing.
 use Prim.Native.Nat.{_-_, _≤_}
 use mathlib.Core.Path.{_≡_, refl, _∙_}
 use native.Mathlib.Omega.{arith}
 use borrow.Author.Needs.{needs}
 use lib.ListN.{length}
 use lib.Seq.{sets}
-use Rattle.words.specs.Columns.{place}
-use Rattle.words.specs.Layout.{none, workerShape, IDLE, repeated, bareWorker}
+use Rattle.def_words.specs.Columns.{offset}
+use Rattle.def_words.specs.Layout.{none, workerShape, IDLE, repeated, bareWorker}
 use Rattle.graph_layout.proofs.fresh.Laws.{record-one, record-none}
 use Rattle.graph_layout.proofs.fresh.fresh_workers.Statement.{statement}
 use Rattle.graph_layout.proofs.fresh.fresh_workers.Tie as tie
 
 abbrev Inv-loop : tie.InvT-loop
 Inv-loop workers₀ count i₀ workers i =
-    (sets workers (place workerShape i 0) (repeated (count - i) (bareWorker IDLE none 0))
-    ≡ sets workers₀ (place workerShape 0 0) (repeated count (bareWorker IDLE none 0)))
+    (sets workers (offset workerShape i 0) (repeated (count - i) (bareWorker IDLE none 0))
+    ≡ sets workers₀ (offset workerShape 0 0) (repeated count (bareWorker IDLE none 0)))
     × (i ≤ count)
     × (length workers ≡ length workers₀)
 

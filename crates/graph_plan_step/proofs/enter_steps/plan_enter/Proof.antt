@@ -1,7 +1,6 @@
 -- `graph_plan_step::enter_steps::plan_enter` meets its contract: each way through the code is a case of the definition.
--- Assumes nothing.
 use borrow.Author.Needs.{needs}
-use Rattle.words.specs.Words.{planEnter}
+use Rattle.def_words.specs.Words.{planEnter}
 use Rattle.graph_plan_step.proofs.enter_steps.plan_enter.Statement.{statement}
 use Rattle.graph_plan_step.proofs.enter_steps.plan_enter.Tie as tie
 

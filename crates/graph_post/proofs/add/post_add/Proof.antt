@@ -1,7 +1,6 @@
 -- `graph_post::add::post_add` meets its contract: the number that refuses is the definition's, and so is the stored
 -- record.
--- Assumes nothing.
-use Rattle.words.specs.Words.{addWords, posted}
+use Rattle.def_words.specs.Words.{addWords, posted}
 use Rattle.graph_judge.proofs.Posted.{posted-not}
 use borrow.Author.Needs.{needs}
 use Rattle.graph_post.proofs.add.post_add.Statement.{statement}

@@ -1,8 +1,7 @@
 -- `graph_post::finish::post_finish` meets its contract: the number that refuses is the definition's, and so is the
 -- stored
 -- record.
--- Assumes nothing.
-use Rattle.words.specs.Words.{finishWords, posted}
+use Rattle.def_words.specs.Words.{finishWords, posted}
 use Rattle.graph_judge.proofs.Posted.{posted-not}
 use borrow.Author.Needs.{needs}
 use Rattle.graph_post.proofs.finish.post_finish.Statement.{statement}

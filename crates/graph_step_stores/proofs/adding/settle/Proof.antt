@@ -1,6 +1,5 @@
 -- `graph_step_stores::adding::settle` meets its contract: its stores are the plan's.
--- Assumes nothing.
-use Rattle.words.specs.Words.{applied}
+use Rattle.def_words.specs.Words.{applied}
 use borrow.Author.Needs.{needs}
 use Rattle.graph_step_stores.proofs.adding.settle.Statement.{statement}
 use Rattle.graph_step_stores.proofs.adding.settle.Tie as tie

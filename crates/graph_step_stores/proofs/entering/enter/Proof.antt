@@ -1,6 +1,5 @@
 -- `graph_step_stores::entering::enter` meets its contract: the four tables' stores are the plan's.
--- Assumes nothing.
-use Rattle.words.specs.Words.{applied}
+use Rattle.def_words.specs.Words.{applied}
 use borrow.Author.Needs.{needs}
 use Rattle.graph_step_stores.proofs.entering.enter.Statement.{statement}
 use Rattle.graph_step_stores.proofs.entering.enter.Tie as tie

@@ -1,6 +1,5 @@
--- `graph_step_stores::entering::enter_job` meets its contract: the record and the counter are the definition's, and the counter is a
--- word.
--- Assumes nothing.
+-- `graph_step_stores::entering::enter_job` meets its contract: the record and the counter are the definition's, and the
+-- counter is a word.
 use native.Mathlib.Omega.{arith}
 use borrow.Author.Needs.{needs}
 use Rattle.graph_step_stores.proofs.entering.enter_job.Statement.{statement}

@@ -1,5 +1,4 @@
 -- `graph_step_stores::entering::reserve` meets its contract: the counter is the definition's, and is a word.
--- Assumes nothing.
 use borrow.Author.Needs.{needs}
 use Rattle.graph_step_stores.proofs.entering.reserve.Statement.{statement}
 use Rattle.graph_step_stores.proofs.entering.reserve.Tie as tie

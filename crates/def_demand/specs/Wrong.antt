@@ -1,0 +1,10 @@
+pub mod Clauses
+pub mod Idle
+pub mod Texts
+pub mod Others
+pub mod Orders
+pub mod Loads
+pub mod Spoiled
+pub mod Outcomes
+pub mod Moments
+pub mod HandOut

@@ -1,0 +1,16 @@
+pub mod Bits
+pub mod Gets
+pub mod Deeds
+pub mod Handed
+pub mod Finishes
+pub mod Held
+pub mod Earlier
+pub mod Drained
+pub mod TurnedAway
+pub mod Loads
+pub mod LongFirst
+pub mod Carried
+pub mod Spoiled
+pub mod Chained
+pub mod Stays
+pub mod Forgotten

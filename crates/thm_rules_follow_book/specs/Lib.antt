@@ -1,0 +1,10 @@
+pub mod BookJobs
+pub mod Feeding
+pub mod Spoiled
+pub mod Ends
+pub mod Paced
+pub mod Ending
+pub mod Booked
+pub mod Settled
+pub mod Steps
+pub mod Posts
