@@ -12,7 +12,8 @@ Passed over, so for a reader to see:
 - rows of a table that have more or fewer columns than the others;
 - of docs/RULES.md's table the words: its numbers alone are read; of docs/NUMBERS.md the sentences below its first
   table, and its column "left behind";
-- figures in sentences that `test_sentences` does not list, and all figures of docs/SPEED.md;
+- figures in sentences that `test_sentences` and `test_repeated` do not list, and all figures of docs/SPEED.md, which
+  stand there alone;
 - code of docs/HOSTS.md in other languages than C;
 - Rust and Python: test_interface.py holds the declarations, and the packages' own tests the texts.
 """
@@ -191,6 +192,33 @@ class Numbers(Stated):
         ]
         for path, sentence in sentences:
             self.says(path, sentence, f"{HEADER} and the library")
+
+    def test_repeated(self):
+        """Figures that stand in two pages and not in the header: each is one of the sources, or one of a page."""
+        levels, = {value[0] for _, name, value in constants() if name == "LEVELS"}
+        bytes_, = re.findall(r"MOST_BYTES: usize = 1 << (\d+);", (TOP / "jobsheet/src/input.rs").read_text())
+        line, = re.findall(r"MOST_LINE: usize = ([\d_]+);", (TOP / "jobsheet/src/text.rs").read_text())
+        bars, = re.findall(r"NAMED: usize = (\d+);", (TOP / "jobsheet/src/picture/sheet.rs").read_text())
+        rust, = set(re.findall(r'rust-version = "(.*)"', "".join(
+            path.read_text() for path in sorted(TOP.glob("*/Cargo.toml")) + sorted(TOP.glob("host/*/Cargo.toml")))))
+        limit, = re.findall(r"limit of the whole gate is (\d+) minutes", (TOP / "docs/DESIGN.md").read_text())
+        line, bytes_ = f"{int(line):,}", f"{2 ** int(bytes_):,}"
+        for path, sentence in [
+            (RULES, f"compares at most {2 * levels} pairs of jobs"),
+            (HOSTS, f"compares at most {2 * levels} pairs of jobs"),
+            (HOSTS, f"one slot for each of {levels} levels"),
+            (SHEETS, f"Files may have up to {bytes_} bytes, and lines up to {line}"),
+            ("docs/DECISIONS.md", f"A file has at most {bytes_} bytes"),
+            ("docs/DECISIONS.md", f"a line at most {line}"),
+            (SHEETS, f"Above {bars} jobs the layers are bars"),
+            ("docs/DECISIONS.md", f"In bars, above {bars} jobs"),
+            ("host/README.md", f"Rust {rust} or newer"),
+            ("rust/README.md", f"Rust {rust} or newer"),
+            ("README.md", f"The gate takes under {limit} minutes"),
+            ("CONTRIBUTING.md", f"Its limit is {limit} minutes on 2 cores"),
+            ("docs/CLAIM.md", f"under {limit} min on 2 cores"),
+        ]:
+            self.says(path, sentence, "the sources, or docs/DESIGN.md")
 
     def test_quoted(self):
         """Code in docs/HOSTS.md stands in a program of examples/, which is compiled and run."""
