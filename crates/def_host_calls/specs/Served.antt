@@ -1,7 +1,7 @@
 -- Nothing is refused at will, of lists of host calls: an add that nothing stands against is accepted, run whole, in a
 -- sheet or posted and stepped, a finish is answered by what its worker was handed, what was posted or has entered is
--- not refused on its way, and minutes are loaded before the first job enters. By calls and replies alone, of any
--- machine. Follows docs/RULES.md, "The plain book", "A district's minutes" and "Turned-away calls".
+-- not refused on its way and ends, and minutes are loaded before the first job enters. By calls and replies alone, of
+-- any machine. Follows docs/RULES.md, "The plain book", "A district's minutes" and "Turned-away calls".
 -- (Wrong/Refusals.antt has machines that do not meet it.)
 use mathlib.Core.Path.{_≡_}
 use mathlib.Core.Bool.{false, _&&_, not}
@@ -21,6 +21,7 @@ use Rattle.def_terms.specs.declared.Answer.the-variants.{Loaded, Posted, Going,
 use Rattle.def_call_order.specs.Calls.{Reading, idle, adding, finishing, acceptedAdds}
 use Rattle.def_call_order.specs.Holds.{handedRead}
 use Rattle.def_demand.specs.Demand.{addOf}
+use Rattle.def_demand.specs.Ends.{AddStep}
 use Rattle.def_host_calls.specs.HostCalls.{HostCall, single, wholeAdd, wholeFinish, sheet, one, each, Replied}
 use Rattle.def_host_calls.specs.CallsDemand.{noteWholeAdd}
 use Rattle.def_host_calls.specs.Audit as audit
@@ -87,6 +88,12 @@ module _ {S : Type 0} (answer : S → HostCall → Replied S) (s : Sizes) (t : S
       (w : ℕ) → w < s .workers → read .pending w ≡ idle → (l : List Arguments) → length l ≤ 64
       → (xs : List Answer) × (answer at-end (sheet s w l) .reply ≡ each 0 xs) × AcceptsEach s w read l xs
 
+  -- and one of more is turned away by 16, whole;
+  abbrev pub SheetsTurned : Type 0
+  SheetsTurned =
+      (w : ℕ) → w < s .workers → read .pending w ≡ idle → (l : List Arguments) → 64 < length l
+      → answer at-end (sheet s w l) .reply ≡ each 16 []
+
   -- a post is taken unless its arguments, or what its worker was handed, stand against it, and no step up to the
   -- entering one refuses an add that nothing stands against
   abbrev pub AddsPosted : Type 0
@@ -104,16 +111,17 @@ module _ {S : Type 0} (answer : S → HostCall → Replied S) (s : Sizes) (t : S
       (w : ℕ) (a : Arguments) (k : ℕ) → read .pending w ≡ adding a k → k ≤ a .count → Acceptable s adds a
       → answer at-end (single (step s w)) .reply ≡ one Going
 
-  -- no step of a finish that was posted is refused, nor one of an add past its entering step
+  -- each step of a finish that was posted goes on or ends it, and it ends within A + 1 steps; each step of an add is
+  -- one of its 2d + 2, of which none past the entering one refuses, and the last ends it
   abbrev pub FinishesStepped : Type 0
   FinishesStepped =
       (w : ℕ) (f : Finish) (k : ℕ) → read .pending w ≡ finishing f k
-      → (x : Answer) × (answer at-end (single (step s w)) .reply ≡ one x) × GoesOn x
+      → (x : Answer) × (answer at-end (single (step s w)) .reply ≡ one x) × GoesOn x × (s .arcs ≤ k → x ≡ Ended)
 
-  abbrev pub AddsLinked : Type 0
-  AddsLinked =
-      (w : ℕ) (a : Arguments) (k : ℕ) → read .pending w ≡ adding a k → a .count < k
-      → (x : Answer) × (answer at-end (single (step s w)) .reply ≡ one x) × GoesOn x
+  abbrev pub AddsEnding : Type 0
+  AddsEnding =
+      (w : ℕ) (a : Arguments) (k : ℕ) → read .pending w ≡ adding a k
+      → (x : Answer) × (answer at-end (single (step s w)) .reply ≡ one x) × AddStep a k x
 
   -- and minutes are loaded, with the sizes laid out, just if they rise and no job has entered: "17, values that do not
   -- rise or leave the limits, and 18, loading after a job has entered"
@@ -125,10 +133,11 @@ module _ {S : Type 0} (answer : S → HostCall → Replied S) (s : Sizes) (t : S
   pub record ServesAll : Type 0 where
     pub adds-accepted : AddsAccepted
     pub sheets-accepted : SheetsAccepted
+    pub sheets-turned : SheetsTurned
     pub adds-posted : AddsPosted
     pub adds-stepped : AddsStepped
     pub finishes-answered : FinishesAnswered
     pub finishes-posted : FinishesPosted
     pub finishes-stepped : FinishesStepped
-    pub adds-linked : AddsLinked
+    pub adds-ending : AddsEnding
     pub loads-answered : (m : List ℕ) → LoadsAnswered m

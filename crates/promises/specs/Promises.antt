@@ -72,13 +72,14 @@ module _ (s : Sizes) (t : Tables) (laid : layOut s t .answer ≡ Laid) (calls : 
   pub none-is-handed-out-early : HandsOutFairly answerWords s fresh calls
   none-is-handed-out-early = question.fairly s t laid calls
 
-  -- And none is forgotten: a worker that asks is handed a job or told "none ready"; it is told so only if each job that
-  -- is ready was handed out, also with another worker's call half done; and if nobody holds a job, all are finished.
+  -- And none is forgotten: a worker that asks is handed a job or told "none ready"; it is told so only if each job was
+  -- handed out whose add and whose prerequisites' finishes have ended, also with another worker's call half done; and
+  -- if nobody holds a job, all are finished.
   pub none-is-forgotten : ForgetsNone answerWords s fresh calls
   none-is-forgotten = question.none-forgotten s t laid calls
 
-  -- Nor is an add, a finish or a load refused at will: what nothing stands against is accepted, and not refused on its
-  -- way.
+  -- Nor is an add, a finish or a load refused at will: what nothing stands against is accepted, not refused on its way,
+  -- and ends: an add by its 2d + 2 steps, a finish within A + 1.
   pub nothing-is-refused-at-will : ServesAll answerWords s fresh calls
   nothing-is-refused-at-will = serves-all s t laid calls
 

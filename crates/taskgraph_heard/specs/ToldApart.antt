@@ -31,6 +31,7 @@ use Rattle.taskgraph_answer.specs.Heard as answer
 use Rattle.taskgraph_answer.specs.WholeAnswers.{toldWhole}
 use Rattle.taskgraph_answer.specs.HeardWhole as wholly
 use Rattle.def_stops.specs.StoppedSheet.{rowsStopped, rowsAdded}
+use Rattle.thm_whole_answers.specs.StoppedSheet.{stopped-within, turned-away-unstopped}
 use Rattle.thm_whole_answers.specs.SheetHeard.{heardSheet, sheetOf, sheet-heard-as-told}
 use Rattle.taskgraph_answer.specs.declared.GraphAnswer.{GraphAnswer}
 use Rattle.def_sheets.specs.Job.{Job}
@@ -125,6 +126,10 @@ pub record ToldApart : Type 0 where
       → whole.Adds (rowsWords s t w r .number) (rowsWords s t w r .answers)
   pub entry-by-entry : (s : Sizes) (t : Tables) (w : ℕ) (r : List ℕ)
       → heardSheet (length (addsOf r)) (rowsAdded s t w r) ≡ sheetOf s t w r
+  -- "or 0 where there is none": `stopped` is 0 or tells of one of the entries, and is 0 where the sheet was turned away
+  pub which-is-stopped : (s : Sizes) (t : Tables) (w : ℕ) (r : List ℕ)
+      → (rowsAdded s t w r .stopped ≤ length (addsOf r))
+      × (rowsWords s t w r .number ≢ 0 → rowsAdded s t w r .stopped ≡ 0)
   -- tg_entry, the job in a tg_reading (taskgraph_reader)
   pub jobs : reader.JobsHeard entryOf
   -- tg_reading, of tg_read_entry
@@ -239,6 +244,7 @@ told-apart = record {
   a-sheet-added-is-told = λ s t w r. whole.a-sheet-is-told (rowsStopped s t w r) (rowsWords s t w r);
   how-a-sheet-is-added = whole.how-added;
   entry-by-entry = sheet-heard-as-told;
+  which-is-stopped = λ s t w r. (stopped-within s t w r, turned-away-unstopped s t w r);
   jobs = reader.jobs-heard;
   entries-read = reader.entries-heard;
   what-stands = reader.what-stands;

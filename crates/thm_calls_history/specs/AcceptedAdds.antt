@@ -216,11 +216,12 @@ module _ (s : Sizes) (t : Tables) (laid : layOut s t .answer ≡ Laid) (calls : 
   serves-all = record {
     adds-accepted = adds-accepted;
     sheets-accepted = sheets-accepted;
+    sheets-turned = lost.sheets-turned s t laid calls;
     adds-posted = lost.adds-posted s t laid calls;
     adds-stepped = adds-stepped;
     finishes-answered = lost.finishes-answered s t laid calls;
     finishes-posted = lost.finishes-posted s t laid calls;
     finishes-stepped = lost.finishes-stepped s t laid calls;
-    adds-linked = lost.adds-linked s t laid calls;
+    adds-ending = lost.adds-ending s t laid calls;
     loads-answered = lost.loads-answered s t laid calls;
   }

@@ -5,11 +5,11 @@ use mathlib.Core.Path.{_≡_, refl, sym, ap, subst, _∙_}
 use mathlib.Core.Bool.{Bool, true, false, _&&_, not}
 use mathlib.Core.List.{List}
 use mathlib.Core.Option.{Option, none, some}
-use Prim.Native.Nat.{ℕ, suc, _+_, _<_}
+use Prim.Native.Nat.{ℕ, suc, _+_, _<_, _≤_}
 use native.Mathlib.Omega.{arith}
 use lib.Dec.{ltb, eqb}
 use lib.ListN.{length}
-use borrow.Author.Tests.{ltb-true, lt-ltb, eq-eqb, ne-eqb}
+use borrow.Author.Tests.{ltb-true, lt-ltb, lt-leb, eq-eqb, ne-eqb}
 use Rattle.def_numbers.specs.Numbers.{halfDone, noSuchWorker, wrongSize}
 use Rattle.def_basics.specs.Base.{pick}
 use Rattle.def_basics.specs.Laws.{never, fails}
@@ -38,7 +38,7 @@ use Rattle.thm_state_history.specs.HandOuts.{handed-out}
 use Rattle.def_call_order.specs.Calls.{Reading, reading, idle, acceptedAdds, acceptedFinishes}
 use Rattle.def_call_order.specs.Holds.{handedRead, heldRead}
 use Rattle.def_demand.specs.Demand.{addOf, isIdle, turningAway, turnedAwayBy}
-use Rattle.def_demand.specs.Ends.{AddStep, FinishStep}
+use Rattle.def_demand.specs.Ends.{FinishStep}
 use Rattle.def_demand.specs.Ends as ends
 use Rattle.thm_words_history.specs.Lifted as lifted
 use Rattle.thm_words_history.specs.Theorem.{demand, same-events}
@@ -51,7 +51,7 @@ use Rattle.def_host_calls.specs.Audit.{Asks, GetAnswered, HandedToAsker, NoneHe
 use Rattle.def_host_calls.specs.Audit.{FinishedByHolder, NoneReplaced}
 use Rattle.def_host_calls.specs.Served.{finishAnswer, FinishesAnswered, FinishesPosted, AddsPosted, GoesOn, going}
 use Rattle.def_host_calls.specs.Served.{ended}
-use Rattle.def_host_calls.specs.Served.{FinishesStepped, AddsLinked, LoadsAnswered}
+use Rattle.def_host_calls.specs.Served.{FinishesStepped, AddsEnding, SheetsTurned, LoadsAnswered}
 use Rattle.thm_calls_history.specs.WordsCalls.{answerWords, turnedWords}
 use Rattle.thm_calls_history.specs.Turned.{sheet-turned}
 use Rattle.thm_calls_history.specs.Theorem.{at-calls, replies-worth}
@@ -314,28 +314,34 @@ module _ (s : Sizes) (t : Tables) (laid : layOut s t .answer ≡ Laid) (calls : 
             ∙ ap (λ n. sheetReply perform n s w l x) (sheet-waits s t laid N w h busy l);
       }
 
-  -- ---- what was posted or has entered is not refused on its way
+  -- ---- what was posted or has entered is not refused on its way, and ends
   finish-goes : {arcs k : ℕ} {y : Answer} → FinishStep arcs k y → GoesOn y
   finish-goes (ends.goes-on l) = going
   finish-goes ends.ends = ended
 
+  finish-over : {arcs k n : ℕ} {y : Answer} → arcs ≤ n → FinishStep arcs k y → n ≤ k → y ≡ Ended
+  finish-over few (ends.goes-on l) h = absurd (omega arith)
+  finish-over few ends.ends h = refl
+
   pub finishes-stepped : FinishesStepped answerWords s T calls
   unfolding answerWords
   finishes-stepped w f k p =
-      (_, refl, finish-goes (finish-step s t laid (at-calls s t laid calls) w f k p .step))
+      let o = finish-step s t laid (at-calls s t laid calls) w f k p in
+      (_, refl, finish-goes (o .step), finish-over (o .few) (o .step))
 
-  add-goes : {a : Arguments} {k : ℕ} {y : Answer} → a .count < k → AddStep a k y → GoesOn y
-  add-goes h (ends.looked-up l) = going
-  add-goes h (ends.unknown l) = absurd (omega arith)
-  add-goes h ends.entered = going
-  add-goes h ends.present = absurd (omega arith)
-  add-goes h ends.no-room = absurd (omega arith)
-  add-goes h (ends.linked l m) = going
-  add-goes h ends.settled = ended
-
-  pub adds-linked : AddsLinked answerWords s T calls
+  pub adds-ending : AddsEnding answerWords s T calls
   unfolding answerWords
-  adds-linked w a k p h = (_, refl, add-goes h (add-step s t laid (at-calls s t laid calls) w a k p))
+  adds-ending w a k p = (_, refl, add-step s t laid (at-calls s t laid calls) w a k p)
+
+  -- ---- a sheet of more than 64 entries
+  pub sheets-turned : SheetsTurned answerWords s T calls
+  unfolding replyWorth
+  sheets-turned w h free l long =
+      let x = now s t laid calls in
+      let turned : turnedWords x s w l ≡ 16 =
+      sheet-turned s t laid (at-calls s t laid calls) s w l
+      ∙ rw (own-sizes s, lt-ltb w (s .workers) h, free, lt-leb (length l) 64 long) refl in
+      replies-worth x (sheet s w l) ∙ ap (λ n. sheetReply perform n s w l x) turned
 
   -- ---- loads
   pub loads-answered : (m : List ℕ) → LoadsAnswered answerWords s T calls m

@@ -230,3 +230,13 @@ takes-nobodys-post turned =
 pub finishes-for-nobody : StrangersTurned script S (ends ∷ hands-one ∷ ends ∷ []) (one-in ∷ asking 0 ∷ []) → ⊥
 unfolding computing
 finishes-for-nobody turned = omega (arith, ap first (turned (finishing-one 2) .1 2 refl refl (omega arith)))
+
+pub adds-for-nobody : StrangersTurned script S (ends ∷ []) [] → ⊥
+unfolding computing
+adds-for-nobody turned =
+    omega (arith, ap first (turned (wholeAdd S 2 (job 1 [])) .1 2 refl refl (omega arith)))
+
+pub adds-a-sheet-for-nobody : StrangersTurned script S (each 0 (Ended ∷ []) ∷ []) [] → ⊥
+unfolding computing
+adds-a-sheet-for-nobody turned =
+    omega (arith, ap first (turned (sheet S 2 (job 1 [] ∷ [])) .1 2 refl refl (omega arith)))

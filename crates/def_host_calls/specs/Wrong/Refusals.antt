@@ -3,17 +3,19 @@
 use mathlib.Core.Path.{_≡_, refl, ap}
 use mathlib.Core.Bool.{false}
 use mathlib.Core.List.{List, [], _∷_}
-use Prim.Native.Nat.{ℕ, _≤_}
+use Prim.Native.Nat.{ℕ, _+_, _*_, _≤_, _<_}
 use native.Mathlib.Omega.{arith}
-use lib.ListN.{getD}
+use lib.ListN.{getD, replicate}
 use Rattle.def_basics.specs.Laws.{never}
 use Rattle.def_minutes.specs.Rising.{isRising, risesAbove, SixteenRising, rising-means}
-use Rattle.def_terms.specs.Terms.{finishOf}
+use Rattle.def_terms.specs.Terms.{Arguments, finishOf}
 use Rattle.def_terms.specs.Runs.{postAdd, postFinish, step}
 use Rattle.def_terms.specs.Starred.{S, job}
 use Rattle.def_terms.specs.declared.Answer.{Answer}
-use Rattle.def_terms.specs.declared.Answer.the-variants.{Loaded, Posted, Going, Ended, NoneReady, Refused}
+use Rattle.def_terms.specs.declared.Answer.the-variants.{Laid, Loaded, Posted, Going, Ended, NoneReady, Handed, Refused}
 use Rattle.def_call_order.specs.Calls.{unread}
+use Rattle.def_demand.specs.Ends.{AddStep}
+use Rattle.def_demand.specs.Ends as ends-of
 use Rattle.def_demand.specs.Wrong.Clauses.{apart, endCode, noCall}
 use Rattle.def_demand.specs.Wrong.Loads.{district}
 use Rattle.def_host_calls.specs.HostCalls.{single, Reply, one, each}
@@ -21,7 +23,7 @@ use Rattle.def_host_calls.specs.Audit.{NoneWithdrawn}
 use Rattle.def_host_calls.specs.Audit.{NoneReplaced}
 use Rattle.def_host_calls.specs.Served.{FinishesAnswered, AddsAccepted, Acceptable, AcceptsEach, entry}
 use Rattle.def_host_calls.specs.Served.{SheetsAccepted, AddsPosted, FinishesPosted, AddsStepped, GoesOn, going}
-use Rattle.def_host_calls.specs.Served.{ended, FinishesStepped, AddsLinked, LoadsAnswered}
+use Rattle.def_host_calls.specs.Served.{ended, FinishesStepped, AddsEnding, SheetsTurned, LoadsAnswered}
 use Rattle.def_host_calls.specs.Wrong.Audit.{script, computing, one-in, four-in, asking, ends, hands-one, number}
 use Rattle.def_host_calls.specs.Wrong.Audit.{numbered}
 
@@ -118,12 +120,83 @@ refuses-marks all =
     let o = all 0 (finishOf 1 false) 0 refl in
     omega (arith, ap numbered (o .1), on-the-way (o .2))
 
-pub refuses-links : AddsLinked script S (ends ∷ one Posted ∷ one Going ∷ one Going ∷ one (Refused 9 0) ∷ [])
+-- what a step of an add may be told: no refusal past the entering one, "ended" at the last, and never "posted"
+settling : {a : Arguments} {k : ℕ} {x : Answer} → AddStep a k x → a .count < k → number x ≤ 1
+settling (ends-of.looked-up l) h = absurd (omega arith)
+settling (ends-of.unknown l) h = absurd (omega arith)
+settling ends-of.entered h = absurd (omega arith)
+settling ends-of.present h = absurd (omega arith)
+settling ends-of.no-room h = absurd (omega arith)
+settling (ends-of.linked l m) h = omega arith
+settling ends-of.settled h = omega arith
+
+last : {a : Arguments} {k : ℕ} {x : Answer} → AddStep a k x → 2 * a .count + 1 ≤ k → number x ≡ 1
+last (ends-of.looked-up l) h = absurd (omega arith)
+last (ends-of.unknown l) h = absurd (omega arith)
+last ends-of.entered h = absurd (omega arith)
+last ends-of.present h = absurd (omega arith)
+last ends-of.no-room h = absurd (omega arith)
+last (ends-of.linked l m) h = absurd (omega arith)
+last ends-of.settled h = refl
+
+unfoldable posts : Answer → ℕ
+posts Posted = 1
+posts (Refused n i) = 0
+posts Laid = 0
+posts Loaded = 0
+posts Going = 0
+posts Ended = 0
+posts NoneReady = 0
+posts (Handed h) = 0
+
+steps : {a : Arguments} {k : ℕ} {x : Answer} → AddStep a k x → posts x ≡ 0
+unfolding posts
+steps (ends-of.looked-up l) = refl
+steps (ends-of.unknown l) = refl
+steps ends-of.entered = refl
+steps ends-of.present = refl
+steps ends-of.no-room = refl
+steps (ends-of.linked l m) = refl
+steps ends-of.settled = refl
+
+unfoldable replied-posts : Reply → ℕ
+replied-posts (one x) = posts x
+replied-posts (each n xs) = n
+
+pub refuses-links : AddsEnding script S (ends ∷ one Posted ∷ one Going ∷ one Going ∷ one (Refused 9 0) ∷ [])
     (one-in ∷ single (postAdd S 0 (job 4 (1 ∷ []))) ∷ single (step S 0) ∷ single (step S 0) ∷ []) → ⊥
 unfolding computing
 refuses-links all =
-    let o = all 0 (job 4 (1 ∷ [])) 2 refl (omega arith) in
-    omega (arith, ap numbered (o .1), on-the-way (o .2))
+    let o = all 0 (job 4 (1 ∷ [])) 2 refl in
+    omega (arith, ap numbered (o .1), settling (o .2) (omega arith))
+
+-- ---- for ever: an add whose settling goes on, one whose step is told "posted" though a name is unknown, and a finish
+-- that goes on past every arc: its worker, and what it holds, are lost
+pub settles-never : AddsEnding script S (one Posted ∷ one Going ∷ one Going ∷ [])
+    (single (postAdd S 0 (job 1 [])) ∷ single (step S 0) ∷ []) → ⊥
+unfolding computing
+settles-never all =
+    let o = all 0 (job 1 []) 1 refl in omega (arith, ap numbered (o .1), last (o .2) (omega arith))
+
+pub stands-still : AddsEnding script S (one Posted ∷ one Posted ∷ []) (single (postAdd S 0 (job 7 (8 ∷ []))) ∷ []) → ⊥
+unfolding computing posts replied-posts
+stands-still all =
+    let o = all 0 (job 7 (8 ∷ [])) 0 refl in omega (arith, ap replied-posts (o .1), steps (o .2))
+
+pub notifies-for-ever : FinishesStepped script S
+    (ends ∷ hands-one ∷ one Posted ∷ one Going ∷ one Going ∷ one Going ∷ one Going ∷ one Going ∷ [])
+    (one-in ∷ asking 0 ∷ single (postFinish S 0 (finishOf 1 false)) ∷ single (step S 0) ∷ single (step S 0)
+    ∷ single (step S 0) ∷ single (step S 0) ∷ []) → ⊥
+unfolding computing
+notifies-for-ever all =
+    let o = all 0 (finishOf 1 false) 4 refl in
+    omega (arith, ap numbered (o .1), ap number (o .3 (omega arith)))
+
+-- a sheet of 65 entries that is told to be served, with no answers: none entered
+pub swallows-a-sheet : SheetsTurned script S (each 0 [] ∷ []) [] → ⊥
+unfolding computing posts replied-posts
+swallows-a-sheet all =
+    omega (arith, ap replied-posts (all 0 (omega arith) refl (replicate 65 (job 1 [])) (omega arith)))
 
 -- a load of a district's minutes before the first job, by 18; and one that is taken after it
 rising : SixteenRising district
