@@ -223,7 +223,7 @@ enum {
  * may be longer than needed; words past the need are never touched. "None" as a place is 4294967295.
  *   jobs     the sizes jobs, arcs, bits, workers; the jobs made; the minutes of each class, 16 words; then 10 words a
  *            job: name, label, count, class, grower, first arc, last arc, next job in its bucket, outcome (1 where it
- *            failed, else 0), mark (1 where it is spoiled, else 0)
+ *            failed, else 0), spoiled (1 where it is, else 0)
  *   arcs     the arcs reserved; then 2 words an arc: dependent, next arc
  *   buckets  2 to the power b heads
  *   queue    taken, put; then 3 words for each of R places: its cell, which has the job that waits there; a slot

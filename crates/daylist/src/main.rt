@@ -1,11 +1,11 @@
 // The day list as a program: a sheet from standard input, the list to standard output. A read or a write that fails is
 // said on standard error; after a failed read nothing is printed. Follows docs/RULES.md, "The board and the day list"
-// (R 256, A 1,024, b 4, P 2). What it prints is the library's: day_of_two says it. No contract says that the bytes
+// (R 256, A 1,024, b 4, P 2). What it prints is the library's: day_of_input says it. No contract says that the bytes
 // which are read are the sheet, or that those printed are written: that is the system's, and this file's.
 use day_input::read_whole;
+use day_of_input::SHEET_BYTES;
+use day_of_input::day_list_of_input;
 use day_of_two::OUT_BYTES;
-use day_of_two::SHEET_BYTES;
-use day_of_two::day_list_of_input;
 use libc::STDERR_FILENO;
 use libc::STDIN_FILENO;
 use libc::STDOUT_FILENO;

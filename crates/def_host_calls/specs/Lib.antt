@@ -1,8 +1,5 @@
 pub mod HostCalls
 pub mod CallsDemand
-pub mod Audit
-pub mod Served
-pub mod InTurn
 pub mod MinutesRead
 pub mod Joined
 pub mod RightCalls

@@ -2,4 +2,3 @@ pub mod Rules
 pub mod RuleCases
 pub mod Sound
 pub mod Observed
-pub mod Wrong

@@ -2,7 +2,6 @@ pub mod Number
 pub mod Job
 pub mod Decode
 pub mod Write
-pub mod SheetCases
 pub mod Choice
 pub mod NumberLaws
 pub mod FieldTrip
@@ -12,13 +11,7 @@ pub mod WriteTrip
 pub mod RewriteTrip
 pub mod Offset
 pub mod OffsetLaws
-pub mod SheetOffset
-pub mod Refusals
 pub mod CodeLaws
 pub mod Reading
 pub mod ReadingLaws
 pub mod SheetReading
-pub mod Writing
-pub mod WritingLaws
-pub mod SheetPromises
-pub mod Wrong

@@ -1,4 +1,2 @@
 pub mod Held
 pub mod Drained
-pub mod Heard
-pub mod Wrong

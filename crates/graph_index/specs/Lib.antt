@@ -1,1 +1,1 @@
-pub mod Met
+pub mod Looked

@@ -4,30 +4,20 @@ ghost use mathlib.Core.Path.{_≡_};
 ghost use Rattle.def_terms.specs.Runs.{result};
 ghost use Rattle.def_words.specs.Layout.{asLent, asLeft};
 ghost use Rattle.def_words.specs.Words.{layOut};
-ghost use Rattle.graph_layout.specs.Needed.{wordsNeeded};
+ghost use Rattle.def_told.specs.Needed.{wordsNeeded};
 
 mod fresh;
 
 use def_numbers::*;
 use def_terms::Answer;
 use def_terms::Sizes;
+use def_told::Need;
 use fresh::buckets_of;
 use fresh::fresh_tables;
 use graph_sizes::need;
 use graph_sizes::room_for;
 use graph_sizes::within_limits;
 use graph_words::layout::*;
-
-// How many words each table must have, or the number that refuses the sizes.
-#[repr(C)]
-pub struct Need {
-    pub number: u32,
-    pub jobs: usize,
-    pub arcs: usize,
-    pub buckets: usize,
-    pub queue: usize,
-    pub workers: usize,
-}
 
 pub fn words_needed(sizes: Sizes) -> Need
     ensures { λ r. ⌜ r ≡ wordsNeeded sizes ⌝ }

@@ -10,7 +10,7 @@ use def_terms::HandOut;
 use def_terms::Sizes;
 use def_words::GetPlan;
 use def_words::Seating;
-use graph_index::first_seat;
+use graph_first::first_seat;
 use graph_own::counters_ok;
 use graph_own::own_ok;
 use graph_sizes::sizes_fit;

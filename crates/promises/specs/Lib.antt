@@ -1,3 +1,1 @@
 pub mod Promises
-pub mod Details
-pub mod WholeCallDetails

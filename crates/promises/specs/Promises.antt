@@ -1,24 +1,20 @@
 -- THE PROMISES: what is claimed of the task graph, as docs/CLAIM.md has it in words, each with a one-line proof that
--- names where it was shown. All else that is shown stands in Details.antt, beside this file; nobody need read it to
--- believe this. `docs/PROMISES.md` says which definitions a reader must believe for each part, and how many lines.
+-- names where it was shown. All else that is shown stands in crates/details; nobody need read it to believe this.
+-- `docs/PROMISES.md` says which definitions a reader must believe for each part, and how many lines.
 -- "Laid out" means: `layOut s t` answered so, whatever the tables t held before. A call is a single item or a whole
 -- call; what is read off calls and replies stands in def_host_calls, specs/CallsDemand.antt.
 use mathlib.Core.Path.{_≡_}
 use mathlib.Core.List.{List, map}
 use Prim.Native.Nat.{ℕ, _^_}
-use Rattle.def_basics.specs.Base.{pick}
-use Rattle.def_terms.specs.Runs.{Item, workerOf, after}
+use Rattle.def_terms.specs.Runs.{Item, after}
 use Rattle.def_terms.specs.declared.Sizes.{Sizes}
 use Rattle.def_terms.specs.declared.Answer.the-variants.{Laid, Refused}
 use Rattle.def_words.specs.Layout.{Tables}
 use Rattle.def_words.specs.Words.{perform, layOut}
 use Rattle.def_words.specs.Observed.{seen}
 use Rattle.def_demand.specs.LongFirst.{TakesLongest}
-use Rattle.thm_words_need.specs.Plans.{quitsBy}
 use Rattle.thm_words_refusals.specs.Numbers.{Fits}
 use Rattle.thm_words_refusals.specs.Numbers as list
-use Rattle.thm_words_refusals.specs.Refusals.{idled}
-use Rattle.thm_words_refusals.specs.Refusals as refusals
 use Rattle.thm_words_need.specs.Within as within
 use Rattle.def_sheets.specs.Job.{Job, Below}
 use Rattle.def_sheets.specs.NumberLaws.{Bytes}
@@ -28,21 +24,22 @@ use Rattle.def_host_calls.specs.CallsDemand.{CallsDemand}
 use Rattle.thm_calls_history.specs.WordsCalls.{turnedWords, answerWords}
 use Rattle.thm_calls_history.specs.Worth.{whole-is-worth}
 use Rattle.thm_calls_history.specs.Theorem.{calls-demand}
-use Rattle.def_host_calls.specs.Audit.{Among, answersIn, HandsOutOnce, HandsOutFairly, ForgetsNone}
-use Rattle.def_host_calls.specs.Served.{ServesAll}
-use Rattle.thm_calls_history.specs.AcceptedAdds.{serves-all}
-use Rattle.thm_calls_history.specs.Question as question
-use Rattle.def_host_calls.specs.InTurn.{ByCount}
-use Rattle.thm_calls_history.specs.NeverDamaged.{never-nine}
-use Rattle.thm_calls_history.specs.EachEnds.{EachEnds, each-ends}
-use Rattle.thm_calls_history.specs.InTurn as in-turn
-use Rattle.def_sheets.specs.SheetPromises as sheets
+use Rattle.def_audit.specs.Audit.{Among, answersIn, HandsOutOnce, HandsOutFairly, ForgetsNone}
+use Rattle.def_audit.specs.Served.{ServesAll}
+use Rattle.thm_calls_audit.specs.AcceptedAdds.{serves-all}
+use Rattle.thm_calls_audit.specs.Question as question
+use Rattle.def_audit.specs.InTurn.{ByCount}
+use Rattle.thm_calls_audit.specs.NeverDamaged.{never-nine}
+use Rattle.thm_calls_audit.specs.EachEnds.{EachEnds, each-ends}
+use Rattle.thm_calls_audit.specs.InTurn as in-turn
+use Rattle.thm_sheets.specs.SheetPromises as sheets
 use Rattle.def_sheets.specs.Reading.{SheetReadsExactly}
-use Rattle.def_sheets.specs.Writing.{WritesSheetExactly}
+use Rattle.thm_sheets.specs.Writing.{WritesSheetExactly}
 use Rattle.def_sheets.specs.Write.{jobOf, entriesOf, writeSheet}
 use Rattle.def_sheets.specs.declared.SheetWrote.{SheetWrote}
 use Rattle.thm_words_need.specs.Need.{KeepsToNeed}
 use Rattle.thm_pinned.specs.FreshWords.{LaysFresh, lays-fresh}
+use Rattle.thm_pinned.specs.PutBack.{Leaves, leaves}
 use Rattle.taskgraph_heard.specs.ToldApart.{ToldApart, told-apart}
 use Rattle.taskgraph_answer.specs.WholeAnswers.{wholeOf, toldWhole}
 use Rattle.thm_whole_answers.specs.Stopped.{TellsWhole, tells-whole}
@@ -74,12 +71,13 @@ module _ (s : Sizes) (t : Tables) (laid : layOut s t .answer ≡ Laid) (calls : 
 
   -- And none is forgotten: a worker that asks is handed a job or told "none ready"; it is told so only if each job was
   -- handed out whose add and whose prerequisites' finishes have ended, also with another worker's call half done; and
-  -- if nobody holds a job, all are finished.
+  -- with no call half done and no job held, all are finished.
   pub none-is-forgotten : ForgetsNone answerWords s fresh calls
   none-is-forgotten = question.none-forgotten s t laid calls
 
-  -- Nor is an add, a finish or a load refused at will: what nothing stands against is accepted, not refused on its way,
-  -- and ends: an add by its 2d + 2 steps, a finish within A + 1.
+  -- Nor is an add, a finish or a load refused or taken at will: an add is answered by the adds accepted before it, run
+  -- whole and step by step, with 5, 6, 7 or 8 or accepted, a finish by what its worker was handed; and what was taken
+  -- is not refused on its way, and ends: an add by its 2d + 2 steps, a finish within A + 1.
   pub nothing-is-refused-at-will : ServesAll answerWords s fresh calls
   nothing-is-refused-at-will = serves-all s t laid calls
 
@@ -112,10 +110,10 @@ module _ (s : Sizes) (t : Tables) (laid : layOut s t .answer ≡ Laid) (calls : 
 -- which the contracts of the `tg_` functions are equations; these say that it keeps to the list.)
 module _ (t : Tables) (i : Item) where
   -- "either served or turned away by a number from the paper's list", by kind of item; and a refusal changes nothing,
-  -- but for 6, 7 and 8: "worker idle, nothing else changed".
-  pub every-answer-is-on-the-list : Fits i (perform t i .answer)
-      × ((n p : ℕ) → perform t i .answer ≡ Refused n p → perform t i .state ≡ pick (quitsBy n) (idled t (workerOf i)) t)
-  every-answer-is-on-the-list = (list.fits t i, refusals.refused t i)
+  -- but for 6, 7 and 8: "worker idle, nothing else changed", which is said of every word, as is how "A call that ends
+  -- puts the words of its call back".
+  pub every-answer-is-on-the-list : Fits i (perform t i .answer) × Leaves perform t i
+  every-answer-is-on-the-list = (list.fits t i, leaves t i)
 
   -- "words past a table's need are never touched": tables that agree in the words needed give one answer and agree in
   -- them afterwards, the rest is as it was, and so is each table's length.
@@ -159,7 +157,8 @@ pub a-written-sheet-is-read-back : (rows out : List ℕ) (k n : ℕ) → Below (
 a-written-sheet-is-read-back = sheets.a-written-sheet-is-read
 
 -- ---- THE C INTERFACE. Every struct that C is handed can be read back, by its fields and the numerals of the header,
--- to the answer; fields that say nothing are 0.
+-- to the answer; fields that say nothing are 0. Single entries, counts and rows are read and written exactly too, and
+-- rows are added as the call of their sheet is.
 pub what-c-is-told-can-be-heard : ToldApart
 what-c-is-told-can-be-heard = told-apart
 

@@ -6,7 +6,6 @@ ghost use lib.ListN.{length, take, drop};
 ghost use mathlib.Core.List.{map};
 ghost use Rattle.def_numbers.specs.Numbers.{mostNames, mostEntries, entryWords};
 ghost use Rattle.def_basics.specs.Base.{pick};
-ghost use Rattle.def_terms.specs.Runs.{result};
 ghost use Rattle.def_words.specs.Layout.{asLent, asLeft};
 ghost use Rattle.def_sheets.specs.Write.{entryAt, entriesFrom};
 ghost use Rattle.thm_fused_add.specs.Sheets.{addEachIfIdle};

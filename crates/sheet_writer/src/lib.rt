@@ -31,7 +31,7 @@ ghost use Rattle.def_sheets.specs.Job.{speltNames, encode};
 ghost use Rattle.def_sheets.specs.Write.{Fault, faultOf, jobOf, entryAt, entriesFrom};
 ghost use Rattle.def_sheets.specs.Write.{SheetFault, sheetFault, written, writeEntry, sheetWritten, writeSheet};
 ghost use Rattle.def_sheets.specs.Offset.{Part, running, put, upTo};
-ghost use Rattle.def_sheets.specs.SheetOffset.{sheetSoFar};
+ghost use Rattle.thm_sheets.specs.SheetOffset.{sheetSoFar};
 ghost use Rattle.sheet_writer.specs.Put.{Put, jobIn, Fits, Due};
 
 // A name, least byte first.

@@ -6,16 +6,10 @@
 // Assumes that a pointer with a count points to that many elements.
 ghost use mathlib.Core.Path.{_≡_};
 ghost use Rattle.def_day_lines.specs.Day.{dayList};
-ghost use Rattle.taskgraph_day.specs.Answers.{dayPrinted};
+ghost use Rattle.def_told.specs.Day.{dayPrinted};
 use def_day_lines::DayAnswer;
 use def_numbers::ACCEPTED;
-
-// How many bytes the day list printed, or a refusal.
-#[repr(C)]
-pub struct DayPrinted {
-    pub number: u32,
-    pub bytes: usize,
-}
+use def_told::DayPrinted;
 
 // Prints the day list of a sheet in the front of the output. A refusal leaves the output as it was.
 #[no_mangle]

@@ -1,13 +1,15 @@
 -- WHAT C IS TOLD CAN BE HEARD: of every struct that the C interface hands out, the answer is read off its fields by the
 -- numerals of include/taskgraph.h, fields that say nothing are 0, and no other answers are given than those that are
--- read so. Each `heard` stands in the specs/Heard.antt of the crate named beside it, with tellings that lose something
--- in its Wrong/Heard.antt. Follows docs/RULES.md, "Steps", "Turned-away calls", "Tables and their measures", "The board
--- and the day list", and docs/SHEETS.md.
+-- read so. What of a sheet is read or written is said exactly, and rows are added as the call of their sheet is, since
+-- a wrong answer can be heard as well as a right one. Each `heard` stands in the specs/Heard.antt of the crate named
+-- beside it, or in the file that is named, with tellings that lose something in its Wrong/. Follows docs/RULES.md,
+-- "Steps", "Turned-away calls", "Whole calls", "Tables and their measures", "The board and the day list", and
+-- docs/SHEETS.md.
 use mathlib.Core.Path.{_≡_, refl, ap, _∙_}
 use mathlib.Core.Logic.{_≢_}
 use mathlib.Core.Bool.{true, false}
 use mathlib.Core.List.{List, [], _∷_, map}
-use Prim.Native.Nat.{ℕ, zero, suc, _+_, _*_, _/_, _≤_, _<_}
+use Prim.Native.Nat.{ℕ, zero, suc, _+_, _*_, _/_, _%_, _≤_, _<_}
 use native.Mathlib.Omega.{arith}
 use lib.ListN.{length, getD}
 use borrow.Author.Tests.{eq-eqb, ne-eqb}
@@ -22,37 +24,46 @@ use Rattle.def_words.specs.Words.{perform, layOut}
 use Rattle.thm_words_refusals.specs.Numbers.{Fits, fits}
 use Rattle.thm_words_refusals.specs.Numbers as list
 use Rattle.def_whole_calls.specs.Whole.{wholeAdd, wholeFinish}
+use Rattle.def_whole_calls.specs.Sheet.{SheetResult, sheetResult}
+use Rattle.def_host_calls.specs.HostCalls.{sheet}
+use Rattle.thm_calls_history.specs.WordsCalls.{repliedEach, answerWords}
 use Rattle.def_sheet_rows.specs.SheetRows.{addsOf, rowsWords}
 use Rattle.def_sheet_rows.specs.Arguments.{argumentsOf}
 use Rattle.def_sheet_rows.specs.declared.SheetAdded.{SheetAdded}
-use Rattle.thm_whole_answers.specs.Heard as whole
+use Rattle.thm_answers_heard.specs.Heard as whole
 use Rattle.taskgraph_answer.specs.Answers.{graphAnswer, finishTaken}
 use Rattle.taskgraph_answer.specs.Heard as answer
 use Rattle.taskgraph_answer.specs.WholeAnswers.{toldWhole}
 use Rattle.taskgraph_answer.specs.HeardWhole as wholly
 use Rattle.def_stops.specs.StoppedSheet.{rowsStopped, rowsAdded}
-use Rattle.thm_whole_answers.specs.StoppedSheet.{stopped-within, turned-away-unstopped}
-use Rattle.thm_whole_answers.specs.SheetHeard.{heardSheet, sheetOf, sheet-heard-as-told}
+use Rattle.thm_answers_heard.specs.InC.{rows-cut, rows-whole}
+use Rattle.thm_answers_heard.specs.StoppedSheet.{StopsWithin, stops-within}
+use Rattle.thm_answers_heard.specs.SheetHeard.{heardSheet, sheetOf, sheet-heard-as-told}
 use Rattle.taskgraph_answer.specs.declared.GraphAnswer.{GraphAnswer}
 use Rattle.def_sheets.specs.Job.{Job}
-use Rattle.def_sheets.specs.Decode.{Decoded, decode, Sheet, decodeSheet, entryOf, scanSheet, readSheet}
-use Rattle.def_sheets.specs.Write.{jobOf, entryAt, entriesFrom, writeEntry, writeSheet}
+use Rattle.def_sheets.specs.Decode.{Decoded, decode, Sheet, decodeSheet, entryOf, scanSheet, SheetRows, readSheet}
+use Rattle.def_sheets.specs.Write.{jobOf, entryAt, entriesFrom, Written, writeEntry}
+use Rattle.def_sheets.specs.Write as writing
+use Rattle.def_sheets.specs.NumberLaws.{Bytes}
+use Rattle.def_sheets.specs.Reading.{ReadsExactly, ScansExactly, RowsReadExactly}
+use Rattle.thm_sheets.specs.Writing.{WritesExactly, WritesSheetExactly}
+use Rattle.thm_sheets.specs.SheetPromises as sheets
 use Rattle.def_sheets.specs.declared.Entry.{Entry}
 use Rattle.def_sheets.specs.declared.SheetRead.{SheetRead}
 use Rattle.def_sheets.specs.declared.Wrote.{Wrote}
 use Rattle.def_sheets.specs.declared.SheetWrote.{SheetWrote}
-use Rattle.taskgraph_reader.specs.Answers.{entryRead, sheetRead}
-use Rattle.taskgraph_reader.specs.Heard as reader
-use Rattle.taskgraph_reader.specs.Rows as rows
-use Rattle.taskgraph_reader.specs.declared.EntryRead.{EntryRead}
-use Rattle.taskgraph_reader.specs.declared.SheetScanned.{SheetScanned}
-use Rattle.taskgraph_writer.specs.Answers.{entryWritten, sheetWritten}
-use Rattle.taskgraph_writer.specs.Heard as writer
-use Rattle.taskgraph_writer.specs.declared.EntryWritten.{EntryWritten}
-use Rattle.taskgraph_writer.specs.declared.SheetWritten.{SheetWritten}
+use Rattle.def_told.specs.Reader.{entryRead, sheetRead}
+use Rattle.def_told.specs.ReaderHeard as reader
+use Rattle.def_told.specs.ReaderRows as rows
+use Rattle.def_told.specs.declared.EntryRead.{EntryRead}
+use Rattle.def_told.specs.declared.SheetScanned.{SheetScanned}
+use Rattle.def_told.specs.Writer.{entryWritten, sheetWritten}
+use Rattle.def_told.specs.WriterHeard as writer
+use Rattle.def_told.specs.declared.EntryWritten.{EntryWritten}
+use Rattle.def_told.specs.declared.SheetWritten.{SheetWritten}
 use Rattle.def_worker_state.specs.Held.{heldWords}
 use Rattle.def_worker_state.specs.Drained.{drainedWords}
-use Rattle.def_worker_state.specs.Heard as state
+use Rattle.taskgraph_heard.specs.StateHeard as state
 use Rattle.def_worker_state.specs.declared.Holding.{Holding}
 use Rattle.def_worker_state.specs.declared.Drained.{Drained}
 use Rattle.def_totals.specs.Board.{totalsOf, totalsBy, totalsOfWords}
@@ -60,16 +71,16 @@ use Rattle.def_totals.specs.Heard as board
 use Rattle.def_totals.specs.declared.JobRecord.{JobRecord}
 use Rattle.def_totals.specs.declared.Totals.{Totals}
 use Rattle.def_graph_board.specs.Board.{graphTotals, graphMinutes}
-use Rattle.def_graph_board.specs.Heard as graph
+use Rattle.taskgraph_heard.specs.BoardHeard as graph
 use Rattle.def_minutes.specs.declared.GraphMinutes.{GraphMinutes}
-use Rattle.graph_layout.specs.Needed.{wordsNeeded}
-use Rattle.graph_layout.specs.Heard as layout
-use Rattle.graph_layout.specs.declared.Need.{Need}
+use Rattle.def_told.specs.Needed.{wordsNeeded}
+use Rattle.def_told.specs.NeedHeard as layout
+use Rattle.def_told.specs.declared.Need.{Need}
 use Rattle.def_day_lines.specs.Day.{dayList}
 use Rattle.def_day_lines.specs.declared.DayAnswer.{DayAnswer}
-use Rattle.taskgraph_day.specs.Answers.{dayPrinted}
-use Rattle.taskgraph_day.specs.Heard as day
-use Rattle.taskgraph_day.specs.declared.DayPrinted.{DayPrinted}
+use Rattle.def_told.specs.Day.{dayPrinted}
+use Rattle.def_told.specs.DayHeard as day
+use Rattle.def_told.specs.declared.DayPrinted.{DayPrinted}
 
 -- "refused with" these, of each function of the graph but for a step's 6, which alone has a place
 abbrev pub refusedWith : Item → List ℕ
@@ -103,8 +114,15 @@ pub record SheetTaken (l : List Arguments) (r : List ℕ) : Type 0 where
   pub many : length l ≡ length r / 36
   pub each : (i : ℕ) → i < length r / 36 → AddTaken (getD l i noArguments) (rows.heardRow r i)
 
--- a field for what each function hands out, and one for which answers there are, by the definition that its contract
--- cites
+-- rows are the call of their sheet, which the promises of calls speak of: what it replies and the tables it leaves;
+-- "Words that make no whole rows are 1", and change nothing
+pub record RowsAdded (add : Sizes → Tables → ℕ → List ℕ → SheetResult) : Type 0 where
+  pub whole : (s : Sizes) (t : Tables) (w : ℕ) (r : List ℕ) → length r % 36 ≡ 0
+      → repliedEach (add s t w r) ≡ answerWords t (sheet s w (addsOf r))
+  pub cut : (s : Sizes) (t : Tables) (w : ℕ) (r : List ℕ) → length r % 36 ≢ 0 → add s t w r ≡ sheetResult 1 [] t
+
+-- a field for what each function hands out, and one for which answers there are, or exactly which is given, by the
+-- definition that its contract cites
 pub record ToldApart : Type 0 where
   -- tg_answer, of tg_lay_out, tg_load_minutes, tg_post_add, tg_post_finish, tg_step, tg_get, tg_add and tg_finish
   -- (taskgraph_answer); which answers there are: thm_words_refusals, thm_whole_answers
@@ -127,19 +145,17 @@ pub record ToldApart : Type 0 where
   pub entry-by-entry : (s : Sizes) (t : Tables) (w : ℕ) (r : List ℕ)
       → heardSheet (length (addsOf r)) (rowsAdded s t w r) ≡ sheetOf s t w r
   -- "or 0 where there is none": `stopped` is 0 or tells of one of the entries, and is 0 where the sheet was turned away
-  pub which-is-stopped : (s : Sizes) (t : Tables) (w : ℕ) (r : List ℕ)
-      → (rowsAdded s t w r .stopped ≤ length (addsOf r))
-      × (rowsWords s t w r .number ≢ 0 → rowsAdded s t w r .stopped ≡ 0)
+  pub which-is-stopped : StopsWithin (λ s t w r. rowsAdded s t w r .stopped)
   -- tg_entry, the job in a tg_reading (taskgraph_reader)
   pub jobs : reader.JobsHeard entryOf
-  -- tg_reading, of tg_read_entry
+  -- tg_reading, of tg_read_entry; what stands at an offset is said by the sheet's bytes (def_sheets, Reading.antt)
   pub entries-read : reader.EntriesHeard entryRead
-  pub what-stands : (sheet : List ℕ) (at : ℕ) → reader.Stands (decode sheet at)
-  -- tg_sheet, of tg_scan_sheet and tg_read_sheet
+  pub what-stands : (sheet : List ℕ) → Bytes sheet → (at : ℕ) → ReadsExactly decode sheet at
+  -- tg_sheet, of tg_scan_sheet and tg_read_sheet, with the rows that this leaves
   pub sheets-read : reader.SheetsHeard sheetRead
-  pub how-scanned : (sheet : List ℕ) → reader.Scanned (scanSheet (decodeSheet sheet))
-  pub how-read : (sheet rows : List ℕ) → reader.ReadIn (readSheet (decodeSheet sheet) rows .answer)
-  -- the rows that tg_read_sheet fills
+  pub how-scanned : (sheet : List ℕ) → ScansExactly (λ x. scanSheet (decodeSheet x)) sheet
+  pub how-read : (sheet r : List ℕ) → RowsReadExactly (λ x l. readSheet (decodeSheet x) l) sheet r
+  -- the jobs are heard in those rows
   pub rows-read : (sheet r : List ℕ) (js : List Job) → decodeSheet sheet ≡ Sheet.jobs js → 36 * length js ≤ length r
       → rows.RowsHeard (λ x l. readSheet x l .rows) sheet r js
   -- tg_entry and rows that a host hands over to be written are taken for what is heard in them
@@ -148,15 +164,16 @@ pub record ToldApart : Type 0 where
   -- so are those that it hands over to be added, which tg_post_add, tg_add and tg_add_sheet take
   pub adds-taken : (e : Entry) → AddTaken (argumentsOf e) e
   pub sheets-taken : (r : List ℕ) → SheetTaken (addsOf r) r
+  -- and tg_add_sheet does what the call of that sheet does
+  pub rows-added : RowsAdded rowsWords
   -- what tg_post_finish and tg_finish take for an outcome
   pub finishes-taken : (name outcome : ℕ) → FinishTaken (finishTaken name outcome) name outcome
-  -- tg_written, of tg_write_entry (taskgraph_writer)
+  -- tg_written, of tg_write_entry (taskgraph_writer); what is written is said by the entry (thm_sheets, Writing.antt)
   pub entries-written : writer.EntriesHeard entryWritten
-  pub how-written : (e : Entry) (out : List ℕ) (start : ℕ) → writer.Writes (writeEntry e out start .answer)
-  -- tg_sheet_written, of tg_write_sheet
+  pub how-written : (e : Entry) (out : List ℕ) (start : ℕ) → WritesExactly writeEntry e out start
+  -- tg_sheet_written, of tg_write_sheet (what is written: `a-sheet-is-written-exactly`, a promise of its own)
   pub sheets-written : writer.SheetsHeard sheetWritten
-  pub how-all-written : (rows out : List ℕ) → writer.WritesAll (writeSheet rows out .answer)
-  -- tg_holding, of tg_held (def_worker_state)
+  -- tg_holding, of tg_held (StateHeard.antt)
   pub holdings : state.HoldingsHeard state.holdingTold
   pub a-holding-is-told : (s : Sizes) (t : Tables) (w : ℕ)
       → (x : state.Told) × state.Tells x × (heldWords s t w ≡ state.holdingTold x)
@@ -164,8 +181,7 @@ pub record ToldApart : Type 0 where
   pub drained : state.DrainedHeard state.drainedTold
   pub drained-is-told : (s : Sizes) (t : Tables)
       → (x : state.DrainedTold) × state.TellsDrained x × (drainedWords s t ≡ state.drainedTold x)
-  -- tg_totals, of tg_totals_of_words, tg_totals_of_records, tg_totals_by_minutes and tg_totals_of_graph (totals,
-  -- def_graph_board)
+  -- tg_totals, of tg_totals_of_words, tg_totals_of_records, tg_totals_by_minutes and tg_totals_of_graph (def_totals)
   pub totals : board.TotalsHeard board.totalsTold
   pub words-are-told : (table words : List ℕ)
       → (x : board.Told) × board.TellsOwn x × (totalsOfWords table words ≡ board.totalsTold x)
@@ -175,7 +191,7 @@ pub record ToldApart : Type 0 where
       → (x : board.Told) × board.Tells x × (totalsBy table rows ≡ board.totalsTold x)
   pub the-graphs-row-is-told : (s : Sizes) (jobs : List ℕ)
       → (x : board.Told) × board.TellsOwn x × (graphTotals s jobs ≡ board.totalsTold x)
-  -- tg_graph_minutes, of tg_minutes_of_graph (def_graph_board)
+  -- tg_graph_minutes, of tg_minutes_of_graph (BoardHeard.antt)
   pub minutes : graph.MinutesHeard graph.minutesTold
   pub minutes-are-told : (s : Sizes) (jobs : List ℕ)
       → (x : graph.Told) × graph.Tells x × (graphMinutes s jobs ≡ graph.minutesTold x)
@@ -231,6 +247,10 @@ module _ (r : List ℕ) where
         rw e (record { name = refl; count = refl; names = refl; class = refl; grower = refl });
   }
 
+added : RowsAdded rowsWords
+unfolding answerWords
+added = record { whole = λ s t w r h. ap repliedEach (rows-whole s t w r h); cut = rows-cut }
+
 pub told-apart : ToldApart
 told-apart = record {
   answers = answer.answers-heard;
@@ -244,23 +264,23 @@ told-apart = record {
   a-sheet-added-is-told = λ s t w r. whole.a-sheet-is-told (rowsStopped s t w r) (rowsWords s t w r);
   how-a-sheet-is-added = whole.how-added;
   entry-by-entry = sheet-heard-as-told;
-  which-is-stopped = λ s t w r. (stopped-within s t w r, turned-away-unstopped s t w r);
+  which-is-stopped = stops-within;
   jobs = reader.jobs-heard;
   entries-read = reader.entries-heard;
-  what-stands = reader.what-stands;
+  what-stands = sheets.an-entry-is-read-exactly;
   sheets-read = reader.sheets-heard;
-  how-scanned = reader.how-scanned;
-  how-read = reader.how-read;
+  how-scanned = sheets.a-sheet-is-scanned-exactly;
+  how-read = sheets.rows-are-read-exactly;
   rows-read = rows.rows-heard;
   entries-taken = λ e. refl;
   rows-taken = λ r i. refl;
   adds-taken = λ e. record { name = refl; count = refl; names = refl; class = refl; grower = refl };
   sheets-taken = taken;
+  rows-added = added;
   finishes-taken = finish-taken;
   entries-written = writer.entries-heard;
-  how-written = writer.how-written;
+  how-written = sheets.an-entry-is-written-exactly;
   sheets-written = writer.sheets-heard;
-  how-all-written = writer.how-all-written;
   holdings = state.holdings-heard;
   a-holding-is-told = state.holding-is-told;
   drained = state.drained-heard;
@@ -277,6 +297,33 @@ told-apart = record {
   the-need-is = layout.needs-exactly;
   days = day.days-heard;
   how-a-day-is-answered = day.how-answered;
+}
+
+-- ---- and whatever reads and writes exactly gives no other answers than those that are heard
+pub record ExactIsHeard : Type 0 where
+  pub entries-read : (read : List ℕ → ℕ → Decoded) → ((x : List ℕ) (at : ℕ) → Bytes x → ReadsExactly read x at)
+      → (x : List ℕ) (at : ℕ) → Bytes x → reader.Stands (read x at)
+  pub sheets-scanned : (scan : List ℕ → SheetRead) → ((x : List ℕ) → Bytes x → ScansExactly scan x)
+      → (x : List ℕ) → Bytes x → reader.Scanned (scan x)
+  pub sheets-read : (read : List ℕ → List ℕ → SheetRows) → ((x r : List ℕ) → Bytes x → RowsReadExactly read x r)
+      → (x r : List ℕ) → Bytes x → reader.ReadIn (read x r .answer)
+  pub entries-written : (write : Entry → List ℕ → ℕ → Written)
+      → ((e : Entry) (out : List ℕ) (start : ℕ) → WritesExactly write e out start)
+      → (e : Entry) (out : List ℕ) (start : ℕ) → writer.Writes (write e out start .answer)
+  pub sheets-written : (write : List ℕ → List ℕ → writing.SheetWritten)
+      → ((r out : List ℕ) → WritesSheetExactly write r out)
+      → (r out : List ℕ) → writer.WritesAll (write r out .answer)
+
+-- for each is the definition that the contracts cite
+pub exact-is-heard : ExactIsHeard
+exact-is-heard = record {
+  entries-read = λ read h x at b. rw (sheets.one-reader-reads-exactly read h x at b) (reader.what-stands x at);
+  sheets-scanned = λ scan h x b. rw (sheets.one-scanner-scans-exactly scan h x b) (reader.how-scanned x);
+  sheets-read = λ read h x r b. rw (sheets.one-reader-reads-rows-exactly read h x r b) (reader.how-read x r);
+  entries-written = λ write h e out start.
+      rw (sheets.one-writer-writes-exactly write h e out start) (writer.how-written e out start);
+  sheets-written = λ write h r out.
+      rw (sheets.one-writer-writes-sheets-exactly write h r out) (writer.how-all-written r out);
 }
 
 -- ---- and by one telling alone: whatever is heard so is what C is told

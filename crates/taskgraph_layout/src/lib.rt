@@ -5,10 +5,10 @@
 ghost use mathlib.Core.Path.{_≡_};
 ghost use Rattle.def_words.specs.Layout.{asLent, asLeft};
 ghost use Rattle.def_words.specs.Words.{layOut};
-ghost use Rattle.graph_layout.specs.Needed.{wordsNeeded};
+ghost use Rattle.def_told.specs.Needed.{wordsNeeded};
 ghost use Rattle.taskgraph_answer.specs.Answers.{Gives};
 use def_terms::Sizes;
-use graph_layout::Need;
+use def_told::Need;
 use taskgraph_answer::GraphAnswer;
 use taskgraph_answer::answered;
 

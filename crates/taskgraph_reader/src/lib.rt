@@ -2,30 +2,13 @@
 // Numbers are those of docs/RULES.md, "Turned-away calls", and 0 where nothing was refused. include/taskgraph.h
 // declares all of this. Assumes that a pointer with a count points to that many elements.
 ghost use mathlib.Core.Path.{_≡_};
-ghost use Rattle.def_sheets.specs.Decode.{decode, decodeSheet, readSheet};
-ghost use Rattle.taskgraph_reader.specs.Answers.{entryRead, sheetScanned, sheetRead};
+ghost use Rattle.def_sheets.specs.Decode.{decode, decodeSheet, scanSheet, readSheet};
+ghost use Rattle.def_told.specs.Reader.{entryRead, sheetRead};
 use def_numbers::ACCEPTED;
-use def_sheets::Entry;
 use def_sheets::Read;
 use def_sheets::SheetRead;
-
-// What stands at an offset of a sheet: found is 1 for a job, at the offset past it; number and found are 0 at the end
-// of the sheet.
-#[repr(C)]
-pub struct EntryRead {
-    pub number: u32,
-    pub found: u32,
-    pub at: usize,
-    pub entry: Entry,
-}
-
-// How many entries a sheet has, or a refusal with its offset.
-#[repr(C)]
-pub struct SheetScanned {
-    pub number: u32,
-    pub entries: usize,
-    pub at: usize,
-}
+use def_told::EntryRead;
+use def_told::SheetScanned;
 
 // The entry at an offset of a sheet.
 #[no_mangle]
@@ -78,7 +61,7 @@ fn scanned(answer: SheetRead) -> SheetScanned
 // Judges a whole sheet and counts its entries.
 #[no_mangle]
 pub extern "C" fn tg_scan_sheet(sheet: &[u8]) -> SheetScanned
-    ensures { λ r. ⌜ r ≡ sheetScanned (decodeSheet (now (sheet .entry))) ⌝ }
+    ensures { λ r. ⌜ r ≡ sheetRead (scanSheet (decodeSheet (now (sheet .entry)))) ⌝ }
 {
     scanned(sheet_scan::scan_sheet(sheet))
 }

@@ -3,27 +3,13 @@
 // declares all of this. Assumes that a pointer with a count points to that many elements.
 ghost use mathlib.Core.Path.{_≡_};
 ghost use Rattle.def_sheets.specs.Write.{writeEntry, writeSheet};
-ghost use Rattle.taskgraph_writer.specs.Answers.{entryWritten, sheetWritten};
+ghost use Rattle.def_told.specs.Writer.{entryWritten, sheetWritten};
 use def_numbers::ACCEPTED;
 use def_sheets::Entry;
 use def_sheets::SheetWrote;
 use def_sheets::Wrote;
-
-// Where the entry ends in the output, or a refusal with the offset of its field from the entry's start.
-#[repr(C)]
-pub struct EntryWritten {
-    pub number: u32,
-    pub at: usize,
-}
-
-// How many entries and bytes were written, or a refusal with the entry's number and the offset of its field from the
-// entry's start.
-#[repr(C)]
-pub struct SheetWritten {
-    pub number: u32,
-    pub entry: usize,
-    pub at: usize,
-}
+use def_told::EntryWritten;
+use def_told::SheetWritten;
 
 // Stores an entry at an offset of the output. A refusal leaves the output as it was.
 #[no_mangle]

@@ -22,9 +22,9 @@ use Rattle.def_sheets.specs.Job.{Job}
 use Rattle.def_sheets.specs.NumberLaws.{Bytes}
 use Rattle.def_sheets.specs.Decode.{Sheet, jobs, broken, decodeSheet}
 use Rattle.def_sheets.specs.Reading.{ReadsFrom, BrokenFrom}
-use Rattle.def_sheets.specs.SheetPromises.{a-sheet-is-read-exactly}
+use Rattle.thm_sheets.specs.SheetPromises.{a-sheet-is-read-exactly}
 use Rattle.def_whole_calls.specs.Whole.{wholeAdd, wholeFinish}
-use Rattle.thm_whole_answers.specs.Heard.{AddEnded, how-an-add-ends}
+use Rattle.thm_answers_heard.specs.Heard.{AddEnded, how-an-add-ends}
 use Rattle.def_day.specs.Rounds.{argumentsOf, Holder, holder, freshDay, addAll, getAll}
 use Rattle.def_day.specs.Rounds.{finishAll, handOut, Run, rounds, handOuts, runDay}
 use Rattle.def_day.specs.Rounds.{addedDay, daySizes, getRound}

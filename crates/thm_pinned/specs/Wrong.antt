@@ -1,3 +1,5 @@
 pub mod Adds
 pub mod Fresh
+pub mod PutBack
 pub mod Tests
+pub mod Cases

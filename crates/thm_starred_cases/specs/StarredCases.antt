@@ -13,7 +13,7 @@ use Rattle.def_rules.specs.RuleCases as by-rules
 use Rattle.def_words.specs.WordCases.{WordsTell}
 use Rattle.def_words.specs.WordCases as by-words
 use Rattle.def_sheets.specs.Decode.{decodeSheet}
-use Rattle.def_sheets.specs.SheetCases.{Case, case-8, cases-hold}
+use Rattle.thm_sheets.specs.SheetCases.{Case, case-8, cases-hold}
 
 -- after each item of a row: its answer, the jobs that wait and its worker's tally; and the entries into the queue. The
 -- addition is no case of the document: a job that needs two others waits once both are finished, and not before

@@ -6,14 +6,3 @@ pub mod Left
 pub mod Stopped
 pub mod SheetAdds
 pub mod Sheets
-pub mod InC
-pub mod StoppedSheet
-pub mod SheetHeard
-pub mod Heard
-pub mod Requests
-pub mod ReadRows
-pub mod Within
-pub mod SheetWithin
-pub mod SheetTurned
-pub mod MinutesApart
-pub mod Wrong

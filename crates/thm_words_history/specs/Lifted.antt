@@ -43,8 +43,8 @@ use Rattle.thm_rules_history.specs.History.{History, start, Paced, Booked}
 use Rattle.thm_rules_history.specs.Onward.{queueEntriesBy, onward}
 use Rattle.def_demand.specs.Demand.{addOf, HandedRightly, JobFinished, handedOut}
 use Rattle.def_demand.specs.Ends.{AddStep, FinishOf}
-use Rattle.def_host_calls.specs.Audit as audited
-use Rattle.def_host_calls.specs.Audit.{GetAnswered}
+use Rattle.def_audit.specs.Audit as audited
+use Rattle.def_audit.specs.Audit.{GetAnswered}
 use Rattle.def_demand.specs.LongFirst.{minutesSeen, longFirst, TakesLongest, ByCount}
 use Rattle.thm_representation.specs.Rep.{CallRep}
 use Rattle.thm_representation_kept.specs.Find.{found-there}

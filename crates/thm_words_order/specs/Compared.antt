@@ -53,7 +53,7 @@ few-compared s t w =
       at-index (reach s t w) (comparedCells (view t)) 24 (few-cells (view t)),
     )
 
--- a get that comes to the index compares as many pairs as there are cells compared, which graph_index's
+-- a get that comes to the index compares as many pairs as there are cells compared, which graph_first's
 -- `first_seat_counted` counts; any other compares none
 pub counted-at-index : (s : Sizes) (t : Tables) (w : ℕ) → reach s t w ≡ index
     → length (comparedByGet s t w) ≡ length (comparedCells (view t))

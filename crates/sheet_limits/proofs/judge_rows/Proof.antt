@@ -14,7 +14,7 @@ use Rattle.def_sheets.specs.Write.{entryAt, entriesFrom, jobOf, sheetFault}
 use Rattle.sheet_limits.specs.declared.SheetJudged.{SheetJudged}
 use Rattle.sheet_limits.specs.Judge.{sheetJudged}
 use Rattle.sheet_limits.proofs.Judging.{refused, takes}
-use Rattle.def_sheets.specs.SheetOffset.{sheetSoFar}
+use Rattle.thm_sheets.specs.SheetOffset.{sheetSoFar}
 use Rattle.sheet_limits.proofs.Rows.{rest, restBytes, rowBytes, names-all, entry-small, next-length}
 use Rattle.sheet_limits.proofs.Rows.{next-fault, end-fault, end-bytes}
 use Rattle.sheet_limits.proofs.judge_rows.Statement.{statement}

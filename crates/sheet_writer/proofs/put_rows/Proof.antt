@@ -10,7 +10,7 @@ use borrow.Author.Needs.{needs}
 use denote.Ref.{now}
 use Rattle.def_sheets.specs.Job.{encodeSheet}
 use Rattle.def_sheets.specs.Write.{sheetFault, SheetFault, entriesFrom}
-use Rattle.def_sheets.specs.SheetOffset.{sheetSoFar, so-far-length}
+use Rattle.thm_sheets.specs.SheetOffset.{sheetSoFar, so-far-length}
 use Rattle.sheet_writer.proofs.Puts.{onward}
 use Rattle.sheet_limits.proofs.Rows.{rest, restBytes, next-bytes, next-length, next-sound, end-bytes}
 use Rattle.sheet_writer.proofs.put_rows.Statement.{statement}

@@ -11,7 +11,7 @@ use Rattle.def_numbers.specs.Numbers.{entryWords}
 use Rattle.def_sheets.specs.Write.{SheetFault, sheetFault, writeSheet, jobOf, entriesOf}
 use Rattle.def_sheets.specs.CodeLaws.{length-entriesFrom}
 use Rattle.sheet_limits.proofs.Judging.{sheet-refused, sheet-takes}
-use Rattle.def_sheets.specs.SheetOffset.{sheetSoFar}
+use Rattle.thm_sheets.specs.SheetOffset.{sheetSoFar}
 use Rattle.sheet_writer.proofs.write_sheet.Statement.{statement}
 use Rattle.sheet_writer.proofs.write_sheet.Tie as tie
 

@@ -3,7 +3,7 @@
 use mathlib.Core.Path.{sym, ap, _∙_}
 use borrow.Author.Needs.{needs}
 use Rattle.def_day_lines.specs.Day.{Printing}
-use Rattle.taskgraph_day.specs.Answers.{dayPrinted}
+use Rattle.def_told.specs.Day.{dayPrinted}
 use Rattle.taskgraph_day.proofs.tg_day_list.Statement.{statement}
 use Rattle.taskgraph_day.proofs.tg_day_list.Tie as tie
 

@@ -1,7 +1,7 @@
 -- `taskgraph_reader::scanned` meets its contract: each arm is given which answer it has.
 use mathlib.Core.Path.{sym, ap}
 use borrow.Author.Needs.{needs}
-use Rattle.taskgraph_reader.specs.Answers.{sheetRead}
+use Rattle.def_told.specs.Reader.{sheetRead}
 use Rattle.taskgraph_reader.proofs.scanned.Statement.{statement}
 use Rattle.taskgraph_reader.proofs.scanned.Tie as tie
 

@@ -8,8 +8,8 @@ use Rattle.def_sheets.specs.Decode.{Decoded, job, end, refused, decode, reading
 use Rattle.def_sheets.specs.declared.Entry.{Entry}
 use Rattle.def_sheets.specs.declared.Read.{Read}
 use Rattle.def_sheets.specs.declared.Reading.{Reading}
-use Rattle.taskgraph_reader.specs.Answers.{entryRead}
-use Rattle.taskgraph_reader.specs.declared.EntryRead.{EntryRead}
+use Rattle.def_told.specs.Reader.{entryRead}
+use Rattle.def_told.specs.declared.EntryRead.{EntryRead}
 use Rattle.taskgraph_reader.proofs.tg_read_entry.Statement.{statement}
 use Rattle.taskgraph_reader.proofs.tg_read_entry.Tie as tie
 

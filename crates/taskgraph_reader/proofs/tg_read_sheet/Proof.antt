@@ -3,7 +3,7 @@
 use mathlib.Core.Path.{ap, _∙_}
 use borrow.Author.Needs.{needs}
 use Rattle.def_sheets.specs.Decode.{SheetRows}
-use Rattle.taskgraph_reader.specs.Answers.{sheetRead}
+use Rattle.def_told.specs.Reader.{sheetRead}
 use Rattle.taskgraph_reader.proofs.tg_read_sheet.Statement.{statement}
 use Rattle.taskgraph_reader.proofs.tg_read_sheet.Tie as tie
 

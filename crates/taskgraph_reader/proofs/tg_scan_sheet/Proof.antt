@@ -1,7 +1,7 @@
 -- `taskgraph_reader::tg_scan_sheet` meets its contract: what `scan_sheet` answers, as C has it.
 use mathlib.Core.Path.{ap, _∙_}
 use borrow.Author.Needs.{needs}
-use Rattle.taskgraph_reader.specs.Answers.{sheetRead}
+use Rattle.def_told.specs.Reader.{sheetRead}
 use Rattle.taskgraph_reader.proofs.tg_scan_sheet.Statement.{statement}
 use Rattle.taskgraph_reader.proofs.tg_scan_sheet.Tie as tie
 

@@ -3,7 +3,7 @@
 use mathlib.Core.Path.{sym, ap, _∙_}
 use borrow.Author.Needs.{needs}
 use Rattle.def_sheets.specs.Write.{Written}
-use Rattle.taskgraph_writer.specs.Answers.{entryWritten}
+use Rattle.def_told.specs.Writer.{entryWritten}
 use Rattle.taskgraph_writer.proofs.tg_write_entry.Statement.{statement}
 use Rattle.taskgraph_writer.proofs.tg_write_entry.Tie as tie
 

@@ -3,7 +3,7 @@
 use mathlib.Core.Path.{sym, ap, _∙_}
 use borrow.Author.Needs.{needs}
 use Rattle.def_sheets.specs.Write.{SheetWritten}
-use Rattle.taskgraph_writer.specs.Answers.{sheetWritten}
+use Rattle.def_told.specs.Writer.{sheetWritten}
 use Rattle.taskgraph_writer.proofs.tg_write_sheet.Statement.{statement}
 use Rattle.taskgraph_writer.proofs.tg_write_sheet.Tie as tie
 

@@ -1,7 +1,8 @@
 -- Layings-out that are wrong, each over tables by which the statement of FreshWords.antt fails of it: they lay one kind
--- of place with 0, or leave or touch words that they should not. Follows docs/RULES.md, "Tables and their measures"
--- ("every place none", "words past a table's need are never touched").
-use mathlib.Core.Path.{_≡_, refl}
+-- of place with 0, leave or touch words that they should not, or refuse too much or too little. Follows docs/RULES.md,
+-- "Tables and their measures" ("every place none", "words past a table's need are never touched").
+use mathlib.Core.Path.{_≡_, refl, ap}
+use mathlib.Core.Bool.{true, false}
 use mathlib.Core.List.{List, [], _∷_, _++_}
 use Prim.Native.Nat.{ℕ}
 use native.Mathlib.Omega.{arith}
@@ -9,6 +10,7 @@ use lib.Dec.{lit<, lit≤}
 use lib.ListN.{replicate}
 use lib.Seq.{sets}
 use Rattle.def_basics.specs.Base.{pick}
+use Rattle.def_basics.specs.Laws.{never}
 use Rattle.def_minutes.specs.Minutes.{fixedMinutes}
 use Rattle.def_terms.specs.Terms.{withinLimits}
 use Rattle.def_terms.specs.Runs.{Result, result}
@@ -30,6 +32,22 @@ raw = tables (replicate 32 7) (replicate 4 7) (replicate 3 7) (replicate 6 7) (r
 roomy : Roomy one raw
 unfolding withinLimits longEnough
 roomy = room-means one raw .0 refl
+
+-- ---- a laying-out that refuses every size, so that whatever begins with "laid out" says nothing
+pub refuses-all : LaysFresh (λ s t. result (Refused 1 0) t) one raw → ⊥
+refuses-all x = let e : Refused 1 0 ≡ Laid = x .lays roomy .0 in never cc
+
+-- and one that lays out whatever the sizes are
+abbrev noJobs : Sizes
+noJobs = record { jobs = 0; arcs = 1; bits = 1; workers = 1 }
+
+not-roomy : Roomy noJobs raw → ⊥
+unfolding withinLimits longEnough
+not-roomy y = let e : false ≡ true = room-means noJobs raw .1 y in never cc
+
+pub refuses-none : LaysFresh (λ s t. result Laid t) noJobs raw → ⊥
+refuses-none x =
+    let e : Laid ≡ Refused 1 0 = ap (λ (r : Result Tables). r .answer) (x .by-1 not-roomy) in never cc
 
 -- ---- a laying-out by other words of each table
 unfoldable pub layBy : (Sizes → List ℕ) → (Sizes → List ℕ) → (Sizes → List ℕ) → (Sizes → List ℕ) → (Sizes → List ℕ)

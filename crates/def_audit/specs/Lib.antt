@@ -1,0 +1,5 @@
+pub mod Audit
+pub mod Served
+pub mod Exact
+pub mod InTurn
+pub mod Wrong

@@ -1,0 +1,3 @@
+pub mod Audit
+pub mod Refusals
+pub mod Turned

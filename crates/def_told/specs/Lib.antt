@@ -1,0 +1,10 @@
+pub mod Reader
+pub mod ReaderHeard
+pub mod ReaderRows
+pub mod Writer
+pub mod WriterHeard
+pub mod Day
+pub mod DayHeard
+pub mod Needed
+pub mod NeedHeard
+pub mod Wrong

@@ -1,0 +1,5 @@
+pub mod ReaderHeard
+pub mod ReaderRows
+pub mod WriterHeard
+pub mod DayHeard
+pub mod NeedHeard

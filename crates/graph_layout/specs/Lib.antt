@@ -1,3 +1,0 @@
-pub mod Needed
-pub mod Heard
-pub mod Wrong

@@ -1,0 +1,11 @@
+pub mod InC
+pub mod StoppedSheet
+pub mod SheetHeard
+pub mod Heard
+pub mod Requests
+pub mod ReadRows
+pub mod Within
+pub mod SheetWithin
+pub mod SheetTurned
+pub mod MinutesApart
+pub mod Wrong
