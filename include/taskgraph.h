@@ -18,9 +18,9 @@ extern "C" {
 #endif
 
 #define TG_VERSION_MAJOR 5
-#define TG_VERSION_MINOR 0
+#define TG_VERSION_MINOR 1
 #define TG_VERSION_PATCH 0
-#define TG_VERSION "5.0.0"
+#define TG_VERSION "5.1.0"
 
 /* The numbers of the refusals (docs/RULES.md, "Turned-away calls"), as they stand in a `number`. docs/NUMBERS.md
  * says what a host does about each. */
@@ -146,6 +146,30 @@ typedef struct {
  * else, and a 14 in any entry before 15. A refusal leaves the output unchanged; bytes past the sheet
  * are never touched. */
 tg_sheet_written tg_write_sheet(const uint32_t *rows, size_t rows_len, uint8_t *out, size_t out_len);
+
+/* ---- The room of a sheet (docs/RULES.md, "The room of a sheet") ---- */
+
+/* number 0: on a fresh graph of greatest size (TG_MAX_JOBS, TG_MAX_ARCS) all adds of the sheet, in order,
+ *           would be accepted. It needs `jobs` jobs and `arcs` arcs: a fresh graph with at least as many
+ *           accepts them all. A full run, all adds before the first get, takes `steps` steps, gets that
+ *           hand nothing out not counted.
+ * number 5, 6, 7 or 8: `entry` is the number, from 0, of the first entry whose add would be refused, and
+ *           for 6 `place` is the place in its list.
+ * number 12, 13 or 14: the sheet cannot be read, whatever its earlier entries are; `at` is the offset of
+ *           the field from the sheet's start.
+ * Fields that a case does not name are 0. */
+typedef struct {
+    uint32_t number;
+    uint32_t entry;
+    uint32_t place;
+    uint32_t jobs;
+    uint32_t arcs;
+    uint32_t steps;
+    size_t at;
+} tg_room;
+
+/* What a sheet comes to, before it touches a graph. It takes some 33 KB of the thread's stack. */
+tg_room tg_room_of_sheet(const uint8_t *sheet, size_t sheet_len);
 
 /* ---- Buckets and minutes (docs/RULES.md, "Tables and their measures") ---- */
 

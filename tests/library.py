@@ -21,6 +21,11 @@ class Sheet(c.Structure):
     _fields_ = [("number", c.c_uint32), ("entries", c.c_size_t), ("at", c.c_size_t)]
 
 
+class Room(c.Structure):
+    _fields_ = [(name, c.c_uint32) for name in ("number", "entry", "place", "jobs", "arcs", "steps")]
+    _fields_ += [("at", c.c_size_t)]
+
+
 class Written(c.Structure):
     _fields_ = [("number", c.c_uint32), ("at", c.c_size_t)]
 
@@ -33,6 +38,7 @@ def load():
         ("tg_words_needed", Need, Sizes),
         ("tg_scan_sheet", Sheet, c.c_char_p, size),
         ("tg_read_sheet", Sheet, c.c_char_p, size, c.c_void_p, size),
+        ("tg_room_of_sheet", Room, c.c_char_p, size),
         ("tg_write_entry", Written, c.c_char_p, size, size, Entry),
         ("tg_day_list", Written, c.c_char_p, size, word, c.c_char_p, size),
     ]:
@@ -48,6 +54,16 @@ def words_needed(library, *sizes):
 
 def shortest_entry(library):
     return library.tg_write_entry(c.create_string_buffer(9), 9, 0, Entry()).at
+
+
+def longest_run(library):
+    """The steps of a full run of a sheet that takes all 4,096 jobs and 32,768 arcs of the greatest graph."""
+    names = [name.to_bytes(4, "little") for name in range(4096)]
+    listed = bytes([32]) + b"".join(names[:32])
+    sheet = b"".join(b"\1" + name for name in names[:3072]) + b"".join(b"\3" + name + listed for name in names[3072:])
+    room = library.tg_room_of_sheet(sheet, len(sheet))
+    assert (room.number, room.jobs, room.arcs) == (0, 4096, 32768)
+    return room.steps
 
 
 def shortest_day_list(library):

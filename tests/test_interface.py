@@ -13,7 +13,7 @@ HEADER, RUST = "include/taskgraph.h", "rust/src/ffi.rs"
 # The structs of crates/ that the header calls otherwise, and the functions that are C's.
 CALLED = {
     "GraphAnswer": "Answer", "EntryRead": "Reading", "SheetScanned": "Sheet", "EntryWritten": "Written",
-    "Drained": "DrainedAnswer", "DayPrinted": "Day",
+    "Drained": "DrainedAnswer", "DayPrinted": "Day", "SheetRoom": "Room",
 }
 IN_C = ("tg_message", "tg_version")
 

@@ -20,7 +20,7 @@ Passed over, so for a reader to see:
 import re
 
 from helper import TOP
-from library import Sizes, load, shortest_day_list, shortest_entry, words_needed
+from library import Sizes, load, longest_run, shortest_day_list, shortest_entry, words_needed
 from stated import HEADER, HOSTS, NUMBERS, OUTCOMES, PLACES, RULES, SAID, SHEETS, TEXTS, VERSION
 from stated import Stated, called, lines, number, rows
 
@@ -185,6 +185,7 @@ class Numbers(Stated):
             (NUMBERS, f"| words of the five tables together | {words_needed(library, 1, 0, 1, 1):,} | {greatest:,} |"),
             (HOSTS, f"{greatest:,} words, {4 * greatest:,} bytes"),
             (NUMBERS, f"| steps of an accepted add | 2 | {2 * header['TG_MAX_NAMES'][0] + 2} |"),
+            (NUMBERS, f"| steps of a full run of a sheet | 0 | {longest_run(library):,} |"),
             (NUMBERS, f"| entries of the day list's sheet | 0 | {header['TG_MAX_DAY_SHEET'][0] // 5:,} |"),
             (NUMBERS, f"| bytes of an entry | {shortest_entry(library)} |"),
             (NUMBERS, f"| bytes of a day list of two workers | {shortest_day_list(library)} |"),

@@ -23,6 +23,13 @@ _Static_assert(offsetof(tg_sheet, at) == 16, "tg_sheet.at");
 _Static_assert(sizeof(tg_sheet_written) == 24, "tg_sheet_written");
 _Static_assert(offsetof(tg_sheet_written, entry) == 8, "tg_sheet_written.entry");
 _Static_assert(offsetof(tg_sheet_written, at) == 16, "tg_sheet_written.at");
+_Static_assert(sizeof(tg_room) == 32, "tg_room");
+_Static_assert(offsetof(tg_room, entry) == 4, "tg_room.entry");
+_Static_assert(offsetof(tg_room, place) == 8, "tg_room.place");
+_Static_assert(offsetof(tg_room, jobs) == 12, "tg_room.jobs");
+_Static_assert(offsetof(tg_room, arcs) == 16, "tg_room.arcs");
+_Static_assert(offsetof(tg_room, steps) == 20, "tg_room.steps");
+_Static_assert(offsetof(tg_room, at) == 24, "tg_room.at");
 _Static_assert(sizeof(tg_job_record) == 8, "tg_job_record");
 _Static_assert(offsetof(tg_job_record, class_) == 4, "tg_job_record.class_");
 _Static_assert(sizeof(tg_totals) == 28, "tg_totals");
@@ -218,6 +225,172 @@ static void check_read_and_write_sheet(void)
     same("tg_write_sheet, four jobs: at", written.at, 29);
     same_bytes("tg_write_sheet, four jobs: output", out, four_jobs, sizeof four_jobs);
     same("tg_write_sheet, four jobs: the byte behind", out[29], 7);
+}
+
+/* ---- the room of a sheet ---- */
+
+/* A sheet that is written here entry by entry, with room for 1,057 of the longest. */
+static uint8_t written[1057 * TG_MAX_ENTRY_BYTES];
+static size_t written_len;
+
+static void put_word(uint32_t word)
+{
+    for (int byte = 0; byte < 4; byte++)
+        written[written_len++] = (uint8_t)(word >> 8 * byte);
+}
+
+/* An entry whose list is the names `first`, `first` + 1 and so on. */
+static void put_entry(uint32_t name, uint8_t count, uint32_t first)
+{
+    written[written_len++] = count ? 3 : 1;
+    put_word(name);
+    if (!count) return;
+    written[written_len++] = count;
+    for (uint32_t place = 0; place < count; place++)
+        put_word(first + place);
+}
+
+/* All fields, so that those which the case does not name are 0. */
+static void has_room(const char *what, const uint8_t *sheet, size_t len, tg_room wanted)
+{
+    tg_room room = tg_room_of_sheet(sheet, len);
+    same(what, room.number, wanted.number);
+    same(what, room.entry, wanted.entry);
+    same(what, room.place, wanted.place);
+    same(what, room.jobs, wanted.jobs);
+    same(what, room.arcs, wanted.arcs);
+    same(what, room.steps, wanted.steps);
+    same(what, room.at, wanted.at);
+}
+
+static void written_has_room(const char *what, tg_room wanted)
+{
+    has_room(what, written, written_len, wanted);
+}
+
+/* Another entry behind what was written, for one answer. */
+static void with_entry(const char *what, uint32_t name, uint8_t count, uint32_t first, tg_room wanted)
+{
+    size_t len = written_len;
+    put_entry(name, count, first);
+    written_has_room(what, wanted);
+    written_len = len;
+}
+
+static void check_room(void)
+{
+    has_room("tg_room_of_sheet, empty", four_jobs, 0, (tg_room){0});
+    has_room("tg_room_of_sheet, one job", four_jobs, 5, (tg_room){.jobs = 1, .steps = 4});
+    has_room("tg_room_of_sheet, four jobs", four_jobs, sizeof four_jobs, (tg_room){.jobs = 4, .arcs = 2, .steps = 22});
+    has_room("tg_room_of_sheet, every field", full_bytes, sizeof full_bytes, (tg_room){.number = TG_UNKNOWN_NAME});
+
+    /* A job of 32 names beside the 32 that it needs: 33 jobs, 32 arcs, 4 times 33 and 3 times 32 steps. */
+    written_len = 0;
+    for (uint32_t name = 0; name < 32; name++)
+        put_entry(name, 0, 0);
+    put_entry(UINT32_MAX, 32, 0);
+    written_has_room("tg_room_of_sheet, 32 names", (tg_room){.jobs = 33, .arcs = 32, .steps = 228});
+}
+
+/* Each number by which an add is refused; of an entry only the first number is told, and of a sheet the first entry. */
+static void check_room_turned_away(void)
+{
+    written_len = 0;
+    with_entry("tg_room_of_sheet, its own name, in the first entry", 7, 1, 7, (tg_room){.number = TG_ARGUMENTS});
+    with_entry("tg_room_of_sheet, an unknown name, in the first entry", 7, 2, 8, (tg_room){.number = TG_UNKNOWN_NAME});
+
+    put_entry(1, 0, 0);
+    put_entry(2, 1, 1);
+    written_has_room("tg_room_of_sheet, two jobs", (tg_room){.jobs = 2, .arcs = 1, .steps = 11});
+    with_entry("tg_room_of_sheet, its own name", 3, 3, 1, (tg_room){.number = TG_ARGUMENTS, .entry = 2});
+    with_entry("tg_room_of_sheet, an unknown name", 9, 3, 1,
+               (tg_room){.number = TG_UNKNOWN_NAME, .entry = 2, .place = 2});
+    with_entry("tg_room_of_sheet, a name once more", 1, 0, 0, (tg_room){.number = TG_NAME_PRESENT, .entry = 2});
+    with_entry("tg_room_of_sheet, a name once more, with a list", 2, 1, 1,
+               (tg_room){.number = TG_NAME_PRESENT, .entry = 2});
+    with_entry("tg_room_of_sheet, 5 before 7", 2, 2, 1, (tg_room){.number = TG_ARGUMENTS, .entry = 2});
+    with_entry("tg_room_of_sheet, 6 before 7", 1, 2, 2, (tg_room){.number = TG_UNKNOWN_NAME, .entry = 2, .place = 1});
+
+    size_t len = written_len;
+    put_entry(3, 2, 1);
+    written[written_len - 4] = 1;
+    written_has_room("tg_room_of_sheet, a name twice", (tg_room){.number = TG_ARGUMENTS, .entry = 2});
+    put_entry(1, 0, 0);
+    written_has_room("tg_room_of_sheet, the first of two", (tg_room){.number = TG_ARGUMENTS, .entry = 2});
+    written_len = len;
+    put_entry(9, 3, 1);
+    written[written_len - 4] = 1;
+    written_has_room("tg_room_of_sheet, a name twice, with another between",
+                     (tg_room){.number = TG_ARGUMENTS, .entry = 2});
+
+    written_len = len;
+    put_entry(3, 3, 2);
+    put_entry(4, 0, 0);
+    written_has_room("tg_room_of_sheet, its own name and one that comes later",
+                     (tg_room){.number = TG_ARGUMENTS, .entry = 2});
+    written_len = len;
+    put_entry(9, 2, 2);
+    put_entry(3, 0, 0);
+    written_has_room("tg_room_of_sheet, a name that comes later",
+                     (tg_room){.number = TG_UNKNOWN_NAME, .entry = 2, .place = 1});
+}
+
+/* Number 8: the 4,097th job, and the first arc past 32,768; 5, 6 and 7 come before it. */
+static void check_room_full(void)
+{
+    const tg_room full = {.number = TG_FULL, .entry = TG_MAX_JOBS};
+    written_len = 0;
+    for (uint32_t name = 0; name < TG_MAX_JOBS; name++)
+        put_entry(name, 0, 0);
+    written_has_room("tg_room_of_sheet, 4,096 jobs", (tg_room){.jobs = 4096, .steps = 16384});
+    with_entry("tg_room_of_sheet, 4,097 jobs", 4096, 0, 0, full);
+    with_entry("tg_room_of_sheet, 4,097 jobs, the last with a list", 4096, 1, 0, full);
+    with_entry("tg_room_of_sheet, 4,097 jobs and 5", 4096, 1, 4096, (tg_room){.number = TG_ARGUMENTS, .entry = 4096});
+    with_entry("tg_room_of_sheet, 4,097 jobs and 6", 4097, 2, 4095,
+               (tg_room){.number = TG_UNKNOWN_NAME, .entry = 4096, .place = 1});
+    with_entry("tg_room_of_sheet, 4,097 jobs and 7", 4095, 0, 0, (tg_room){.number = TG_NAME_PRESENT, .entry = 4096});
+
+    /* 32 jobs without a list, and 1,023 of 32 names: 32 arcs are left. */
+    written_len = 0;
+    for (uint32_t name = 0; name < 1055; name++)
+        put_entry(name, name < 32 ? 0 : 32, 0);
+    written_has_room("tg_room_of_sheet, 32,736 arcs", (tg_room){.jobs = 1055, .arcs = 32736, .steps = 102428});
+    size_t len = written_len;
+    put_entry(1055, 32, 0);
+    written_has_room("tg_room_of_sheet, 32,768 arcs", (tg_room){.jobs = 1056, .arcs = 32768, .steps = 102528});
+    with_entry("tg_room_of_sheet, 32,769 arcs", 1056, 1, 0, (tg_room){.number = TG_FULL, .entry = 1056});
+    with_entry("tg_room_of_sheet, 32,769 arcs and 7", 1055, 1, 0, (tg_room){.number = TG_NAME_PRESENT, .entry = 1056});
+    with_entry("tg_room_of_sheet, no list when all arcs are taken", 1056, 0, 0,
+               (tg_room){.jobs = 1057, .arcs = 32768, .steps = 102532});
+    written_len = len;
+    put_entry(1055, 1, 0);
+    with_entry("tg_room_of_sheet, 32 names with 31 arcs left", 1056, 32, 0,
+               (tg_room){.number = TG_FULL, .entry = 1056});
+    with_entry("tg_room_of_sheet, 31 names with 31 arcs left", 1056, 31, 0,
+               (tg_room){.jobs = 1057, .arcs = 32768, .steps = 102532});
+}
+
+/* What cannot be read is told, with its offset, even behind an entry that would be refused. */
+static void check_room_unreadable(void)
+{
+    has_room("tg_room_of_sheet, cut", four_jobs, 28, (tg_room){.number = TG_CUT, .at = 20});
+    has_room("tg_room_of_sheet, a fault in the first byte", (const uint8_t[]){2}, 1, (tg_room){.number = TG_MAP});
+    has_room("tg_room_of_sheet, cut in the first entry", four_jobs, 4, (tg_room){.number = TG_CUT, .at = 1});
+    has_room("tg_room_of_sheet, a wrong value in the first entry", (const uint8_t[]){5, 7, 0, 0, 0, 16}, 6,
+             (tg_room){.number = TG_VALUE, .at = 5});
+
+    written_len = 0;
+    put_entry(7, 1, 7);
+    written_has_room("tg_room_of_sheet, a refused entry", (tg_room){.number = TG_ARGUMENTS});
+    const size_t len = written_len;
+    put_entry(1, 1, 2);
+    written_len--;
+    written_has_room("tg_room_of_sheet, a refused entry and a cut", (tg_room){.number = TG_CUT, .at = 15});
+    written[len] = 0x11;
+    written_has_room("tg_room_of_sheet, a refused entry and a wrong map byte", (tg_room){.number = TG_MAP, .at = 10});
+    written[len] = 3;
+    written[len + 5] = 33;
+    written_has_room("tg_room_of_sheet, a refused entry and a wrong count", (tg_room){.number = TG_VALUE, .at = 15});
 }
 
 static const uint32_t fixed_minutes[TG_CLASSES] = {1, 2, 3, 5, 8, 10, 15, 20, 30, 45, 60, 90, 120, 180, 240, 480};
@@ -1166,6 +1339,10 @@ int main(void)
     check_write_entry();
     check_scan_sheet();
     check_read_and_write_sheet();
+    check_room();
+    check_room_turned_away();
+    check_room_full();
+    check_room_unreadable();
     check_buckets_and_minutes();
     check_totals();
     check_totals_by_minutes();

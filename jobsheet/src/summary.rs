@@ -2,9 +2,9 @@
 
 use std::collections::BTreeMap;
 
-use taskgraph::minutes;
+use taskgraph::{minutes, room_of_sheet, write_sheet, Job, Room};
 
-use crate::{judge::Judged, picture::Node};
+use crate::{judge::Judged, picture::Node, Sheet};
 
 /// A class that occurs.
 #[derive(Clone, Copy, Debug, Default, PartialEq, Eq)]
@@ -32,8 +32,8 @@ pub struct Chain {
 pub struct Summary {
     /// The jobs that entered, as the board counts them.
     pub jobs: u32,
-    /// The names of all their lists together.
-    pub arcs: usize,
+    /// The names of all their lists together, as the library counts them.
+    pub arcs: u32,
     /// The classes that occur.
     pub classes: BTreeMap<u32, OfClass>,
     /// The minutes of all jobs, as the board sums them.
@@ -53,7 +53,7 @@ impl Summary {
         let own = judged.own();
         Summary {
             jobs: judged.sum.jobs,
-            arcs: own.iter().map(|node| node.needs.len()).sum(),
+            arcs: arcs(&judged.nodes) - arcs(&judged.nodes[..judged.before]),
             classes: classes(own),
             minutes: judged.sum.minutes,
             longest: chain(judged, |node, minutes| (node.depth, minutes)),
@@ -61,6 +61,24 @@ impl Summary {
             waits: waits(judged),
         }
     }
+}
+
+/// The arcs of jobs that entered, one after another.
+fn arcs(nodes: &[Node]) -> u32 {
+    let job = |node: &Node| {
+        let prerequisites = node.needs.iter().map(|place| nodes[*place].name).collect();
+        Job { name: node.name, prerequisites, class: node.class, grower: node.grower }
+    };
+    let jobs: Vec<Job> = nodes.iter().map(job).collect();
+    let sheet = write_sheet(&jobs).expect("a job that entered can be written");
+    room_of_sheet(&sheet).expect("what entered a graph enters the greatest").arcs
+}
+
+/// The room that the jobs of `before` and of the sheet need together, where every entry of all can be packed and is
+/// accepted, given the room.
+pub fn room(before: &[Job], sheet: &Sheet) -> Option<Room> {
+    let before = write_sheet(before).ok()?;
+    room_of_sheet(&[before, sheet.packed()?].concat()).ok()
 }
 
 fn classes(nodes: &[Node]) -> BTreeMap<u32, OfClass> {

@@ -13,11 +13,11 @@ use jobsheet::{
     judge::LARGEST,
     picture::{self, Drawn},
     read,
-    summary::Summary,
+    summary::{self, Summary},
     terminal::Progress,
     text, Form, Judged, Sheet,
 };
-use taskgraph::{raw, write_sheet, Graph, Job, Refusal, Sizes, TaskGraph};
+use taskgraph::{raw, write_sheet, Graph, Job, Refusal, Room, Sizes, TaskGraph};
 
 /// How many sheets each test takes.
 const SHEETS: u64 = 2_000;
@@ -236,6 +236,7 @@ fn faults_of(judged: &Judged, entry: usize) -> Vec<&Fault> {
 #[test]
 fn what_is_accepted_is_what_the_graph_accepts() {
     let mut met = [0; 20];
+    let mut rooms = [0; 2];
     each("checks", SHEETS, |random| {
         let count = random.below(60) + 1;
         let jobs = near_jobs(random, count);
@@ -259,10 +260,22 @@ fn what_is_accepted_is_what_the_graph_accepts() {
         let board = graph.totals().expect("the graph is not damaged").unexecuted;
         assert_eq!(judged.nodes.len(), board.jobs as usize);
         sums_are_right(&jobs, &[all, answers].concat(), &judged);
+        rooms[usize::from(room_is_right(&jobs, before, &sheet))] += 1;
         drawn_without_a_panic(&judged);
     });
-    println!("answers met: {met:?}");
-    assert!([0, 5, 6, 7, 8].iter().all(|number| met[*number] > 0));
+    println!("answers met: {met:?}; sheets without a room, and with one: {rooms:?}");
+    assert!([0, 5, 6, 7, 8].iter().all(|number| met[*number] > 0) && rooms.iter().all(|met| *met > 0));
+}
+
+/// A room is told exactly if the greatest graph accepts all jobs, whatever sizes were asked for. Whether it is told.
+fn room_is_right(jobs: &[Job], before: &[Job], sheet: &Sheet) -> bool {
+    let mut graph = Graph::create(LARGEST).expect("the sizes are within their limits");
+    let accepted = graph.add_all(0, jobs).expect("the worker is idle").iter().all(Result::is_ok);
+    let arcs: usize = jobs.iter().map(|job| job.prerequisites.len()).sum();
+    let (jobs, arcs) = (jobs.len() as u32, arcs as u32);
+    let room = Room { jobs, arcs, steps: 4 * jobs + 3 * arcs };
+    assert_eq!(summary::room(before, sheet), accepted.then_some(room));
+    accepted
 }
 
 /// A refused entry has a fault of the library's number, for 6 at the library's place, and an accepted one has none.
@@ -297,7 +310,7 @@ fn sums_are_right(jobs: &[Job], answers: &[Result<(), Refusal>], judged: &Judged
     assert_eq!(judged.nodes.iter().map(|node| node.depth).collect::<Vec<_>>(), depths);
     assert_eq!(judged.nodes.iter().map(|node| node.name).collect::<Vec<_>>(), names(&accepted));
     assert_eq!(summary.jobs as usize, own.len());
-    assert_eq!(summary.arcs, own.iter().map(|job| job.prerequisites.len()).sum::<usize>());
+    assert_eq!(summary.arcs as usize, own.iter().map(|job| job.prerequisites.len()).sum::<usize>());
     let by_class: u32 = own.iter().map(|job| taskgraph::minutes(job.class)).sum();
     assert_eq!(summary.minutes, by_class);
     assert_eq!(summary.classes.values().map(|class| class.minutes).sum::<u32>(), by_class);
@@ -320,7 +333,7 @@ fn sums_are_right(jobs: &[Job], answers: &[Result<(), Refusal>], judged: &Judged
             arcs += needed.len();
         }
     }
-    assert_eq!(arcs, summary.arcs);
+    assert_eq!(arcs, summary.arcs as usize);
 }
 
 fn names(jobs: &[&Job]) -> Vec<u32> {

@@ -33,6 +33,10 @@ class tg_sheet_written(c.Structure):
     _fields_ = _words("number") + _lengths("entry", "at")
 
 
+class tg_room(c.Structure):
+    _fields_ = _words("number", "entry", "place", "jobs", "arcs", "steps") + _lengths("at")
+
+
 class tg_job_record(c.Structure):
     _fields_ = _words("label", "class_")
 
@@ -90,6 +94,7 @@ FUNCTIONS: dict[str, tuple[Any, list[Any]]] = {
     "tg_scan_sheet": (tg_sheet, [*_BYTES]),
     "tg_read_sheet": (tg_sheet, [*_BYTES, *_ROWS]),
     "tg_write_sheet": (tg_sheet_written, [*_ROWS, *_BYTES]),
+    "tg_room_of_sheet": (tg_room, [*_BYTES]),
     "tg_bucket": (c.c_uint32, [c.c_uint32, c.c_uint32]),
     "tg_minutes": (c.c_uint32, [c.c_uint32]),
     "tg_totals_by_minutes": (tg_totals, [*_RECORDS, *_WORDS]),

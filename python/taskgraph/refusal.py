@@ -45,7 +45,7 @@ class Refusal(Exception):
     message  what the number says
     place    for 6, the place in the list of prerequisites, from 0
     offset   for 12, 13 and 14, the field's byte: from the sheet's start on reading, from the entry's on writing
-    entry    for 14 on writing, which entry, from 0
+    entry    for 14 on writing, and for 5 to 8 of `room_of_sheet`, which entry, from 0
     stopped  for 9, whether damaged words stopped a call run whole half done: the tables have changed. After any other
              9 they have not.
     """

@@ -4,11 +4,15 @@ from __future__ import annotations
 import ctypes
 from collections.abc import Iterable
 from dataclasses import dataclass
+from typing import TYPE_CHECKING, NamedTuple
 
 from ._arguments import octets, word
 from ._interface import MAX_NAMES, tg_entry
 from ._library import library
 from .refusal import Refusal
+
+if TYPE_CHECKING:
+    from .graph import Sizes
 
 # The longest entry: map byte, name, count, 32 names, class, grower.
 _ENTRY_BYTES = 1 + 4 + 1 + 4 * MAX_NAMES + 1 + 2
@@ -82,6 +86,38 @@ def write_sheet(entries: Iterable[Entry], most: int | None = None) -> bytes:
     if written.number:
         raise Refusal(written.number)
     return out.raw[: written.at]
+
+
+class Room(NamedTuple):
+    """The jobs and arcs that a sheet needs in a graph, and the steps of a full run.
+
+    A full run has all adds before the first get, and every job handed out and finished. Gets that hand nothing out are
+    not counted.
+    """
+
+    jobs: int
+    arcs: int
+    steps: int
+
+    def fits(self, sizes: Sizes) -> bool:
+        """Whether a fresh graph of these sizes has the room, and so accepts the whole sheet."""
+        return self.jobs <= sizes.jobs and self.arcs <= sizes.arcs
+
+
+def room_of_sheet(sheet: bytes | bytearray | memoryview) -> Room:
+    """The room that a sheet needs, before anything is added: a host judges a sheet by it and then touches its graph.
+
+    Refused by 12, 13 or 14 with the offset, whatever the earlier entries are; else by 5, 6, 7 or 8 with the first entry
+    that a fresh graph of greatest size would refuse, for 6 with the place too. It takes some 33 KB of the thread's
+    stack.
+    """
+    data = octets(sheet, "a sheet")
+    room = library().tg_room_of_sheet(data, len(data))
+    if room.number in (12, 13, 14):
+        raise Refusal(room.number, offset=room.at)
+    if room.number:
+        raise Refusal(room.number, place=room.place if room.number == 6 else None, entry=room.entry)
+    return Room(room.jobs, room.arcs, room.steps)
 
 
 def day_list(sheet: bytes | bytearray | memoryview, workers: int = 2) -> str:

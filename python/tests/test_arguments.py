@@ -3,7 +3,8 @@ import unittest
 
 from support import FOUR, SMALL
 from taskgraph import (
-    Entry, Graph, Outcome, Sizes, bucket, day_list, message, minutes, read_sheet, totals_by_minutes, write_sheet,
+    Entry, Graph, Outcome, Sizes, bucket, day_list, message, minutes, read_sheet, room_of_sheet, totals_by_minutes,
+    write_sheet,
 )
 
 # calls with one number left open
@@ -40,6 +41,7 @@ NUMBERS = {
 # calls with something else left open
 THINGS = {
     "read_sheet": (read_sheet, "must be bytes"),
+    "room_of_sheet": (room_of_sheet, "must be bytes"),
     "day_list": (day_list, "must be bytes"),
     "write_sheet": (lambda thing: write_sheet([thing]), "must be an Entry"),
     "post_add": (lambda thing: GRAPH.post_add(0, thing), "must be an Entry"),

@@ -3,7 +3,7 @@ import pickle
 import unittest
 
 from support import SMALL, put_word, word_place
-from taskgraph import Entry, Graph, Outcome, Refusal, Sizes, message, read_sheet, write_sheet
+from taskgraph import Entry, Graph, Outcome, Refusal, Sizes, message, read_sheet, room_of_sheet, write_sheet
 from taskgraph import _library, day_list, refusal, totals_by_minutes
 
 
@@ -99,6 +99,10 @@ def with_damaged_minutes(minutes):
     graph.minutes() if minutes else graph.totals()
 
 
+def room(*entries):
+    return room_of_sheet(write_sheet(entries))
+
+
 def with_too_many_made():
     memory = bytearray(Graph.room(SMALL))
     graph = Graph(SMALL, memory)
@@ -159,6 +163,15 @@ CASES = [
     (9, None, None, None, lambda: with_a_damaged_mark(lambda graph: graph.held(0))),
     (9, None, None, None, with_a_damaged_note),
     (9, None, None, None, with_a_damaged_outcome),
+    (5, None, None, 0, lambda: room(Entry(1, (1,)))),
+    (5, None, None, 1, lambda: room(Entry(1), Entry(2, (1, 1)))),
+    (6, 1, None, 1, lambda: room(Entry(1), Entry(2, (1, 3)), Entry(3))),
+    (6, 0, None, 0, lambda: room(Entry(2, (1,)), Entry(1))),
+    (7, None, None, 2, lambda: room(Entry(1), Entry(2), Entry(1))),
+    (8, None, None, 4096, lambda: room(*map(Entry, range(4097)))),
+    (12, None, 6, None, lambda: room_of_sheet(b"\x01\x01\x00\x00\x00\x01")),
+    (13, None, 0, None, lambda: room_of_sheet(b"\x02")),
+    (14, None, 5, None, lambda: room_of_sheet(b"\x05\x01\x00\x00\x00\x00")),
 ]
 
 

@@ -2,7 +2,9 @@
 import unittest
 
 from support import DAY, FOUR, random_entry, seeded, spelled
-from taskgraph import Entry, Graph, Outcome, Refusal, Sizes, bucket, day_list, minutes, read_sheet, write_sheet
+from taskgraph import (
+    Entry, Graph, Outcome, Refusal, Room, Sizes, bucket, day_list, minutes, read_sheet, room_of_sheet, write_sheet,
+)
 
 
 class Sheets(unittest.TestCase):
@@ -48,6 +50,83 @@ class Sheets(unittest.TestCase):
                 self.assertLessEqual(refusal.offset, len(sheet))
                 self.assertEqual(day_list(sheet), f"broken {refusal.offset} {refusal.number}\n")
         self.assertEqual(numbers, {12, 13, 14})
+
+
+class Rooms(unittest.TestCase):
+    def test_the_example(self):
+        for kind in (bytes, bytearray, memoryview):
+            self.assertEqual(room_of_sheet(kind(FOUR)), Room(jobs=4, arcs=2, steps=22))
+
+    def test_the_empty_sheet(self):
+        self.assertEqual(room_of_sheet(b""), Room(0, 0, 0))
+
+    def test_fits(self):
+        room = room_of_sheet(FOUR)
+        for jobs, arcs, fits in ((4, 2, True), (5, 9, True), (4096, 32768, True), (3, 2, False), (4, 1, False)):
+            self.assertIs(room.fits(Sizes(jobs, arcs, 1, 1)), fits)
+
+    def test_an_unreadable_byte_comes_first(self):
+        refused = write_sheet([Entry(7), Entry(7)])
+        for bytes_, number, offset in ((b"\x01", 12, 11), (b"\x02", 13, 10), (b"\x05\x07\0\0\0\0", 14, 15)):
+            with self.assertRaises(Refusal) as caught:
+                room_of_sheet(refused + bytes_)
+            self.assertEqual((caught.exception.number, caught.exception.offset), (number, offset))
+            self.assertIsNone(caught.exception.entry)
+
+    def test_the_greatest(self):
+        entries = [Entry(name) for name in range(4097)]
+        self.assertEqual(room_of_sheet(write_sheet(entries[1:])), Room(4096, 0, 16384))
+        with self.assertRaises(Refusal) as caught:
+            room_of_sheet(write_sheet(entries))
+        self.assertEqual((caught.exception.number, caught.exception.entry), (8, 4096))
+
+    def test_is_what_the_graph_does(self):
+        """A graph of greatest size accepts the sheet, or refuses that entry first; one of the room accepts it too."""
+        source = seeded("rooms")
+        numbers = set()
+        for _ in range(500):
+            entries = []
+            for name in range(source.randrange(1, 30)):
+                earlier = source.sample(range(name), min(name, source.choice([0, 1, 2, 5])))
+                entries.append(Entry(name, earlier, source.randrange(16)))
+            if source.random() < 0.5:
+                entries.insert(source.randrange(len(entries) + 1), random_entry(source, 40))
+            sheet = write_sheet(entries)
+            answers = Graph(Sizes(4096, 32768, 8, 1)).add_all(0, entries)
+            refused = [(place, refusal) for place, refusal in enumerate(answers) if refusal is not None]
+            try:
+                room = room_of_sheet(sheet)
+            except Refusal as found:
+                numbers.add(found.number)
+                place, refusal = refused[0]
+                self.assertEqual((found.entry, found.number, found.place), (place, refusal.number, refusal.place))
+                continue
+            numbers.add(0)
+            self.assertEqual(refused, [])
+            self.assertEqual(room[:2], (len(entries), sum(len(entry.prerequisites) for entry in entries)))
+            graph = Graph(Sizes(room.jobs, room.arcs, 1, 1))
+            self.assertEqual(steps_of_a_full_run(graph, entries), room.steps)
+        self.assertEqual(numbers, {0, 5, 6, 7})
+
+
+def steps_of_a_full_run(graph, entries):
+    """All adds, then gets and finishes, step by step."""
+    steps = 0
+
+    def to_the_end():
+        nonlocal steps
+        steps += 1
+        while graph.step(0):
+            steps += 1
+
+    for entry in entries:
+        graph.post_add(0, entry)
+        to_the_end()
+    while job := graph.get(0):
+        steps += 1
+        graph.post_finish(0, job.name, Outcome.GOOD)
+        to_the_end()
+    return steps
 
 
 class DayList(unittest.TestCase):

@@ -102,6 +102,26 @@ pub struct SheetWritten {
     pub at: usize,
 }
 
+/// What a sheet comes to; fields that do not belong to its number are 0.
+#[repr(C)]
+#[derive(Clone, Copy, Debug, Default, PartialEq, Eq)]
+pub struct Room {
+    /// 0; 5, 6, 7 or 8 of the first entry whose add would be refused; 12, 13 or 14 of a sheet that cannot be read.
+    pub number: u32,
+    /// For 5, 6, 7 and 8 that entry, from 0.
+    pub entry: u32,
+    /// For 6 the place in its list.
+    pub place: u32,
+    /// For 0 the jobs that the sheet needs.
+    pub jobs: u32,
+    /// For 0 the arcs that it needs.
+    pub arcs: u32,
+    /// For 0 the steps of a full run.
+    pub steps: u32,
+    /// For 12, 13 and 14 the offset of the field.
+    pub at: usize,
+}
+
 /// A job as the board reads it.
 #[repr(C)]
 #[derive(Clone, Copy, Debug, Default, PartialEq, Eq)]
@@ -249,6 +269,7 @@ const _: () = assert!(size_of::<Reading>() == 16 + 4 * ENTRY_WORDS);
 const _: () = assert!(size_of::<Written>() == 16);
 const _: () = assert!(size_of::<Sheet>() == 24);
 const _: () = assert!(size_of::<SheetWritten>() == 24);
+const _: () = assert!(size_of::<Room>() == 32);
 const _: () = assert!(size_of::<JobRecord>() == 8);
 const _: () = assert!(size_of::<Totals>() == 28);
 const _: () = assert!(size_of::<Sizes>() == 16);
@@ -275,6 +296,8 @@ extern "C" {
     pub fn tg_read_sheet(sheet: *const u8, sheet_len: usize, rows: *mut u32, rows_len: usize) -> Sheet;
     /// Writes the entries of all rows.
     pub fn tg_write_sheet(rows: *const u32, rows_len: usize, out: *mut u8, out_len: usize) -> SheetWritten;
+    /// What a sheet comes to, before it touches a graph.
+    pub fn tg_room_of_sheet(sheet: *const u8, sheet_len: usize) -> Room;
     /// The bucket of a name.
     pub fn tg_bucket(name: u32, bits: u32) -> u32;
     /// The fixed minutes of a class.

@@ -8,11 +8,13 @@
 //! thin layer of unproved Rust above them; [`raw`] has them one by one.
 //!
 //! ```
-//! use taskgraph::{read_sheet, Graph, Job, Outcome, Refusal, Sizes, TaskGraph};
+//! use taskgraph::{read_sheet, room_of_sheet, Graph, Job, Outcome, Refusal, Sizes, TaskGraph};
 //!
-//! // Jobs 1 and 2, then 3 needing both, as a job sheet.
+//! // Jobs 1 and 2, then 3 needing both, as a job sheet; it fits, so every entry is accepted.
 //! let sheet = [1, 1, 0, 0, 0, 1, 2, 0, 0, 0, 3, 3, 0, 0, 0, 2, 1, 0, 0, 0, 2, 0, 0, 0];
-//! let mut graph = Graph::create(Sizes { jobs: 16, arcs: 64, bits: 4, workers: 2 })?;
+//! let sizes = Sizes { jobs: 16, arcs: 64, bits: 4, workers: 2 };
+//! assert!(room_of_sheet(&sheet).expect("a graph accepts it").fits(sizes));
+//! let mut graph = Graph::create(sizes)?;
 //! assert_eq!(graph.add_all(0, &read_sheet(&sheet)?)?, [Ok(()), Ok(()), Ok(())]);
 //! assert_eq!(graph.add(0, &Job::new(4, &[1, 9])), Err(Refusal::UnknownName { place: 1 }));
 //!
@@ -56,5 +58,5 @@ pub use raw::{bucket, minutes, version, Sizes, CLASSES};
 pub use refusal::Refusal;
 #[cfg(all(target_os = "linux", target_pointer_width = "64"))]
 pub use shared::{Locked, SharedError, SharedGraph};
-pub use sheet::{read_sheet, write_sheet, WriteRefusal};
+pub use sheet::{read_sheet, room_of_sheet, write_sheet, Room, RoomRefusal, WriteRefusal};
 pub use totals::{totals_by_minutes, Sum, Totals};

@@ -6,7 +6,7 @@ use std::{ffi::CStr, os::raw::c_char};
 use crate::ffi;
 
 pub use crate::ffi::{
-    Answer, Day, DrainedAnswer, Entry, GraphMinutes, Holding, JobRecord, Need, Reading, Sheet, SheetAdded,
+    Answer, Day, DrainedAnswer, Entry, GraphMinutes, Holding, JobRecord, Need, Reading, Room, Sheet, SheetAdded,
     SheetWritten, Sizes, Totals, Written, CLASSES, DAY_ARCS, DAY_BITS, DAY_JOBS, ENTRY_WORDS, MAX_ARCS, MAX_BITS,
     MAX_CLASS, MAX_DAY_LIST, MAX_DAY_SHEET, MAX_ENTRIES, MAX_ENTRY_BYTES, MAX_GROWER, MAX_JOBS, MAX_MINUTES, MAX_NAMES,
     MAX_WORKERS,
@@ -199,6 +199,11 @@ pub fn read_sheet(sheet: &[u8], rows: &mut [u32]) -> Sheet {
 /// Writes the entries of all rows to the front of `out`.
 pub fn write_sheet(rows: &[u32], out: &mut [u8]) -> SheetWritten {
     unsafe { ffi::tg_write_sheet(rows.as_ptr(), rows.len(), out.as_mut_ptr(), out.len()) }
+}
+
+/// What a sheet comes to, before it touches a graph. It takes some 33 KB of the thread's stack.
+pub fn room_of_sheet(sheet: &[u8]) -> Room {
+    unsafe { ffi::tg_room_of_sheet(sheet.as_ptr(), sheet.len()) }
 }
 
 /// The bucket of a name among 2 to the power `bits`.

@@ -1,6 +1,9 @@
 //! Job sheets and the day list through the safe interface.
 
-use taskgraph::{bucket, day_list, minutes, read_sheet, version, write_sheet, Job, Refusal, WriteRefusal};
+use taskgraph::{
+    bucket, day_list, minutes, read_sheet, room_of_sheet, version, write_sheet, Graph, Job, Refusal, Room, RoomRefusal,
+    Sizes, TaskGraph, WriteRefusal,
+};
 
 /// The sheet of `docs/RULES.md`: jobs 1, 2, 3 and 4 needing 1 and 2.
 const FOUR_JOBS: [u8; 29] = [1, 1, 0, 0, 0, 1, 2, 0, 0, 0, 1, 3, 0, 0, 0, 3, 4, 0, 0, 0, 2, 1, 0, 0, 0, 2, 0, 0, 0];
@@ -44,6 +47,57 @@ fn jobs_that_cannot_be_written() {
     assert_eq!(write_sheet(&[Job { class: 16, ..Job::new(1, &[2]) }]), refused(0, 10));
     let text = write_sheet(&[Job { grower: 65_536, ..Job::new(1, &[]) }]).map_err(|error| error.to_string());
     assert_eq!(text, Err("entry 0: a field's value is out of range (byte 5)".into()));
+}
+
+#[test]
+fn the_room_of_a_sheet() {
+    assert_eq!(room_of_sheet(&FOUR_JOBS), Ok(Room { jobs: 4, arcs: 2, steps: 22 }));
+    assert_eq!(room_of_sheet(&[]), Ok(Room::default()));
+}
+
+#[test]
+fn a_graph_with_the_room_accepts_the_sheet() {
+    let room = room_of_sheet(&FOUR_JOBS).expect("all four are accepted");
+    let sizes = |jobs, arcs| Sizes { jobs, arcs, bits: 1, workers: 1 };
+    for (jobs, arcs) in [(4, 2), (4, 3), (5, 2), (4_096, 32_768), (3, 2), (4, 1), (3, 1)] {
+        let mut graph = Graph::create(sizes(jobs, arcs)).expect("the sizes are within their limits");
+        let refused: Vec<Refusal> =
+            graph.add_all(0, &four_jobs()).expect("worker 0 is idle").into_iter().filter_map(Result::err).collect();
+        assert_eq!(room.fits(sizes(jobs, arcs)), refused.is_empty());
+        assert!(refused.is_empty() || refused == [Refusal::Full]);
+    }
+}
+
+#[test]
+fn sheets_that_no_graph_accepts_whole() {
+    let room = |jobs: &[Job]| room_of_sheet(&write_sheet(jobs).expect("all values are on their limits"));
+    let turned_away = |entry, refusal| Err(RoomRefusal::TurnedAway { entry, refusal });
+    let one = || Job::new(1, &[]);
+    assert_eq!(room(&[one(), Job::new(2, &[2])]), turned_away(1, Refusal::Arguments));
+    assert_eq!(room(&[Job::new(3, &[1, 1])]), turned_away(0, Refusal::Arguments));
+    assert_eq!(
+        room(&[one(), Job::new(3, &[1, 2]), Job::new(2, &[])]),
+        turned_away(1, Refusal::UnknownName { place: 1 })
+    );
+    assert_eq!(room(&[one(), Job::new(2, &[]), one()]), turned_away(2, Refusal::NamePresent));
+    let many: Vec<Job> = (0..4_097).map(|name| Job::new(name, &[])).collect();
+    assert_eq!(room(&many), turned_away(4_096, Refusal::Full));
+    assert_eq!(room(&many[1..]), Ok(Room { jobs: 4_096, arcs: 0, steps: 16_384 }));
+    let text = room(&[one(), one()]).map_err(|error| error.to_string());
+    assert_eq!(text, Err("entry 1: the name has a job already".into()));
+}
+
+/// What cannot be read is told even where an earlier entry would be refused.
+#[test]
+fn sheets_that_cannot_be_read_have_no_room() {
+    let refused = [3, 7, 0, 0, 0, 1, 7, 0, 0, 0];
+    let room = |bytes: &[u8]| room_of_sheet(&[&refused[..], bytes].concat());
+    assert_eq!(room(&[]), Err(RoomRefusal::TurnedAway { entry: 0, refusal: Refusal::Arguments }));
+    assert_eq!(room(&[1, 1, 0, 0]), Err(RoomRefusal::Unreadable(Refusal::Cut { at: 11 })));
+    assert_eq!(room(&[2]), Err(RoomRefusal::Unreadable(Refusal::Map { at: 10 })));
+    assert_eq!(room(&[5, 7, 0, 0, 0, 0]), Err(RoomRefusal::Unreadable(Refusal::Value { at: 15 })));
+    let text = room(&[2]).map_err(|error| error.to_string());
+    assert_eq!(text, Err("wrong map byte (byte 10)".into()));
 }
 
 #[test]

@@ -16,7 +16,8 @@ use Rattle.def_sheets.specs.CodeLaws.{entry-bounds}
 use Rattle.def_sheets.specs.declared.Reading.{Reading}
 use Rattle.def_whole_calls.specs.Whole.{wholeAdd}
 use Rattle.def_sheet_rows.specs.Arguments as row
-use Rattle.def_day.specs.Rounds.{Refusal, refusal, argumentsOf, addAll}
+use Rattle.def_room.specs.Room.{argumentsOf}
+use Rattle.def_day.specs.Rounds.{Refusal, refusal, addAll}
 use Rattle.def_day_lines.specs.Day.{refusalLines}
 use Rattle.day_text.specs.Page.{Page, no-lines, lines-append}
 use Rattle.day_entry.specs.Entered.{entered, Printout, printout, wrote}

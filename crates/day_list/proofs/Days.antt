@@ -16,7 +16,8 @@ use Rattle.def_sheets.specs.Decode.{Sheet, jobs, broken, decodeSheet, scanSheet
 use Rattle.def_sheets.specs.CodeLaws.{sheet-bounds}
 use Rattle.def_sheets.specs.declared.SheetRead.{SheetRead}
 use Rattle.def_whole_calls.specs.Whole.{wholeAdd}
-use Rattle.def_day.specs.Rounds.{daySizes, freshDay, Refusal, refusal, argumentsOf, addAll, addedDay}
+use Rattle.def_room.specs.Room.{argumentsOf}
+use Rattle.def_day.specs.Rounds.{daySizes, freshDay, Refusal, refusal, addAll, addedDay}
 use Rattle.def_day.specs.Rounds.{Holder, runDay, handOuts}
 use Rattle.def_day.specs.Rows.{in-stored}
 use Rattle.def_day_lines.specs.Day.{refusalLines, jobsLine, handOutLines, leftLine, linesBefore, dayLines, dayOf}

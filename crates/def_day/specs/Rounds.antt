@@ -5,16 +5,17 @@ use mathlib.Core.Bool.{Bool, true, false}
 use mathlib.Core.List.{List, [], _∷_, _++_}
 use Prim.Native.Nat.{ℕ, zero, suc, _+_, _^_}
 use lib.Dec.{eqb}
-use lib.ListN.{length, replicate}
+use lib.ListN.{replicate}
 use Rattle.def_numbers.specs.Numbers.{mostWorkers, dayJobs, dayArcs, dayBits}
 use Rattle.def_basics.specs.Base.{pick}
-use Rattle.def_terms.specs.Terms.{Arguments, finishOf}
+use Rattle.def_terms.specs.Terms.{finishOf}
 use Rattle.def_terms.specs.Cases.{ifHanded, ifRefused}
 use Rattle.def_terms.specs.declared.Sizes.{Sizes}
 use Rattle.def_terms.specs.declared.Answer.{Answer}
 use Rattle.def_words.specs.Layout.{Tables, tables, need, jobShape, arcShape, bucketShape, queueShape, workerShape}
 use Rattle.def_words.specs.Words.{getWords, layOut}
 use Rattle.def_sheets.specs.Job.{Job}
+use Rattle.def_room.specs.Room.{argumentsOf}
 use Rattle.def_whole_calls.specs.Whole.{wholeAdd, wholeFinish}
 
 -- "(R 256, A 1,024, b 4, P 2)", with the number of workers as given
@@ -33,15 +34,6 @@ abbrev pub freshDay : Sizes → Tables
 freshDay s = layOut s (blankTables s) .state
 
 -- ---- "Worker 0 adds every entry, each run whole"
-abbrev pub argumentsOf : Job → Arguments
-argumentsOf j = record {
-  name = j .name;
-  count = length (j .list);
-  names = j .list;
-  class = j .class;
-  grower = j .grower;
-}
-
 -- a refused entry: its number from 0, and the refusal's
 pub record Refusal : Type 0 where
   pub entry : ℕ

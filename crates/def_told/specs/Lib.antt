@@ -3,6 +3,8 @@ pub mod ReaderHeard
 pub mod ReaderRows
 pub mod Writer
 pub mod WriterHeard
+pub mod Room
+pub mod RoomHeard
 pub mod Day
 pub mod DayHeard
 pub mod Needed

@@ -36,6 +36,19 @@ pub struct SheetWritten {
     pub at: usize,
 }
 
+// What a sheet comes to: its jobs, its arcs and the steps of a full run; the first entry turned away, with the place in
+// its list; or a refusal with its offset.
+#[repr(C)]
+pub struct SheetRoom {
+    pub number: u32,
+    pub entry: u32,
+    pub place: u32,
+    pub jobs: u32,
+    pub arcs: u32,
+    pub steps: u32,
+    pub at: usize,
+}
+
 // How many bytes the day list printed, or a refusal.
 #[repr(C)]
 pub struct DayPrinted {

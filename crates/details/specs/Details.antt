@@ -109,7 +109,8 @@ use Rattle.def_words.specs.declared.Seating.the-variants.{Seated}
 use Rattle.def_sheets.specs.Job.{Job}
 use Rattle.def_sheets.specs.NumberLaws.{Bytes}
 use Rattle.def_whole_calls.specs.Whole.{wholeAdd, wholeFinish}
-use Rattle.def_day.specs.Rounds.{daySizes, argumentsOf, Holder, getRound, finishAll, rounds, runDay, handOuts}
+use Rattle.def_room.specs.Room.{argumentsOf}
+use Rattle.def_day.specs.Rounds.{daySizes, Holder, getRound, finishAll, rounds, runDay, handOuts}
 use Rattle.def_day.specs.Rounds.{unfinished}
 use Rattle.def_day_lines.specs.Text.{decimal, leftWord, line, _␣_}
 use Rattle.def_day_lines.specs.Day.{linesBefore, dayLines, dayText, dayList, printing}

@@ -17,7 +17,7 @@ use Rattle.def_words.specs.Words.{addWords, perform}
 use Rattle.def_sheets.specs.Job.{Job}
 use Rattle.def_sheets.specs.NumberLaws.{Bytes}
 use Rattle.def_sheets.specs.Decode.{decodeSheet, jobs, readSheet}
-use Rattle.def_day.specs.Rounds.{argumentsOf}
+use Rattle.def_room.specs.Room.{argumentsOf}
 use Rattle.def_whole_calls.specs.Whole.{wholeAdd, wholeFinish}
 use Rattle.def_whole_calls.specs.Sheet.{sheetResult, sheetWords}
 use Rattle.def_sheet_rows.specs.SheetRows.{addsOf, rowsWords}

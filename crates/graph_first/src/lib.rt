@@ -1,6 +1,6 @@
 // The index beside the queue, read by a get: where the last cell comes to rest once the first is taken, and how many
-// pairs of ranks are compared for that. Follows docs/RULES.md, "Tables and their measures". Each definition holds of all
-// tables, and where a table is not read the contract holds with any.
+// pairs of ranks are compared for that. Follows docs/RULES.md, "Tables and their measures". Each definition holds of
+// all tables, and where a table is not read the contract holds with any.
 ghost use mathlib.Core.Path.{_≡_};
 ghost use mathlib.Core.List.{List};
 ghost use Prim.Native.Nat.{ℕ, _≤_, _<_};

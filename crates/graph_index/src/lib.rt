@@ -1,5 +1,6 @@
-// The index beside the queue, read: where the cell of a job that enters comes to rest in it. Follows docs/RULES.md, "Tables and their measures". Each definition holds of all tables, and where a table is
-// not read the contract holds with any.
+// The index beside the queue, read: where the cell of a job that enters comes to rest in it. Follows docs/RULES.md,
+// "Tables and their measures". Each definition holds of all tables, and where a table is not read the contract holds
+// with any.
 ghost use mathlib.Core.Path.{_≡_};
 ghost use mathlib.Core.List.{List};
 ghost use Prim.Native.Nat.{ℕ};

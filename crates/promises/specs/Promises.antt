@@ -37,6 +37,12 @@ use Rattle.def_sheets.specs.Reading.{SheetReadsExactly}
 use Rattle.thm_sheets.specs.Writing.{WritesSheetExactly}
 use Rattle.def_sheets.specs.Write.{jobOf, entriesOf, writeSheet}
 use Rattle.def_sheets.specs.declared.SheetWrote.{SheetWrote}
+use Rattle.def_room.specs.Room.{roomOf}
+use Rattle.thm_room.specs.Tells.{TellsRoom, EnoughTold}
+use Rattle.thm_room.specs.Settled.{tells-room}
+use Rattle.thm_room.specs.Enough.{enough-told}
+use Rattle.thm_full_run.specs.SheetRuns.{FullRuns}
+use Rattle.thm_full_run.specs.SheetSteps.{full-runs}
 use Rattle.thm_words_need.specs.Need.{KeepsToNeed}
 use Rattle.thm_pinned.specs.FreshWords.{LaysFresh, lays-fresh}
 use Rattle.thm_pinned.specs.PutBack.{Leaves, leaves}
@@ -155,6 +161,21 @@ pub a-written-sheet-is-read-back : (rows out : List ℕ) (k n : ℕ) → Below (
     → writeSheet rows out .answer ≡ SheetWrote.Done k n
     → decodeSheet (take n (writeSheet rows out .out)) ≡ jobs (map jobOf (entriesOf rows))
 a-written-sheet-is-read-back = sheets.a-written-sheet-is-read
+
+-- ---- THE ROOM OF A SHEET, before it touches a graph: jobs, arcs and the steps of a full run, if its adds, run in
+-- order on a fresh graph of greatest size, would all be accepted; else the first entry turned away; or where the sheet
+-- cannot be read. Of every list of bytes, by the adds themselves, whatever b and P are.
+pub a-sheets-room-is-told-exactly : (sheet : List ℕ) → TellsRoom roomOf sheet
+a-sheets-room-is-told-exactly = tells-room
+
+-- With at least so many jobs and arcs each add is accepted, with fewer one is refused by 8.
+pub enough-room-is-enough : (sheet : List ℕ) → EnoughTold roomOf sheet
+enough-room-is-enough = enough-told
+
+-- From a fresh graph every run in which all adds end before the first job is handed out, and every job is handed out
+-- and finished, takes 4n + 3a steps: by any workers, in any order. So does one of a sheet, and there is one.
+pub a-full-run-takes-the-steps-told : FullRuns roomOf
+a-full-run-takes-the-steps-told = full-runs
 
 -- ---- THE C INTERFACE. Every struct that C is handed can be read back, by its fields and the numerals of the header,
 -- to the answer; fields that say nothing are 0. Single entries, counts and rows are read and written exactly too, and

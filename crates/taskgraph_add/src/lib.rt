@@ -1,6 +1,6 @@
-// An add run whole as C has it: posted, and stepped to the end, in one call. A slice is a pointer and a count of elements
-// in C; the answer is a struct by value. include/taskgraph.h declares all of this. Follows docs/RULES.md, "Whole calls".
-// Assumes that a pointer with a count points to that many elements.
+// An add run whole as C has it: posted, and stepped to the end, in one call. A slice is a pointer and a count of
+// elements in C; the answer is a struct by value. include/taskgraph.h declares it. Follows docs/RULES.md, "Whole
+// calls". Assumes that a pointer with a count points to that many elements.
 ghost use Rattle.def_words.specs.Layout.{asLent, asLeft};
 ghost use Rattle.def_whole_calls.specs.Whole.{wholeAdd};
 ghost use Rattle.taskgraph_answer.specs.WholeAnswers.{GivesWhole};

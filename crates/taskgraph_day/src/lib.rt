@@ -1,9 +1,7 @@
 // The day list as a function of the C interface; include/taskgraph.h declares it beside the others. It is a crate of
-// its own, and so
-// compiled by itself: in one module with the calls of the graph it would be a second caller of a step, and the compiler
-// then keeps the
-// step out of line in both.
-// Assumes that a pointer with a count points to that many elements.
+// its own, and so compiled by itself: in one module with the calls of the graph it would be a second caller of a step,
+// and the compiler then keeps the step out of line in both. Assumes that a pointer with a count points to that many
+// elements.
 ghost use mathlib.Core.Path.{_≡_};
 ghost use Rattle.def_day_lines.specs.Day.{dayList};
 ghost use Rattle.def_told.specs.Day.{dayPrinted};

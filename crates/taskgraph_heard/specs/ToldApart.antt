@@ -61,6 +61,11 @@ use Rattle.def_told.specs.Writer.{entryWritten, sheetWritten}
 use Rattle.def_told.specs.WriterHeard as writer
 use Rattle.def_told.specs.declared.EntryWritten.{EntryWritten}
 use Rattle.def_told.specs.declared.SheetWritten.{SheetWritten}
+use Rattle.def_room.specs.Room.{roomOf}
+use Rattle.def_room.specs.declared.Room.{Room}
+use Rattle.def_told.specs.Room.{sheetRoom}
+use Rattle.def_told.specs.RoomHeard as room
+use Rattle.def_told.specs.declared.SheetRoom.{SheetRoom}
 use Rattle.def_worker_state.specs.Held.{heldWords}
 use Rattle.def_worker_state.specs.Drained.{drainedWords}
 use Rattle.taskgraph_heard.specs.StateHeard as state
@@ -173,6 +178,9 @@ pub record ToldApart : Type 0 where
   pub how-written : (e : Entry) (out : List ℕ) (start : ℕ) → WritesExactly writeEntry e out start
   -- tg_sheet_written, of tg_write_sheet (what is written: `a-sheet-is-written-exactly`, a promise of its own)
   pub sheets-written : writer.SheetsHeard sheetWritten
+  -- tg_room, of tg_room_of_sheet (what a sheet comes to: `a-sheets-room-is-told-exactly`, a promise of its own)
+  pub rooms : room.RoomsHeard sheetRoom
+  pub how-a-room-is-told : (sheet : List ℕ) → room.Tells (roomOf sheet)
   -- tg_holding, of tg_held (StateHeard.antt)
   pub holdings : state.HoldingsHeard state.holdingTold
   pub a-holding-is-told : (s : Sizes) (t : Tables) (w : ℕ)
@@ -281,6 +289,8 @@ told-apart = record {
   entries-written = writer.entries-heard;
   how-written = sheets.an-entry-is-written-exactly;
   sheets-written = writer.sheets-heard;
+  rooms = room.rooms-heard;
+  how-a-room-is-told = room.how-told;
   holdings = state.holdings-heard;
   a-holding-is-told = state.holding-is-told;
   drained = state.drained-heard;
@@ -344,6 +354,7 @@ pub record ToldOneWay : Type 0 where
   pub sheets-written : (told : SheetWrote → SheetWritten) → writer.SheetsHeard told → (x : SheetWrote)
       → writer.WritesAll x
       → told x ≡ sheetWritten x
+  pub rooms : (told : Room → SheetRoom) → room.RoomsHeard told → (x : Room) → room.Tells x → told x ≡ sheetRoom x
   pub holdings : (told : state.Told → Holding) → state.HoldingsHeard told → (x : state.Told) → state.Tells x
       → told x ≡ state.holdingTold x
   pub drained : (told : state.DrainedTold → Drained) → state.DrainedHeard told → (x : state.DrainedTold)
@@ -368,6 +379,7 @@ told-one-way = record {
   sheets-read = reader.sheets-told-one-way;
   entries-written = writer.entries-told-one-way;
   sheets-written = writer.sheets-told-one-way;
+  rooms = room.rooms-told-one-way;
   holdings = state.holdings-told-one-way;
   drained = state.drained-told-one-way;
   totals = board.totals-told-one-way;

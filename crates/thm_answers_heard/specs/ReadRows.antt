@@ -1,13 +1,12 @@
 -- A sheet of bytes that was read into rows and added in one call is the adds of the sheet's jobs, as the day list makes
 -- them. For ALL tables. Follows docs/RULES.md, "Whole calls" and "Job sheets".
 use mathlib.Core.Path.{_≡_, refl, ap, _∙_}
-use mathlib.Core.List.{List, [], _∷_, _++_, map}
+use mathlib.Core.List.{List, [], _∷_, map}
 use Prim.Native.Nat.{ℕ, _*_, _/_, _%_, _≤_}
 use native.Mathlib.Omega.{arith}
 use lib.ListN.{length, take}
 use borrow.Author.Tests.{le-leb}
 use Rattle.def_numbers.specs.Numbers.{entryWords}
-use Rattle.def_basics.specs.Base.{prefix}
 use Rattle.def_terms.specs.Seen.{request}
 use Rattle.def_terms.specs.declared.Sizes.{Sizes}
 use Rattle.def_words.specs.Layout.{Tables}
@@ -20,21 +19,12 @@ use Rattle.def_sheets.specs.RewriteTrip.{Short, length-rowsOf, rows-there}
 use Rattle.def_whole_calls.specs.Sheet.{sheetWords}
 use Rattle.def_sheet_rows.specs.SheetRows.{addsOf, rowsWords}
 use Rattle.def_sheet_rows.specs.Arguments as row
-use Rattle.def_day.specs.Rounds.{argumentsOf}
+use Rattle.def_room.specs.Room.{argumentsOf}
+use Rattle.def_room.specs.Laws.{prefix-front, prefix-all}
 use Rattle.thm_answers_heard.specs.Requests.{sheet-by-requests}
 use Rattle.thm_answers_heard.specs.InC.{rows-whole}
 
 -- ---- one job: its row has its list, and names past the count
-prefix-front : (l m : List ℕ) → prefix (length l) (l ++ m) ≡ l
-unfolding prefix
-prefix-front [] m = refl
-prefix-front (x ∷ l) m = ap (λ k. x ∷ k) (prefix-front l m)
-
-prefix-all : (l : List ℕ) → prefix (length l) l ≡ l
-unfolding prefix
-prefix-all [] = refl
-prefix-all (x ∷ l) = ap (λ k. x ∷ k) (prefix-all l)
-
 request-same : (j : Job) → request (row.argumentsOf (entryOf j)) ≡ request (argumentsOf j)
 request-same j = rw (prefix-front (j .list), prefix-all (j .list))
 

@@ -71,6 +71,13 @@ same-sum (x ∷ l) (y ∷ m) e all =
       same-sum l m (omega arith) (λ j h. all (suc j) (omega arith)),
     )
 
+-- and are as many as the arcs reserved
+pub names-reserved : {s : Sizes} {g : Graph} {r : Reading} {e : ℕ → ℕ} → History s g r e
+    → namesListed (acceptedAdds (r .calls)) ≡ g .reserved
+names-reserved {g = g} {r = r} history =
+    let K = booked soundly history in
+    same-sum (acceptedAdds (r .calls)) (g .jobs) (K .adds) (λ j l. K .added j l .list) ∙ kept soundly history .reserved
+
 -- numbers 5 to 8 end a call
 ends-call : (n : ℕ) → 5 ≤ n → n ≤ 8 → endsCall n ≡ true
 ends-call n h l = rw (lt-ltb 4 n (omega arith), ne-eqb n 9 (λ z. omega arith)) refl
@@ -124,7 +131,7 @@ module _ (s : Sizes) (t : Tables) (laid : layOut s t .answer ≡ Laid) {x : Tabl
 
     -- there is room exactly if the rules find some
     lists : namesListed adds ≡ G .reserved
-    lists = same-sum adds (G .jobs) (K .adds) (λ j l. K .added j l .list) ∙ kept soundly history .reserved
+    lists = names-reserved history
 
     is-full : isFull s G a ≡ true → Full s adds a
     is-full e = of (leb (s .jobs) (length (G .jobs))) refl e
@@ -266,7 +273,7 @@ module _ (s : Sizes) (t : Tables) (laid : layOut s t .answer ≡ Laid) {x : Tabl
         of (ends.refused n i l m) e = e ∙ ap wholeAnswer (by-book (refused n i) (rw (e, ends-call n l m) refl))
 
 -- ---- the adds of a sheet
-each-answered : (s : Sizes) (t : Tables) (laid : layOut s t .answer ≡ Laid) (l : List Arguments) {x : Tables}
+pub each-answered : (s : Sizes) (t : Tables) (laid : layOut s t .answer ≡ Laid) (l : List Arguments) {x : Tables}
     {r : Reading} → Now s t laid x r → (w : ℕ) → w < s .workers → r .pending w ≡ idle
     → AnswersEach s w r l (addsAnswer perform s w l x)
 unfolding addsAnswer

@@ -38,7 +38,7 @@ record Named (adds : List Arguments) (h : HandOut) : Type 0 where
   named : h .name ≡ addOf adds (h .job) .name
 
 -- more calls add jobs behind
-accepted-append : (l m : List book.Ended) → acceptedAdds (l ++ m) ≡ acceptedAdds l ++ acceptedAdds m
+pub accepted-append : (l m : List book.Ended) → acceptedAdds (l ++ m) ≡ acceptedAdds l ++ acceptedAdds m
 unfolding acceptedAdds
 accepted-append [] m = refl
 accepted-append (x ∷ l) m = of (x .call) (x .end) (accepted-append l m)

@@ -25,7 +25,8 @@ use Rattle.def_sheets.specs.Reading.{ReadsFrom, BrokenFrom}
 use Rattle.thm_sheets.specs.SheetPromises.{a-sheet-is-read-exactly}
 use Rattle.def_whole_calls.specs.Whole.{wholeAdd, wholeFinish}
 use Rattle.thm_answers_heard.specs.Heard.{AddEnded, how-an-add-ends}
-use Rattle.def_day.specs.Rounds.{argumentsOf, Holder, holder, freshDay, addAll, getAll}
+use Rattle.def_room.specs.Room.{argumentsOf}
+use Rattle.def_day.specs.Rounds.{Holder, holder, freshDay, addAll, getAll}
 use Rattle.def_day.specs.Rounds.{finishAll, handOut, Run, rounds, handOuts, runDay}
 use Rattle.def_day.specs.Rounds.{addedDay, daySizes, getRound}
 use Rattle.def_day_lines.specs.Text.{decimal, jobsWord, workersWord, leftWord, _␣_, line, digits}

@@ -11,7 +11,8 @@ use Rattle.def_words.specs.Layout.{Tables}
 use Rattle.def_rules.specs.Rules.{idle}
 use Rattle.def_sheets.specs.Job.{Job}
 use Rattle.def_sheets.specs.SheetTrip.{Each, more}
-use Rattle.def_day.specs.Rounds.{argumentsOf, Refusal, refusal, added, addAll}
+use Rattle.def_room.specs.Room.{argumentsOf}
+use Rattle.def_day.specs.Rounds.{Refusal, refusal, added, addAll}
 use Rattle.def_day.specs.Rounds as day
 use Rattle.thm_day_history.specs.Jobs.{All}
 use Rattle.thm_day_history.specs.Calls.{During, accepted, refused, Added, whole-add}

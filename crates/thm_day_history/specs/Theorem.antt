@@ -28,7 +28,8 @@ use Rattle.def_sheets.specs.Decode.{Sheet, jobs, broken, decodeSheet}
 use Rattle.def_whole_calls.specs.Whole.{wholeAdd, wholeFinish}
 use Rattle.def_whole_calls.specs.CallEnds.{AddAnswer}
 use Rattle.def_whole_calls.specs.CallEnds as answers
-use Rattle.def_day.specs.Rounds.{daySizes, freshDay, argumentsOf, addedDay, Holder, getRound, finishAll, finished}
+use Rattle.def_room.specs.Room.{argumentsOf}
+use Rattle.def_day.specs.Rounds.{daySizes, freshDay, addedDay, Holder, getRound, finishAll, finished}
 use Rattle.def_day.specs.Rounds.{rounds, runDay, handOuts, unfinished}
 use Rattle.def_day_lines.specs.Text.{digits, decimal, leftWord, _␣_, line}
 use Rattle.def_day_lines.specs.Day.{refusalLines, jobsLine, handOutLines, linesBefore, dayLines, dayOf, daySheet}

@@ -89,7 +89,7 @@ finishes-after (finish w f) noneReady l m k z = z
 finishes-after (finish w f) (handed h) l m k z = z
 finishes-after (finish w f) (refused n i) l m k z = z
 
-finishes-then : (l : List Ended) (x : Ended)
+pub finishes-then : (l : List Ended) (x : Ended)
     → acceptedFinishes (l ++ (x ∷ [])) ≡ acceptedFinishes l ++ acceptedFinishes (x ∷ [])
 unfolding acceptedFinishes
 finishes-then [] x = refl

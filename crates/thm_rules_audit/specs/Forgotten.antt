@@ -20,7 +20,7 @@ use Rattle.thm_rules_follow_book.specs.BookJobs.{none-awaited, finished-not-awa
 use Rattle.thm_rules_audit.specs.Earlier.{earlier}
 use Rattle.thm_rules_audit.specs.Finishes.{finishedBy, finishes}
 
-finished-by : (l : Label) → 0 < finishedBy l → l ≡ finished
+pub finished-by : (l : Label) → 0 < finishedBy l → l ≡ finished
 finished-by unexecuted h = absurd (omega arith)
 finished-by executing h = absurd (omega arith)
 finished-by finished h = refl

@@ -34,7 +34,7 @@ use Rattle.def_call_order.specs.Holds.{handedBy, handedAfter, handedRead}
 use Rattle.thm_state_history.specs.Hold.{held-follows}
 
 -- a call more at the end
-handed-then : (w : ℕ) (o : Option HandOut) (l : List Ended) (x : Ended)
+pub handed-then : (w : ℕ) (o : Option HandOut) (l : List Ended) (x : Ended)
     → handedAfter w o (l ++ (x ∷ [])) ≡ handedBy w (x .call) (x .end) (handedAfter w o l)
 unfolding handedAfter
 handed-then w o [] x = refl

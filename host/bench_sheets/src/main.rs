@@ -1,11 +1,17 @@
 //! The speed of reading and writing job sheets: the proved library, through its C interface, beside
-//! the second implementation, both in this process and on the same sheets. Then the instructions of both,
-//! counted; it fails where the library takes more of them than it may beside the other.
+//! the second implementation, both in this process and on the same sheets. Then that of telling a sheet's room, beside
+//! unproved Rust and beside the library's own reading and adding. Then the instructions of both, counted; it fails
+//! where the library takes more of them than it may beside the other.
 //!
-//! With the arguments `count`, a side (`library` or `second`), `read` or `write`, and the name of sheets: reads
-//! or writes each of these once, for callgrind to count.
+//! With the argument `longest`: how long the room of the slowest sheet takes.
+//!
+//! With the arguments `count`, a side (`library` or `other`), what is done (`read`, `write`, or the room beside
+//! `unproved`, `reading` or `adding`), and the name of sheets: does it once with each of these, for callgrind to count.
 
+mod longest;
+mod room;
 mod sheets;
+mod unproved;
 
 use std::{
     env,
@@ -31,51 +37,77 @@ type Pass<'a> = &'a mut dyn FnMut();
 fn main() -> ExitCode {
     let arguments: Vec<String> = env::args().skip(1).collect();
     match arguments.iter().map(String::as_str).collect::<Vec<_>>()[..] {
-        [] => beside_second(),
-        ["count", side @ ("library" | "second"), what @ ("read" | "write"), name] => count(side, what, name),
+        [] => beside_others(),
+        ["longest"] => longest::print(),
+        ["count", side @ ("library" | "other"), what, name] => count(side, what, name),
         _ => {
-            eprintln!("usage: bench_sheets [count library|second read|write SHEETS]");
+            eprintln!("usage: bench_sheets [longest | count library|other WHAT SHEETS]");
             ExitCode::FAILURE
         }
     }
 }
 
-fn beside_second() -> ExitCode {
+fn beside_others() -> ExitCode {
     println!("The proved library beside the second implementation, both built for release, on the same sheets.");
     println!("The best of {ROUNDS} rounds of each, taken in turns. Outputs are used again and not cleared first.");
     let mut rows = Vec::new();
     for workload in sheets::all() {
         println!("{}", workload.description);
         for (place, what) in ["read", "write"].into_iter().enumerate() {
-            let time = with_passes(what, &workload, |library, second| compare(what, &workload, library, second));
+            let time = measured(what, "second", &workload);
             if let Some(most) = workload.most {
                 rows.push(row(what, workload.name, most[place], time));
             }
         }
     }
-    counting::judge(&[Table { title: "", library: "library", other: "second", rows }])
+    let mut tables = vec![Table { title: "", library: "library", other: "second", rows }];
+    println!("The room of a sheet by the library, beside unproved Rust, beside reading the sheet, and beside");
+    println!("laying out a graph of greatest size, reading the sheet and adding it.");
+    tables.extend(room::OTHERS.map(|other| Table { title: "room", library: "library", other, rows: Vec::new() }));
+    for (name, most) in sheets::FITTING {
+        let workload = sheets::fitting(name);
+        println!("{}", workload.description);
+        let library = instructions("library", room::OTHERS[0], name);
+        for (table, what) in tables[1..].iter_mut().zip(room::OTHERS) {
+            let time = measured(what, what, &workload);
+            let other = instructions("other", what, name);
+            let most = if what == "unproved" { most } else { None };
+            table.rows.push(Row { name: name.into(), library, other, most, time });
+        }
+    }
+    counting::judge(&tables)
+}
+
+fn measured(what: &str, other: &str, workload: &Workload) -> f64 {
+    with_passes(what, workload, |library, others| compare(what, other, workload, library, others))
 }
 
 fn row(what: &str, name: &str, most: f64, time: f64) -> Row {
-    let instructions = |side: &str| counting::instructions(&["count", side, what, name]);
-    let (library, other) = (instructions("library"), instructions("second"));
+    let (library, other) = (instructions("library", what, name), instructions("other", what, name));
     Row { name: format!("{what} {name}"), library, other, most: Some(most), time }
 }
 
-/// Reads or writes sheets once, for callgrind to count.
+fn instructions(side: &str, what: &str, name: &str) -> u64 {
+    counting::instructions(&["count", side, what, name])
+}
+
+/// Does it once with sheets, for callgrind to count.
 fn count(side: &str, what: &str, name: &str) -> ExitCode {
-    let workload = sheets::all().into_iter().find(|workload| workload.name == name).expect("the name of sheets");
-    with_passes(what, &workload, |library, second| {
-        counting::counted(if side == "library" { library } else { second });
+    let workload = match sheets::FITTING.into_iter().find(|(fitting, _)| *fitting == name) {
+        Some((name, _)) => sheets::fitting(name),
+        None => sheets::all().into_iter().find(|workload| workload.name == name).expect("the name of sheets"),
+    };
+    with_passes(what, &workload, |library, other| {
+        counting::counted(if side == "library" { library } else { other });
     });
     ExitCode::SUCCESS
 }
 
 fn with_passes<T>(what: &str, workload: &Workload, measure: impl FnOnce(Pass, Pass) -> T) -> T {
-    if what == "read" {
-        reading(&workload.samples, measure)
-    } else {
-        writing(&workload.samples, measure)
+    match what {
+        "read" => reading(&workload.samples, measure),
+        "write" => writing(&workload.samples, measure),
+        _ => room::with_passes(what, workload, measure),
     }
 }
 
@@ -116,22 +148,23 @@ fn writing<T>(samples: &[Sample], measure: impl FnOnce(Pass, Pass) -> T) -> T {
 
 /// Prints the throughput of both and gives the library's time as a multiple of the other's. A round goes once
 /// over all sheets, again and again until it is long enough to be timed.
-fn compare(what: &str, workload: &Workload, library: Pass, second: Pass) -> f64 {
+fn compare(what: &str, other: &str, workload: &Workload, library: Pass, others: Pass) -> f64 {
     let library_calls = calls_in_a_round(library);
-    let second_calls = calls_in_a_round(second);
+    let other_calls = calls_in_a_round(others);
     let mut library_best = f64::INFINITY;
-    let mut second_best = f64::INFINITY;
+    let mut other_best = f64::INFINITY;
     for _ in 0..ROUNDS {
         library_best = library_best.min(seconds_per_call(library_calls, library));
-        second_best = second_best.min(seconds_per_call(second_calls, second));
+        other_best = other_best.min(seconds_per_call(other_calls, others));
     }
-    let ratio = library_best / second_best;
+    let ratio = library_best / other_best;
     let bytes: usize = workload.samples.iter().map(|sample| sample.sheet.len()).sum();
     let throughput = |seconds: f64| bytes as f64 / seconds / 1e6;
+    let what = if what == other { "room" } else { what };
     println!(
-        "  {what:<5}  library {:7.0} MB/s   second {:7.0} MB/s   times {ratio:.2}",
+        "  {what:<5}  library {:7.0} MB/s   {other:<8} {:7.0} MB/s   times {ratio:.2}",
         throughput(library_best),
-        throughput(second_best),
+        throughput(other_best),
     );
     ratio
 }

@@ -1,12 +1,14 @@
-//! The sheets that are read and written: a random mix, and the two extremes of an entry's size.
+//! The sheets that are read and written: a random mix, and the two extremes of an entry's size. And sheets that a graph
+//! accepts, whose room is asked for.
 
 use compare_sheets::{
+    accepted,
     inputs::{rows, sheet_of},
     random::Random,
     writing::to_second,
 };
 use second_implementation::sheet;
-use taskgraph::raw::{Entry, MAX_NAMES};
+use taskgraph::raw::{Entry, MAX_JOBS, MAX_NAMES};
 
 /// The longest sheet of the day list, in bytes.
 const SHEET_BYTES: usize = 32_768;
@@ -49,6 +51,65 @@ pub fn all() -> [Workload; 4] {
         workload("the longest lists", vec![longest], Some([1.4, 1.2])),
         workload("one random mix again and again", vec![one_mixed], None),
     ]
+}
+
+/// Sheets whose adds are all accepted, a random mix and three that fill the greatest graph; with the most instructions
+/// that the library may take for their room, as multiples of what unproved Rust takes (docs/SPEED.md). Where there is
+/// none, the counts are only shown.
+pub const FITTING: [(&str, Option<f64>); 4] = [
+    ("mixes that fit, in turn", Some(0.95)),
+    ("4,096 jobs without a list", Some(0.4)),
+    ("1,024 jobs of 32 names", Some(1.45)),
+    ("4,096 jobs of 8 names", Some(0.9)),
+];
+
+/// The sheets of one of these names; they alone are made, as each count makes them anew.
+pub fn fitting(name: &'static str) -> Workload {
+    let mut random = Random::new(SEED, name);
+    let jobs = MAX_JOBS as usize;
+    // The first jobs have no list, the others one of this length.
+    let mut filled = |first: usize, others: usize, length: usize| {
+        vec![with_lists(&mut random, &[vec![0; first], vec![length; others]].concat())]
+    };
+    let sheets = match name {
+        "4,096 jobs without a list" => filled(jobs, 0, 0),
+        "1,024 jobs of 32 names" => filled(MAX_NAMES, 1_024, MAX_NAMES),
+        "4,096 jobs of 8 names" => filled(8, jobs - 8, 8),
+        _ => (0..SHEETS_IN_TURN).map(|_| fitting_mix(&mut random)).collect(),
+    };
+    workload(name, sheets, None)
+}
+
+/// As `mixed`, with lists that name jobs before, and as many bytes as `SHEET_BYTES` or a few less.
+fn fitting_mix(random: &mut Random) -> Vec<Entry> {
+    let mut mix = Vec::new();
+    let mut left = SHEET_BYTES;
+    loop {
+        let entry = mixed_entry(random);
+        let list = if entry.count > 0 { 1 + 4 * entry.count as usize } else { 0 };
+        let len = 5 + list + usize::from(entry.class > 0) + 2 * usize::from(entry.grower > 0);
+        if len > left {
+            break;
+        }
+        left -= len;
+        mix.push(entry);
+    }
+    let lengths: Vec<usize> = mix.iter().map(|entry| entry.count as usize).collect();
+    let lists = with_lists(random, &lengths).into_iter().zip(mix);
+    lists.map(|(entry, mixed)| Entry { class: mixed.class, grower: mixed.grower, ..entry }).collect()
+}
+
+/// Jobs of any names with lists of these lengths, or as long as there are jobs before.
+fn with_lists(random: &mut Random, lengths: &[usize]) -> Vec<Entry> {
+    let mut names = Vec::new();
+    let mut entries = Vec::new();
+    for length in lengths {
+        let mut entry = Entry { name: random.word(), ..Entry::default() };
+        accepted::list(random, &mut entry, &names, *length);
+        names.push(entry.name);
+        entries.push(entry);
+    }
+    entries
 }
 
 fn workload(name: &'static str, sheets: Vec<Vec<Entry>>, most: Option<[f64; 2]>) -> Workload {

@@ -3,6 +3,7 @@
 
 #![forbid(unsafe_code)]
 
+pub mod accepted;
 pub mod case;
 pub mod guarded;
 pub mod inputs;
@@ -10,6 +11,7 @@ pub mod measures;
 pub mod minute_values;
 pub mod random;
 pub mod reading;
+pub mod room;
 pub mod round_trip;
 pub mod shrink;
 pub mod totals;

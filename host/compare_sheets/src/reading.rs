@@ -65,7 +65,7 @@ pub(crate) fn smaller_sheets(bytes: &[u8]) -> impl Iterator<Item = Vec<u8>> + '_
 }
 
 /// Where the entries end that can be read.
-fn entry_ends(sheet: &[u8]) -> Vec<usize> {
+pub(crate) fn entry_ends(sheet: &[u8]) -> Vec<usize> {
     let step = |at: &usize| Some(sheet::read_entry(sheet, *at).ok()??.1);
     std::iter::successors(step(&0), step).collect()
 }

@@ -12,5 +12,6 @@ pub mod graph;
 pub mod history;
 pub mod minutes;
 pub mod refusal;
+pub mod room;
 pub mod sheet;
 pub mod totals;

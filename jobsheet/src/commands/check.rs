@@ -2,7 +2,7 @@
 
 use std::io::{self, Write};
 
-use taskgraph::{Job, Refusal, Sizes};
+use taskgraph::{Job, Refusal, Room, Sizes};
 
 use super::{judged, Verdict};
 use crate::{
@@ -12,7 +12,7 @@ use crate::{
     json::{Document, Json},
     number::{counted, grouped},
     output::Output,
-    summary::{Chain, Summary},
+    summary::{self, Chain, Summary},
     terminal::{painted, Paint, Progress, Stream},
     Form, Judged,
 };
@@ -29,7 +29,9 @@ pub(super) fn run(
     let sizes = Sizes { workers: 1, ..arguments.sizes };
     let judged = judged(&mut source.sheet, before, sizes, &progress)?;
     let packs = source.sheet.packed().is_some();
-    let answer = Answer { summary: Summary::of(&judged), packs, source, judged };
+    let room = summary::room(before, &source.sheet);
+    let alone = arguments.after.is_empty();
+    let answer = Answer { summary: Summary::of(&judged), packs, room, alone, source, judged };
     let colours = arguments.out.is_none() && Stream::Output.has_colours();
     Output::open(&arguments.out)?.write_by(progress, |out| match arguments.to {
         Some(To::Json) => answer.json(out),
@@ -44,6 +46,10 @@ struct Answer {
     summary: Summary,
     /// Whether a host can be given the sheet at all.
     packs: bool,
+    /// What a host needs for it and for the sheets before it, where every entry is accepted, given the room.
+    room: Option<Room>,
+    /// Whether there is no sheet before it.
+    alone: bool,
 }
 
 impl Answer {
@@ -81,8 +87,14 @@ impl Answer {
         if !self.packs {
             writeln!(out, "  totals of what can be read:")?;
         }
-        let sums = [(*jobs as usize, "job"), (*arcs, "arc"), (classes.len(), "class"), (*minutes as usize, "minute")];
-        writeln!(out, "  {}", sums.map(|(sum, thing)| counted(sum, thing)).join(", "))?;
+        let sums = [(*jobs, "job"), (*arcs, "arc"), (classes.len() as u32, "class"), (*minutes, "minute")];
+        writeln!(out, "  {}", sums.map(|(sum, thing)| counted(sum as usize, thing)).join(", "))?;
+        if let Some(Room { jobs, arcs, steps }) = self.room {
+            let [jobs, arcs, steps] =
+                [(jobs, "job"), (arcs, "arc"), (steps, "step")].map(|(sum, thing)| counted(sum as usize, thing));
+            let whose = if self.alone { "room" } else { "room with the sheets before it" };
+            writeln!(out, "  {whose}: {jobs}, {arcs}; a full run takes {steps}")?;
+        }
         for (class, sum) in classes {
             writeln!(out, "  class {class}: {}, {}", counted(sum.jobs, "job"), minutes_of(sum.minutes))?;
         }
@@ -116,6 +128,7 @@ impl Answer {
         document.member("jobs", *jobs)?;
         document.member("arcs", *arcs)?;
         document.member("minutes", *minutes)?;
+        document.member("room", self.room.map(room_row))?;
         document.rows(
             "classes",
             classes.iter().map(|(class, sum)| {
@@ -144,6 +157,11 @@ impl Answer {
 /// The number of an add's answer, 0 if it was accepted; nothing of an entry that cannot be read.
 fn number_of(answer: &Option<Result<(), Refusal>>) -> Option<u32> {
     answer.map(|ended| ended.map_or_else(Refusal::number, |()| 0))
+}
+
+fn room_row(room: Room) -> Json {
+    let Room { jobs, arcs, steps } = room;
+    Json::Object(vec![("jobs", jobs.into()), ("arcs", arcs.into()), ("steps", steps.into())])
 }
 
 fn fault_row(fault: &Fault) -> Json {

@@ -1,0 +1,14 @@
+pub mod FullRun
+pub mod SheetRuns
+pub mod Sums
+pub mod Figures
+pub mod Changes
+pub mod Moves
+pub mod Runs
+pub mod ByRules
+pub mod Theorem
+pub mod Exists
+pub mod SheetSteps
+pub mod Checked
+pub mod Example
+pub mod Wrong
