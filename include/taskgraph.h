@@ -151,8 +151,9 @@ tg_sheet_written tg_write_sheet(const uint32_t *rows, size_t rows_len, uint8_t *
 
 /* number 0: on a fresh graph of greatest size (TG_MAX_JOBS, TG_MAX_ARCS) all adds of the sheet, in order,
  *           would be accepted. It needs `jobs` jobs and `arcs` arcs: a fresh graph with at least as many
- *           accepts them all. A full run, all adds before the first get, takes `steps` steps, gets that
- *           hand nothing out not counted.
+ *           accepts them all (a graph has at least 1 job, so lay out 1 for the empty sheet). `steps` are
+ *           those of a full run: all adds end before the first get, and every job is handed out and
+ *           finished; posts and gets that hand nothing out are not counted.
  * number 5, 6, 7 or 8: `entry` is the number, from 0, of the first entry whose add would be refused, and
  *           for 6 `place` is the place in its list.
  * number 12, 13 or 14: the sheet cannot be read, whatever its earlier entries are; `at` is the offset of

@@ -27,8 +27,8 @@ use Rattle.def_told.specs.ReaderHeard.{Scanned, how-scanned}
 use Rattle.def_told.specs.Room.{sheetRoom}
 use Rattle.def_told.specs.declared.SheetRoom.{SheetRoom}
 
--- "number 0: it needs `jobs` jobs and `arcs` arcs"; "5, 6, 7 or 8: `entry` is … the first entry whose add would be
--- refused"; "12, 13 or 14: the sheet cannot be read"
+-- "number 0: … It needs `jobs` jobs and `arcs` arcs"; "number 5, 6, 7 or 8: `entry` is … the first entry whose add would
+-- be refused"; "number 12, 13 or 14: the sheet cannot be read"
 abbrev pub heard : SheetRoom → Room
 heard r =
     pick (eqb (r .number) 0) (Fits (r .jobs) (r .arcs) (r .steps))

@@ -168,12 +168,14 @@ a-written-sheet-is-read-back = sheets.a-written-sheet-is-read
 pub a-sheets-room-is-told-exactly : (sheet : List ℕ) → TellsRoom roomOf sheet
 a-sheets-room-is-told-exactly = tells-room
 
--- With at least so many jobs and arcs each add is accepted, with fewer one is refused by 8.
+-- With at least so many jobs and arcs each add is accepted, with fewer one is refused by 8; and where none is refused by
+-- 8, no larger size changes an answer.
 pub enough-room-is-enough : (sheet : List ℕ) → EnoughTold roomOf sheet
 enough-room-is-enough = enough-told
 
 -- From a fresh graph every run in which all adds end before the first job is handed out, and every job is handed out
--- and finished, takes 4n + 3a steps: by any workers, in any order. So does one of a sheet, and there is one.
+-- and finished, takes 4n + 3a steps, and one for each look-up of an add that is refused later: by any workers, in any
+-- order. So a full run of a sheet takes the steps told, and wherever there is room there is such a run.
 pub a-full-run-takes-the-steps-told : FullRuns roomOf
 a-full-run-takes-the-steps-told = full-runs
 

@@ -1,7 +1,8 @@
 -- A full run exists: where adds run whole were all accepted, their worker gets job after job and finishes each as
 -- failed, until it is told "none ready". These rounds end: each accepts a finish of an added name, and of a name one at
--- most is accepted. Then all are finished, as no call is half done and no job is held. By what is proved of every list
--- of host calls, of the words from tables that were laid out. Follows docs/RULES.md, "The room of a sheet".
+-- most is accepted. Then all are finished, as no call is half done and no job is held. No add is refused in it. By what
+-- is proved of every list of host calls, of the words from tables that were laid out. Follows docs/RULES.md, "The room
+-- of a sheet".
 use mathlib.Core.Path.{_≡_, refl, sym, ap, _∙_}
 use mathlib.Core.Bool.{Bool, true, false, _&&_}
 use mathlib.Core.List.{List, [], _∷_, _++_, map, append-nil, append-assoc}
@@ -40,26 +41,36 @@ use Rattle.thm_calls_audit.specs.HandedOnce.{accepted-append}
 use Rattle.thm_calls_audit.specs.Question.{fairly, none-forgotten}
 use Rattle.thm_calls_audit.specs.AcceptedAdds.{serves-all}
 use Rattle.thm_room.specs.Tells.{addsOn, AllEnded, none, more}
-use Rattle.thm_full_run.specs.SheetRuns.{FullRun, entered}
+use Rattle.thm_full_run.specs.FullRun.{lookedUp}
+use Rattle.thm_full_run.specs.SheetRuns.{FullRun, entered, refusedLookUps}
+use Rattle.thm_full_run.specs.Moves.{looked-then}
 
--- ---- between two rounds: no call is half done, no worker holds a job, and these adds were accepted
+-- ---- between two rounds: no call is half done, no worker holds a job, these adds were accepted, and none was refused
+-- after a look-up
 record Free (r : Reading) (l : List Arguments) : Type 0 where
   quiet : Quiet r
   holds-none : (v : ℕ) → handedRead r v ≡ none
   adds : acceptedAdds (r .calls) ≡ l
+  smooth : lookedUp (r .calls) ≡ 0
 
 at-first : Free unread []
-unfolding unread handedAfter acceptedAdds
-at-first = record { quiet = λ v. refl; holds-none = λ v. refl; adds = refl }
+unfolding unread handedAfter acceptedAdds lookedUp
+at-first = record { quiet = λ v. refl; holds-none = λ v. refl; adds = refl; smooth = refl }
+
+-- after a call more too
+still-smooth : (l : List book.Ended) (x : book.Ended) → lookedUp l ≡ 0 → lookedUp (x ∷ []) ≡ 0
+    → lookedUp (l ++ (x ∷ [])) ≡ 0
+still-smooth l x e f = omega (arith, looked-then l x)
 
 -- ---- the adds: an accepted one is noted behind the others, and no hold changes
 one-add : {r : Reading} {k : List Arguments} (w : ℕ) (a : Arguments) (x : Answer) → x ≡ Ended → Free r k
     → Free (noteWholeAdd r w a x) (k ++ (a ∷ []))
-unfolding acceptedAdds
+unfolding acceptedAdds lookedUp
 one-add {r} {k} w a x e F = rw e (record {
   quiet = F .quiet;
   holds-none = λ v. handed-then v none (r .calls) ended ∙ F .holds-none v;
   adds = accepted-append (r .calls) (ended ∷ []) ∙ ap (λ m. m ++ (a ∷ [])) (F .adds);
+  smooth = still-smooth (r .calls) ended (F .smooth) refl;
 })
   where
     ended : book.Ended
@@ -114,7 +125,7 @@ module _ (r : Reading) (w : ℕ) (h : HandOut) where
 
   -- it ends the hold, adds no add, and is one finish more
   free-again : {l : List Arguments} → Free r l → Free worked l
-  unfolding acceptedAdds
+  unfolding acceptedAdds lookedUp
   free-again F = record {
     quiet = F .quiet;
     holds-none = λ v.
@@ -122,6 +133,7 @@ module _ (r : Reading) (w : ℕ) (h : HandOut) where
         ∙ rw (handed-then v none (r .calls) getting, F .holds-none v) (of (eqb v w));
     adds = accepted-append (got .calls) (finishing ∷ []) ∙ append-nil (acceptedAdds (got .calls))
         ∙ accepted-append (r .calls) (getting ∷ []) ∙ append-nil (acceptedAdds (r .calls)) ∙ F .adds;
+    smooth = still-smooth (got .calls) finishing (still-smooth (r .calls) getting (F .smooth) refl) refl;
   }
     where
       of : (b : Bool) → pick b none (pick b (some h) none) ≡ none
@@ -217,6 +229,7 @@ module _ (s : Sizes) (t : Tables) (laid : layOut s t .answer ≡ Laid) (w : ℕ)
   record Worked (cs : List HostCall) : Type 0 where
     quiet : Quiet (read cs)
     adds : acceptedAdds (read cs .calls) ≡ l
+    smooth : lookedUp (read cs .calls) ≡ 0
     finished : (j : ℕ) → j < length (acceptedAdds (read cs .calls))
         → 0 < occurrences (addOf (acceptedAdds (read cs .calls)) j .name) (finishes cs)
 
@@ -224,6 +237,7 @@ module _ (s : Sizes) (t : Tables) (laid : layOut s t .answer ≡ Laid) (w : ℕ)
   none-left cs F told = record {
     quiet = F .quiet;
     adds = F .adds;
+    smooth = F .smooth;
     finished = λ j k.
         let once = none-forgotten s t laid cs .none-left (F .quiet) (λ v h. ap jobOf (F .holds-none v)) s w told j k in
         omega arith;
@@ -255,6 +269,7 @@ pub run-exists : (s : Sizes) (t : Tables) → layOut s t .answer ≡ Laid → (w
     → AllEnded (addsOn s t w l)
     → (work : List HostCall) × FullRun s t (map (λ a. wholeAdd s w a) l) work
     × (entered s t (map (λ a. wholeAdd s w a) l) work ≡ l)
+    × (refusedLookUps s t (map (λ a. wholeAdd s w a) l) work ≡ 0)
 run-exists s t laid w there l A =
     let F = all-adds s w l (layOut s t .state) at-first A in
     let (work, W) = rounds s t laid w there l (suc (length l)) (map (λ a. wholeAdd s w a) l) F (omega arith) in (
@@ -267,4 +282,5 @@ run-exists s t laid w there l A =
         finished = W .finished;
       },
       W .adds,
+      W .smooth,
     )

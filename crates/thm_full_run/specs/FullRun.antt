@@ -1,5 +1,5 @@
 -- A FULL RUN, of lists of host calls, by calls and replies, and the steps that it takes, by the items that its calls
--- are worth: of any machine. Follows docs/RULES.md, "The room of a sheet". (Wrong.antt has counts that are not met.)
+-- are worth: of any machine. Follows docs/RULES.md, "The room of a sheet". (Wrong/ has counts that are not met.)
 use mathlib.Core.Path.{_≡_}
 use mathlib.Core.List.{List, [], _∷_, _++_}
 use Prim.Native.Nat.{ℕ, _+_, _*_, _<_}

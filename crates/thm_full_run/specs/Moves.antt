@@ -30,7 +30,7 @@ use Rattle.thm_full_run.specs.Figures.{arcsOf, takenBy, taken, Moved, st
 use Rattle.thm_full_run.specs.Changes.{only-turned, one-set, one-more}
 
 -- ---- the look-ups of refused adds, with a call more
-looked-then : (l : List Ended) (x : Ended) → lookedUp (l ++ (x ∷ [])) ≡ lookedUp l + lookedUp (x ∷ [])
+pub looked-then : (l : List Ended) (x : Ended) → lookedUp (l ++ (x ∷ [])) ≡ lookedUp l + lookedUp (x ∷ [])
 unfolding lookedUp
 looked-then [] x = omega arith
 looked-then (y ∷ l) x = omega (arith, looked-then l x)

@@ -46,9 +46,10 @@ pub record FullRuns (room : List ℕ → Room) : Type 0 where
       → (js : List Job) → decodeSheet sheet ≡ jobs js
       → (s : Sizes) (t : Tables) → layOut s t .answer ≡ Laid → (adds work : List HostCall) → FullRun s t adds work
       → Enter js (entered s t adds work) → steps s t adds work ≡ k + refusedLookUps s t adds work
-  -- and there is one, wherever there is room: its adds, run whole in order, and then some work
+  -- and wherever there is room there is one that takes just these: its adds, run whole in order, and then some work
   pub there-is-one : (sheet : List ℕ) (n a k : ℕ) → room sheet ≡ Fits n a k
       → (js : List Job) → decodeSheet sheet ≡ jobs js → (l : List Arguments) → AddsOf js l
       → (s : Sizes) (t : Tables) → layOut s t .answer ≡ Laid → n ≤ s .jobs → a ≤ s .arcs → (w : ℕ) → w < s .workers
       → (work : List HostCall) × FullRun s t (map (λ x. wholeAdd s w x) l) work
       × Enter js (entered s t (map (λ x. wholeAdd s w x) l) work)
+      × (steps s t (map (λ x. wholeAdd s w x) l) work ≡ k)

@@ -88,7 +88,7 @@ tells-room sheet = record {
 
 -- ---- some tables lay out at greatest size: those that just suffice. By their lengths, for sizes that are not yet
 -- numbers: no list of so many words is made
-abbrev blank : Sizes → Tables
+abbrev pub blank : Sizes → Tables
 blank s =
     tables (replicate (need jobShape (s .jobs)) 0) (replicate (need arcShape (s .arcs)) 0)
     (replicate (need bucketShape (2 ^ s .bits)) 0)
@@ -98,7 +98,7 @@ blank s =
 suffices : (n : ℕ) → leb n (length {A = ℕ} (replicate n 0)) ≡ true
 suffices n = le-leb n (length {A = ℕ} (replicate n 0)) (omega (arith, length-replicate {A = ℕ} n 0))
 
-lays-out : (s : Sizes) → withinLimits s ≡ true → layOut s (blank s) .answer ≡ Laid
+pub lays-out : (s : Sizes) → withinLimits s ≡ true → layOut s (blank s) .answer ≡ Laid
 unfolding layOut longEnough
 lays-out s e = rw (
   e,

@@ -1,6 +1,6 @@
 -- WHAT A SHEET COMES TO, of any machine that judges sheets: it is held against the adds themselves, run whole one after
 -- another on tables that were laid out at greatest size. Follows docs/RULES.md, "The room of a sheet".
--- (Wrong/Rooms.antt has machines that do not meet it; by Settled.antt one answer is left.)
+-- (Wrong/ has machines that do not meet it; by Settled.antt one answer is left.)
 use mathlib.Core.Path.{_≡_}
 use mathlib.Core.List.{List, [], _∷_, map}
 use Prim.Native.Nat.{ℕ, suc, _+_, _*_, _≤_, _<_}

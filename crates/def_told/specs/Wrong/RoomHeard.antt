@@ -57,3 +57,22 @@ pub jobs-beside-a-refusal : RoomsHeard jobsBeside → ⊥
 jobs-beside-a-refusal h =
     let z : _≡_ {A = ℕ} 3 0 = h .silent (TurnedAway 3 7 0) Tells.by-7 .of-turned (omega arith) (omega arith) .0 in
     omega arith
+
+-- the offset at which a sheet cannot be read is lost
+abbrev noOffset : Room → SheetRoom
+noOffset (Fits n a k) = sheetRoom (Fits n a k)
+noOffset (TurnedAway i n p) = sheetRoom (TurnedAway i n p)
+noOffset (Unreadable n at) = sheetRoom (Unreadable n 0)
+
+pub offset-not-told : RoomsHeard noOffset → ⊥
+offset-not-told h = let z : _≡_ {A = ℕ} 0 11 = cc (h .heard-as-told (Unreadable 12 11) Tells.by-12) in omega arith
+
+-- a sheet that cannot be read is told as one with an entry turned away: the number is kept, and the offset is its entry
+abbrev offsetAsEntry : Room → SheetRoom
+offsetAsEntry (Fits n a k) = sheetRoom (Fits n a k)
+offsetAsEntry (TurnedAway i n p) = sheetRoom (TurnedAway i n p)
+offsetAsEntry (Unreadable n at) = sheetRoom (TurnedAway at n 0)
+
+pub unreadable-as-turned-away : RoomsHeard offsetAsEntry → ⊥
+unreadable-as-turned-away h =
+    let z : _≡_ {A = ℕ} 10 0 = h .silent (Unreadable 13 10) Tells.by-13 .of-unreadable (omega arith) .0 in omega arith

@@ -122,8 +122,16 @@ pub record Needed (p : Part) : Type 0 where
   pub others : (q : Part) → q ≢ p → Meets adds work q
   pub not-met : stepsOf adds work ≢ stepsDue adds work
 
--- ---- an add that ends after its prerequisite was finished finds it finished, and makes no arc: 10 steps, and not 11
--- where a job is handed out in the first part,
+-- the claim that runs which are full but for that part take the steps of full runs too: such a run refutes it
+abbrev pub TakesWithout : Part → Type 0
+TakesWithout p =
+    (adds work : List HostCall) → ((q : Part) → q ≢ p → Meets adds work q) → stepsOf adds work ≡ stepsDue adds work
+
+not-without : {p : Part} → Needed p → TakesWithout p → ⊥
+not-without n claim = n .not-met (claim (n .adds) (n .work) (n .others))
+
+-- ---- full but for a job that is handed out in the first part: an add that ends after its prerequisite was finished
+-- finds it finished, and makes no arc: 10 steps, and not 11
 abbrev handedSoon : List HostCall
 handedSoon = one-in ∷ asks 0 ∷ ends 0 1 ∷ four-in ∷ []
 
@@ -141,7 +149,10 @@ handed-needed = record { adds = handedSoon; work = restOfIt; others = others; no
     others quiet n = λ w. refl
     others finished n = each-finished (finishesOf handedSoon restOfIt) (jobsEntered handedSoon restOfIt) refl
 
--- where an add is accepted later,
+pub not-without-none-handed : TakesWithout none-handed → ⊥
+not-without-none-handed = not-without handed-needed
+
+-- ---- full but for an add that is accepted in the second part: it finds its prerequisite finished: 10 steps, not 11
 abbrev addedLate : List HostCall
 addedLate = asks 0 ∷ ends 0 1 ∷ four-in ∷ restOfIt
 
@@ -156,7 +167,11 @@ later-needed = record { adds = one-in ∷ []; work = addedLate; others = others;
     others quiet n = λ w. refl
     others finished n = each-finished (finishesOf (one-in ∷ []) addedLate) (jobsEntered (one-in ∷ []) addedLate) refl
 
--- and where an add that entered is half done at the end of the first part
+pub not-without-none-later : TakesWithout none-later → ⊥
+not-without-none-later = not-without later-needed
+
+-- ---- full but for an add that entered and is half done at the end of the first part: it finds its prerequisite
+-- finished when it comes to link it: 10 steps, and not 11
 abbrev entersOnly : List HostCall
 entersOnly = one-in ∷ single (postAdd S 0 four) ∷ steps-on ∷ steps-on ∷ []
 
@@ -179,7 +194,10 @@ adding-needed = record { adds = entersOnly; work = linksLate; others = others; n
         refl refl refl
     others finished n = each-finished (finishesOf entersOnly linksLate) (jobsEntered entersOnly linksLate) refl
 
--- ---- an add that is half done after a look-up: 5 steps, and not 4
+pub not-without-none-adding : TakesWithout none-adding → ⊥
+not-without-none-adding = not-without adding-needed
+
+-- ---- full but for an add that is half done at the end, after a look-up: 5 steps, and not 4
 abbrev looksUpLast : List HostCall
 looksUpLast = asks 0 ∷ ends 0 1 ∷ single (postAdd S 0 four) ∷ steps-on ∷ []
 
@@ -195,7 +213,10 @@ quiet-needed = record { adds = one-in ∷ []; work = looksUpLast; others = other
     others finished n =
         each-finished (finishesOf (one-in ∷ []) looksUpLast) (jobsEntered (one-in ∷ []) looksUpLast) refl
 
--- ---- a job that is never handed out: 2 steps, and not 4
+pub not-without-quiet : TakesWithout quiet → ⊥
+not-without-quiet = not-without quiet-needed
+
+-- ---- full but for a job that is never handed out: 2 steps, and not 4
 pub finished-needed : Needed finished
 unfolding computing
 finished-needed = record { adds = one-in ∷ []; work = []; others = others; not-met = λ e. omega arith }
@@ -206,6 +227,9 @@ finished-needed = record { adds = one-in ∷ []; work = []; others = others; not
     others none-later n = alike (job 1 [] ∷ []) refl refl
     others quiet n = λ w. refl
     others finished n = absurd (n refl)
+
+pub not-without-finished : TakesWithout finished → ⊥
+not-without-finished = not-without finished-needed
 
 -- ---- so each part is needed
 pub needed : (p : Part) → Needed p

@@ -160,8 +160,8 @@ tells-no-place tells =
     let place : _≡_ {A = ℕ} 0 1 = cc in
     omega arith
 
--- ---- 8 at entry 4,096 for each sheet of more entries, though an earlier one is refused: all of them have one name.
--- Nothing here counts to 4,097: the sheet is read back by the round trip, and its second entry is turned away
+-- ---- 8 at entry 4,096 for each sheet of more entries, though an earlier one is refused: by 4,097 entries of one name,
+-- of which the second is turned away. Nothing here counts to 4,097: the sheet is read back by the round trip
 abbrev pub fullFirst : List ℕ → Room
 fullFirst = reading (λ js. pick (ltb 4096 (length js)) (TurnedAway 4096 8 0) (roomFrom [] 0 js))
 
@@ -199,6 +199,5 @@ module _ (n : ℕ) where
       let entry : _≡_ {A = ℕ} 4096 1 = cc in
       omega arith
 
--- 4,097 entries
 pub fills-too-early : ((sheet : List ℕ) → TellsRoom fullFirst sheet) → ⊥
 fills-too-early = full-too-early 4095 (omega arith)
