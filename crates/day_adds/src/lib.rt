@@ -1,5 +1,7 @@
 // Worker 0 adds the entries of a sheet. Follows docs/RULES.md, "The board and the day list". A sheet is read up to the
 // first entry that cannot be read; no line is printed from an offset past day_text's bound on.
+#![tactic(auto)]
+
 ghost use Rattle.std.specs.Prelude.{◌≡◌};
 ghost use Rattle.def_words.specs.Layout.{as_lent, as_left};
 ghost use Rattle.def_day.specs.Rounds.{add_all};
@@ -13,7 +15,7 @@ use def_terms::Sizes;
 use sheet_reader::read;
 
 // Whether an entry was read, and where the next one starts.
-#[derive(Drop)]
+#[derive(Clone, Copy)]
 struct Onward {
     more: bool,
     next: usize,

@@ -1,5 +1,7 @@
 // The first half of a day: the entries are added on a fresh graph, and the first line is printed. Follows
 // docs/RULES.md, "The board and the day list". No line is printed from an offset past day_text's bound on.
+#![tactic(auto)]
+
 ghost use Rattle.std.specs.Prelude.{◌≡◌};
 ghost use Rattle.def_words.specs.Layout.{as_lent, as_left};
 ghost use Rattle.day_text.specs.Page.{page};

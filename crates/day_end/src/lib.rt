@@ -1,6 +1,8 @@
 // The second half of a day: the rounds, their lines and the last line. The hand-outs go into a lent row. Follows
 // docs/RULES.md, "The board and the day list". No line is printed from an offset past day_text's bound on, and none of
 // the hand-outs where the row does not hold all of them.
+#![tactic(auto)]
+
 ghost use Rattle.std.specs.Prelude.{◌≡◌};
 ghost use Rattle.def_words.specs.Layout.{as_lent};
 ghost use Rattle.day_text.specs.Page.{page};

@@ -1,5 +1,7 @@
 // Worker 0 adds an entry of a sheet, run whole, and prints a line if it is refused. Follows docs/RULES.md, "The board
 // and the day list". No line is printed from an offset past day_text's bound on.
+#![tactic(auto)]
+
 ghost use Rattle.std.specs.Prelude.{◌≡◌};
 ghost use Rattle.def_words.specs.Layout.{as_lent, as_left};
 ghost use Rattle.def_sheet_rows.specs.Arguments.{arguments_of};

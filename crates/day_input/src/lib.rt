@@ -1,31 +1,40 @@
 // A whole input, read into a lent buffer. Nothing is promised of the bytes read: they are the system's.
+#![tactic(auto)]
+
 ghost use Rattle.io.specs.Counts.{IsPrefixLen};
 
+use std::io::Read;
+
 // How many bytes were put at the start of a buffer, and whether a read failed.
-#[derive(Drop)]
+#[derive(Clone, Copy)]
 pub struct Input {
     pub failed: bool,
     pub bytes: usize,
 }
 
 // One read.
-fn read_some(fd: i32, buf: &mut [u8]) -> Input
+fn read_some<R: Read>(reader: &mut R, buf: &mut [u8]) -> Input
     ensures { IsPrefixLen result.bytes buf.new }
 {
-    let got = libc::read(fd, buf);
-    Input {
-        failed: got < 0,
-        bytes: io::count(got, buf),
+    match reader.read(buf) {
+        Ok(bytes) => Input {
+            failed: false,
+            bytes,
+        },
+        Err(_) => Input {
+            failed: true,
+            bytes: 0,
+        },
     }
 }
 
-// Reads until the buffer is full, the input ends or a read fails. `io::read_full` does not tell the last two apart.
-pub fn read_whole(fd: i32, buf: &mut [u8]) -> Input
+// Reads until the buffer is full, the input ends or a read fails.
+pub fn read_whole<R: Read>(reader: &mut R, buf: &mut [u8]) -> Input
     ensures { IsPrefixLen result.bytes buf.new }
 {
     let mut bytes = 0;
     while bytes < buf.len() {
-        let more = read_some(fd, &mut buf[bytes..]);
+        let more = read_some(reader, &mut buf[bytes..]);
         if more.failed {
             return Input {
                 failed: true,

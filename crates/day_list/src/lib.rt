@@ -1,4 +1,6 @@
 // The day list: from the bytes of a sheet to the bytes printed. Follows docs/RULES.md, "The board and the day list".
+#![tactic(auto)]
+
 ghost use Rattle.std.specs.Prelude.{◌≡◌, ◌≤◌};
 ghost use Rattle.def_numbers.specs.Numbers.{most_workers};
 ghost use Rattle.def_day_lines.specs.Day.{day_text, printing, day_list};

@@ -1,5 +1,7 @@
 // The day list of two workers, of an input that was read into a buffer. Follows docs/RULES.md, "The board and the day
 // list".
+#![tactic(auto)]
+
 ghost use Rattle.std.specs.Prelude.{◌≡◌, List, ℕ, length, take};
 ghost use Rattle.std.proofs.lemmas.List.Edits.{sets};
 ghost use Rattle.def_day_lines.specs.Day.{day_text};

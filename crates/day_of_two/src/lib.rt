@@ -1,5 +1,7 @@
 // The day list of two workers, in an output that suffices for every sheet: nothing is refused. Follows docs/RULES.md,
 // "The board and the day list" (R 256, A 1,024, b 4, P 2).
+#![tactic(auto)]
+
 ghost use Rattle.std.specs.Prelude.{◌≡◌, List, ℕ, length};
 ghost use Rattle.std.proofs.lemmas.List.Edits.{sets};
 ghost use Rattle.def_day_lines.specs.Day.{day_text};

@@ -1,5 +1,7 @@
 // The rounds of a day: the hand-outs are stored in a lent row, two words for each, its name and its worker. Follows
 // docs/RULES.md, "The board and the day list". A hand-out past the row's end is not stored.
+#![tactic(auto)]
+
 ghost use Rattle.std.specs.Prelude.{◌≡◌, ◌+◌, ◌^◌, ◌≤◌};
 ghost use Rattle.def_numbers.specs.Numbers.{most_workers};
 ghost use Rattle.def_words.specs.Layout.{as_lent, as_left};

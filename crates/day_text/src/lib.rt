@@ -1,5 +1,7 @@
 // The lines of the day list, printed into a lent output from an offset on. Follows docs/RULES.md, "The board and the
 // day list".
+#![tactic(auto)]
+
 ghost use Rattle.std.specs.Prelude.{◌≡◌, [], ◌∷◌, ◌+◌, ◌≤◌, ◌%◌, length, set, drop};
 ghost use Rattle.def_day_lines.specs.Text.{decimal, jobs_word, workers_word, left_word, refused_word, broken_word, ◌␣◌};
 ghost use Rattle.def_day_lines.specs.Text.{line};

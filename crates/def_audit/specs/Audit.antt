@@ -11,7 +11,7 @@ use Rattle.def_terms.specs.Cases.{if_handed}
 use Rattle.def_terms.specs.declared.Sizes.{Sizes}
 use Rattle.def_terms.specs.declared.HandOut.{HandOut}
 use Rattle.def_terms.specs.declared.Answer.{Answer}
-use Rattle.def_terms.specs.declared.Answer.TheVariants.{Ended, NoneReady, Handed, Refused}
+use Rattle.def_terms.specs.declared.Answer.TheVariants.{NoneReady, Handed, Refused}
 use Rattle.def_book.specs.Book.{finish, accepted}
 use Rattle.def_book.specs.Book as book
 use Rattle.def_call_order.specs.Calls.{Reading, unread, idle, Quiet, accepted_adds, accepted_finishes}

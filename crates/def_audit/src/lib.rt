@@ -1,1 +1,2 @@
 // Definitions alone: specs/ has the auditor's question, by calls and replies; wrong machines, each refuted.
+#![tactic(auto)]

@@ -1,1 +1,2 @@
 // The reference model stands in specs/.
+#![tactic(auto)]

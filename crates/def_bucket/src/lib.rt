@@ -1,5 +1,7 @@
 // The bucket of a name. Follows docs/RULES.md, "Tables and their measures": "The bucket of a name is the top b bits of
 // its product with 2654435769, kept to 32 bits".
+#![tactic(auto)]
+
 ghost use Rattle.std.specs.Prelude.{◌≡◌};
 ghost use Rattle.def_bucket.specs.Bucket.{product_of, bucket_of};
 

@@ -1,6 +1,6 @@
 -- The whole calls of a history, read off its items and their answers alone: per worker the posted call and how many of
 -- its steps were answered ("Deciding steps", "The plain book").
-use Rattle.std.specs.Prelude.{◌≡◌, Bool, true, false, ◌&&◌, ◌||◌, not, List, [], ◌∷◌, ◌++◌, ℕ, suc, ◌+◌, ltb, leb, eqb}
+use Rattle.std.specs.Prelude.{◌≡◌, Bool, true, false, ◌&&◌, ◌||◌, not, List, [], ◌∷◌, ◌++◌, ℕ, suc, ltb, leb, eqb}
 use Rattle.def_numbers.specs.Numbers.{damaged}
 use Rattle.def_basics.specs.Base.{pick, update}
 use Rattle.def_minutes.specs.Minutes.{fixed_minutes}

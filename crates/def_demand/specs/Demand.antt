@@ -1,6 +1,6 @@
 -- Demand 3: what is claimed of every list of items, of any machine that answers items and shows what is looked at in
 -- its state. Read with docs/RULES.md, "Steps" and "The plain book". (Wrong/ has machines that do not meet it.)
-use Rattle.std.specs.Prelude.{◌≡◌, ◌↔◌, Bool, true, false, ◌||◌, List, [], ◌∷◌, ℕ, ◌-◌, ◌≤◌, ◌<◌, ltb, leb, eqb, length, get_or}
+use Rattle.std.specs.Prelude.{◌≡◌, ◌↔◌, Bool, true, false, ◌||◌, List, [], ◌∷◌, ℕ, ◌≤◌, ◌<◌, ltb, leb, eqb, length, get_or}
 use Rattle.std.proofs.Math.Option.{none}
 use Rattle.def_numbers.specs.Numbers.{wrong_size, no_such_worker, half_done, worker_idle, wrong_minutes, jobs_entered}
 use Rattle.def_basics.specs.Base.{pick, contains, occurrences}

@@ -1,1 +1,2 @@
 // What the board answers of the graph's own jobs stands in specs/.
+#![tactic(auto)]

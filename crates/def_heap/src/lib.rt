@@ -1,5 +1,7 @@
 // Where a number that moves through a heap comes to rest, or that it met a slot whose number may not be there.
-#[derive(Drop)]
+#![tactic(auto)]
+
+#[derive(Clone, Copy)]
 pub enum Sifted {
     Rests { slot: u32 },
     Astray,
@@ -7,7 +9,7 @@ pub enum Sifted {
 
 // The rank of a number in a heap, of which the lowest goes first: the greater weight has the lower rank, and of equal
 // weights the smaller name.
-#[derive(Drop)]
+#[derive(Clone, Copy)]
 pub struct Rank {
     pub weight: u32,
     pub name: u32,

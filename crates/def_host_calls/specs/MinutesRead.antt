@@ -10,7 +10,7 @@ use Rattle.def_terms.specs.Runs.{Item, post_add, post_finish, step, Result, afte
 use Rattle.def_terms.specs.declared.Sizes.{Sizes}
 use Rattle.def_terms.specs.declared.Answer.{Answer}
 use Rattle.def_terms.specs.declared.Answer.TheVariants.{Laid, Loaded, Posted, Going, Ended, NoneReady, Handed, Refused}
-use Rattle.def_call_order.specs.Calls.{minutes_on}
+use Rattle.def_call_order.specs.Calls.{note_minutes, minutes_on}
 use Rattle.def_host_calls.specs.HostCalls.{HostCall, single, whole_add, whole_finish, sheet, where_going, steps_made}
 use Rattle.def_host_calls.specs.HostCalls.{call_made, add_made, adds_made, sheet_worth, worth, reply_worth}
 use Rattle.def_host_calls.specs.CallsDemand.{note_load}
@@ -22,7 +22,7 @@ module _ {S : Type 0} (perform : S → Item → Result S) where
       ≡ minutes_on (minutes_on m (events perform x is)) (events perform (after perform x is) js)
   unfolding minutes_on events after
   minutes_joined m [] js x = refl
-  minutes_joined m (i ∷ is) js x = minutes_joined _ is js (perform x i).state
+  minutes_joined m (i ∷ is) js x = minutes_joined (note_minutes m i (perform x i).answer) is js (perform x i).state
 
   -- no items, or those of which nothing is read
   where_going_lem : (y : Answer) (m : List ℕ) (is : List Item) (x : S) → minutes_on m (events perform x is) ≡ m

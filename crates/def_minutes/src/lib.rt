@@ -1,5 +1,7 @@
 // The minutes of a job by its class, and whether a table of minutes may stand in place of the fixed ones. Follows
 // docs/RULES.md, "Tables and their measures" ("Minutes by class") and "A district's minutes".
+#![tactic(auto)]
+
 ghost use Rattle.std.specs.Prelude.{◌≡◌, length};
 ghost use Rattle.def_minutes.specs.Minutes.{minutes_in, fixed_minutes};
 ghost use Rattle.def_minutes.specs.Rising.{is_rising};
@@ -9,7 +11,7 @@ use def_numbers::{CLASSES, MOST_MINUTES};
 
 // The minutes of all classes. The number is 0 where they are served. Else it is the refusal's, and all minutes are 0.
 #[repr(C)]
-#[derive(Drop)]
+#[derive(Clone, Copy)]
 pub struct GraphMinutes {
     pub number: u32,
     pub minutes: [u32; 16],

@@ -1,6 +1,7 @@
 // Every number that the header names, each once: refusals, limits, sizes, and the kinds of answers, with the values of
 // specs/Numbers. Follows docs/RULES.md ("Turned-away calls", "Tables and their measures"), docs/SHEETS.md and
 // docs/NUMBERS.md.
+#![tactic(auto)]
 
 // ---- refusals; the list starts at 1, so 0 says that nothing was refused
 

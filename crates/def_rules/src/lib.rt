@@ -1,1 +1,2 @@
 // The rules of the task graph stand in specs/.
+#![tactic(auto)]

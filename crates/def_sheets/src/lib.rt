@@ -1,9 +1,10 @@
 // The types of the job sheet's reader and writer. What they mean, and the theorems about sheets, stand in specs/.
+#![tactic(auto)]
 
 // An entry of a sheet: a job as a grower writes it. Names past the count are 0 in an entry that was read and ignored on
 // writing.
 #[repr(C)]
-#[derive(Drop)]
+#[derive(Clone, Copy)]
 pub struct Entry {
     pub name: u32,
     pub count: u32,
@@ -13,14 +14,14 @@ pub struct Entry {
 }
 
 // A field that was read, with the offset past it, or a refusal with its offset.
-#[derive(Drop)]
+#[derive(Clone, Copy)]
 pub enum Field {
     Got { value: u32, next: usize },
     Refused { number: u32, at: usize },
 }
 
 // The numbers of an entry without its list, with the offset past it.
-#[derive(Drop)]
+#[derive(Clone, Copy)]
 pub enum Scan {
     Fields {
         name: u32,
@@ -37,7 +38,7 @@ pub enum Scan {
 }
 
 // How reading an entry ended. Offsets run from the sheet's start.
-#[derive(Drop)]
+#[derive(Clone, Copy)]
 pub enum Read {
     Job { next: usize },
     End,
@@ -45,28 +46,28 @@ pub enum Read {
 }
 
 // The answer, with the entry beside it: all 0 unless a job was read.
-#[derive(Drop)]
+#[derive(Clone, Copy)]
 pub struct Reading {
     pub answer: Read,
     pub entry: Entry,
 }
 
 // How writing an entry ended. A refusal's offset runs from the entry's start.
-#[derive(Drop)]
+#[derive(Clone, Copy)]
 pub enum Wrote {
     Done { next: usize },
     Refused { number: u32, at: usize },
 }
 
 // How reading a whole sheet ended.
-#[derive(Drop)]
+#[derive(Clone, Copy)]
 pub enum SheetRead {
     Whole { entries: usize },
     Refused { number: u32, at: usize },
 }
 
 // How writing a whole sheet ended. A refusal names the entry, and its offset runs from that entry's start.
-#[derive(Drop)]
+#[derive(Clone, Copy)]
 pub enum SheetWrote {
     Done {
         entries: usize,

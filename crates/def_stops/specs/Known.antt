@@ -1,6 +1,6 @@
 -- A worker that is not there is never answered 9, so that none of its words need be read to tell whether damage stopped
 -- its call. Follows docs/RULES.md, "Turned-away calls".
-use Rattle.std.specs.Prelude.{◌≡◌, ◌≢◌, Bool, ℕ, eqb, ltb}
+use Rattle.std.specs.Prelude.{◌≡◌, ◌≢◌, Bool, ℕ, ltb}
 use Rattle.std.proofs.Math.Path.{refl}
 use Rattle.std.proofs.Math.Bool.{true, false}
 use Rattle.std.proofs.Common.{arith, ne_eqb}

@@ -1,6 +1,6 @@
 -- Which entry of a sheet damage stopped half done, and so all that C is told of a sheet. Follows docs/RULES.md, "Whole
 -- calls".
-use Rattle.std.specs.Prelude.{Bool, List, [], ◌∷◌, ℕ, suc, eqb}
+use Rattle.std.specs.Prelude.{List, [], ◌∷◌, ℕ, suc, eqb}
 use Rattle.def_basics.specs.Base.{pick}
 use Rattle.def_terms.specs.Terms.{Arguments}
 use Rattle.def_terms.specs.Runs.{Result}

@@ -1,4 +1,6 @@
 // The vocabulary of the task graph: sizes and answers. What a call's arguments mean stands in specs/.
+#![tactic(auto)]
+
 ghost use Rattle.std.specs.Prelude.{◌≡◌};
 ghost use Rattle.def_terms.specs.Terms.{bit};
 
@@ -11,7 +13,7 @@ pub fn bit(test: bool) -> u32
 
 // R jobs, A arcs, b bucket bits and P workers of docs/RULES.md.
 #[repr(C)]
-#[derive(Drop)]
+#[derive(Clone, Copy)]
 pub struct Sizes {
     pub jobs: u32,
     pub arcs: u32,
@@ -20,7 +22,7 @@ pub struct Sizes {
 }
 
 // What a get hands out: the job's number and its name, and whether it is spoiled.
-#[derive(Drop)]
+#[derive(Clone, Copy)]
 pub struct HandOut {
     pub job: u32,
     pub name: u32,
@@ -28,7 +30,7 @@ pub struct HandOut {
 }
 
 // What a call or a step answers.
-#[derive(Drop)]
+#[derive(Clone, Copy)]
 pub enum Answer {
     // The tables were laid out.
     Laid,

@@ -1,5 +1,4 @@
 -- The struct of the C interface for the day list: for each case of an answer the number and the bytes.
-use Rattle.std.specs.Prelude.{ℕ}
 use Rattle.def_numbers.specs.Numbers.{accepted}
 use Rattle.def_day_lines.specs.declared.DayAnswer.{DayAnswer}
 use Rattle.def_told.specs.declared.DayPrinted.{DayPrinted}

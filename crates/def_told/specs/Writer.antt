@@ -1,6 +1,5 @@
 -- The structs of the C interface for writing job sheets: for each case of an answer the number and the values that
 -- docs/RULES.md, "Turned-away calls" and "Job sheets", has for it. What does not belong to a case is 0.
-use Rattle.std.specs.Prelude.{ℕ}
 use Rattle.def_numbers.specs.Numbers.{accepted}
 use Rattle.def_sheets.specs.declared.Wrote.{Wrote}
 use Rattle.def_sheets.specs.declared.SheetWrote.{SheetWrote}

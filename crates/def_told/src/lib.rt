@@ -1,11 +1,13 @@
 // The structs that C is handed of sheets, of the day list and of the words that tables need; include/taskgraph.h
 // declares them. specs/ has what each tells, and that it can be read back. Follows docs/RULES.md and docs/SHEETS.md.
+#![tactic(auto)]
+
 use def_sheets::Entry;
 
 // What stands at an offset of a sheet: found is 1 for a job, at the offset past it; number and found are 0 at the end
 // of the sheet.
 #[repr(C)]
-#[derive(Drop)]
+#[derive(Clone, Copy)]
 pub struct EntryRead {
     pub number: u32,
     pub found: u32,
@@ -15,7 +17,7 @@ pub struct EntryRead {
 
 // How many entries a sheet has, or a refusal with its offset.
 #[repr(C)]
-#[derive(Drop)]
+#[derive(Clone, Copy)]
 pub struct SheetScanned {
     pub number: u32,
     pub entries: usize,
@@ -24,7 +26,7 @@ pub struct SheetScanned {
 
 // Where the entry ends in the output, or a refusal with the offset of its field from the entry's start.
 #[repr(C)]
-#[derive(Drop)]
+#[derive(Clone, Copy)]
 pub struct EntryWritten {
     pub number: u32,
     pub at: usize,
@@ -33,7 +35,7 @@ pub struct EntryWritten {
 // How many entries and bytes were written, or a refusal with the entry's number and the offset of its field from the
 // entry's start.
 #[repr(C)]
-#[derive(Drop)]
+#[derive(Clone, Copy)]
 pub struct SheetWritten {
     pub number: u32,
     pub entry: usize,
@@ -43,7 +45,7 @@ pub struct SheetWritten {
 // What a sheet comes to: its jobs, its arcs and the steps of a full run; the first entry turned away, with the place in
 // its list; or a refusal with its offset.
 #[repr(C)]
-#[derive(Drop)]
+#[derive(Clone, Copy)]
 pub struct SheetRoom {
     pub number: u32,
     pub entry: u32,
@@ -56,7 +58,7 @@ pub struct SheetRoom {
 
 // How many bytes the day list printed, or a refusal.
 #[repr(C)]
-#[derive(Drop)]
+#[derive(Clone, Copy)]
 pub struct DayPrinted {
     pub number: u32,
     pub bytes: usize,
@@ -64,7 +66,7 @@ pub struct DayPrinted {
 
 // How many words each table must have, or the number that refuses the sizes.
 #[repr(C)]
-#[derive(Drop)]
+#[derive(Clone, Copy)]
 pub struct Need {
     pub number: u32,
     pub jobs: usize,

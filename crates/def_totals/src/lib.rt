@@ -1,10 +1,12 @@
 // The board of totals, and a row of records: how many jobs stand under each label, and the sum of their minutes.
 // docs/RULES.md, "The board and the day list"; specs/Board.antt has the definitions.
+#![tactic(auto)]
+
 ghost use Rattle.std.specs.Prelude.{◌≡◌};
 ghost use Rattle.def_totals.specs.Board.{refused};
 
 #[repr(C)]
-#[derive(Drop)]
+#[derive(Clone, Copy)]
 pub struct JobRecord {
     pub label: u32,
     pub class: u32,
@@ -13,7 +15,7 @@ pub struct JobRecord {
 // The number is 0 for a row that is served. Else it is the refusal's, and all else is 0. Jobs and minutes are indexed
 // by label: unexecuted, executing, finished.
 #[repr(C)]
-#[derive(Drop)]
+#[derive(Clone, Copy)]
 pub struct Totals {
     pub number: u32,
     pub jobs: [u32; 3],

@@ -2,7 +2,7 @@
 -- fresh graph.
 use Rattle.std.specs.Prelude.{Bool, ◌&&◌, List, [], ◌∷◌, ◌++◌, ℕ, zero, suc, ◌+◌, ◌*◌, ◌^◌, leb, eqb, length, replicate}
 use Rattle.std.proofs.lemmas.List.Edits.{sets}
-use Rattle.std.specs.Borrow.{Bor}
+use Rattle.std.specs.Borrow.{MutBor}
 use denote.Triple.Both.{Both}
 use Rattle.def_numbers.specs.Numbers.{most_names, classes}
 use Rattle.def_minutes.specs.Minutes.{fixed_minutes}
@@ -185,12 +185,12 @@ abbrev pub tables : List ℕ → List ℕ → List ℕ → List ℕ → List ℕ
 tables j a b q w = record { jobs = j; arcs = a; buckets = b; queue = q; workers = w }
 
 -- the tables behind the references that a call is lent
-abbrev pub lent : Bor (List ℕ) → Bor (List ℕ) → Bor (List ℕ) → Bor (List ℕ) → Bor (List ℕ) → Tables
+abbrev pub lent : MutBor (List ℕ) → MutBor (List ℕ) → MutBor (List ℕ) → MutBor (List ℕ) → MutBor (List ℕ) → Tables
 lent j a b q w = tables j.now a.now b.now q.now w.now
 
 -- a lent table, as a contract names it: what is lent as the call begins, and as it ends
 abbrev pub Lent : Type 0
-Lent = Both (Bor (List ℕ)) (Bor (List ℕ))
+Lent = Both (MutBor (List ℕ)) (MutBor (List ℕ))
 
 -- the tables as a call begins, and as it ends
 abbrev pub as_lent : Lent → Lent → Lent → Lent → Lent → Tables

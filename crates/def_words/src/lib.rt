@@ -1,9 +1,11 @@
 // What a call plans to do with the tables: it first reads and judges, and stores only once nothing is left to refuse.
 // What each plan means stands in specs/.
+#![tactic(auto)]
+
 use def_terms::HandOut;
 
 // Where a bucket's walk ended: at the job of the name, at the bucket's end, or at a damaged word.
-#[derive(Drop)]
+#[derive(Clone, Copy)]
 pub enum Found {
     At { job: u32 },
     Missing,
@@ -12,7 +14,7 @@ pub enum Found {
 
 // A cell of the queue that is filled or emptied, and what moves in the index: the last filled slot, and the slot where
 // the cell that moves comes to rest.
-#[derive(Drop)]
+#[derive(Clone, Copy)]
 pub struct Seat {
     pub cell: u32,
     pub last: u32,
@@ -20,14 +22,14 @@ pub struct Seat {
 }
 
 // Where a job is put in the queue and the index, or that a word read there is damaged.
-#[derive(Drop)]
+#[derive(Clone, Copy)]
 pub enum Seating {
     Seated { seat: Seat },
     Unseated,
 }
 
 // What a step is to do.
-#[derive(Drop)]
+#[derive(Clone, Copy)]
 pub enum Plan {
     // A refusal that changes nothing.
     Refuse {
@@ -93,7 +95,7 @@ pub enum Plan {
 }
 
 // What a get is to do.
-#[derive(Drop)]
+#[derive(Clone, Copy)]
 pub enum GetPlan {
     RefuseGet { number: u32 },
     Wait,

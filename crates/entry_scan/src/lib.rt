@@ -1,6 +1,8 @@
 // The entry at an offset of a job sheet, its fields read one after the other and judged (docs/SHEETS.md and numbers 12
 // to 14): each answer is the one that the definitions of def_sheets give, for all bytes and every
 // offset.
+#![tactic(auto)]
+
 ghost use Rattle.std.specs.Prelude.{◌≡◌, ◌&&◌, ◌||◌, List, ℕ, ◌+◌, ◌*◌, ◌≤◌, length, leb, eqb};
 ghost use Rattle.def_numbers.specs.Numbers.{name_bytes};
 ghost use Rattle.def_sheets.specs.Decode.{name_at, list_at, if_bit, decode, scan_of};

@@ -1,6 +1,8 @@
 // An add of an idle worker in one go: all look-ups, the entering, all links by the jobs that were found, settling; the
 // worker's words are stored once, at the end. Follows docs/RULES.md, "Steps" and "Turned-away calls". Nothing is
 // required: the definition holds of all tables and arguments.
+#![tactic(auto)]
+
 ghost use Rattle.std.specs.Prelude.{◌≡◌};
 ghost use Rattle.def_terms.specs.Runs.{result_of};
 ghost use Rattle.def_words.specs.Layout.{as_lent, as_left};

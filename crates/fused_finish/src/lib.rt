@@ -1,5 +1,7 @@
 // A finish of an idle worker in one go: the mark, then each notice, and the worker's words stored once, at the end.
 // Follows docs/RULES.md, "Steps" and "Turned-away calls". Nothing is required: the definition holds of all tables.
+#![tactic(auto)]
+
 ghost use Rattle.std.specs.Prelude.{◌≡◌};
 ghost use Rattle.def_terms.specs.Terms.{finish_of};
 ghost use Rattle.def_terms.specs.Runs.{result_of};

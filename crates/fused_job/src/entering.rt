@@ -16,7 +16,7 @@ use graph_words::{bucket_word, header, put_bucket, put_header};
 use graph_worker_words::sum;
 
 // The job that entered, and the first arc that it reserved.
-#[derive(Drop)]
+#[derive(Clone, Copy)]
 pub struct NewJob {
     pub job: u32,
     pub arc: u32,

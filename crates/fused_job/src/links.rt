@@ -19,7 +19,7 @@ use graph_worker_words::note_of;
 
 // What came of a link: whether its words were sound, how many finished prerequisites it met, 0 or 1, and the outcome of
 // that one, which is 0 where it met none.
-#[derive(Drop)]
+#[derive(Clone, Copy)]
 pub struct Link {
     pub sound: bool,
     pub tallied: u32,
@@ -28,7 +28,7 @@ pub struct Link {
 
 // What came of the links: the place reached, the finished prerequisites, whether one of them failed, and whether all
 // words were sound.
-#[derive(Drop)]
+#[derive(Clone, Copy)]
 pub struct Linked {
     pub place: u32,
     pub tally: u32,

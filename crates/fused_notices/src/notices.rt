@@ -16,7 +16,7 @@ use graph_words::layout::*;
 use graph_words::put_count;
 
 // What came of a notice: the next arc or none, or a damaged word, for which nothing was stored.
-#[derive(Drop)]
+#[derive(Clone, Copy)]
 pub enum Told {
     Next { arc: u32 },
     Halt,
@@ -24,7 +24,7 @@ pub enum Told {
 
 // How the notices ended: after the last arc, at a damaged word with the arc that is left, or after as many arcs as
 // there can be, which only a damaged list has.
-#[derive(Drop)]
+#[derive(Clone, Copy)]
 pub enum Ending {
     Done,
     Broken { arc: u32 },

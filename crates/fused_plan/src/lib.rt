@@ -1,6 +1,8 @@
 // What an add is to do, read from the tables before anything is stored: what its post is refused by, then its look-ups,
 // its own name and the room. Follows docs/RULES.md, "Steps" and "Turned-away calls". Each definition holds of all
 // tables and arguments.
+#![tactic(auto)]
+
 ghost use Rattle.std.specs.Prelude.{◌≡◌, List, ℕ, ◌≤◌, length};
 ghost use Rattle.def_numbers.specs.Numbers.{most_names};
 ghost use Rattle.def_basics.specs.Base.{prefix};

@@ -1,6 +1,8 @@
 // The stores of a plan, by its kind. Follows docs/RULES.md, "Steps" and "Tables and their measures". Nothing is
 // required of a table, a worker or a plan; where a counter would pass the largest word, which no plan of sound sizes
 // asks, nothing is promised.
+#![tactic(auto)]
+
 ghost use Rattle.std.specs.Prelude.{◌≡◌, List, ℕ};
 ghost use Rattle.def_words.specs.Layout.{tables, as_lent, as_left, view};
 ghost use Rattle.def_words.specs.Words.{applied};

@@ -1,4 +1,6 @@
 // The arguments of an add: whether they are turned away with number 5. Follows docs/RULES.md, "Turned-away calls".
+#![tactic(auto)]
+
 ghost use Rattle.std.specs.Prelude.{◌≡◌, ◌≤◌, drop};
 ghost use Rattle.def_numbers.specs.Numbers.{most_names};
 ghost use Rattle.def_basics.specs.Base.{contains, repeats, prefix};

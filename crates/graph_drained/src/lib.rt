@@ -1,8 +1,10 @@
 // Whether the graph is drained: it reads the tables, and stores nothing.
 // Follows docs/RULES.md, "Tables and their measures" and "Turned-away calls".
+#![tactic(auto)]
+
 ghost use Rattle.std.specs.Prelude.{◌≡◌, true};
 ghost use Rattle.def_words.specs.Columns.{columns};
-ghost use Rattle.def_words.specs.Layout.{worker_shape, lent, as_lent, view, sizes_fit};
+ghost use Rattle.def_words.specs.Layout.{worker_shape, view, sizes_fit, tables};
 ghost use Rattle.def_words.specs.Words.{own_ok};
 ghost use Rattle.def_worker_state.specs.Drained.{every, free, judged, drained_words};
 
@@ -23,8 +25,8 @@ fn all_sound(
     queue: &[u32],
     workers: &[u32],
 ) -> bool
-    requires { sizes_fit sizes (lent jobs arcs buckets queue workers) ≡ true }
-    ensures { result ≡ every (own_ok sizes (view (as_lent jobs arcs buckets queue workers))) sizes.workers }
+    requires { sizes_fit sizes (tables jobs.now arcs.now buckets.now queue.now workers.now) ≡ true }
+    ensures { result ≡ every (own_ok sizes (view (tables jobs.now arcs.now buckets.now queue.now workers.now))) sizes.workers }
 {
     let mut sound = true;
     let mut worker = 0;
@@ -75,7 +77,7 @@ pub fn drained(
     queue: &[u32],
     workers: &[u32],
 ) -> Drained
-    ensures { result ≡ drained_words sizes (as_lent jobs arcs buckets queue workers) }
+    ensures { result ≡ drained_words sizes (tables jobs.now arcs.now buckets.now queue.now workers.now) }
 {
     let fit = sizes_fit(sizes, jobs, arcs, buckets, queue, workers);
     if fit {

@@ -1,6 +1,8 @@
 // The job of a name: the walk along the name's bucket. Follows docs/RULES.md, "Tables and their measures" and, for
 // number 9, "Turned-away calls". Nothing is required of a table: the walk passes at most as many jobs as were made, and
 // says where it met a damaged word.
+#![tactic(auto)]
+
 ghost use Rattle.std.specs.Prelude.{◌≡◌, List, ℕ};
 ghost use Rattle.def_words.specs.Columns.{columns};
 ghost use Rattle.def_words.specs.Layout.{job_shape, tables, view};

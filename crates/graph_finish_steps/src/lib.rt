@@ -1,5 +1,7 @@
 // What the steps of a finish plan: the mark, and the notice along each arc. Follows docs/RULES.md, "Steps" and
 // "Turned-away calls". Each definition holds of all tables, and where a table is not read the contract holds with any.
+#![tactic(auto)]
+
 ghost use Rattle.std.specs.Prelude.{◌≡◌, List, ℕ};
 ghost use Rattle.def_words.specs.Layout.{tables, view};
 ghost use Rattle.def_words.specs.Words.{plan_mark, plan_notify, with_seat};

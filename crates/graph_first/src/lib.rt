@@ -1,6 +1,8 @@
 // The index beside the queue, read by a get: where the last cell comes to rest once the first is taken, and how many
 // pairs of ranks are compared for that. Follows docs/RULES.md, "Tables and their measures". Each definition holds of
 // all tables, and where a table is not read the contract holds with any.
+#![tactic(auto)]
+
 ghost use Rattle.std.specs.Prelude.{◌≡◌, List, ℕ, ◌≤◌, ◌<◌, length};
 ghost use Rattle.def_heap.specs.Compared.{pairs_down};
 ghost use Rattle.def_heap.specs.Sift.{left, sift_down};
@@ -16,21 +18,21 @@ use graph_words::layout::*;
 use graph_words::{header, less, queue_word};
 
 // What is met in the slots below a slot, and how many pairs of ranks were compared there: one, or none.
-#[derive(Drop)]
+#[derive(Clone, Copy)]
 struct Met {
     looked: Looked,
     compared: u32,
 }
 
 // How a way down ended, and how many pairs of ranks were compared on it.
-#[derive(Drop)]
+#[derive(Clone, Copy)]
 struct Moved {
     sifted: Sifted,
     compared: u32,
 }
 
 // The seat of the job that is handed out next, and how many pairs of ranks were compared to find it.
-#[derive(Drop)]
+#[derive(Clone, Copy)]
 pub struct FirstSeat {
     pub seating: Seating,
     pub compared: u32,

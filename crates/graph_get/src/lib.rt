@@ -1,5 +1,7 @@
 // A get over five lent tables: planned, stored, answered. Follows docs/RULES.md, "Steps" and "Turned-away calls".
 // Nothing is required: a get answers for all tables.
+#![tactic(auto)]
+
 ghost use Rattle.std.specs.Prelude.{◌≡◌};
 ghost use Rattle.def_terms.specs.Runs.{result_of};
 ghost use Rattle.def_words.specs.Layout.{as_lent, as_left};

@@ -1,7 +1,9 @@
 // What a worker holds, and the call that it has half done: it reads the tables, and stores nothing.
 // Follows docs/RULES.md, "Tables and their measures" and "Turned-away calls".
+#![tactic(auto)]
+
 ghost use Rattle.std.specs.Prelude.{◌≡◌, List, ℕ};
-ghost use Rattle.def_words.specs.Layout.{tables, as_lent, view};
+ghost use Rattle.def_words.specs.Layout.{tables, view};
 ghost use Rattle.def_worker_state.specs.Held.{call_of, adds_of, refused, holding_of, counted, held_words};
 
 use def_numbers::*;
@@ -107,7 +109,7 @@ pub fn held(
     workers: &[u32],
     worker: u32,
 ) -> Holding
-    ensures { result ≡ held_words sizes (as_lent jobs arcs buckets queue workers) worker }
+    ensures { result ≡ held_words sizes (tables jobs.now arcs.now buckets.now queue.now workers.now) worker }
 {
     let fit = sizes_fit(sizes, jobs, arcs, buckets, queue, workers);
     if fit {

@@ -1,6 +1,8 @@
 // The index beside the queue, read: where the cell of a job that enters comes to rest in it. Follows docs/RULES.md,
 // "Tables and their measures". Each definition holds of all tables, and where a table is not read the contract holds
 // with any.
+#![tactic(auto)]
+
 ghost use Rattle.std.specs.Prelude.{◌≡◌, List, ℕ};
 ghost use Rattle.def_heap.specs.Sift.{sift_up};
 ghost use Rattle.def_words.specs.Layout.{tables, view};
@@ -15,7 +17,7 @@ use graph_words::layout::*;
 use graph_words::{header, job_word, less, queue_word};
 
 // A slot that is looked at: the rank of its cell, or that it holds no waiting job's.
-#[derive(Drop)]
+#[derive(Clone, Copy)]
 pub enum Looked {
     Ranked { slot: u32, rank: u64 },
     Damaged,

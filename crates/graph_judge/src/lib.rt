@@ -1,12 +1,14 @@
 // What turns the posts of an add and of a finish away: it reads and judges, and stores nothing. Follows docs/RULES.md,
 // "Turned-away calls". Each definition holds of all tables and arguments. The tests that come first stand in both as in
 // a step: docs/DECISIONS.md, 43.
+#![tactic(auto)]
+
 ghost use Rattle.std.specs.Prelude.{◌≡◌, List, ℕ, eqb};
 ghost use Rattle.def_numbers.specs.Numbers.{half_done, wrong_arguments, damaged};
 ghost use Rattle.def_basics.specs.Base.{pick};
 ghost use Rattle.def_terms.specs.Terms.{arguments_wrong, finish_of};
 ghost use Rattle.def_words.specs.Columns.{columns};
-ghost use Rattle.def_words.specs.Layout.{worker_shape, PHASE, IDLE, tables, as_lent, view};
+ghost use Rattle.def_words.specs.Layout.{worker_shape, PHASE, IDLE, tables, view};
 ghost use Rattle.def_words.specs.Words.{admitted, refusal, judged_add, judged_outcome, judged_finish};
 ghost use Rattle.def_sheet_rows.specs.Arguments.{arguments_of};
 
@@ -61,8 +63,8 @@ pub fn judge_add(
     worker: u32,
     entry: Entry,
 ) -> u32
-    ensures { result ≡ admitted sizes (as_lent jobs arcs buckets queue workers) worker refusal
-        (judged_add sizes (view (as_lent jobs arcs buckets queue workers)) worker (arguments_of entry)) }
+    ensures { result ≡ admitted sizes (tables jobs.now arcs.now buckets.now queue.now workers.now) worker refusal
+        (judged_add sizes (view (tables jobs.now arcs.now buckets.now queue.now workers.now)) worker (arguments_of entry)) }
 {
     let fit = sizes_fit(sizes, jobs, arcs, buckets, queue, workers);
     if fit {
@@ -145,8 +147,8 @@ pub fn judge_finish(
     name: u32,
     failed: bool,
 ) -> u32
-    ensures { result ≡ admitted sizes (as_lent jobs arcs buckets queue workers) worker refusal
-        (judged_finish sizes (view (as_lent jobs arcs buckets queue workers)) worker (finish_of name failed)) }
+    ensures { result ≡ admitted sizes (tables jobs.now arcs.now buckets.now queue.now workers.now) worker refusal
+        (judged_finish sizes (view (tables jobs.now arcs.now buckets.now queue.now workers.now)) worker (finish_of name failed)) }
 {
     let fit = sizes_fit(sizes, jobs, arcs, buckets, queue, workers);
     if fit {

@@ -1,5 +1,7 @@
 // How long the five tables must be for given sizes, and laying them out for a fresh graph. Follows docs/RULES.md,
 // "Tables and their measures" and "Turned-away calls". Nothing is required: both answer for all sizes and tables.
+#![tactic(auto)]
+
 ghost use Rattle.std.specs.Prelude.{◌≡◌};
 ghost use Rattle.def_terms.specs.Runs.{result_of};
 ghost use Rattle.def_words.specs.Layout.{as_lent, as_left};

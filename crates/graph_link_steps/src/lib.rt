@@ -1,7 +1,9 @@
 // What the last steps of an add plan: the links and the settling. Follows docs/RULES.md, "Steps" and "Turned-away
 // calls". Each definition holds of all tables, and where a table is not read the contract holds with any.
+#![tactic(auto)]
+
 ghost use Rattle.std.specs.Prelude.{◌≡◌, List, ℕ};
-ghost use Rattle.def_words.specs.Layout.{tables, as_lent, view};
+ghost use Rattle.def_words.specs.Layout.{tables, view};
 ghost use Rattle.def_words.specs.Words.{plan_append, plan_link, with_seat, plan_settle, plan_links};
 
 use def_numbers::*;
@@ -133,7 +135,7 @@ pub fn plan_links(
     workers: &[u32],
     worker: u32,
 ) -> Plan
-    ensures { result ≡ plan_links sizes (view (as_lent jobs arcs buckets queue workers)) worker }
+    ensures { result ≡ plan_links sizes (view (tables jobs.now arcs.now buckets.now queue.now workers.now)) worker }
 {
     let place = worker_word(workers, worker, PLACE);
     let count = worker_word(workers, worker, LIST_COUNT);

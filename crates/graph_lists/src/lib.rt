@@ -1,4 +1,6 @@
 // The stores of a job's list of arcs. Follows docs/RULES.md, "Steps" and "Tables and their measures".
+#![tactic(auto)]
+
 ghost use Rattle.std.specs.Prelude.{◌≡◌};
 ghost use Rattle.def_words.specs.Columns.{put};
 ghost use Rattle.def_words.specs.Layout.{job_shape, FIRST, LAST, arc_shape, AFTER};

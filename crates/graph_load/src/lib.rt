@@ -1,9 +1,11 @@
 // The load of a district's own minutes over five lent tables: a number refuses it, or the minutes take the place of
 // those stored. Follows docs/RULES.md, "A district's minutes" and "Turned-away calls": the order is 1, 17, 9, 18.
 // Nothing is required: it answers for all tables and minutes.
+#![tactic(auto)]
+
 ghost use Rattle.std.specs.Prelude.{◌≡◌};
 ghost use Rattle.def_terms.specs.Runs.{result_of};
-ghost use Rattle.def_words.specs.Layout.{as_lent, as_left};
+ghost use Rattle.def_words.specs.Layout.{as_lent, as_left, tables};
 ghost use Rattle.def_words.specs.Words.{judged_load, load_words};
 
 use def_minutes::is_rising;
@@ -25,7 +27,7 @@ fn judge_load(
     minutes: &[u32],
 ) -> u32
     ensures { result
-        ≡ judged_load sizes (as_lent jobs arcs buckets queue workers) minutes.now }
+        ≡ judged_load sizes (tables jobs.now arcs.now buckets.now queue.now workers.now) minutes.now }
 {
     let fit = sizes_fit(sizes, jobs, arcs, buckets, queue, workers);
     if fit {} else {

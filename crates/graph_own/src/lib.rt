@@ -1,5 +1,7 @@
 // The counters of a graph, the places below them, and the words that a worker keeps: the tests of them that a call
 // makes before it does anything. Follows docs/RULES.md, "Turned-away calls", number 9.
+#![tactic(auto)]
+
 ghost use Rattle.std.specs.Prelude.{◌≡◌, ◌&&◌, List, ℕ, leb, length};
 ghost use Rattle.def_words.specs.Columns.{offset};
 ghost use Rattle.def_words.specs.Layout.{worker_shape, NAMES, tables, view};

@@ -1,7 +1,9 @@
 // What a get is to do with the tables: it reads and judges, and stores nothing. Follows docs/RULES.md, "Steps" and
 // "Turned-away calls". Each definition holds of all tables.
+#![tactic(auto)]
+
 ghost use Rattle.std.specs.Prelude.{◌≡◌, List, ℕ};
-ghost use Rattle.def_words.specs.Layout.{tables, as_lent, view};
+ghost use Rattle.def_words.specs.Layout.{tables, view};
 ghost use Rattle.def_words.specs.Words.{plan_take, plan_queue, plan_get, plan_get_of};
 
 use def_numbers::*;
@@ -98,7 +100,7 @@ pub fn plan_get(
     workers: &[u32],
     worker: u32,
 ) -> GetPlan
-    ensures { result ≡ plan_get_of sizes (as_lent jobs arcs buckets queue workers) worker }
+    ensures { result ≡ plan_get_of sizes (tables jobs.now arcs.now buckets.now queue.now workers.now) worker }
 {
     let fit = sizes_fit(sizes, jobs, arcs, buckets, queue, workers);
     if fit {

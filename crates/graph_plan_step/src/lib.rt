@@ -1,7 +1,9 @@
 // What a step is to do with the tables: it reads and judges, and stores nothing. Follows docs/RULES.md, "Steps" and
 // "Turned-away calls". Each definition holds of all tables.
+#![tactic(auto)]
+
 ghost use Rattle.std.specs.Prelude.{◌≡◌};
-ghost use Rattle.def_words.specs.Layout.{as_lent, view};
+ghost use Rattle.def_words.specs.Layout.{view, tables};
 ghost use Rattle.def_words.specs.Words.{plan_phase, plan_step};
 
 mod enter_steps;
@@ -27,7 +29,7 @@ fn plan_phase(
     workers: &[u32],
     worker: u32,
 ) -> Plan
-    ensures { result ≡ plan_phase sizes (view (as_lent jobs arcs buckets queue workers)) worker }
+    ensures { result ≡ plan_phase sizes (view (tables jobs.now arcs.now buckets.now queue.now workers.now)) worker }
 {
     let phase = worker_word(workers, worker, PHASE);
     let idle = phase == IDLE;
@@ -73,7 +75,7 @@ pub fn plan_step(
     workers: &[u32],
     worker: u32,
 ) -> Plan
-    ensures { result ≡ plan_step sizes (as_lent jobs arcs buckets queue workers) worker }
+    ensures { result ≡ plan_step sizes (tables jobs.now arcs.now buckets.now queue.now workers.now) worker }
 {
     let fit = sizes_fit(sizes, jobs, arcs, buckets, queue, workers);
     if fit {

@@ -1,5 +1,7 @@
 // The store of an add's record, posted or half done: its worker's words with the arguments and the list of names.
 // Follows docs/RULES.md, "Tables and their measures". A store past the table's end changes nothing.
+#![tactic(auto)]
+
 ghost use Rattle.std.specs.Prelude.{◌≡◌, [], ◌∷◌, ◌≤◌, ◌<◌};
 ghost use Rattle.std.proofs.lemmas.List.Edits.{sets};
 ghost use Rattle.def_numbers.specs.Numbers.{most_names};

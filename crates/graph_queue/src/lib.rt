@@ -1,5 +1,7 @@
 // What is stored in the queue and in the index beside it: a job enters, or is taken. Follows docs/RULES.md, "Tables and
 // their measures". Nothing is required of a table.
+#![tactic(auto)]
+
 ghost use Rattle.std.specs.Prelude.{◌≡◌, ◌<◌};
 ghost use Rattle.def_heap.specs.Sift.{above};
 ghost use Rattle.def_words.specs.Columns.{header};

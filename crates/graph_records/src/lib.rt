@@ -1,5 +1,7 @@
 // The stores of words one after another, and of whole records: a job's, and that of a worker whose call has no
 // list. Follows docs/RULES.md, "Tables and their measures". A store past a table's end changes nothing.
+#![tactic(auto)]
+
 ghost use Rattle.std.specs.Prelude.{◌≡◌, [], ◌∷◌, ◌-◌, ◌≤◌, length, replicate};
 ghost use Rattle.std.proofs.lemmas.List.Edits.{sets};
 ghost use Rattle.def_words.specs.Columns.{offset};

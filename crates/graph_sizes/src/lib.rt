@@ -1,9 +1,11 @@
 // The sizes of a graph: their limits, the words that the tables need for them, and whether they are those laid out.
 // Follows docs/RULES.md, "Tables and their measures" and "Turned-away calls", number 1.
+#![tactic(auto)]
+
 ghost use Rattle.std.specs.Prelude.{◌≡◌, true, ◌^◌, ◌≤◌};
 ghost use Rattle.def_numbers.specs.Numbers.{most_bits};
 ghost use Rattle.def_terms.specs.Terms.{within_limits};
-ghost use Rattle.def_words.specs.Layout.{as_lent, need, long_enough, sizes_kept, room_for, sizes_fit};
+ghost use Rattle.def_words.specs.Layout.{need, long_enough, sizes_kept, room_for, sizes_fit, tables};
 
 use def_numbers::*;
 use def_terms::Sizes;
@@ -43,7 +45,7 @@ fn long_enough(
     workers: &[u32],
 ) -> bool
     requires { within_limits sizes ≡ true }
-    ensures { result ≡ long_enough sizes (as_lent jobs arcs buckets queue workers) }
+    ensures { result ≡ long_enough sizes (tables jobs.now arcs.now buckets.now queue.now workers.now) }
 {
     (need(JOB_HEAD, JOB_WIDTH, sizes.jobs) <= jobs.len())
         & (need(ARC_HEAD, ARC_WIDTH, sizes.arcs) <= arcs.len())
@@ -61,7 +63,7 @@ pub fn room_for(
     queue: &[u32],
     workers: &[u32],
 ) -> bool
-    ensures { result ≡ room_for sizes (as_lent jobs arcs buckets queue workers) }
+    ensures { result ≡ room_for sizes (tables jobs.now arcs.now buckets.now queue.now workers.now) }
 {
     let within = within_limits(sizes);
     if within {
@@ -89,7 +91,7 @@ pub fn sizes_fit(
     queue: &[u32],
     workers: &[u32],
 ) -> bool
-    ensures { result ≡ sizes_fit sizes (as_lent jobs arcs buckets queue workers) }
+    ensures { result ≡ sizes_fit sizes (tables jobs.now arcs.now buckets.now queue.now workers.now) }
 {
     let room = room_for(sizes, jobs, arcs, buckets, queue, workers);
     if room { sizes_kept(sizes, jobs) } else { false }

@@ -1,5 +1,7 @@
 // The minutes that a graph stores, and the board of totals over its own jobs by them: the label and class of each job
 // that was made. Follows docs/RULES.md, "The board and the day list" and "Turned-away calls".
+#![tactic(auto)]
+
 ghost use Rattle.std.specs.Prelude.{◌≡◌};
 ghost use Rattle.def_graph_board.specs.Board.{jobs_fit, graph_minutes, graph_totals};
 

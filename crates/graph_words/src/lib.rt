@@ -1,5 +1,7 @@
 // The words of the five tables, each read and stored by its table, record and field. Follows docs/RULES.md, "Tables and
 // their measures". Nothing is required of a table: past its end a read answers 0 and a store does nothing.
+#![tactic(auto)]
+
 ghost use Rattle.std.specs.Prelude.{◌≡◌, ◌+◌, ◌-◌, get_or, set};
 ghost use Rattle.def_words.specs.Columns.{columns, put, header, put_header};
 ghost use Rattle.def_words.specs.Layout.{job_shape, arc_shape, bucket_shape, queue_shape, worker_shape, NAMES, NEWEST};

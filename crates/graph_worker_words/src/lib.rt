@@ -1,5 +1,7 @@
 // What a step stores in its worker's record: the call goes on, or ends and leaves the worker idle. Follows
 // docs/RULES.md, "Steps".
+#![tactic(auto)]
+
 ghost use Rattle.std.specs.Prelude.{◌≡◌, ◌+◌, ◌<◌, ◌≤◌, ◌==◌};
 ghost use Rattle.def_basics.specs.Base.{pick};
 ghost use Rattle.def_words.specs.Columns.{columns, put};

@@ -1,5 +1,7 @@
 // The entries of a sheet's rows, added one after another by one worker, each whole. Follows docs/RULES.md, "Whole
 // calls".
+#![tactic(auto)]
+
 ghost use Rattle.std.specs.Prelude.{◌≡◌, ◌+◌, ◌*◌, ◌≤◌, ◌<◌, length, take, drop, map};
 ghost use Rattle.def_numbers.specs.Numbers.{most_names, most_entries, entry_words};
 ghost use Rattle.def_basics.specs.Base.{pick};

@@ -1,10 +1,12 @@
 // What turns a sheet of adds away, before any entry: it reads and judges, and stores nothing; and what is told of such
 // a sheet and of an entry. Follows docs/RULES.md, "Whole calls". The definitions hold of all tables and arguments.
+#![tactic(auto)]
+
 ghost use Rattle.std.specs.Prelude.{◌≡◌, leb, eqb};
 ghost use Rattle.def_numbers.specs.Numbers.{most_entries, too_many_entries, half_done};
 ghost use Rattle.def_basics.specs.Base.{pick};
 ghost use Rattle.def_words.specs.Columns.{columns};
-ghost use Rattle.def_words.specs.Layout.{worker_shape, PHASE, IDLE, as_lent};
+ghost use Rattle.def_words.specs.Layout.{worker_shape, PHASE, IDLE, tables};
 ghost use Rattle.def_whole_calls.specs.Sheet.{judged_sheet};
 ghost use Rattle.def_sheet_rows.specs.SheetRows.{number_of, place_of, turned_away};
 
@@ -41,7 +43,7 @@ pub fn judge_sheet(
     worker: u32,
     entries: usize,
 ) -> u32
-    ensures { result ≡ judged_sheet sizes (as_lent jobs arcs buckets queue workers) worker entries }
+    ensures { result ≡ judged_sheet sizes (tables jobs.now arcs.now buckets.now queue.now workers.now) worker entries }
 {
     let fit = sizes_fit(sizes, jobs, arcs, buckets, queue, workers);
     if fit {

@@ -1,5 +1,7 @@
 // Entries and whole sheets of jobs, judged before a byte is written (docs/SHEETS.md, numbers 14 and 15): the first
 // field off its limits, or the bytes that are needed, and whether there is room for them.
+#![tactic(auto)]
+
 ghost use Rattle.std.specs.Prelude.{◌≡◌, List, ℕ, ◌+◌, ◌*◌, ◌≤◌, length, leb};
 ghost use Rattle.def_numbers.specs.Numbers.{most_names, name_bytes, count_bytes, entry_words};
 ghost use Rattle.def_sheets.specs.Job.{bit_of, map_byte};
@@ -29,14 +31,14 @@ pub const NAMES_WORD: usize = 4;
 
 // An entry judged by its limits: where its first wrong field stands, from the entry's start, or the bytes that it
 // takes.
-#[derive(Drop)]
+#[derive(Clone, Copy)]
 pub enum Judged {
     Refused { at: usize },
     Takes { bytes: usize },
 }
 
 // A sheet judged: its first entry with a wrong field, and where that field stands, or the bytes that the sheet takes.
-#[derive(Drop)]
+#[derive(Clone, Copy)]
 pub enum SheetJudged {
     Refused { entry: usize, at: usize },
     Takes { bytes: usize },

@@ -1,5 +1,7 @@
 // The reader of job sheets: an entry with its names, and a whole sheet as rows of words (docs/SHEETS.md and numbers 12
 // to 15). Each answer is the one that the definitions of def_sheets give, for all bytes and every offset.
+#![tactic(auto)]
+
 ghost use Rattle.std.specs.Prelude.{◌≡◌, ◌∷◌, ◌+◌, ◌*◌, ◌-◌, ◌≤◌, length, replicate};
 ghost use Rattle.std.proofs.lemmas.List.Edits.{sets};
 ghost use Rattle.def_numbers.specs.Numbers.{most_names, name_bytes, entry_words};

@@ -1,5 +1,7 @@
 // What a sheet comes to: its jobs, arcs and the steps of a full run, or the first entry turned away, or where it cannot
 // be read, in one pass over the bytes and with room for names alone. Follows docs/RULES.md, "The room of a sheet".
+#![tactic(auto)]
+
 ghost use Rattle.std.specs.Prelude.{◌≡◌, ◌+◌, ◌*◌, ◌-◌, ◌≤◌, ◌<◌, length, get_or, take, set};
 ghost use Rattle.std.proofs.Math.Option.{none};
 ghost use Rattle.std.proofs.lemmas.List.Edits.{sets};
@@ -29,7 +31,7 @@ const TABLE_BITS: u32 = 12;
 const LIST_PLACES: usize = MOST_NAMES as usize;
 
 // Whether an entry is accepted.
-#[derive(Drop)]
+#[derive(Clone, Copy)]
 enum Verdict {
     Accepted,
     Refused { number: u32, place: u32 },

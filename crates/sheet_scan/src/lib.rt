@@ -1,5 +1,7 @@
 // The scan of a whole job sheet, which counts its entries (docs/SHEETS.md and numbers 12 to 14). Where the longest
 // entry would fit, the fields are read with no test of their ends.
+#![tactic(auto)]
+
 ghost use Rattle.std.specs.Prelude.{◌≡◌, ℕ, ◌+◌, ◌*◌, ◌/◌, ◌%◌, ◌≤◌, length, get_or};
 ghost use Rattle.def_numbers.specs.Numbers.{most_names, most_entry_bytes};
 ghost use Rattle.def_sheets.specs.Number.{number_at};
@@ -40,7 +42,7 @@ fn number4(s: &[u8], at: usize) -> u32
 }
 
 // The class and the grower of an entry, 0 where their bit is clear, and the offset past them.
-#[derive(Drop)]
+#[derive(Clone, Copy)]
 struct LastFields {
     class: u32,
     grower: u32,

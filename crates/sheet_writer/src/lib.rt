@@ -1,5 +1,7 @@
 // Writes entries and whole sheets of jobs (docs/SHEETS.md, numbers 14 and 15): judged first, then stored field after
 // field at a running offset. A refusal leaves the output as it was.
+#![tactic(auto)]
+
 ghost use Rattle.std.specs.Prelude.{◌≡◌, ◌+◌, ◌*◌, ◌≤◌, length, take, drop};
 ghost use Rattle.def_numbers.specs.Numbers.{name_bytes, entry_words};
 ghost use Rattle.def_sheets.specs.Number.{spelt};
@@ -48,7 +50,7 @@ fn put_names(out: &mut [u8], offset: usize, words: &[u32], from: usize, n: usize
 }
 
 // An entry to be written: where it starts, its numbers, and where its names begin among the words.
-#[derive(Drop)]
+#[derive(Clone, Copy)]
 struct Fields {
     start: usize,
     name: u32,

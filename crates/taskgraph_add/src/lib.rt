@@ -1,6 +1,8 @@
 // An add run whole as C has it: posted, and stepped to the end, in one call. A slice is a pointer and a count of
 // elements in C; the answer is a struct by value. include/taskgraph.h declares it. Follows docs/RULES.md, "Whole
 // calls". Assumes that a pointer with a count points to that many elements.
+#![tactic(auto)]
+
 ghost use Rattle.def_words.specs.Layout.{as_lent, as_left};
 ghost use Rattle.def_whole_calls.specs.Whole.{whole_add};
 ghost use Rattle.taskgraph_answer.specs.WholeAnswers.{GivesWhole};

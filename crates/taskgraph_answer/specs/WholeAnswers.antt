@@ -7,7 +7,6 @@ use Rattle.def_basics.specs.Base.{pick}
 use Rattle.def_terms.specs.Runs.{Result}
 use Rattle.def_terms.specs.declared.Answer.{Answer}
 use Rattle.def_terms.specs.declared.Answer.TheVariants.{Laid, Loaded, Posted, Going, Ended, NoneReady, Handed, Refused}
-use Rattle.def_terms.specs.declared.HandOut.{HandOut}
 use Rattle.def_words.specs.Layout.{Tables, view, PHASE}
 use Rattle.def_sheet_rows.specs.SheetRows.{number_of}
 use Rattle.def_stops.specs.Stopped.{stopped_as, stopped_by}

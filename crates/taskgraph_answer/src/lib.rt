@@ -1,5 +1,7 @@
 // What a call or a step of the graph answers, as C has it: a struct by value. include/taskgraph.h declares it. Follows
 // docs/RULES.md, "Steps" and "Turned-away calls".
+#![tactic(auto)]
+
 ghost use Rattle.std.specs.Prelude.{◌≡◌};
 ghost use Rattle.def_basics.specs.Base.{pick};
 ghost use Rattle.taskgraph_answer.specs.Answers.{plain, graph_answer};
@@ -15,7 +17,7 @@ use def_terms::{Answer, bit};
 // and its name, and 1 where it is spoiled. A whole call that damage stopped half done has number 9. What does not
 // belong to a kind is 0.
 #[repr(C)]
-#[derive(Drop)]
+#[derive(Clone, Copy)]
 pub struct GraphAnswer {
     pub kind: u32,
     pub number: u32,

@@ -1,6 +1,8 @@
 // The board over the graph's own jobs, and the minutes that it goes by, as C has them: the sizes, then the lent jobs
 // table. A slice is a pointer and a count of elements in C. include/taskgraph.h declares all of this. Follows
 // docs/RULES.md, "The board and the day list". Assumes that a pointer with a count points to that many elements.
+#![tactic(auto)]
+
 ghost use Rattle.std.specs.Prelude.{◌≡◌};
 ghost use Rattle.def_graph_board.specs.Board.{graph_minutes, graph_totals};
 

@@ -2,6 +2,8 @@
 // its own, and so compiled by itself: in one module with the calls of the graph it would be a second caller of a step,
 // and the compiler then keeps the step out of line in both. Assumes that a pointer with a count points to that many
 // elements.
+#![tactic(auto)]
+
 ghost use Rattle.std.specs.Prelude.{◌≡◌};
 ghost use Rattle.def_day_lines.specs.Day.{day_list};
 ghost use Rattle.def_told.specs.Day.{day_printed};

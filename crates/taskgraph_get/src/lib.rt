@@ -1,6 +1,8 @@
 // A get as C has it: the sizes, the five lent tables, then the worker. A slice is a pointer and a count of elements in
 // C; the answer is a struct by value. include/taskgraph.h declares it. Follows docs/RULES.md, "Steps" and "Turned-away
 // calls". Assumes that a pointer with a count points to that many elements.
+#![tactic(auto)]
+
 ghost use Rattle.def_words.specs.Layout.{as_lent, as_left};
 ghost use Rattle.def_words.specs.Words.{get_words};
 ghost use Rattle.taskgraph_answer.specs.Answers.{Gives};

@@ -5,7 +5,7 @@
 -- less.)
 use Rattle.std.specs.Prelude.{◌≡◌, refl, List, ℕ}
 use Rattle.std.proofs.Common.{ap}
-use Rattle.std.specs.Borrow.{Bor}
+use Rattle.std.specs.Borrow.{MutBor}
 use Rattle.def_terms.specs.Runs.{Result}
 use Rattle.def_words.specs.Layout.{Tables, Lent, as_lent, as_left}
 use Rattle.def_whole_calls.specs.Sheet.{SheetResult}
@@ -24,7 +24,7 @@ pub record SameTables (t u : Tables) : Type 0 where
   pub workers : t.workers ≡ u.workers
 
 -- the five tables lie behind these references
-pub record Behind (t : Tables) (j a b q w : Bor (List ℕ)) : Type 0 where
+pub record Behind (t : Tables) (j a b q w : MutBor (List ℕ)) : Type 0 where
   pub jobs : t.jobs ≡ j.now
   pub arcs : t.arcs ≡ a.now
   pub buckets : t.buckets ≡ b.now

@@ -2,6 +2,8 @@
 // a pointer and a count of elements in C; answers are structs by value. include/taskgraph.h declares them. Follows
 // docs/RULES.md, "Tables and their measures" and "Turned-away calls". Assumes that a pointer with a count points to
 // that many elements.
+#![tactic(auto)]
+
 ghost use Rattle.std.specs.Prelude.{◌≡◌};
 ghost use Rattle.def_words.specs.Layout.{as_lent, as_left};
 ghost use Rattle.def_words.specs.Words.{lay_out};

@@ -1,5 +1,7 @@
 // Buckets and minutes as C has them. include/taskgraph.h declares both. Follows docs/RULES.md, "Tables and their
 // measures".
+#![tactic(auto)]
+
 ghost use Rattle.std.specs.Prelude.{◌≡◌};
 ghost use Rattle.def_bucket.specs.Bucket.{bucket_of};
 ghost use Rattle.def_minutes.specs.Minutes.{minutes_in, fixed_minutes};

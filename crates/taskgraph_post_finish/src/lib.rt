@@ -2,6 +2,8 @@
 // outcome, 0 for good and any other number for failed. A slice is a pointer and a count of elements in C; answers are
 // structs by value. include/taskgraph.h declares all of this. Follows docs/RULES.md, "Steps" and "Turned-away calls".
 // Assumes that a pointer with a count points to that many elements.
+#![tactic(auto)]
+
 ghost use Rattle.def_words.specs.Layout.{as_lent, as_left};
 ghost use Rattle.def_words.specs.Words.{finish_words};
 ghost use Rattle.taskgraph_answer.specs.Answers.{Gives, finish_taken};

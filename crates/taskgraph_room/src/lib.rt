@@ -1,5 +1,7 @@
 // What a sheet comes to as C has it: the answer is a struct by value, and its number is 0 where nothing was refused.
 // include/taskgraph.h declares it. Assumes that a pointer with a count points to that many elements.
+#![tactic(auto)]
+
 ghost use Rattle.std.specs.Prelude.{◌≡◌};
 ghost use Rattle.def_room.specs.Room.{room_of};
 ghost use Rattle.def_told.specs.Room.{sheet_room};

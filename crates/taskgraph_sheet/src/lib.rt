@@ -2,6 +2,8 @@
 // entries. A slice is a pointer and a count of elements in C; answers are structs by value. include/taskgraph.h
 // declares all of this. Follows docs/RULES.md, "Whole calls". Assumes that a pointer with a count points to that many
 // elements.
+#![tactic(auto)]
+
 ghost use Rattle.def_words.specs.Layout.{as_lent, as_left};
 ghost use Rattle.def_sheet_rows.specs.SheetRows.{Added, rows_words};
 ghost use Rattle.def_stops.specs.StoppedSheet.{rows_stopped};

@@ -2,8 +2,10 @@
 // A slice is a pointer and a count of elements in C; an answer is a struct by value. include/taskgraph.h declares it.
 // Follows docs/RULES.md, "Tables and their measures" and "Turned-away calls".
 // Assumes that a pointer with a count points to that many elements.
+#![tactic(auto)]
+
 ghost use Rattle.std.specs.Prelude.{◌≡◌};
-ghost use Rattle.def_words.specs.Layout.{as_lent};
+ghost use Rattle.def_words.specs.Layout.{tables};
 ghost use Rattle.def_worker_state.specs.Held.{held_words};
 ghost use Rattle.def_worker_state.specs.Drained.{drained_words};
 
@@ -21,7 +23,7 @@ pub extern "C" fn tg_held(
     workers: &[u32],
     worker: u32,
 ) -> Holding
-    ensures { result ≡ held_words sizes (as_lent jobs arcs buckets queue workers) worker }
+    ensures { result ≡ held_words sizes (tables jobs.now arcs.now buckets.now queue.now workers.now) worker }
 {
     graph_held::held(sizes, jobs, arcs, buckets, queue, workers, worker)
 }
@@ -36,7 +38,7 @@ pub extern "C" fn tg_drained(
     queue: &[u32],
     workers: &[u32],
 ) -> Drained
-    ensures { result ≡ drained_words sizes (as_lent jobs arcs buckets queue workers) }
+    ensures { result ≡ drained_words sizes (tables jobs.now arcs.now buckets.now queue.now workers.now) }
 {
     graph_drained::drained(sizes, jobs, arcs, buckets, queue, workers)
 }

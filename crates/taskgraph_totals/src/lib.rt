@@ -1,6 +1,8 @@
 // The board over words and over a lent row of records, as C has it: totals are a struct by value. A slice is a pointer
 // and a count of elements in C. include/taskgraph.h declares all of this. Follows docs/RULES.md, "The board and the day
 // list". Assumes that a pointer with a count points to that many elements.
+#![tactic(auto)]
+
 ghost use Rattle.std.specs.Prelude.{◌≡◌};
 ghost use Rattle.def_minutes.specs.Minutes.{fixed_minutes};
 ghost use Rattle.def_totals.specs.Board.{totals_of, totals_by, totals_of_words};

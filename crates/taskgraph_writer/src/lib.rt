@@ -1,6 +1,8 @@
 // Writing job sheets as C has it. A slice is a pointer and a count of elements in C; answers are structs by value.
 // Numbers are those of docs/RULES.md, "Turned-away calls", and 0 where nothing was refused. include/taskgraph.h
 // declares all of this. Assumes that a pointer with a count points to that many elements.
+#![tactic(auto)]
+
 ghost use Rattle.std.specs.Prelude.{◌≡◌};
 ghost use Rattle.def_sheets.specs.Write.{write_entry, write_sheet};
 ghost use Rattle.def_told.specs.Writer.{entry_written, sheet_written};

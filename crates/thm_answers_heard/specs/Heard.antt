@@ -2,7 +2,7 @@
 -- numerals of include/taskgraph.h: which number turned the sheet away, or how the add of each entry ended, is read off
 -- it, so no two are told alike, and what says nothing is 0. Follows docs/RULES.md, "Whole calls" and "Turned-away
 -- calls". (Wrong/Heard.antt has tellings that lose something.)
-use Rattle.std.specs.Prelude.{◌≡◌, refl, ◌≢◌, Bool, true, false, ◌||◌, List, [], ◌∷◌, map, ℕ, ◌+◌, ◌%◌, ◌≤◌, ◌<◌, eqb, length, get_or, take}
+use Rattle.std.specs.Prelude.{◌≡◌, refl, ◌≢◌, Bool, true, false, ◌||◌, List, [], ◌∷◌, map, ℕ, ◌%◌, ◌≤◌, ◌<◌, eqb, length, get_or, take}
 use Rattle.std.proofs.Common.{sym, ap, subst, ◌∙◌, arith, ext_get_or, eqb-true}
 use Rattle.std.proofs.Math.Decide.{dec_lt, ℕ_discrete}
 use Rattle.std.proofs.lemmas.List.{length-map}
@@ -12,7 +12,7 @@ use Rattle.std.proofs.Math.Seq.{length-sets}
 use Rattle.std.proofs.lemmas.Bool.{eqb-false}
 use Rattle.def_numbers.specs.Numbers.{entry_words}
 use Rattle.def_basics.specs.Base.{pick, contains}
-use Rattle.def_basics.specs.Laws.{never, pick_by}
+use Rattle.def_basics.specs.Laws.{never}
 use Rattle.def_terms.specs.Terms.{Arguments, Finish, no_arguments}
 use Rattle.def_terms.specs.declared.Sizes.{Sizes}
 use Rattle.def_terms.specs.declared.Answer.{Answer}

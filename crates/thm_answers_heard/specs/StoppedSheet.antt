@@ -3,28 +3,26 @@
 -- docs/RULES.md, "Whole calls".
 use Rattle.std.specs.Prelude.{◌≡◌, ◌↔◌, ◌≢◌, Bool, true, false, eqb, get_or, take}
 use Rattle.std.proofs.Math.Path.{refl}
-use Rattle.std.proofs.Common.{sym, ap, subst, ◌∙◌, eqb-true, eq-eqb, ne_eqb}
+use Rattle.std.proofs.Common.{sym, ap, ◌∙◌, ne_eqb}
 use mathlib.Core.List.{List, [], ◌∷◌}
 use Prim.Native.Nat.{ℕ, zero, suc, ◌+◌, ◌≤◌, ◌<◌}
 use native.Mathlib.Omega.{arith}
 use Rattle.std.proofs.Math.ListN.{length}
-use Rattle.def_basics.specs.Base.{pick, contains}
+use Rattle.def_basics.specs.Base.{pick}
 use Rattle.def_basics.specs.Laws.{never, pick_by}
 use Rattle.def_terms.specs.Terms.{Arguments, no_arguments}
 use Rattle.def_terms.specs.Runs.{Result}
 use Rattle.def_terms.specs.declared.Sizes.{Sizes}
 use Rattle.def_terms.specs.declared.Answer.{Answer}
-use Rattle.def_terms.specs.declared.Answer.TheVariants.{Ended, Refused}
+use Rattle.def_terms.specs.declared.Answer.TheVariants.{Refused}
 use Rattle.def_words.specs.Layout.{Tables}
 use Rattle.def_whole_calls.specs.Whole.{whole_add}
 use Rattle.def_sheet_rows.specs.SheetRows.{adds_of, rows_words}
-use Rattle.def_sheet_rows.specs.declared.SheetAdded.{SheetAdded}
 use Rattle.def_stops.specs.Stopped.{stopped_by}
-use Rattle.def_stops.specs.StoppedSheet.{first_stop, rows_stopped, rows_added}
+use Rattle.def_stops.specs.StoppedSheet.{first_stop, rows_added}
 use Rattle.def_fused.specs.FusedWorker.{is_idle}
 use Rattle.taskgraph_answer.specs.Answers.{graph_answer}
-use Rattle.taskgraph_answer.specs.WholeAnswers.{Whole, answered, stopped, whole_of}
-use Rattle.thm_whole_answers.specs.Numbers.{AddAnswer, ended, refused, unknown, add_placeless, add_answer}
+use Rattle.thm_whole_answers.specs.Numbers.{AddAnswer, ended, refused, unknown, add_answer}
 use Rattle.thm_whole_answers.specs.SheetAdds.{after_adds}
 use Rattle.thm_answers_heard.specs.InC.{rows_as_adds}
 use Rattle.thm_whole_answers.specs.Stopped.{add_stopped, add_kept, busy_keeps, stopped_from, stopped_leaves}

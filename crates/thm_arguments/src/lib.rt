@@ -1,1 +1,2 @@
 // What the arguments of an add mean, and which are wrong, stands in specs/.
+#![tactic(auto)]

@@ -1,1 +1,2 @@
 // That the board accounts for every job that entered stands in specs/.
+#![tactic(auto)]

@@ -1,1 +1,2 @@
 // What is proved of the plain book's spoiled jobs stands in specs/.
+#![tactic(auto)]

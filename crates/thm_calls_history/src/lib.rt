@@ -1,1 +1,2 @@
 // Theorems alone: specs/ has demand 3 of lists of calls.
+#![tactic(auto)]

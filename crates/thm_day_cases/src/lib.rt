@@ -1,1 +1,2 @@
 // What the day list prints for given sheets stands in specs/.
+#![tactic(auto)]

@@ -14,7 +14,8 @@ use Rattle.def_words.specs.Layout.{Tables, View, view}
 use Rattle.def_words.specs.Words.{place_ok, find_of, plan_link, first_arc, noted, answer_of}
 use Rattle.def_words.specs.declared.Found.TheVariants.{At}
 use Rattle.def_words.specs.declared.Plan.{Plan}
-use Rattle.def_words.specs.declared.Plan.TheVariants.{Refuse, Tally, LinkFirst, LinkAfter}
+use Rattle.def_words.specs.declared.Plan.TheVariants.{Refuse, Tally, LinkFirst, LinkAfter, Quit, Pass, Enter, Settle}
+use Rattle.def_words.specs.declared.Plan.TheVariants.{SettleQueue, Mark, Notify, NotifyQueue}
 use Rattle.def_whole_calls.specs.Whole.{and_then, steps_of}
 use Rattle.def_fused.specs.FusedWorker.{with_worker}
 use Rattle.def_fused.specs.FusedAdd.{Links, look_ups, job_found, jobs_found, link_by, links, settle_in, first_linked}
@@ -90,6 +91,14 @@ module _ (s : Sizes) (v : View) (w : ℕ) (known : w < s.workers) (a : Arguments
       after_plan x (Refuse d) stopped =
           run_ends (Refused damaged 0) _ refl
           (linking_stays s v w known a fine held hold more arcs u S k note i (omega arith) bit (omega arith))
+      after_plan x (Quit _ _) x4 = elim x4 [ ]
+      after_plan x Pass x3 = elim x3 [ ]
+      after_plan x (Enter _ _ _ _) x8 = elim x8 [ ]
+      after_plan x (Settle _ _) x7 = elim x7 [ ]
+      after_plan x (SettleQueue _ _ _) x9 = elim x9 [ ]
+      after_plan x (Mark _ _) x9 = elim x9 [ ]
+      after_plan x (Notify _ _ _) x11 = elim x11 [ ]
+      after_plan x (NotifyQueue _ _ _ _) x13 = elim x13 [ ]
 
       link_run : Ends (suc n) u k note i (link_by plan u i k note next)
       link_run =

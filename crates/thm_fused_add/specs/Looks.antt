@@ -12,7 +12,6 @@ use Rattle.def_basics.specs.Base.{pick}
 use Rattle.def_basics.specs.Laws.{or_left, or_right, length_prefix}
 use Rattle.def_bucket.specs.Bucket.{bucket_of}
 use Rattle.def_terms.specs.Terms.{Arguments, listed}
-use Rattle.def_terms.specs.Runs.{result_of}
 use Rattle.def_terms.specs.declared.Sizes.{Sizes}
 use Rattle.def_terms.specs.declared.Answer.TheVariants.{Refused}
 use Rattle.def_words.specs.Layout.{Tables, View, view, none, LOOKING, NEWEST}
@@ -23,7 +22,7 @@ use Rattle.def_words.specs.declared.Plan.{Plan}
 use Rattle.def_words.specs.declared.Plan.TheVariants.{Quit, Enter}
 use Rattle.def_whole_calls.specs.Whole.{and_then, steps_of}
 use Rattle.def_fused.specs.FusedWorker.{Admitted, hold_of, with_worker, idled_with, add_worker}
-use Rattle.def_fused.specs.FusedAdd.{or_on, look_ups, jobs_found, entered_tables, plan_own, plan_looked, add_by}
+use Rattle.def_fused.specs.FusedAdd.{or_on, look_ups, entered_tables, plan_own, plan_looked, add_by}
 use Rattle.def_fused.specs.declared.LookUps.TheVariants.{All}
 use Rattle.def_fused.specs.declared.AddPlan.TheVariants.{TurnAway, EnterJob}
 use Rattle.thm_fused_steps.specs.Plans.{record_plan}

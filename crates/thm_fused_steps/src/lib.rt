@@ -1,1 +1,2 @@
 // Theorems alone: specs/ has the laws of a worker's words that are stored once.
+#![tactic(auto)]

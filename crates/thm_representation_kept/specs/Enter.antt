@@ -13,7 +13,7 @@ use Rattle.def_bucket.specs.Bucket.{bucket_of}
 use Rattle.def_bucket.specs.Laws.{below}
 use Rattle.def_terms.specs.Terms.{Arguments, Tally}
 use Rattle.def_terms.specs.declared.Sizes.{Sizes}
-use Rattle.def_words.specs.Columns.{offset, Rows, columns, columns_put, put, store}
+use Rattle.def_words.specs.Columns.{offset, Rows, columns, columns_put, store}
 use Rattle.def_words.specs.Columns.{header, put_header, header_put_header, header_other, rows_put_header, stores}
 use Rattle.def_words.specs.Layout.{none, job_shape, JOBS, ARCS, BITS, WORKERS, MADE, NAME, LABEL, COUNT, CLASS, GROWER}
 use Rattle.def_words.specs.Layout.{FIRST, LAST, NEXT, arc_shape, bucket_shape, QUEUED, LIST_COUNT, view, sizes_kept}

@@ -29,6 +29,7 @@ own_step s g {w} l {c} e = of (deed s g (step s w))
     of (by.worker_unknown z n m) = absurd (omega arith)
     of (by.call_half_done A n d) = absurd (true≢false n)
     of (by.stepped A d S) = rw (sym d ∙ e) at S
+    of {h = h} (by.made _ _ x15) = elim x15 [ ]
 
 -- a post or a get of an idle worker is one by its own rules
 pub own_made : (s : Sizes) (g : Graph) (i : Item) → same_sizes (sizes_of i) s ≡ true → worker_of i < s.workers

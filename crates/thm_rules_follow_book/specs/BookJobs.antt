@@ -5,7 +5,7 @@ use Rattle.std.proofs.Common.{sym, ap, ◌∙◌, true≢false, zero-le, suc-le-
 use Rattle.def_basics.specs.Base.{pick}
 use Rattle.def_basics.specs.Laws.{length_prefix}
 use Rattle.def_terms.specs.Terms.{finished, Arguments, listed}
-use Rattle.def_rules.specs.Rules.{Job, no_job, Graph, job, Found, at, missing, seek}
+use Rattle.def_rules.specs.Rules.{Job, no_job, Graph, Found, at, missing, seek}
 use Rattle.def_terms.specs.declared.Sizes.{Sizes}
 use Rattle.def_rules.specs.Sound.{Sound, Finished}
 use Rattle.def_book.specs.Book.{BookJob, no_book_job, known, unfinished, awaited, awaited_names, nowhere}

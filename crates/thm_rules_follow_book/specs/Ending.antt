@@ -1,7 +1,7 @@
 -- A finish that is about to mark, and whose job is spoiled, brings the outcome failed, in every history: good for a
 -- spoiled job was refused as it was posted, and a job that is held does not become spoiled or unspoiled (docs/RULES.md,
 -- "Outcomes"). Assumes that every history's graph is sound.
-use Rattle.std.specs.Prelude.{◌≡◌, refl, ◌≢◌, Bool, true, false, ◌&&◌, not, List, [], ◌∷◌, ◌++◌, ℕ, ◌-◌, get_or, set}
+use Rattle.std.specs.Prelude.{◌≡◌, refl, ◌≢◌, Bool, true, false, ◌&&◌, not, List, [], ◌∷◌, ◌++◌, ℕ, get_or, set}
 use Rattle.std.proofs.Common.{sym, ap, ◌∙◌, arith}
 use Rattle.std.proofs.Math.Option.{some}
 use Rattle.std.proofs.Math.Decide.{ℕ_discrete}

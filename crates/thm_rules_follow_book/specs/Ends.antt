@@ -7,7 +7,7 @@ use Rattle.std.proofs.Math.Option.{Option, none, some}
 use borrow.Author.Tests.{eq-eqb}
 use Rattle.def_numbers.specs.Numbers.{wrong_arguments, unknown_name, name_present, tables_full, not_held, good_for_spoiled}
 use Rattle.def_basics.specs.Base.{pick, occurrences}
-use Rattle.def_terms.specs.Terms.{unexecuted, Arguments, listed, arguments_wrong, finish_of, Finish}
+use Rattle.def_terms.specs.Terms.{Arguments, listed, arguments_wrong, finish_of, Finish}
 use Rattle.def_terms.specs.declared.Sizes.{Sizes}
 use Rattle.def_rules.specs.Rules.{Graph, job, find, at, missing, ends_good}
 use Rattle.def_rules.specs.Sound.{started_by, Looking, Sound}

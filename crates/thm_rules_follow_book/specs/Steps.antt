@@ -7,7 +7,7 @@ use Rattle.def_terms.specs.Terms.{Arguments, finish_of, Finish}
 use Rattle.def_terms.specs.Runs.{step}
 use Rattle.def_terms.specs.declared.Sizes.{Sizes}
 use Rattle.def_terms.specs.declared.Answer.{Answer}
-use Rattle.def_rules.specs.Rules.{Call, idle, Graph, job, perform}
+use Rattle.def_rules.specs.Rules.{Call, Graph, job, perform}
 use Rattle.def_rules.specs.Observed.{seen}
 use Rattle.def_rules.specs.Sound.{CallSound, Sound}
 use Rattle.thm_rules_cases.specs.Deed as by

@@ -23,4 +23,4 @@ module _ (s : Sizes) where
   onward {g} {r} {e} history (i ∷ is) =
       subst (λ (f : ℕ → ℕ). History s (after (perform s) g (i ∷ is)) (read_on r (events (perform s) g (i ∷ is))) f)
       (fun_ext (λ j. omega arith))
-      (onward (then history i) is)
+      (onward {g = (perform s g i).state} (then history i) is)

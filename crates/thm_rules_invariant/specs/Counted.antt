@@ -1,7 +1,7 @@
 -- The entries of every history: at most one for each job, only after all its prerequisites are finished, and one once
 -- its add and the finishes of its prerequisites have ended (docs/RULES.md, demand 3, "count of entries"). And a job is
 -- spoiled once its add and the failed finish of a prerequisite have ended.
-use Rattle.std.specs.Prelude.{◌≡◌, true, ℕ, ◌-◌, ◌<◌, length, get_or}
+use Rattle.std.specs.Prelude.{◌≡◌, true, ℕ, ◌<◌, length, get_or}
 use Rattle.std.proofs.Common.{sym, ap, ◌∙◌, arith, drop_of_length-le}
 use Rattle.std.proofs.Math.Option.{none}
 use Rattle.std.proofs.Math.Decide.{dec_lt}

@@ -4,9 +4,9 @@ use Rattle.std.proofs.Common.{sym, ap, ◌∙◌, arith, length-append}
 use Rattle.std.proofs.Math.Option.{some}
 use Rattle.std.proofs.Math.Seq.{get_or-append_seam}
 use Rattle.def_basics.specs.Laws.{fails, update_same, update_other, length_prefix, snoc_all}
-use Rattle.def_terms.specs.Terms.{unexecuted, finished, Arguments, listed, no_tally}
+use Rattle.def_terms.specs.Terms.{unexecuted, Arguments, listed, no_tally}
 use Rattle.def_terms.specs.declared.Sizes.{Sizes}
-use Rattle.def_rules.specs.Rules.{Job, looking, linking, Graph, no_job, job, find, at, missing, new_job, entered, linked}
+use Rattle.def_rules.specs.Rules.{Job, looking, linking, Graph, no_job, job, find, at, missing, new_job, entered}
 use Rattle.def_rules.specs.Sound.{Looking}
 use Rattle.def_call_order.specs.Calls.{Pending, Reading, becomes}
 use Rattle.thm_rules_invariant.specs.State.{adding, State, enter}

@@ -7,7 +7,7 @@ use Rattle.def_basics.specs.Base.{update, contains, occurrences}
 use Rattle.def_basics.specs.Laws.{update_same, update_at, update_other, length_prefix, set_all}
 use Rattle.def_terms.specs.Terms.{settles, finished, Arguments, listed, bit, Tally, tally_one}
 use Rattle.def_terms.specs.declared.Sizes.{Sizes}
-use Rattle.def_rules.specs.Rules.{Job, idle, linking, Graph, no_job, job, find, at, with_call, with_dependent, lowered}
+use Rattle.def_rules.specs.Rules.{Job, linking, Graph, no_job, job, find, at, with_call, with_dependent, lowered}
 use Rattle.def_rules.specs.Rules.{linked, settled, enqueue}
 use Rattle.def_call_order.specs.Calls.{Pending, Reading, becomes, add_ended}
 use Rattle.def_basics.specs.Counting.{hit, hit_same, hit_other}

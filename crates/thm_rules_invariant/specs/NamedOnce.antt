@@ -2,7 +2,7 @@
 -- and for those whose jobs failed.
 use Rattle.std.specs.Prelude.{◌≡◌, Bool, ◌&&◌, ◌||◌, length, get_or}
 use Rattle.std.proofs.Math.Path.{refl}
-use Rattle.std.proofs.Common.{sym, ap, ◌∙◌, arith, eq-eqb, eqb-true}
+use Rattle.std.proofs.Common.{sym, ap, subst, ◌∙◌, arith, eq-eqb, eqb-true}
 use Rattle.std.proofs.Math.Bool.{true, false}
 use Rattle.std.proofs.lemmas.Bool.{false≢true}
 use mathlib.Core.List.{List, [], ◌∷◌}
@@ -38,7 +38,8 @@ first_only x l i d (at p) e =
     let o = sought x.name l (suc i) p e in
     let k : ℕ = p - suc i in
     let z : (get_or (x ∷ l) (suc k) no_job).name ≡ x.name = o.named in
-    let y : seek x.name (x ∷ l) i ≡ at (i + suc k) = rw z at (d.found (suc k) (omega (arith, o.low, o.high))) in
+    let named : ℕ → Type 0 = λ n. seek n (x ∷ l) i ≡ at (i + suc k) in
+    let y : seek x.name (x ∷ l) i ≡ at (i + suc k) = subst named z (d.found (suc k) (omega (arith, o.low, o.high))) in
     absurd (omega (arith, at_injective i (i + suc k) (sym (rw (eq-eqb x.name x.name refl)) ∙ y)))
 
 -- ---- a test of the jobs of a name

@@ -126,7 +126,10 @@ numbers_of g (x ∷ l) h =
     record {
       numbers = first.job ∷ rest.numbers;
       same_length = ap suc rest.same_length;
-      found = λ i. elim i [ zero ↦ λ r. first.found | suc k ↦ λ r. rest.found k (omega arith) ];
+      found =
+          λ i. elim i as
+          (λ k. k < length (x ∷ l) → find g (get_or (x ∷ l) k 0) ≡ at (get_or (first.job ∷ rest.numbers) k 0))
+          [ zero ↦ λ r. first.found | suc k ↦ λ r. rest.found k (omega arith) ];
     }
 
 -- number 5 is not due: the class is within its limit, and the list is short

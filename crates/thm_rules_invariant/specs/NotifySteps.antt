@@ -6,7 +6,7 @@ use Rattle.std.proofs.Math.Decide.{ℕ_discrete}
 use Rattle.std.proofs.lemmas.Bool.{eqb-false}
 use Rattle.def_basics.specs.Base.{update, contains, occurrences}
 use Rattle.def_basics.specs.Laws.{update_same, update_at, update_other, set_all}
-use Rattle.def_terms.specs.Terms.{finished, finish_of, bit}
+use Rattle.def_terms.specs.Terms.{finish_of, bit}
 use Rattle.def_terms.specs.declared.Sizes.{Sizes}
 use Rattle.def_rules.specs.Rules.{Job, idle, notifying, Graph, no_job, job, lowered, notified, enqueue}
 use Rattle.def_call_order.specs.Calls.{Pending, Reading, becomes, finish_ended}

@@ -4,7 +4,7 @@ use Rattle.std.specs.Prelude.{◌≡◌, refl, Bool, true, List, [], ◌∷◌, 
 use Rattle.std.proofs.Common.{sym, ap, ◌∙◌, arith}
 use Rattle.std.proofs.Math.Option.{Option, none, some, some-injective}
 use Rattle.def_basics.specs.Base.{occurrences}
-use Rattle.def_terms.specs.Terms.{settles, unexecuted, finished, Arguments, bit, Tally}
+use Rattle.def_terms.specs.Terms.{settles, unexecuted, Arguments, bit, Tally}
 use Rattle.def_terms.specs.declared.Sizes.{Sizes}
 use Rattle.def_rules.specs.Rules.{Job, no_job, Call, idle, looking, linking, marking, notifying, Graph, job}
 use Rattle.def_rules.specs.Sound as rules

@@ -6,9 +6,9 @@ use Rattle.std.proofs.Math.Option.{none, none-ne-some}
 use Rattle.def_basics.specs.Base.{contains}
 use Rattle.def_minutes.specs.Minutes.{fixed_minutes}
 use Rattle.def_minutes.specs.Rising.{rises_above, is_rising}
-use Rattle.def_terms.specs.Terms.{unexecuted, finished}
+use Rattle.def_terms.specs.Terms.{unexecuted}
 use Rattle.def_terms.specs.declared.Sizes.{Sizes}
-use Rattle.def_rules.specs.Rules.{Graph, empty, at}
+use Rattle.def_rules.specs.Rules.{Graph, empty}
 use Rattle.def_call_order.specs.Calls.{Reading, unread}
 use Rattle.thm_rules_history.specs.History.{History, start, then}
 use Rattle.def_basics.specs.Counting.{occurrences_nil, sum}

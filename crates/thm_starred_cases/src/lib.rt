@@ -1,1 +1,2 @@
 // The starred cases of docs/RULES.md as rows stand in specs/.
+#![tactic(auto)]

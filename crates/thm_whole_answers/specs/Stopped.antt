@@ -1,12 +1,12 @@
 -- What C is told of an add or a finish run whole that answers 9: stopped exactly where the tables changed, its worker
 -- then being half done, and else a refusal by 9, with which nothing changed. For ALL tables and arguments. Follows
 -- docs/RULES.md, "Whole calls" and "Turned-away calls": 9 leaves "nothing changed".
-use Rattle.std.specs.Prelude.{◌≡◌, ◌↔◌, ◌≢◌, Bool, false, ◌&&◌, not, [], ◌∷◌, ℕ, eqb}
+use Rattle.std.specs.Prelude.{◌≡◌, ◌↔◌, ◌≢◌, Bool, false, ◌&&◌, not, ℕ, eqb}
 use Rattle.std.proofs.Math.Path.{refl, subst}
-use Rattle.std.proofs.Common.{sym, ap, ◌∙◌, arith, eqb-true, eq-eqb}
+use Rattle.std.proofs.Common.{ap, arith, eqb-true}
 use Rattle.std.proofs.Math.Bool.{true}
 use Rattle.def_numbers.specs.Numbers.{damaged}
-use Rattle.def_basics.specs.Base.{pick, contains}
+use Rattle.def_basics.specs.Base.{contains}
 use Rattle.def_basics.specs.Laws.{never}
 use Rattle.def_terms.specs.Terms.{Arguments, Finish}
 use Rattle.def_terms.specs.Runs.{Result, result_of}
@@ -23,7 +23,7 @@ use Rattle.def_fused.specs.FusedFinish.{finish_if_idle}
 use Rattle.thm_fused_add.specs.Adds.{whole_add_lem}
 use Rattle.thm_fused_finish.specs.Finish.{whole_finish_lem}
 use Rattle.taskgraph_answer.specs.Answers.{graph_answer}
-use Rattle.taskgraph_answer.specs.WholeAnswers.{whole_of, told_whole, number_told}
+use Rattle.taskgraph_answer.specs.WholeAnswers.{whole_of, told_whole}
 use Rattle.taskgraph_answer.specs.declared.GraphAnswer.{GraphAnswer}
 use Rattle.thm_whole_answers.specs.Worker.{by_admission}
 use Rattle.thm_whole_answers.specs.AddEnds as add

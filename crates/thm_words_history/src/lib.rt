@@ -1,1 +1,2 @@
 // The history theorem: demand 3 on the words stands in specs/.
+#![tactic(auto)]

@@ -1,7 +1,7 @@
 -- For ALL tables: what a load does, of any machine over the tables, and that the words' load does it; and the words
 -- that it reads. Follows docs/RULES.md: "A host may load sixteen minute values in place of the fixed ones, before the
 -- first job enters", "the order is 1, 17, 9, 18, with nothing changed". (Wrong/Loads.antt has loads that do otherwise.)
-use Rattle.std.specs.Prelude.{◌≡◌, refl, List, ℕ, zero, suc, ◌+◌, ◌≤◌, ◌<◌, length, get_or}
+use Rattle.std.specs.Prelude.{◌≡◌, refl, List, ℕ, ◌+◌, ◌≤◌, ◌<◌, length, get_or}
 use Rattle.std.proofs.Common.{sym, ap, ◌∙◌, arith, le-leb, eq-eqb, ne_eqb}
 use Rattle.std.proofs.Math.Seq.{length-sets}
 use Rattle.std.proofs.lemmas.Bool.{lt-leb}
@@ -12,8 +12,8 @@ use Rattle.def_terms.specs.Runs.{load, Result, result_of}
 use Rattle.def_terms.specs.declared.Sizes.{Sizes}
 use Rattle.def_terms.specs.declared.Answer.TheVariants.{Loaded, Refused}
 use Rattle.def_words.specs.Columns.{header, cells, cells_list}
-use Rattle.def_words.specs.Layout.{MINUTES, Tables, view, sizes_fit, stored_minutes, put_minutes}
-use Rattle.def_words.specs.Words.{loaded, judged_load, loading, load_words, perform}
+use Rattle.def_words.specs.Layout.{MINUTES, Tables, sizes_fit, stored_minutes, put_minutes}
+use Rattle.def_words.specs.Words.{loaded, loading, load_words, perform}
 use Rattle.thm_words_tests.specs.Judged.{Sized, sized_means}
 
 -- ---- the statement

@@ -8,7 +8,7 @@ use Rattle.std.proofs.Math.ListN.{get_or-append}
 use borrow.Author.Tests.{ltb-true, leb-true, lt-ltb, le-leb}
 use Rattle.def_basics.specs.Base.{pick}
 use Rattle.def_terms.specs.declared.Sizes.{Sizes}
-use Rattle.def_words.specs.Columns.{Shape, offset, Rows, rows, columns, header, put, inside}
+use Rattle.def_words.specs.Columns.{Shape, offset, Rows, rows, columns, header, inside}
 use Rattle.def_words.specs.Layout.{job_shape, JOBS, ARCS, BITS, WORKERS, MADE, arc_shape, RESERVED, bucket_shape}
 use Rattle.def_words.specs.Layout.{queue_shape}
 use Rattle.def_words.specs.Layout.{TAKEN, PUT, worker_shape, Tables, tables, View, view, need, long_enough, sizes_kept}

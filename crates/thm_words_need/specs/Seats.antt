@@ -1,6 +1,6 @@
 -- Where a job is put in the queue and its index, and which is taken out: read within the sizes, and at cells and slots
 -- within the sizes. Follows docs/RULES.md, "Tables and their measures".
-use Rattle.std.specs.Prelude.{◌≡◌, true, ◌&&◌, ℕ, ◌-◌, ◌≤◌, ◌<◌, eqb}
+use Rattle.std.specs.Prelude.{◌≡◌, true, ◌&&◌, ℕ, ◌≤◌, ◌<◌, eqb}
 use Rattle.std.proofs.Math.Path.{refl, ap}
 use Rattle.std.proofs.Common.{arith}
 use Rattle.std.proofs.Math.Dec.{ltb, leb}

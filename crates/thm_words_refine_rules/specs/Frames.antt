@@ -13,7 +13,7 @@ use Rattle.def_words.specs.Layout.{OWN_ARC}
 use Rattle.def_words.specs.Layout.{NOTE, NAMES, view, Tables}
 use Rattle.def_words.specs.Layout as words
 use Rattle.def_words.specs.Words.{first_arc}
-use Rattle.def_rules.specs.Rules.{Call, idle, looking, linking, marking, notifying, Worker, Graph, job}
+use Rattle.def_rules.specs.Rules.{Call, idle, looking, linking, marking, notifying, Worker, Graph}
 use Rattle.def_rules.specs.Sound.{CallSound}
 use Rattle.thm_representation.specs.Rep.{Ghost, enter_ghost, tally_ghost, link_ghost, AddWords, BareWords, CallRep}
 use Rattle.thm_representation.specs.Rep.{WorkerRep}

@@ -21,7 +21,7 @@ use Rattle.def_words.specs.Words.{with_seat, first_arc, applied}
 use Rattle.def_words.specs.declared.Plan.TheVariants as words
 use Rattle.def_words.specs.declared.Plan.TheVariants.{Settle, SettleQueue}
 use Rattle.def_words.specs.declared.Found.TheVariants.{At}
-use Rattle.def_rules.specs.Rules.{Call, idle, linking, notifying, Graph, job, at, find, with_call, linked, link_to, link}
+use Rattle.def_rules.specs.Rules.{Call, idle, linking, notifying, Graph, job, find, with_call, linked, link_to, link}
 use Rattle.def_rules.specs.Rules.{settled, step_call}
 use Rattle.def_rules.specs.Sound.{Sound, CallSound, Linking}
 use Rattle.thm_representation.specs.Rep.{Ghost, tally_ghost, link_ghost, TablesRep, CallRep, Stands}

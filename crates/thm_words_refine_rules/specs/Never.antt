@@ -27,6 +27,8 @@ Fine o = is_number damaged o.answer ≡ false
 not_damaged : {s : Sizes} {g : Graph} {i : Item} {p : ℕ} {h : Graph} → Sound s g → Deed s g i (Refused damaged p) h → ⊥
 not_damaged {g} O (by.stepped {w} A {c} e (by.broken b)) =
     unbroken g (g.workers w).held c (rw e at (O.calls w)) b
+not_damaged {s = s} {g = g} {i = i} {p = p} {h = h} O (by.made _ _ x14) = elim x14 [ ]
+not_damaged {s = s} {g = g} {p = p} {h = h} O (by.loading {t = t} {m = m} _ x12) = elim x12 [ ]
 
 deed_fine : {s : Sizes} {g : Graph} {i : Item} (x : Answer) {h : Graph} → Sound s g → Deed s g i x h
     → is_number damaged x ≡ false

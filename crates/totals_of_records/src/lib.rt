@@ -1,5 +1,7 @@
 // The board over a lent row of records. docs/RULES.md, "The board and the day list"; specs/Board.antt of `def_totals`
 // has the definitions.
+#![tactic(auto)]
+
 ghost use Rattle.std.specs.Prelude.{◌≡◌};
 ghost use Rattle.totals_of_records.specs.By.{Judged, totals_with};
 

@@ -1,5 +1,7 @@
 // The board over a table of words. docs/RULES.md, "The board and the day list"; specs/Board.antt of `def_totals` has
 // the definitions. The sums wrap at 32 bits, which those of a row of at most 4,096 records never reach.
+#![tactic(auto)]
+
 ghost use Rattle.std.specs.Prelude.{◌≡◌, true};
 ghost use Rattle.def_minutes.specs.Minutes.{fixed_minutes};
 ghost use Rattle.def_minutes.specs.Rising.{is_rising};

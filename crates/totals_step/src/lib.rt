@@ -1,5 +1,7 @@
 // One record more on running totals. docs/RULES.md, "The board and the day list"; specs/Step.antt has the definition.
 // The sums wrap at 32 bits, which those of a row of at most 4,096 records never reach.
+#![tactic(auto)]
+
 ghost use Rattle.std.specs.Prelude.{◌≡◌};
 ghost use Rattle.totals_step.specs.Step.{with_record};
 

@@ -1,4 +1,6 @@
 // A finish run whole: posted, and stepped to its end, in one go. Follows docs/RULES.md, "Whole calls".
+#![tactic(auto)]
+
 ghost use Rattle.std.specs.Prelude.{◌≡◌};
 ghost use Rattle.def_terms.specs.Terms.{finish_of};
 ghost use Rattle.def_terms.specs.Runs.{result_of};

@@ -1,5 +1,7 @@
 // A worker's phase, and whether damage stopped a call run whole half done: by the number that the call answers, and the
 // phase before and after it. Follows docs/RULES.md, "Whole calls".
+#![tactic(auto)]
+
 ghost use Rattle.std.specs.Prelude.{◌≡◌, ltb};
 ghost use Rattle.def_basics.specs.Base.{pick};
 ghost use Rattle.def_words.specs.Columns.{columns};

@@ -1,6 +1,6 @@
 -- The idle systems of docs/RULES.md, "How narrow each promise is", clause c, and others that do next to nothing. (The
 -- board is in def_graph_board, Wrong/Boards.antt.)
-use Rattle.std.specs.Prelude.{◌≡◌, refl, ◌↔◌, false, List, [], ◌∷◌, ◌++◌, ℕ, zero, suc, ◌<◌, ltb, eqb, length}
+use Rattle.std.specs.Prelude.{◌≡◌, refl, ◌↔◌, false, List, [], ◌∷◌, ◌++◌, ℕ, zero, suc, ◌<◌, ltb, length}
 use Rattle.std.proofs.Math.Option.{none}
 use Rattle.std.proofs.Common.{arith}
 use Rattle.std.proofs.Math.Dec.{eqb-suc-zero}

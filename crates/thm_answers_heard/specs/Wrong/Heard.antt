@@ -1,6 +1,6 @@
 -- Tellings of a sheet of adds by which something is lost, or left where nothing is to be said, each refuted by one
 -- answer.
-use Rattle.std.specs.Prelude.{◌≡◌, refl, List, [], ◌∷◌, ℕ, zero, suc, ◌<◌, get_or, replicate}
+use Rattle.std.specs.Prelude.{◌≡◌, List, [], ◌∷◌, ℕ, zero, suc, ◌<◌, get_or, replicate}
 use Rattle.std.proofs.Common.{arith}
 use Rattle.def_terms.specs.declared.Answer.{Answer}
 use Rattle.def_terms.specs.declared.Answer.TheVariants.{Laid, Refused}

@@ -1,10 +1,10 @@
 -- Tellings of a whole call that answers 9 that are wrong, each with tables by which the statement of Stopped.antt or of
 -- StoppedSheet.antt fails of it.
-use Rattle.std.specs.Prelude.{◌≡◌, refl, ◌≢◌, Bool, ◌&&◌, not, List, [], ◌∷◌, ℕ, ◌+◌, ◌≤◌, eqb, length, get_or, take, replicate}
+use Rattle.std.specs.Prelude.{◌≡◌, refl, ◌≢◌, Bool, ◌&&◌, not, List, [], ◌∷◌, ℕ, ◌+◌, ◌≤◌, eqb, length, get_or, replicate}
 use Rattle.std.proofs.Common.{sym, ap, ◌∙◌, arith, lit<}
 use Rattle.def_basics.specs.Base.{pick, contains, repeats, prefix}
 use Rattle.def_bucket.specs.Bucket.{product_of, bucket_of}
-use Rattle.def_terms.specs.Terms.{Arguments, Finish, finish_of, arguments_wrong, within_limits, no_arguments}
+use Rattle.def_terms.specs.Terms.{Arguments, Finish, finish_of, arguments_wrong, within_limits}
 use Rattle.def_terms.specs.Runs.{Result}
 use Rattle.def_terms.specs.declared.Sizes.{Sizes}
 use Rattle.def_terms.specs.declared.Answer.{Answer}

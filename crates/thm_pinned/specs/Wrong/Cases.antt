@@ -1,6 +1,6 @@
 -- Machines that answer, queue and count as the rows of docs/RULES.md ("Checked by hand") say by the end of each starred
 -- row, and do it at another moment than the rules: each is refuted by the moment that a case names.
-use Rattle.std.specs.Prelude.{◌≡◌, refl, Bool, false, ◌&&◌, not, List, [], ◌∷◌, map, ℕ, suc, ◌-◌, ltb, eqb, length, get_or, set}
+use Rattle.std.specs.Prelude.{◌≡◌, refl, Bool, false, ◌&&◌, not, List, [], map, ℕ, suc, ◌-◌, ltb, eqb, length, get_or, set}
 use Rattle.std.proofs.Common.{ap}
 use Rattle.std.proofs.Math.Option.{Option, none, some}
 use Rattle.std.proofs.lemmas.Bool.{eqb-false}

@@ -1,0 +1,42 @@
+-- `jobs_line` prints the first line.
+use mathlib.Core.List.{append_assoc}
+use native.Mathlib.Omega.{arith}
+use borrow.Author.Rules.{rules}
+use Rattle.day_text.proofs.Laws.{left_out, next, numbered, moved_on, printed}
+use Rattle.day_text.proofs.jobs_line.Goals as goal
+
+-- ?? no goal slice-aggregate-emit-from
+-- slice-aggregate-emit-from : tie.Need-slice-aggregate-emit-from
+-- slice-aggregate-emit-from c = search rules
+
+-- ?? no goal slice-aggregate-emit-from-2
+-- slice-aggregate-emit-from-2 : tie.Need-slice-aggregate-emit-from-2
+-- slice-aggregate-emit-from-2 c = search rules
+
+pub emit_number-second-requires : goal.emit_number-second-requires
+emit_number-second-requires c =
+    omega (arith, moved_on _ _ _ _ c.emit_from-first.ensures)
+
+pub emit_from-last-requires : goal.emit_from-last-requires
+emit_from-last-requires c =
+    omega (
+      arith,
+      moved_on _ _ _ _ c.emit_from-first.ensures,
+      numbered _ _ _ _ c.emit_number-second.ensures,
+    )
+
+pub emit_last-requires : goal.emit_last-requires
+emit_last-requires c =
+    omega (
+      arith,
+      moved_on _ _ _ _
+          c.emit_from-first.ensures,
+      numbered _ _ _ _ c.emit_number-second.ensures,
+      moved_on _ _ _ _ c.emit_from-last.ensures,
+    )
+
+pub returns : goal.returns
+returns c =
+    simp append_assoc (printed _ _ _ _ _ _ c.if-at-gt-MOST_OFFSET.false c.emit_from-first.ensures
+    (next _ _ _ _ _ _ c.emit_number-second.ensures
+    (next _ _ _ _ _ _ c.emit_from-last.ensures c.emit_last.ensures)))

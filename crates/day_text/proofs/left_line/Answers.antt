@@ -1,0 +1,17 @@
+-- `left_line` prints the last line.
+use native.Mathlib.Omega.{arith}
+use borrow.Author.Rules.{rules}
+use Rattle.day_text.proofs.Laws.{left_out, moved_on, printed}
+use Rattle.day_text.proofs.left_line.Goals as goal
+
+-- ?? no goal slice-aggregate-emit-from
+-- slice-aggregate-emit-from : tie.Need-slice-aggregate-emit-from
+-- slice-aggregate-emit-from c = search rules
+
+pub emit_last-requires : goal.emit_last-requires
+emit_last-requires c = omega (arith, moved_on _ _ _ _ c.emit_from-last.ensures)
+
+pub returns : goal.returns
+returns c =
+    printed _ _ _ _ _ _ c.if-at-gt-MOST_OFFSET.false c.emit_from-last.ensures
+    c.emit_last.ensures

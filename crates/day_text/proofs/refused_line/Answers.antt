@@ -1,0 +1,17 @@
+-- `refused_line` prints the line of a refused entry.
+use native.Mathlib.Omega.{arith}
+use borrow.Author.Rules.{rules}
+use Rattle.day_text.proofs.Laws.{left_out, moved_on, printed}
+use Rattle.day_text.proofs.refused_line.Goals as goal
+
+-- ?? no goal slice-aggregate-emit-from
+-- slice-aggregate-emit-from : tie.Need-slice-aggregate-emit-from
+-- slice-aggregate-emit-from c = search rules
+
+pub emit_two-requires : goal.emit_two-requires
+emit_two-requires c = omega (arith, moved_on _ _ _ _ c.emit_from-next.ensures)
+
+pub returns : goal.returns
+returns c =
+    printed _ _ _ _ _ _ c.if-at-gt-MOST_OFFSET.false c.emit_from-next.ensures
+    c.emit_two.ensures

@@ -1,0 +1,15 @@
+-- `number1_if` answers a number of one byte that its bit lets stand, or a cut.
+use borrow.Author.Tests.{le-leb, lt-leb, ne_eqb}
+use Rattle.def_sheets.specs.Decode.{name_at}
+use Rattle.entry_scan.proofs.Fields.{number1_at}
+use Rattle.entry_scan.proofs.number1_if.Goals as goal
+
+pub returns-then-at-s : goal.returns-then-at-s
+unfolding name_at
+returns-then-at-s c =
+    rw (ne_eqb _ _ c.if-bit-eq0.false, le-leb _ _ c.if-at-s.true)
+    (rw (number1_at, c.wide.ensures))
+
+pub returns-else-at-s : goal.returns-else-at-s
+unfolding name_at
+returns-else-at-s c = rw (ne_eqb _ _ c.if-bit-eq0.false, lt-leb _ _ c.if-at-s.false)

@@ -1,0 +1,24 @@
+-- `graph_layout::fresh::fresh_job_records` meets its contract: what is left to store, from the present record on, makes the
+-- same table as all of it.
+use Prim.Native.Nat.{◌-◌, ◌≤◌}
+use mathlib.Core.Path.{◌≡◌, refl, ◌∙◌}
+use native.Mathlib.Omega.{arith}
+use borrow.Author.Rules.{rules}
+use lib.ListN.{length}
+use lib.Seq.{sets}
+use Rattle.def_words.specs.Columns.{offset}
+use Rattle.def_words.specs.Layout.{job_shape, repeated, fresh_job}
+use Rattle.graph_layout.proofs.fresh.Laws.{record_one, record_none}
+use Rattle.graph_layout.proofs.fresh.fresh_job_records.Goals as goal
+
+pub loop-i-preserved : goal.loop-i-preserved
+loop-i-preserved c =
+    let one = record_one job_shape fresh_job refl _ _ _ c.loop-i-test.true in (
+      rw c.put_job_record.ensures (one ∙ c.loop-i.invariant.0),
+      omega arith,
+      c.put_job_record.auto.jobs
+          ∙ c.loop-i.invariant.2,
+    )
+
+pub returns : goal.returns
+returns c = record_none job_shape fresh_job refl _ _ _ c.loop-i-test.false ∙ c.loop-i.invariant.0
