@@ -1,16 +1,12 @@
 -- A number that moves through a heap, one level at a time, for a number of levels that is known only to be above 0 or
 -- not.
 use mathlib.Core.Path.{◌≡◌, refl}
-use mathlib.Core.List.{List, [], ◌∷◌, ◌++◌}
-use mathlib.Core.Bool.{Bool, true, false, ◌&&◌, ◌||◌}
-use Prim.Native.Nat.{ℕ, zero, suc, ◌+◌, ◌-◌, ◌≤◌, ◌<◌}
+use mathlib.Core.Bool.{Bool, true, false}
+use Prim.Native.Nat.{ℕ, zero, suc, ◌-◌, ◌≤◌, ◌<◌}
 use native.Mathlib.Omega.{arith}
-use lib.Dec.{ltb, leb, eqb}
-use lib.ListN.{length}
-use borrow.Author.Tests.{lt-ltb, le-ltb, leb-true, leb-false}
+use lib.Dec.{ltb, eqb}
 use Rattle.def_basics.specs.Base.{pick}
-use Rattle.def_heap.specs.Compared.{pairs_down}
-use Rattle.def_heap.specs.Sift.{above, left, right, lesser, sound_below, sift_up, sift_down}
+use Rattle.def_heap.specs.Sift.{above, sift_up}
 use Rattle.def_heap.specs.declared.Sifted.{Sifted}
 use Rattle.def_heap.specs.declared.Sifted.TheVariants.{Rests, Astray}
 use Rattle.graph_index.specs.Looked.{looked}

@@ -1,19 +1,14 @@
 -- The seats of the definitions, by what the code reads and finds on the way.
-use mathlib.Core.Path.{◌≡◌, refl, sym}
-use mathlib.Core.Bool.{Bool, true, false, ◌&&◌}
+use mathlib.Core.Path.{◌≡◌}
+use mathlib.Core.Bool.{true, false, ◌&&◌}
 use Prim.Native.Nat.{ℕ, ◌-◌}
 use lib.Dec.{ltb, leb}
-use lib.ListN.{length}
 use Rattle.def_numbers.specs.Numbers.{most_class}
-use Rattle.def_basics.specs.Base.{pick}
-use Rattle.def_heap.specs.Compared.{pairs_down}
-use Rattle.def_heap.specs.Sift.{sift_up, sift_down}
+use Rattle.def_heap.specs.Sift.{sift_up}
 use Rattle.def_heap.specs.declared.Sifted.{Sifted}
 use Rattle.def_terms.specs.declared.Sizes.{Sizes}
 use Rattle.def_words.specs.Layout.{CLASS, View}
-use Rattle.def_words.specs.Index.{rank, rank_of, waits, cell_in, seated, seat_for, first_seat, first_seat_by, levels}
-use Rattle.def_words.specs.Index.{compared_cells}
-use Rattle.def_words.specs.declared.Seating.{Seating}
+use Rattle.def_words.specs.Index.{rank, rank_of, waits, cell_in, seated, seat_for, levels}
 use Rattle.def_words.specs.declared.Seating.TheVariants.{Unseated}
 
 module _ (s : Sizes) (v : View) (j : ℕ) {taken put class : ℕ} (t : taken ≡ v.taken) (p : put ≡ v.put)

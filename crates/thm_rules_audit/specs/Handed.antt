@@ -47,7 +47,7 @@ handed_started {s} {g} history (i ∷ items) j =
       arith,
       starts _ _ _ (sound history) (deeds history i).effect j
           (handed_out (events (perform s) (perform s g i).state items)),
-      handed_started (then history i) items j,
+      handed_started {g = (perform s g i).state} (then history i) items j,
     )
 
 -- a job is handed out at most once

@@ -29,6 +29,7 @@ load_answered s g adds same q m = of (deed s g (load q m))
     of (by.loading e (by.not_rising r)) = rw (e, r)
     of (by.loading e (by.too_late r l)) = rw (e, r, ne_eqb (length adds) 0 (λ z. omega arith))
     of (by.loading e (by.minutes_loaded r l)) = rw (e, r, eq-eqb (length adds) 0 (same ∙ l))
+    of {h = h} (by.made _ _ x15) = elim x15 [ ]
 
 -- the accepted adds are those of the jobs that entered
 pub loads_answered : {s : Sizes} {g : Graph} {r : Reading} {e : ℕ → ℕ} → History s g r e → (q : Sizes) (m : List ℕ)

@@ -148,13 +148,15 @@ module _ {S : Type 0} (perform : S → Item → Result S) (see : S → Seen) (s 
       (λ i. ap (λ (l : List Event). (get_or l 0 (record { item = i; answer = NoneReady })).answer) (F.answers (i ∷ [])))
       (λ i. F.does (i ∷ []))
       (rules_take_longest history)
-  longest_on history F (i ∷ items) = longest_on (then history i) (follows_on F i) items
+  longest_on {x = x} {g = g} history F (i ∷ items) =
+      longest_on {x = (perform x i).state} {g = (rules.perform s g i).state} (then history i) (follows_on F i) items
 
   count_on : {x : S} {g : Graph} {r : Reading} {e : ℕ → ℕ} → History s g r e → Follows x g → (items : List Item)
       → ByCount perform see s (after perform x items)
   unfolding after
   count_on {x} history F [] = by_count perform see s x (longest_on history F)
-  count_on history F (i ∷ items) = count_on (then history i) (follows_on F i) items
+  count_on {x = x} {g = g} history F (i ∷ items) =
+      count_on {x = (perform x i).state} {g = (rules.perform s g i).state} (then history i) (follows_on F i) items
 
   module _ (fresh : S) (answers : (is : List Item) → Answers perform see s fresh is)
       (does : (is : List Item) → Does perform see s fresh is) (items : List Item) where

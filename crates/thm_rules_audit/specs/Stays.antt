@@ -21,9 +21,9 @@ stays_on : {s : Sizes} {g : Graph} {r : Reading} {e : ℕ → ℕ} → History s
 unfolding after
 stays_on history [] =
     record { spoiled = λ j h. h; spoiled_queued = λ j h. refl; label = λ j h. h; outcome = λ j h. refl }
-stays_on history (i ∷ more) =
+stays_on {s = s} {g = g} history (i ∷ more) =
     let now = stays history i in
-    let rest = stays_on (then history i) more in
+    let rest = stays_on {g = (perform s g i).state} (then history i) more in
     record {
       spoiled = λ j h. rest.spoiled j (now.spoiled j h);
       spoiled_queued = λ j h. rest.spoiled_queued j (omega arith) ∙ now.spoiled_queued j h;

@@ -1,6 +1,5 @@
 -- `graph_index::look` meets its contract: each way through the code is a case of the definition.
 use Rattle.def_words.specs.Index.{waits}
-use borrow.Author.Rules.{rules}
 use Rattle.graph_index.proofs.look.Goals as goal
 
 pub returns-else-put : goal.returns-else-put

@@ -1,7 +1,6 @@
 -- `graph_index::seat_for` meets its contract: by what it reads and finds on the way.
 use Rattle.graph_index.proofs.Seats.{seat_found, seat_none}
 use mathlib.Core.Path.{◌∙◌}
-use borrow.Author.Rules.{rules}
 use Rattle.graph_index.proofs.seat_for.Goals as goal
 
 pub returns-then-free : goal.returns-then-free

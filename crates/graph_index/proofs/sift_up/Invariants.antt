@@ -1,16 +1,12 @@
 -- `graph_index::sift_up` meets its contract. The loop's invariant: what is left of the way up ends as the whole way
 -- does. The measure is the number of levels that are left.
-use mathlib.Core.Path.{◌≡◌, refl}
+use mathlib.Core.Path.{◌≡◌}
 use mathlib.Core.List.{List}
 use Prim.Native.Nat.{ℕ}
-use native.Mathlib.Omega.{arith}
-use borrow.Author.Tests.{eqb-false}
-use borrow.Author.Rules.{rules}
 use Rattle.def_heap.specs.Sift.{sift_up}
 use Rattle.def_heap.specs.declared.Sifted.{Sifted}
 use Rattle.def_words.specs.Layout.{tables, view, View}
 use Rattle.def_words.specs.Index.{rank_of, waits, cell_in, levels}
-use Rattle.graph_index.proofs.Laws.{up_none, up_one}
 use Rattle.graph_index.proofs.sift_up.Given as goal
 
 -- the way up of what a view holds
