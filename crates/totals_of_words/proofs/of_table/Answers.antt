@@ -1,13 +1,13 @@
 -- `totals_of_words::of_table` meets its contract: every word that is read stands in the table, and the loop's running
 -- totals are those of the records that it has passed.
-use Rattle.std.proofs.Common.{◌≡◌, ◌-◌, true, length, arith, rules, le-ltb, le-leb}
+use Rattle.std.proofs.Common.{arith, le-ltb, le-leb}
 use borrow.Author.Tests.{lt-leb}
-use Rattle.def_numbers.specs.Numbers.{classes, accepted}
+use Rattle.def_numbers.specs.Numbers.{classes}
 use Rattle.def_minutes.specs.Minutes.{minutes_in}
-use Rattle.def_minutes.specs.Rising.{is_rising, rising}
+use Rattle.def_minutes.specs.Rising.{rising}
 use Rattle.def_totals.specs.Board.{finished}
 use Rattle.totals_step.proofs.Running.{raises}
-use Rattle.totals_of_words.proofs.Tables.{Stands, stands_as, inside, none_stands, Passed}
+use Rattle.totals_of_words.proofs.Tables.{stands_as, none_stands}
 use Rattle.totals_of_words.proofs.Tables.{start_table, next_table, last_table, wrong_table}
 use Rattle.totals_of_words.proofs.of_table.Goals as goal
 
@@ -42,7 +42,7 @@ loop-i-preserved c =
         l.invariant.1.0,
         λ h. next_table (rising _ h) (l.invariant.1.1 h) (omega arith)
             (raises _ l.t _ _ l.invariant.1.0 (omega arith) (omega arith)
-            (rw (c.wrapping_add_u32.ensures, c.wrapping_add_u32-in-loop-i.ensures))),
+            (rw (c.wrapping_add_u32.ensures.value, c.wrapping_add_u32-in-loop-i.ensures.value))),
       ),
     )
 

@@ -1,14 +1,9 @@
 -- `totals_of_words::of_table` meets its contract: every word that is read stands in the table, and the loop's running
 -- totals are those of the records that it has passed.
-use Rattle.std.proofs.Common.{◌≡◌, ◌-◌, true, length, arith, rules, le-ltb, le-leb}
-use borrow.Author.Tests.{lt-leb}
-use Rattle.def_numbers.specs.Numbers.{classes, accepted}
-use Rattle.def_minutes.specs.Minutes.{minutes_in}
-use Rattle.def_minutes.specs.Rising.{is_rising, rising}
-use Rattle.def_totals.specs.Board.{finished}
-use Rattle.totals_step.proofs.Running.{raises}
-use Rattle.totals_of_words.proofs.Tables.{Stands, stands_as, inside, none_stands, Passed}
-use Rattle.totals_of_words.proofs.Tables.{start_table, next_table, last_table, wrong_table}
+use Rattle.std.proofs.Common.{◌≡◌, ◌-◌, true, length}
+use Rattle.def_numbers.specs.Numbers.{accepted}
+use Rattle.def_minutes.specs.Rising.{is_rising}
+use Rattle.totals_of_words.proofs.Tables.{Stands, Passed}
 use Rattle.totals_of_words.proofs.of_table.Given as goal
 
 abbrev pub invariant-loop-i : goal.invariant-loop-i

@@ -1,5 +1,5 @@
 -- `totals_of_words::of_words` meets its contract: a row of words is a table of records of two words.
-use Rattle.std.proofs.Common.{arith, rules}
+use Rattle.std.proofs.Common.{arith}
 use Rattle.def_minutes.specs.Minutes.{fixed_minutes}
 use Rattle.def_minutes.specs.Judged.{fixed_passes}
 use Rattle.totals_of_words.proofs.Tables.{even_words, odd_words}
