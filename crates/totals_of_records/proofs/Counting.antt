@@ -1,14 +1,6 @@
 -- The invariant of the loop over a row of records, by minutes that were judged: its running totals are those of the
 -- records that it has passed, or the refusal of the minutes. docs/RULES.md, "The board and the day list".
-use mathlib.Core.Path.{◌≡◌, refl}
-use mathlib.Core.Bool.{Bool, true, false}
-use mathlib.Core.List.{List}
-use Prim.Native.Nat.{ℕ, ◌+◌, ◌<◌, ◌≤◌, zero-le}
-use native.Mathlib.Omega.{arith}
-use borrow.Author.Tests.{le-ltb, lt-ltb, eqb-true}
-use lib.Dec.{eqb}
-use lib.ListN.{length, get_or, take}
-use lib.Seq.{take_all}
+use Rattle.std.proofs.Common.{◌≡◌, refl, Bool, true, false, List, ℕ, ◌+◌, ◌<◌, ◌≤◌, zero-le, arith, le-ltb, lt-ltb, eqb-true, eqb, length, get_or, take, take_all}
 use Rattle.def_numbers.specs.Numbers.{wrong_size, accepted, most_records}
 use Rattle.def_basics.specs.Base.{pick}
 use Rattle.def_minutes.specs.Rising.{rising}
