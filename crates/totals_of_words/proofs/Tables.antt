@@ -1,6 +1,6 @@
 -- The records that stand in a table of words: how many, which, and what one more does to the running totals; and a row
 -- of words as such a table. docs/RULES.md, "The board and the day list".
-use Rattle.std.proofs.Common.{◌≡◌, ℕ, zero, suc, ◌+◌, ◌*◌, ◌%◌, ◌^◌, ◌<◌, ◌≤◌, Bool, true, false, ◌&&◌, ltb, leb, List, [], ◌∷◌, length, get_or, sym, refl, ◌∙◌, add-zero, add-suc, mul-le-mul, suc-add, mul-le-mul_left, zero-add, mul-suc, arith, ext_get_or, ltb-true, lt-ltb, eq-eqb, ne_eqb, le-leb, leb-false, leb-true}
+use Rattle.std.proofs.Common.{◌≡◌, ℕ, zero, suc, ◌+◌, ◌*◌, ◌%◌, ◌<◌, ◌≤◌, Bool, true, false, ◌&&◌, ltb, leb, List, [], ◌∷◌, length, get_or, sym, refl, ◌∙◌, add-zero, add-suc, suc-add, zero-add, arith, ext_get_or, ltb-true, lt-ltb, eq-eqb, ne_eqb, le-leb, leb-false, leb-true}
 use mathlib.Core.Bool.{and-eq-true_iff}
 use Rattle.def_numbers.specs.Numbers.{wrong_size, damaged, accepted, most_records}
 use Rattle.def_basics.specs.Base.{pick}
@@ -27,10 +27,6 @@ from_at f i (suc n) (suc k) d h = rw (add-suc i k, ← suc-add i k) (from_at f (
 
 zeros : JobRecord
 zeros = record { label = 0; class = 0 }
-
--- where a record begins, in 64 bits
-pub product : (width n : ℕ) → width < 2 ^ 32 → n ≤ most_records → width * n ≤ 4294967295 * most_records
-product width n h k = mul-le-mul {n₂ = 4294967295} {m₂ = most_records} (omega arith) k
 
 -- ---- whether there is a row
 module _ (table : List ℕ) (head width label class : ℕ) (words : List ℕ) (count : ℕ) {t : Totals} where
@@ -70,13 +66,6 @@ stands_as head width label class size count is taken =
       classed = ltb-true class width three.0;
       long = leb-true (head + width * count) size three.1;
     }
-
--- a record of the row ends within the table
-pub inside : {head width label class size count : ℕ} → Stands head width label class size count → (i : ℕ) → i < count
-    → head + width * i + width ≤ size
-inside {width = width} {count = count} s i h =
-    let ends : width * i + width ≤ width * count = rw (← (mul-suc width i)) (mul-le-mul_left width h) in
-    omega (arith, ends, s.long)
 
 -- ---- the loop over the row: record i comes next
 pub record Passed (table : List ℕ) (head width label class : ℕ) (words : List ℕ) (count : ℕ) (t : Totals) (i : ℕ)
