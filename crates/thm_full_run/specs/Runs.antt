@@ -33,7 +33,8 @@ pub run_moved : {s : Sizes} {g : Graph} {r : Reading} {e : ℕ → ℕ} → Hist
     (read_on r (events (perform s) g items))
 unfolding steps_taken events after read_on
 run_moved {r = r} history [] = still r r refl
-run_moved history (i ∷ items) = then_moved (item_moved history i) (run_moved (then history i) items)
+run_moved {s = s} {g = g} history (i ∷ items) =
+    then_moved (item_moved history i) (run_moved {g = (perform s g i).state} (then history i) items)
 
 -- ---- the figures of the empty graph
 pub record Nothing (s : Sizes) (g : Graph) (r : Reading) : Type 0 where

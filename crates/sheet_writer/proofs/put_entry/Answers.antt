@@ -3,7 +3,6 @@ use mathlib.Core.Path.{ap, ◌∙◌}
 use Rattle.def_sheets.specs.Offset.{Part, put}
 use Rattle.sheet_writer.specs.Put.{job_in}
 use Rattle.sheet_writer.proofs.Puts.{due}
-use borrow.Author.Rules.{rules}
 use Rattle.sheet_writer.proofs.put_entry.Goals as goal
 
 pub put_own_name-offset-requires : goal.put_own_name-offset-requires

@@ -1,8 +1,7 @@
 -- `put_list` stores a list, its count first, and nothing for the empty list.
 use Prim.Native.Nat.{◌+◌, ◌*◌, ◌≤◌}
-use mathlib.Core.Path.{◌≡◌, ◌∙◌}
+use mathlib.Core.Path.{◌≡◌}
 use native.Mathlib.Omega.{arith}
-use native.Mathlib.Nat.{add-zero}
 use lib.ListN.{length, length-set, take, drop}
 use Rattle.def_numbers.specs.Numbers.{name_bytes, count_bytes}
 use Rattle.def_sheets.specs.Number.{spelt}

@@ -4,7 +4,6 @@ use Rattle.def_sheets.specs.Write.{entry_at}
 use Rattle.sheet_limits.proofs.Judging.{few}
 use Rattle.sheet_limits.proofs.Rows.{job_at_lem}
 use Rattle.sheet_writer.proofs.Puts.{entry_put}
-use borrow.Author.Rules.{rules}
 use Rattle.sheet_writer.proofs.put_row.Goals as goal
 
 pub put_entry-requires : goal.put_entry-requires

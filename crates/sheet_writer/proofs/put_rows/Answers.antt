@@ -1,17 +1,16 @@
 -- `put_rows` stores the entries of the rows one after the other. The loop's invariant: what is left to store, stored
 -- from the running offset on, makes the whole.
-use Prim.Native.Nat.{◌+◌, ◌-◌, ◌≤◌}
-use mathlib.Core.Path.{refl, ap, ◌≡◌, ◌∙◌}
+use Prim.Native.Nat.{◌+◌}
+use mathlib.Core.Path.{refl, ap, ◌∙◌}
 use native.Mathlib.Omega.{arith}
 use native.Mathlib.Nat.{sub-zero}
 use lib.ListN.{length}
-use lib.Seq.{sets}
 use borrow.Author.Rules.{rules}
 use Rattle.def_sheets.specs.Job.{encode_sheet}
-use Rattle.def_sheets.specs.Write.{sheet_fault, SheetFault, entries_from}
-use Rattle.thm_sheets.specs.SheetOffset.{sheet_so_far, so_far_length}
+use Rattle.def_sheets.specs.Write.{entries_from}
+use Rattle.thm_sheets.specs.SheetOffset.{so_far_length}
 use Rattle.sheet_writer.proofs.Puts.{onward}
-use Rattle.sheet_limits.proofs.Rows.{rest, rest_bytes, next_bytes, next_length, next_sound, end_bytes}
+use Rattle.sheet_limits.proofs.Rows.{next_bytes, next_length, next_sound, end_bytes}
 use Rattle.sheet_writer.proofs.put_rows.Goals as goal
 
 pub loop-i-init : goal.loop-i-init

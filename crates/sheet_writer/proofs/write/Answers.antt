@@ -1,10 +1,10 @@
 -- `write` answers and leaves what `write_entry` says, for every entry, output and offset.
 use Prim.Native.Nat.{◌+◌}
-use mathlib.Core.Path.{◌≡◌, sym, ◌∙◌}
+use mathlib.Core.Path.{sym, ◌∙◌}
 use lib.ListN.{length}
 use borrow.Author.Tests.{leb-true}
 use borrow.Author.Rules.{rules}
-use Rattle.def_sheets.specs.Write.{Fault, fault_of, write_entry, job_of}
+use Rattle.def_sheets.specs.Write.{write_entry, job_of}
 use Rattle.def_sheets.specs.Job.{encode}
 use Rattle.sheet_limits.proofs.Judging.{refused, takes}
 use Rattle.sheet_writer.proofs.write.Goals as goal

@@ -8,7 +8,6 @@ use native.Mathlib.Nat.{zero-add}
 use native.Mathlib.Omega.{arith}
 use lib.ListN.{length, length-map}
 use borrow.Author.Tests.{eq-eqb, ne_eqb, le-leb, lt-leb}
-use borrow.Author.Rules.{rules}
 use Rattle.def_numbers.specs.Numbers.{entry_words}
 use Rattle.def_sheets.specs.Write.{SheetFault, sheet_fault, write_sheet, job_of, entries_of}
 use Rattle.def_sheets.specs.CodeLaws.{length_entries_from}
