@@ -11,9 +11,9 @@ from unittest.mock import ANY  # equals everything; for the tests
 
 TOP = pathlib.Path(__file__).resolve().parent.parent
 ARCHIVE, SHARED = (TOP / f"target/staticlib/libtaskgraph.{end}" for end in ("a", "so"))
-DAYLIST, JOBSHEET = (TOP / "target/bin" / name for name in ("daylist", "jobsheet"))
+DAYLIST, JOBSHEET = TOP / "crates/daylist/out/daylist", TOP / "target/bin/jobsheet"
 MADE_BY = {
-    ARCHIVE: "scripts/library", SHARED: "scripts/library", DAYLIST: "rt check daylist",
+    ARCHIVE: "scripts/library", SHARED: "scripts/library", DAYLIST: "scripts/day-list",
     JOBSHEET: "scripts/jobsheet --build",
 }
 WARNINGS = ("-Wall", "-Wextra", "-Werror")

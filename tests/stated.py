@@ -1,7 +1,7 @@
 """Where numbers and limits are stated, and by which names: in the header, the pages, the definitions and the code.
 
 A number of the header has one definition and one constant, both in crates/def_numbers, and one stem: TG_HALF_DONE is
-HALF_DONE in the code and halfDone in the definitions, TG_MAX_JOBS is MOST_JOBS and mostJobs.
+HALF_DONE in the code and half_done in the definitions, TG_MAX_JOBS is MOST_JOBS and most_jobs.
 """
 from helper import SHARED, TOP, Cases
 

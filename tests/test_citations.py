@@ -1,5 +1,7 @@
 """Each citation of a document of docs/ with a heading, in crates, hosts, scripts and tests, names one that it has."""
 import functools
+import os
+import pathlib
 import re
 
 from helper import TOP, Cases
@@ -21,14 +23,21 @@ def plain(text):
     return re.sub(r"\s*\n\s*(?:--|//[/!]?|\*|#)?\s*", " ", text)
 
 
+def files():
+    """The files of the repository's folders, without what is built."""
+    for folder in FOLDERS:
+        for place, folders, names in os.walk(TOP / folder):
+            folders[:] = sorted({*folders} - {"target", "out"})
+            yield from (pathlib.Path(place, name) for name in sorted(names))
+
+
 def citations():
     """Each file that cites, with the document and its heading."""
-    for folder in FOLDERS:
-        for path in sorted((TOP / folder).rglob("*")):
-            if path.is_file() and "target" not in path.parts and path.suffix in TEXTS:
-                for name, quoted in CITED.findall(plain(path.read_text(encoding="utf8", errors="ignore"))):
-                    for heading in re.findall(r'"([^"]+)"', quoted):
-                        yield path.relative_to(TOP), name, heading
+    for path in files():
+        if path.suffix in TEXTS:
+            for name, quoted in CITED.findall(plain(path.read_text(encoding="utf8", errors="ignore"))):
+                for heading in re.findall(r'"([^"]+)"', quoted):
+                    yield path.relative_to(TOP), name, heading
 
 
 class Citations(Cases):

@@ -24,7 +24,7 @@ def table():
 
 def listed():
     lines = (TOP / "crates.txt").read_text(encoding="utf8").split("\n")
-    found = (re.match(r"(\w+):(.*)$", line) for line in lines)
+    found = (re.match(r"(\w+)(?: staticlib)?:(.*)$", line) for line in lines)
     return {match[1]: match[2].split() for match in found if match}
 
 

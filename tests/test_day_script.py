@@ -16,13 +16,12 @@ DAY = (TOP / "crates/daylist/stdout").read_bytes()
 JOB = b"\x01\x05\x00\x00\x00"
 AGAIN = b"refused 1 7\nrefused 2 7\njobs 1 workers 2\n0 5 0\nleft 0\n"
 RT = """#!/bin/sh
-echo "$@" >>calls
-[ ! -e refuse ] || { echo "day-list: from the log"; exit 1; }
-mkdir -p target/bin target/stamp
-[ -e target/stamp/daylist ] || cp program target/bin/daylist
-touch target/stamp/daylist
-echo "rt: words proved (unchanged since it was last proved)"
-echo "rt: daylist proved (3 s)"
+echo "$PWD: $@" >>../../calls
+[ ! -e ../../refuse ] || { echo "day-list: from the log"; exit 1; }
+case $1 in
+all) printf '%s\\n' "== words" "== daylist" "logic=proved functions=3" "== summary" "words: ok" "daylist: ok" ;;
+run) mkdir -p out && cp ../../program out/daylist && exec out/daylist ;;
+esac
 """
 
 
@@ -121,10 +120,10 @@ class DayScript(Cases):
         def lists(name, status, said, builds, printed=DAY, env=with_rt):
             four = self.file(TOP / "examples/four-jobs.sheet", "rb")
             ran = run("bash", folder / "scripts/day-list", cwd=folder / "empty", env=env, stdin=four, text=False)
-            calls = (folder / "calls").read_text().count("check daylist\n")
+            calls = (folder / "calls").read_text().count("crates/daylist: all check ")
             self.same(name, (*ran, calls), (status, printed, Said(*said), builds))
 
-        proved = [b"day-list: daylist proved (3 s)\n"]
+        proved = [b"day-list: daylist proved\n"]
         lists("the program is missing", 0, proved, 1)
         lists("nothing has changed", 0, [], 1)
         os.utime(source, (2**31, 2**31))
@@ -139,7 +138,7 @@ class DayScript(Cases):
         lists("it is refused again", 2, [b"the program cannot be built"], 5, b"")
         (folder / "refuse").unlink()
         lists("it is put right", 0, proved, 6)
-        (folder / "target/bin/daylist").unlink()
+        (folder / "crates/daylist/out/daylist").unlink()
         lists("the program was removed", 0, proved, 7)
         source.write_text("three\n")
         tools = folder / "tools"  # all that the script needs but rt

@@ -184,9 +184,9 @@ class Install(Cases):
         prefix, source = folder / "prefix", folder / "crates/one/src/lib.rt"
         for place in ("include", "packaging"):
             shutil.copytree(TOP / place, folder / place)
-        for place in ("target/bin", "target/staticlib"):
+        for place in ("crates/daylist/out", "target/bin", "target/staticlib"):
             (folder / place).mkdir(parents=True)
-        for path, place in ((ARCHIVE, ""), (SHARED, ""), (DAYLIST, "target/bin"), (JOBSHEET, "target/bin")):
+        for path, place in ((ARCHIVE, ""), (SHARED, ""), (DAYLIST, "crates/daylist/out"), (JOBSHEET, "target/bin")):
             shutil.copy(path, folder / place)
 
         def installs(name, status, calls):

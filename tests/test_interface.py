@@ -92,12 +92,15 @@ def rust_declarations(path):
     return found
 
 
+STRUCT = re.compile(r"#\[repr\(C\)\]\s*(?:#\[derive\([\w, ]*\)\]\s*)?pub struct (\w+) \{(.*?)\n\}", re.S)
+
+
 def proved_declarations():
     """The structs and functions of crates/ that C sees. A slice is a pointer and a count."""
     found = {}
     for path in sorted(TOP.glob("crates/*/src/**/*.rt")):
         text = without_comments(path)
-        for name, fields in re.findall(r"#\[repr\(C\)\]\s*pub struct (\w+) \{(.*?)\n\}", text, flags=re.S):
+        for name, fields in STRUCT.findall(text):
             found[name] = ", ".join(field.removeprefix("pub ") for field in pieces(fields, ","))
         for name, parameters, answer in re.findall(r'pub extern\s+fn (tg_\w+)\((.*?)\) -> (\w+)', text, flags=re.S):
             listed = ", ".join(pieces(parameters, ","))

@@ -39,8 +39,8 @@ def header_values():
 
 
 def upper(name):
-    """wrongSize and WRONG_SIZE as WRONG_SIZE, OWN-NAME as OWN_NAME."""
-    return re.sub(r"(?<=[a-z])(?=[A-Z])", "_", name).replace("-", "_").upper()
+    """wrong_size and WRONG_SIZE as WRONG_SIZE."""
+    return name.upper()
 
 
 def constants():
@@ -55,10 +55,10 @@ def constants():
         for match in found:
             line = text.count("\n", 0, match.start(2)) + 1
             yield crate, upper(match[1]), (number(match[2]), f"{path.relative_to(TOP)}:{line}")
-        for match in re.finditer(r"^(\w+Shape) = record \{ head = (\d+); width = (\d+) \}", text, re.M):
+        for match in re.finditer(r"^(\w+_shape) = record \{ head = (\d+); width = (\d+) \}", text, re.M):
             head, width = match[2] + " + " if match[2] != "0" else "", match[3] if match[3] != "1" else ""
             yield crate, upper(match[1]), ((head + width).strip(), str(path.relative_to(TOP)))
-        for match in re.finditer(r"^fixedMinutes = (.*) ∷ \[\]$", text, re.M):
+        for match in re.finditer(r"^fixed_minutes = (.*) ∷ \[\]$", text, re.M):
             yield crate, "FIXED_MINUTES", (match[1].replace(" ∷", ","), str(path.relative_to(TOP)))
 
 
