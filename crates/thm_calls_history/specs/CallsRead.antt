@@ -1,4 +1,5 @@
 -- What is read of a call is what is read of the items that it is worth, whatever the call.
+use Rattle.std.proofs.Common.{subst}
 use Rattle.std.specs.Prelude.{◌≡◌}
 use Rattle.std.proofs.Math.Path.{refl, sym}
 use Rattle.std.proofs.Common.{ap, ◌∙◌}
@@ -6,7 +7,7 @@ use mathlib.Core.List.{List, [], ◌∷◌}
 use Prim.Native.Nat.{ℕ, zero, suc, ◌+◌, ◌*◌}
 use native.Mathlib.Omega.{arith}
 use Rattle.def_terms.specs.Terms.{Arguments, Finish, bit}
-use Rattle.def_terms.specs.Runs.{Item, post_add, post_finish, events}
+use Rattle.def_terms.specs.Runs.{Item, Event, post_add, post_finish, events}
 use Rattle.def_terms.specs.declared.Sizes.{Sizes}
 use Rattle.def_terms.specs.declared.Answer.{Answer}
 use Rattle.def_terms.specs.declared.Answer.TheVariants.{Laid, Posted, Ended, Refused}
@@ -17,7 +18,7 @@ use Rattle.def_call_order.specs.Calls.{read_on}
 use Rattle.def_host_calls.specs.HostCalls.{HostCall, single, whole_add, whole_finish, sheet, last_answer, call_made}
 use Rattle.def_host_calls.specs.HostCalls.{add_made}
 use Rattle.def_host_calls.specs.HostCalls.{finish_made, adds_made, last_of, adds_answer, sheet_worth, sheet_reply, worth}
-use Rattle.def_host_calls.specs.HostCalls.{reply_worth}
+use Rattle.def_host_calls.specs.HostCalls.{reply_worth, where_going, steps_made}
 use Rattle.def_host_calls.specs.CallsDemand.{note_whole_add, note_whole_finish, note_adds, note_call}
 use Rattle.thm_calls_history.specs.WordsCalls.{turned_words}
 use Rattle.def_host_calls.specs.Joined.{reads_joined}
@@ -88,8 +89,15 @@ module _ (s : Sizes) (t : Tables) (laid : (lay_out s t).answer ≡ Laid) where
           ≡ note_whole_add r w a (last_of perform (add_made perform q w a x) x)
       of taken E =
           let T = add_taken s t laid N q w a E in
-          rw T.sizes (taken_add N w a (rw T.sizes at E) T.idle)
-      of (turned n i) E = rw E (refused_add r w a n i)
+          let Read : Sizes → Type 0 = λ z. read_on r (events perform x (add_made perform z w a x))
+              ≡ note_whole_add r w a (last_of perform (add_made perform z w a x) x) in
+          subst Read (sym T.sizes) (taken_add N w a (rw T.sizes at E) T.idle)
+      of (turned n i) E =
+          let told : Tables = (perform x (post_add q w a)).state in
+          let rest : Answer → List Event = λ z. events perform told (where_going z (steps_made perform (2 * a.count + 2) q w told)) in
+          let first : Answer → Event = λ z. record { item = post_add q w a; answer = z } in
+          let Read : Answer → Type 0 = λ z. read_on r (first z ∷ rest z) ≡ note_whole_add r w a (last_answer z (rest z)) in
+          subst Read (sym E) (refused_add r w a n i)
 
   -- ---- a finish
   pub marked : {x : Tables} {r : Reading} → Now s t laid x r → (w : ℕ) (f : Finish)
@@ -121,8 +129,15 @@ module _ (s : Sizes) (t : Tables) (laid : (lay_out s t).answer ≡ Laid) where
           ≡ note_whole_finish r w f (last_of perform (finish_made perform q w f x) x)
       of taken E =
           let T = finish_taken_lem s t laid N q w f E in
-          rw T.sizes (taken_finish N w f (rw T.sizes at E) T.idle)
-      of (turned n i) E = rw E (refused_finish r w f n i)
+          let Read : Sizes → Type 0 = λ z. read_on r (events perform x (finish_made perform z w f x))
+              ≡ note_whole_finish r w f (last_of perform (finish_made perform z w f x) x) in
+          subst Read (sym T.sizes) (taken_finish N w f (rw T.sizes at E) T.idle)
+      of (turned n i) E =
+          let told : Tables = (perform x (post_finish q w f)).state in
+          let rest : Answer → List Event = λ z. events perform told (where_going z (steps_made perform (q.arcs + 1) q w told)) in
+          let first : Answer → Event = λ z. record { item = post_finish q w f; answer = z } in
+          let Read : Answer → Type 0 = λ z. read_on r (first z ∷ rest z) ≡ note_whole_finish r w f (last_answer z (rest z)) in
+          subst Read (sym E) (refused_finish r w f n i)
 
   -- ---- the adds of a sheet, and every call
   adds_read_lem : (l : List Arguments) {x : Tables} {r : Reading} → Now s t laid x r → (q : Sizes) (w : ℕ)

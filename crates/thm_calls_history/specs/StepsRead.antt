@@ -1,4 +1,5 @@
 -- What is read of the steps of a call run whole, one by one.
+use Rattle.std.proofs.Common.{sym, subst}
 use Rattle.std.specs.Prelude.{◌≡◌, List, ℕ, suc}
 use Rattle.def_terms.specs.Runs.{Item, step, events}
 use Rattle.def_terms.specs.declared.Sizes.{Sizes}
@@ -23,7 +24,13 @@ module _ (s : Sizes) (w : ℕ) {x : Tables} {r : Reading} {c : Pending} (p : r.p
       (where_going ans (steps_made perform n s w (perform x (step s w)).state)) end q
       → Reads y r x (steps_made perform (suc n) s w x) end q
   unfolding steps_made events last_answer read_on note
-  one_step n y R = record { answer = rw e R.answer; read = rw (e, p) R.read }
+  one_step n y {end} {q} R =
+      let next : Tables = (perform x (step s w)).state in
+      let rest : Answer → List Item = λ z. where_going z (steps_made perform n s w next) in
+      let Ends : Answer → Type 0 = λ z. last_answer z (events perform next (rest z)) ≡ end in
+      let Told : Answer → Type 0 = λ z. read_on (note_step r w (r.pending w) z) (events perform next (rest z)) ≡ q in
+      let Due : Pending → Type 0 = λ d. read_on (note_step r w d ans) (events perform next (rest ans)) ≡ q in
+      record { answer = subst Ends (sym e) R.answer; read = subst Told (sym e) (subst Due (sym p) R.read) }
 
   pub onward : {t : Tables} {laid : (lay_out s t).answer ≡ Laid} → Now s t laid x r
       → Now s t laid (perform x (step s w)).state (note_step r w c ans)

@@ -30,7 +30,7 @@ use Rattle.def_day.specs.Rounds.{Holder, holder, fresh_day, add_all, get_all}
 use Rattle.def_day.specs.Rounds.{finish_all, hand_out, Run, rounds, hand_outs, run_day}
 use Rattle.def_day.specs.Rounds.{added_day, day_sizes, get_round}
 use Rattle.def_day_lines.specs.Text.{decimal, jobs_word, workers_word, left_word, ◌␣◌, line, digits}
-use Rattle.def_day_lines.specs.Day.{refusal_lines, hand_out_lines, jobs_line, text, day_of, day_text}
+use Rattle.def_day_lines.specs.Day.{refusal_lines, hand_out_lines, text, day_of, day_text}
 use Rattle.thm_day_history.specs.Theorem as ends_of_day
 use Rattle.thm_day_cases.specs.Quoted.{bytes_of}
 use Rattle.thm_day_cases.specs.DayCases.{day_rows}

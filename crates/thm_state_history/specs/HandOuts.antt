@@ -11,7 +11,7 @@ use Rattle.def_terms.specs.Runs.{Item}
 use Rattle.def_terms.specs.declared.Sizes.{Sizes}
 use Rattle.def_terms.specs.declared.HandOut.{HandOut}
 use Rattle.def_terms.specs.declared.Answer.{Answer}
-use Rattle.def_rules.specs.Rules.{Graph, job, perform, hand_out, order}
+use Rattle.def_rules.specs.Rules.{Graph, perform, hand_out, order}
 use Rattle.def_rules.specs.Sound.{started_by, Sound}
 use Rattle.thm_rules_cases.specs.Deed as by
 use Rattle.thm_rules_cases.specs.Deed.{Deed}

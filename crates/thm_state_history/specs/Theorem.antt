@@ -31,7 +31,7 @@ use Rattle.def_call_order.specs.Calls as reading
 use Rattle.def_demand.specs.Demand.{add_of, PrerequisiteFailed, queue_entries_of, JobFinished}
 use Rattle.thm_rules_history.specs.History.{History, start, PacedCall}
 use Rattle.thm_rules_history.specs.Onward.{queue_entries_by, onward}
-use Rattle.thm_rules_invariant.specs.Sound.{sound, soundly}
+use Rattle.thm_rules_invariant.specs.Sound.{soundly}
 use Rattle.thm_rules_follow_book.specs.Paced.{paced}
 use Rattle.thm_rules_follow_book.specs.Steps.{pending_there}
 use Rattle.thm_words_tests.specs.Tests.{test}

@@ -12,7 +12,7 @@ use Rattle.def_basics.specs.Counting.{occurrences_nil}
 use Rattle.def_basics.specs.Laws.{get_d_prefix}
 use Rattle.def_bucket.specs.Bucket.{bucket_of}
 use Rattle.def_minutes.specs.Rising.{SixteenRising, rising_means}
-use Rattle.def_terms.specs.Terms.{Arguments, same_sizes, label_number, unexecuted, finished, Finish}
+use Rattle.def_terms.specs.Terms.{Arguments, same_sizes, label_number, finished, Finish}
 use Rattle.def_terms.specs.Runs.{Item, step, get, after, events}
 use Rattle.def_terms.specs.Seen.{JobSeen, Same}
 use Rattle.def_terms.specs.Seen as seen_as
@@ -53,7 +53,7 @@ use Rattle.thm_words_refine_rules.specs.Reset.{idle_fresh, past_count}
 use Rattle.thm_rules_follow_book.specs.BookJobs.{listed_length}
 use Rattle.thm_rules_follow_book.specs.Paced.{paced, worker_idle_lem, all_idle}
 use Rattle.thm_rules_follow_book.specs.Steps.{add_step, finish_step, pending_there}
-use Rattle.thm_rules_invariant.specs.Sound.{sound, soundly}
+use Rattle.thm_rules_invariant.specs.Sound.{soundly}
 use Rattle.thm_rules_audit.specs.Gets.{handed_ready}
 use Rattle.thm_rules_audit.specs.Gets as gets
 use Rattle.thm_rules_audit.specs.Handed.{handed_once, handed_started}

@@ -1,13 +1,8 @@
 -- `graph_posted_add::put_names` meets its contract: what is left to store, from the present name on, makes the same
 -- record as all of it; past the last listed name that is 0.
-use Prim.Native.Nat.{◌+◌, ◌-◌, ◌≤◌}
-use mathlib.Core.Path.{◌≡◌, refl, ◌∙◌}
+use mathlib.Core.Path.{◌≡◌, ◌∙◌}
 use native.Mathlib.Omega.{arith}
-use borrow.Author.Rules.{rules}
-use lib.ListN.{length, drop}
-use lib.Seq.{sets}
 use Rattle.def_numbers.specs.Numbers.{most_names}
-use Rattle.def_basics.specs.Base.{prefix}
 use Rattle.graph_posted_add.proofs.Laws.{names_one, names_rest}
 use Rattle.graph_posted_add.proofs.put_names.Goals as goal
 

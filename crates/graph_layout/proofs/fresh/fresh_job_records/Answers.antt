@@ -1,13 +1,8 @@
 -- `graph_layout::fresh::fresh_job_records` meets its contract: what is left to store, from the present record on, makes the
 -- same table as all of it.
-use Prim.Native.Nat.{◌-◌, ◌≤◌}
-use mathlib.Core.Path.{◌≡◌, refl, ◌∙◌}
+use mathlib.Core.Path.{refl, ◌∙◌}
 use native.Mathlib.Omega.{arith}
-use borrow.Author.Rules.{rules}
-use lib.ListN.{length}
-use lib.Seq.{sets}
-use Rattle.def_words.specs.Columns.{offset}
-use Rattle.def_words.specs.Layout.{job_shape, repeated, fresh_job}
+use Rattle.def_words.specs.Layout.{job_shape, fresh_job}
 use Rattle.graph_layout.proofs.fresh.Laws.{record_one, record_none}
 use Rattle.graph_layout.proofs.fresh.fresh_job_records.Goals as goal
 

@@ -1,7 +1,6 @@
 -- `graph_layout::fresh::fresh_jobs` meets its contract: the counters, the minutes, then the records.
 use Rattle.def_words.specs.Columns.{put_header}
 use Rattle.def_minutes.specs.Minutes.{fixed_minutes}
-use borrow.Author.Rules.{rules}
 use Rattle.graph_layout.proofs.fresh.fresh_jobs.Goals as goal
 
 pub returns : goal.returns

@@ -1,13 +1,8 @@
 -- `graph_layout::fresh::fresh_workers` meets its contract: what is left to store, from the present record on, makes the same
 -- table as all of it.
-use Prim.Native.Nat.{◌-◌, ◌≤◌}
-use mathlib.Core.Path.{◌≡◌, refl, ◌∙◌}
+use mathlib.Core.Path.{refl, ◌∙◌}
 use native.Mathlib.Omega.{arith}
-use borrow.Author.Rules.{rules}
-use lib.ListN.{length}
-use lib.Seq.{sets}
-use Rattle.def_words.specs.Columns.{offset}
-use Rattle.def_words.specs.Layout.{none, worker_shape, IDLE, repeated, bare_worker}
+use Rattle.def_words.specs.Layout.{none, worker_shape, IDLE, bare_worker}
 use Rattle.graph_layout.proofs.fresh.Laws.{record_one, record_none}
 use Rattle.graph_layout.proofs.fresh.fresh_workers.Goals as goal
 
