@@ -1,5 +1,4 @@
 -- `graph_judge::judge_admitted_finish` meets its contract: each way through the code is a case of the definition.
-use borrow.Author.Rules.{rules}
 use Rattle.graph_judge.proofs.judge_admitted_finish.Goals as goal
 
 pub returns-then-holds : goal.returns-then-holds

@@ -3,7 +3,6 @@
 use mathlib.Core.Path.{sym, ◌∙◌}
 use Rattle.def_words.specs.Words.{lay_out}
 use Rattle.graph_layout.proofs.Laws.{room_bits}
-use borrow.Author.Rules.{rules}
 use Rattle.graph_layout.proofs.lay_out.Goals as goal
 
 pub returns-then-room : goal.returns-then-room

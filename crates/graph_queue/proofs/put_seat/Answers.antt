@@ -1,7 +1,6 @@
 -- `graph_queue::put_seat` meets its contract: its stores are the definition's, and the counter is a word.
 use native.Mathlib.Omega.{arith}
 use Rattle.def_words.specs.Index.{put_seat}
-use borrow.Author.Rules.{rules}
 use Rattle.graph_queue.proofs.put_seat.Goals as goal
 
 pub returns : goal.returns

@@ -1,11 +1,7 @@
 -- `graph_queue::shift_down` meets its contract. The loop's invariant: what is left to shift makes the same table as all
 -- of it. The measure is the number of levels that are left.
-use mathlib.Core.Path.{◌≡◌, refl, ◌∙◌}
-use native.Mathlib.Omega.{arith}
-use borrow.Author.Rules.{rules}
-use lib.ListN.{length}
-use Rattle.def_words.specs.Index.{levels, shifted_down}
-use Rattle.graph_queue.proofs.Laws.{levels_left, down_on, down_rests}
+use mathlib.Core.Path.{◌∙◌}
+use Rattle.graph_queue.proofs.Laws.{down_on, down_rests}
 use Rattle.graph_queue.proofs.shift_down.Goals as goal
 
 pub loop-left-preserved : goal.loop-left-preserved

@@ -1,11 +1,8 @@
 -- `graph_queue::shift_up` meets its contract. The loop's invariant: what is left to shift makes the same table as all
 -- of it. The measure is the number of levels that are left.
-use mathlib.Core.Path.{◌≡◌, refl, ◌∙◌}
-use native.Mathlib.Omega.{arith}
-use borrow.Author.Rules.{rules}
+use mathlib.Core.Path.{◌≡◌}
 use lib.ListN.{length}
 use Rattle.def_words.specs.Index.{levels, shifted_up}
-use Rattle.graph_queue.proofs.Laws.{levels_left, up_on, up_rests}
 use Rattle.graph_queue.proofs.shift_up.Given as goal
 
 abbrev pub invariant-loop-left : goal.invariant-loop-left

@@ -1,5 +1,4 @@
 -- `graph_totals::jobs_fit` meets its contract: the code's test is the definition's.
-use borrow.Author.Rules.{rules}
 use Rattle.def_words.specs.Layout.{sizes_kept}
 use Rattle.def_graph_board.specs.Board.{jobs_fit}
 use Rattle.graph_totals.proofs.jobs_fit.Goals as goal

@@ -1,6 +1,5 @@
 -- `graph_layout::fresh::fresh_tables` meets its contract: one table after another.
 use Rattle.def_words.specs.Layout.{fresh_tables}
-use borrow.Author.Rules.{rules}
 use Rattle.graph_layout.proofs.fresh.fresh_tables.Goals as goal
 
 pub returns : goal.returns
