@@ -12,7 +12,7 @@ use Rattle.def_words.specs.Layout.{Tables}
 use Rattle.def_words.specs.Words.{add_words}
 use Rattle.def_sheets.specs.Job.{Job}
 use Rattle.def_sheets.specs.Decode.{Decoded, job, end, refused, decode, entry_of, reading_of}
-use Rattle.def_sheets.specs.CodeLaws.{entry_bounds}
+use Rattle.def_sheets.proofs.CodeLaws.{entry_bounds}
 use Rattle.def_sheets.specs.declared.Reading.{Reading}
 use Rattle.def_whole_calls.specs.Whole.{whole_add}
 use Rattle.def_sheet_rows.specs.Arguments as row

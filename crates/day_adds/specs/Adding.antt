@@ -4,8 +4,8 @@ use Rattle.std.proofs.Common.{◌∙◌, arith}
 use Rattle.def_sheets.specs.Job.{Job}
 use Rattle.def_sheets.specs.Decode.{Sheet, jobs, broken, before, onward, Decoded, job, end, refused, decode}
 use Rattle.def_sheets.specs.Decode.{decode_from, decode_sheet}
-use Rattle.def_sheets.specs.CodeLaws.{entry_bounds}
-use Rattle.def_sheets.specs.EntryTrip.{end_there}
+use Rattle.def_sheets.proofs.CodeLaws.{entry_bounds}
+use Rattle.def_sheets.proofs.EntryTrip.{end_there}
 use Rattle.def_sheets.specs.declared.Read.{Read}
 use Rattle.day_adds.specs.declared.Onward.{Onward}
 

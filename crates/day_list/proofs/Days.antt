@@ -13,7 +13,7 @@ use Rattle.def_terms.specs.declared.Answer.TheVariants.{Laid, Loaded, Posted, Go
 use Rattle.def_words.specs.Layout.{Tables}
 use Rattle.def_sheets.specs.Job.{Job}
 use Rattle.def_sheets.specs.Decode.{Sheet, jobs, broken, decode_sheet, scan_sheet}
-use Rattle.def_sheets.specs.CodeLaws.{sheet_bounds}
+use Rattle.def_sheets.proofs.CodeLaws.{sheet_bounds}
 use Rattle.def_sheets.specs.declared.SheetRead.{SheetRead}
 use Rattle.def_whole_calls.specs.Whole.{whole_add}
 use Rattle.def_room.specs.Room.{arguments_of}

@@ -11,7 +11,7 @@ use Rattle.def_basics.specs.Base.{occurrences}
 use Rattle.def_basics.specs.Counting.{occurrences_append}
 use Rattle.def_terms.specs.Order.{without, ahead, First}
 use Rattle.def_terms.specs.OrderLaws.{first_occurs, first_out}
-use Rattle.def_terms.specs.AheadLaws.{Each, is_first, first_same, ahead_first, ahead_leaves, ahead_enters, ahead_same}
+use Rattle.def_terms.proofs.AheadLaws.{Each, is_first, first_same, ahead_first, ahead_leaves, ahead_enters, ahead_same}
 use Rattle.def_terms.specs.Runs.{Item, get, Result, after, events, queue_entries}
 use Rattle.def_terms.specs.Seen.{JobSeen, Seen, Same, hand_out}
 use Rattle.def_terms.specs.declared.Sizes.{Sizes}

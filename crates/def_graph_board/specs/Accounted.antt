@@ -13,8 +13,8 @@ use Rattle.def_terms.specs.declared.Sizes.{Sizes}
 use Rattle.def_words.specs.Columns.{columns, header}
 use Rattle.def_words.specs.Layout.{job_shape, stored_minutes, MADE, LABEL, CLASS}
 use Rattle.def_totals.specs.Board.{refused, sum_over, under, one_job, its_minutes, all_well_formed, counted, totals_of}
-use Rattle.def_totals.specs.AllJobs.{together}
-use Rattle.def_totals.specs.Exactly.{over_jobs}
+use Rattle.def_totals.proofs.AllJobs.{together}
+use Rattle.def_totals.proofs.Exactly.{over_jobs}
 use Rattle.def_totals.specs.declared.JobRecord.{JobRecord}
 use Rattle.def_totals.specs.declared.Totals.{Totals}
 use Rattle.def_graph_board.specs.Board.{rows_from, graph_rows, jobs_fit, graph_totals, minutes_entered}

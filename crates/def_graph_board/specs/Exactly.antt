@@ -16,7 +16,7 @@ use Rattle.def_words.specs.Layout.{job_shape, stored_minutes, MADE, LABEL, CLASS
 use Rattle.def_words.specs.Stored.{minutes_by_words}
 use Rattle.def_words.specs.Sized.{both, Limited, limited_means, Kept, kept_means}
 use Rattle.def_totals.specs.Board.{refused, all_well_formed, totals_of, counted}
-use Rattle.def_totals.specs.Exactly.{unrising}
+use Rattle.def_totals.proofs.Exactly.{unrising}
 use Rattle.def_totals.specs.declared.Totals.{Totals}
 use Rattle.def_graph_board.specs.Board.{rows_from, graph_rows, jobs_fit, graph_minutes, graph_totals}
 use Rattle.def_graph_board.specs.Accounted.{Board, UnderLabels, graph_counts}

@@ -1,10 +1,4 @@
 pub mod Rank
 pub mod Sift
-pub mod Heap
-pub mod Same
-pub mod Way
-pub mod Positions
 pub mod Looked
 pub mod Compared
-pub mod Logarithm
-pub mod Shifted

@@ -1,6 +1,5 @@
 pub mod HostCalls
 pub mod CallsDemand
-pub mod MinutesRead
 pub mod Joined
 pub mod RightCalls
 pub mod Wrong

@@ -3,15 +3,5 @@ pub mod Job
 pub mod Decode
 pub mod Write
 pub mod Choice
-pub mod NumberLaws
-pub mod FieldTrip
-pub mod EntryTrip
-pub mod SheetTrip
-pub mod WriteTrip
-pub mod RewriteTrip
 pub mod Offset
-pub mod OffsetLaws
-pub mod CodeLaws
 pub mod Reading
-pub mod ReadingLaws
-pub mod SheetReading

@@ -1,7 +1,6 @@
 pub mod Terms
 pub mod Order
 pub mod OrderLaws
-pub mod AheadLaws
 pub mod Seen
 pub mod Runs
 pub mod Starred

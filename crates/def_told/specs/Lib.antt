@@ -1,12 +1,7 @@
 pub mod Reader
-pub mod ReaderHeard
-pub mod ReaderRows
 pub mod Writer
 pub mod WriterHeard
 pub mod Room
-pub mod RoomHeard
 pub mod Day
-pub mod DayHeard
 pub mod Needed
 pub mod NeedHeard
-pub mod Wrong

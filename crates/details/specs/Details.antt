@@ -102,7 +102,7 @@ use Rattle.thm_words_order.specs.GetReads.{first_seat_same, takes_same}
 use Rattle.def_words.specs.declared.Seat.{Seat}
 use Rattle.def_words.specs.declared.Seating.TheVariants.{Seated}
 use Rattle.def_sheets.specs.Job.{Job}
-use Rattle.def_sheets.specs.NumberLaws.{Bytes}
+use Rattle.def_sheets.proofs.NumberLaws.{Bytes}
 use Rattle.def_whole_calls.specs.Whole.{whole_add, whole_finish}
 use Rattle.def_room.specs.Room.{arguments_of}
 use Rattle.def_day.specs.Rounds.{day_sizes, Holder, get_round, finish_all, rounds, run_day, hand_outs}
@@ -113,7 +113,7 @@ use Rattle.def_day_lines.specs.declared.DayAnswer.TheVariants.{Printed}
 use Rattle.thm_day_history.specs.Theorem.{Begins, after_adds, after_rounds}
 use Rattle.thm_day_history.specs.Theorem as ends_of_day
 use Rattle.def_totals.specs.Board.{refused, totals_of, totals_by, totals_of_words}
-use Rattle.def_totals.specs.Exactly.{RowsExactly, rows_exactly, fixed_rows, record_words, words_exactly, odd_words}
+use Rattle.def_totals.proofs.Exactly.{RowsExactly, rows_exactly, fixed_rows, record_words, words_exactly, odd_words}
 use Rattle.def_totals.specs.declared.JobRecord.{JobRecord}
 use Rattle.def_graph_board.specs.Board.{graph_minutes, graph_totals}
 use Rattle.def_graph_board.specs.Accounted.{Accounted}

@@ -10,7 +10,7 @@ use Rattle.def_terms.specs.declared.Answer.TheVariants.{Laid, Going, Ended, Refu
 use Rattle.def_words.specs.Layout.{Tables, none}
 use Rattle.def_words.specs.Words.{add_words, perform}
 use Rattle.def_sheets.specs.Job.{Job}
-use Rattle.def_sheets.specs.NumberLaws.{Bytes}
+use Rattle.def_sheets.proofs.NumberLaws.{Bytes}
 use Rattle.def_sheets.specs.Decode.{decode_sheet, jobs, read_sheet}
 use Rattle.def_room.specs.Room.{arguments_of}
 use Rattle.def_whole_calls.specs.Whole.{whole_add, whole_finish}

@@ -12,7 +12,7 @@ use Rattle.def_numbers.specs.Numbers.{most_names, most_class, most_grower, name_
 use Rattle.def_basics.specs.Base.{pick}
 use Rattle.def_basics.specs.Laws.{never}
 use Rattle.def_sheets.specs.Job.{Job}
-use Rattle.def_sheets.specs.NumberLaws.{length_names_at}
+use Rattle.def_sheets.proofs.NumberLaws.{length_names_at}
 use Rattle.def_sheets.specs.Decode.{map_at, name_at, limited_at, list_at, if_bit, names_at, Decoded, job, end}
 use Rattle.def_sheets.specs.Decode.{refused, then_decoded, decode, scan_of}
 use Rattle.def_sheets.specs.declared.Field.{Field}

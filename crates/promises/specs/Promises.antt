@@ -15,7 +15,7 @@ use Rattle.thm_words_refusals.specs.Numbers.{Fits}
 use Rattle.thm_words_refusals.specs.Numbers as list
 use Rattle.thm_words_need.specs.Within as within
 use Rattle.def_sheets.specs.Job.{Job, Below}
-use Rattle.def_sheets.specs.NumberLaws.{Bytes}
+use Rattle.def_sheets.proofs.NumberLaws.{Bytes}
 use Rattle.def_sheets.specs.Decode.{decode_sheet, jobs}
 use Rattle.def_host_calls.specs.HostCalls.{HostCall, replied, worth, reply_worth, after_calls}
 use Rattle.def_host_calls.specs.CallsDemand.{CallsDemand}

@@ -12,8 +12,8 @@ use Rattle.def_numbers.specs.Numbers.{name_bytes, count_bytes, class_bytes, grow
 use Rattle.def_sheets.specs.Number.{spelt}
 use Rattle.def_sheets.specs.Job.{bit_of, spelt_unless_zero, spelt_names, spelt_list, encode}
 use Rattle.def_sheets.specs.Write.{list_offset, list_bytes}
-use Rattle.def_sheets.specs.NumberLaws.{length_spelt}
-use Rattle.def_sheets.specs.EntryTrip.{length_list, length_optional}
+use Rattle.def_sheets.proofs.NumberLaws.{length_spelt}
+use Rattle.def_sheets.proofs.EntryTrip.{length_list, length_optional}
 use Rattle.sheet_limits.specs.Jobs.{job_with}
 
 -- a field that is there

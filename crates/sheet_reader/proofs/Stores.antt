@@ -10,8 +10,8 @@ use Rattle.def_numbers.specs.Numbers.{most_names}
 use Rattle.def_basics.specs.Stores.{sets_append, set_before}
 use Rattle.def_sheets.specs.Number.{number_at}
 use Rattle.def_sheets.specs.Decode.{names_at, padded}
-use Rattle.def_sheets.specs.NumberLaws.{length_names_at}
-use Rattle.def_sheets.specs.CodeLaws.{names_more}
+use Rattle.def_sheets.proofs.NumberLaws.{length_names_at}
+use Rattle.def_sheets.proofs.CodeLaws.{names_more}
 
 pub name_more : (l : List ℕ) (from k w : ℕ) (s : List ℕ) (at i : ℕ) → k ≡ from + i
     → set (sets l from (names_at w s at i)) k (number_at w s (at + w * i)) ≡ sets l from (names_at w s at (i + 1))

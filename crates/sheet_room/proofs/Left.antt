@@ -9,7 +9,7 @@ use lib.Seq.{length-take-le, take-suc-set, sets, length-sets}
 use Rattle.def_numbers.specs.Numbers.{most_jobs, most_arcs, most_names, name_bytes}
 use Rattle.def_basics.specs.Base.{prefix}
 use Rattle.def_sheets.specs.Job.{Job}
-use Rattle.def_sheets.specs.NumberLaws.{length_names_at}
+use Rattle.def_sheets.proofs.NumberLaws.{length_names_at}
 use Rattle.def_sheets.specs.Decode.{end, refused, decode, Sheet, jobs, broken, names_at, decode_sheet}
 use Rattle.entry_scan.proofs.Entries.{Scanned, scanned}
 use Rattle.sheet_scan.proofs.Sheets.{rest, rest_start, rest_on}

@@ -23,7 +23,7 @@ use Rattle.def_sheets.specs.declared.Scan.{Scan}
 use Rattle.entry_scan.specs.Stages.{judged_then, from_grower, from_class}
 use Rattle.sheet_scan.specs.Offsets.{class_offset, grower_offset}
 use Rattle.entry_scan.proofs.Fields.{got, through, limited_got, from_class_is}
-use Rattle.def_sheets.specs.NumberLaws.{length_names_at}
+use Rattle.def_sheets.proofs.NumberLaws.{length_names_at}
 use Rattle.entry_scan.proofs.Entries.{decoded, inside, stands}
 
 -- a number is left out, or from 1 to its limit

@@ -9,7 +9,7 @@ use Rattle.def_sheets.specs.Number.{spelt}
 use Rattle.def_sheets.specs.Job.{Job, spelt_names, encode}
 use Rattle.def_basics.specs.Stores.{sets_append}
 use Rattle.def_sheets.specs.Offset.{Part, bytes_of, so_far, Running, running, put, up_to}
-use Rattle.def_sheets.specs.OffsetLaws.{sets_there, part_room, keeps_offset, all_put}
+use Rattle.def_sheets.proofs.OffsetLaws.{sets_there, part_room, keeps_offset, all_put}
 use Rattle.sheet_writer.specs.declared.Fields.{Fields}
 use Rattle.sheet_writer.specs.Put.{Put, job_in, Fits, Due}
 

@@ -14,7 +14,7 @@ use Rattle.def_words.specs.Columns.{columns, header}
 use Rattle.def_words.specs.Layout.{job_shape, stored_minutes, MADE, LABEL, CLASS}
 use Rattle.def_words.specs.Stored.{job_by_words}
 use Rattle.def_totals.specs.Board.{all_well_formed, counted, refused, totals_of, totals_by}
-use Rattle.def_totals.specs.Exactly.{no_record}
+use Rattle.def_totals.proofs.Exactly.{no_record}
 use Rattle.def_totals.specs.declared.JobRecord.{JobRecord}
 use Rattle.def_totals.specs.declared.Totals.{Totals}
 use Rattle.def_graph_board.specs.Board.{rows_from, graph_rows, jobs_fit, graph_minutes, graph_totals}

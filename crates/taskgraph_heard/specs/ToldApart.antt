@@ -28,9 +28,9 @@ use Rattle.def_sheet_rows.specs.Arguments.{arguments_of}
 use Rattle.def_sheet_rows.specs.declared.SheetAdded.{SheetAdded}
 use Rattle.thm_answers_heard.specs.Heard as whole
 use Rattle.taskgraph_answer.specs.Answers.{graph_answer, finish_taken}
-use Rattle.taskgraph_answer.specs.Heard as answer
+use Rattle.taskgraph_answer.proofs.Heard as answer
 use Rattle.taskgraph_answer.specs.WholeAnswers.{told_whole}
-use Rattle.taskgraph_answer.specs.HeardWhole as wholly
+use Rattle.taskgraph_answer.proofs.HeardWhole as wholly
 use Rattle.def_stops.specs.StoppedSheet.{rows_stopped, rows_added}
 use Rattle.thm_answers_heard.specs.InC.{rows_cut, rows_whole}
 use Rattle.thm_answers_heard.specs.StoppedSheet.{StopsWithin, stops_within}
@@ -40,7 +40,7 @@ use Rattle.def_sheets.specs.Job.{Job}
 use Rattle.def_sheets.specs.Decode.{Decoded, decode, Sheet, decode_sheet, entry_of, scan_sheet, SheetRows, read_sheet}
 use Rattle.def_sheets.specs.Write.{job_of, entry_at, entries_from, Written, write_entry}
 use Rattle.def_sheets.specs.Write as writing
-use Rattle.def_sheets.specs.NumberLaws.{Bytes}
+use Rattle.def_sheets.proofs.NumberLaws.{Bytes}
 use Rattle.def_sheets.specs.Reading.{ReadsExactly, ScansExactly, RowsReadExactly}
 use Rattle.thm_sheets.specs.Writing.{WritesExactly, WritesSheetExactly}
 use Rattle.thm_sheets.specs.SheetPromises as sheets
@@ -49,8 +49,8 @@ use Rattle.def_sheets.specs.declared.SheetRead.{SheetRead}
 use Rattle.def_sheets.specs.declared.Wrote.{Wrote}
 use Rattle.def_sheets.specs.declared.SheetWrote.{SheetWrote}
 use Rattle.def_told.specs.Reader.{entry_read, sheet_read}
-use Rattle.def_told.specs.ReaderHeard as reader
-use Rattle.def_told.specs.ReaderRows as rows
+use Rattle.def_told.proofs.ReaderHeard as reader
+use Rattle.def_told.proofs.ReaderRows as rows
 use Rattle.def_told.specs.declared.EntryRead.{EntryRead}
 use Rattle.def_told.specs.declared.SheetScanned.{SheetScanned}
 use Rattle.def_told.specs.Writer.{entry_written, sheet_written}
@@ -60,7 +60,7 @@ use Rattle.def_told.specs.declared.SheetWritten.{SheetWritten}
 use Rattle.def_room.specs.Room.{room_of}
 use Rattle.def_room.specs.declared.Room.{Room}
 use Rattle.def_told.specs.Room.{sheet_room}
-use Rattle.def_told.specs.RoomHeard as room
+use Rattle.def_told.proofs.RoomHeard as room
 use Rattle.def_told.specs.declared.SheetRoom.{SheetRoom}
 use Rattle.def_worker_state.specs.Held.{held_words}
 use Rattle.def_worker_state.specs.Drained.{drained_words}
@@ -80,7 +80,7 @@ use Rattle.def_told.specs.declared.Need.{Need}
 use Rattle.def_day_lines.specs.Day.{day_list}
 use Rattle.def_day_lines.specs.declared.DayAnswer.{DayAnswer}
 use Rattle.def_told.specs.Day.{day_printed}
-use Rattle.def_told.specs.DayHeard as day
+use Rattle.def_told.proofs.DayHeard as day
 use Rattle.def_told.specs.declared.DayPrinted.{DayPrinted}
 
 -- "refused with" these, of each function of the graph but for a step's 6, which alone has a place

@@ -8,10 +8,10 @@ use Rattle.def_terms.specs.declared.Sizes.{Sizes}
 use Rattle.def_words.specs.Layout.{Tables}
 use Rattle.def_sheets.specs.Job.{Job, Valid}
 use Rattle.def_sheets.specs.Decode.{jobs, decode_sheet, read_sheet, entry_of, rows_of}
-use Rattle.def_sheets.specs.NumberLaws.{Bytes}
-use Rattle.def_sheets.specs.SheetTrip.{Each, sheet_back}
-use Rattle.def_sheets.specs.WriteTrip.{sets_front}
-use Rattle.def_sheets.specs.RewriteTrip.{Short, length_rows_of, rows_there}
+use Rattle.def_sheets.proofs.NumberLaws.{Bytes}
+use Rattle.def_sheets.proofs.SheetTrip.{Each, sheet_back}
+use Rattle.def_sheets.proofs.WriteTrip.{sets_front}
+use Rattle.def_sheets.proofs.RewriteTrip.{Short, length_rows_of, rows_there}
 use Rattle.def_whole_calls.specs.Sheet.{sheet_words}
 use Rattle.def_sheet_rows.specs.SheetRows.{adds_of, rows_words}
 use Rattle.def_sheet_rows.specs.Arguments as row

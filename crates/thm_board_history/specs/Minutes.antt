@@ -27,7 +27,7 @@ use Rattle.def_book.specs.Book.{add_known, first_unknown, Follows, done, feed}
 use Rattle.def_book.specs.Book as book
 use Rattle.def_call_order.specs.Calls.{reading, accepted_adds, minutes_loaded}
 use Rattle.def_totals.specs.Board.{sum_over, minutes_of_all, totals_of}
-use Rattle.def_totals.specs.AllJobs.{all_jobs}
+use Rattle.def_totals.proofs.AllJobs.{all_jobs}
 use Rattle.def_totals.specs.declared.Totals.{Totals}
 use Rattle.def_graph_board.specs.Board.{rows_from, jobs_fit, graph_minutes, graph_totals, minutes_entered}
 use Rattle.def_graph_board.specs.Accounted.{Accounted, graph_counts}

@@ -15,7 +15,7 @@ use Rattle.def_call_order.specs.Calls.{Reading, unread, read_on, minutes_on}
 use Rattle.thm_words_history.specs.Theorem.{demand}
 use Rattle.def_host_calls.specs.HostCalls.{HostCall, Replied, worth, reply_worth, after_calls, queue_entries_by_calls}
 use Rattle.def_host_calls.specs.CallsDemand.{all_worth, read_calls, read_minutes, CallsDemand}
-use Rattle.def_host_calls.specs.MinutesRead.{minutes_joined, call_minutes}
+use Rattle.def_host_calls.proofs.MinutesRead.{minutes_joined, call_minutes}
 use Rattle.thm_calls_history.specs.WordsCalls.{turned_words, answer_words}
 use Rattle.def_host_calls.specs.Joined.{after_joined, queue_entries_joined, reads_joined}
 use Rattle.thm_calls_history.specs.Worth.{whole_is_worth}

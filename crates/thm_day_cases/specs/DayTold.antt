@@ -19,7 +19,7 @@ use Rattle.def_words.specs.Columns.{header}
 use Rattle.def_words.specs.Layout.{Tables}
 use Rattle.def_words.specs.Words.{get_words}
 use Rattle.def_sheets.specs.Job.{Job}
-use Rattle.def_sheets.specs.NumberLaws.{Bytes}
+use Rattle.def_sheets.proofs.NumberLaws.{Bytes}
 use Rattle.def_sheets.specs.Decode.{Sheet, jobs, broken, decode_sheet}
 use Rattle.def_sheets.specs.Reading.{ReadsFrom, BrokenFrom}
 use Rattle.thm_sheets.specs.SheetPromises.{a_sheet_is_read_exactly}

@@ -10,7 +10,7 @@ use Rattle.def_terms.specs.declared.Sizes.{Sizes}
 use Rattle.def_words.specs.Layout.{Tables}
 use Rattle.def_rules.specs.Rules.{idle}
 use Rattle.def_sheets.specs.Job.{Job}
-use Rattle.def_sheets.specs.SheetTrip.{Each, more}
+use Rattle.def_sheets.proofs.SheetTrip.{Each, more}
 use Rattle.def_room.specs.Room.{arguments_of}
 use Rattle.def_day.specs.Rounds.{Refusal, refusal, added, add_all}
 use Rattle.def_day.specs.Rounds as day

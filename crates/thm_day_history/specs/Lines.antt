@@ -1,7 +1,7 @@
 -- The bytes of the day list's lines ("The board and the day list").
 use Rattle.std.specs.Prelude.{◌≡◌, List, [], ◌∷◌, ◌++◌, ℕ, suc, ◌+◌, ◌*◌, ◌^◌, ◌≤◌, ◌<◌, length}
 use Rattle.std.proofs.Common.{arith, length-append}
-use Rattle.def_sheets.specs.SheetTrip.{Each}
+use Rattle.def_sheets.proofs.SheetTrip.{Each}
 use Rattle.def_day.specs.Rounds.{Refusal, Holder}
 use Rattle.def_day_lines.specs.Text.{decimal, jobs_word, workers_word, refused_word, broken_word, ◌␣◌, line}
 use Rattle.def_day_lines.specs.Day.{refusal_line, refusal_lines, hand_out_line, hand_out_lines, text}

@@ -18,7 +18,7 @@ use Rattle.def_terms.specs.declared.Answer.TheVariants.{Ended}
 use Rattle.def_words.specs.Layout.{Tables}
 use Rattle.def_words.specs.Words.{get_words}
 use Rattle.def_rules.specs.Rules.{idle}
-use Rattle.def_sheets.specs.SheetTrip.{Each}
+use Rattle.def_sheets.proofs.SheetTrip.{Each}
 use Rattle.def_whole_calls.specs.Whole.{whole_finish}
 use Rattle.def_day.specs.Rounds.{Holder, hand_out, get_all, get_round, finish_all, finished, any_holder, hand_outs}
 use Rattle.def_day.specs.Rounds.{Run, run, rounds}

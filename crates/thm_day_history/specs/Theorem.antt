@@ -15,9 +15,9 @@ use Rattle.def_words.specs.Layout.{Tables, LABEL, OUTCOME, SPOILED, view}
 use Rattle.def_rules.specs.Rules.{idle}
 use Rattle.thm_representation_kept.specs.Stand.{limits_of}
 use Rattle.def_sheets.specs.Job.{Job, Valid}
-use Rattle.def_sheets.specs.NumberLaws.{Bytes}
-use Rattle.def_sheets.specs.SheetTrip.{Each, none, more, sheet_back}
-use Rattle.def_sheets.specs.CodeLaws.{sheet_bounds}
+use Rattle.def_sheets.proofs.NumberLaws.{Bytes}
+use Rattle.def_sheets.proofs.SheetTrip.{Each, none, more, sheet_back}
+use Rattle.def_sheets.proofs.CodeLaws.{sheet_bounds}
 use Rattle.def_sheets.specs.Decode.{Sheet, jobs, broken, decode_sheet}
 use Rattle.def_whole_calls.specs.Whole.{whole_add, whole_finish}
 use Rattle.def_whole_calls.specs.CallEnds.{AddAnswer}

@@ -4,7 +4,7 @@ use Rattle.std.proofs.Math.Option.{Option, none, some}
 use Rattle.def_numbers.specs.Numbers.{most_names}
 use Rattle.def_basics.specs.Base.{pick, update}
 use Rattle.def_bucket.specs.Bucket.{bucket_of}
-use Rattle.def_heap.specs.Heap.{Heap, count}
+use Rattle.def_heap.proofs.Heap.{Heap, count}
 use Rattle.def_terms.specs.Terms.{label_number, Arguments, listed, within_limits, bit, Tally, no_tally}
 use Rattle.def_terms.specs.declared.Sizes.{Sizes}
 use Rattle.def_words.specs.Columns.{Rows}

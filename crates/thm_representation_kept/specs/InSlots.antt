@@ -5,7 +5,7 @@ use Rattle.std.proofs.Common.{sym, ap, ◌∙◌, arith, lt-ltb, ne_eqb, ltb-tru
 use Rattle.std.proofs.lemmas.Bool.{not-true, eqb-false}
 use Rattle.def_basics.specs.Base.{pick}
 use Rattle.def_basics.specs.Laws.{and_left, and_right}
-use Rattle.def_heap.specs.Heap.{Slot, slot_of, heap_same, held}
+use Rattle.def_heap.proofs.Heap.{Slot, slot_of, heap_same, held}
 use Rattle.def_words.specs.Layout.{none, CLASS, QUEUED, SLOT, POSITION, View}
 use Rattle.def_words.specs.Index.{rank, rank_of}
 use Rattle.def_words.specs.Words.{is_place}

@@ -15,8 +15,8 @@ use Rattle.def_basics.specs.Laws.{update_same, update_other}
 use Rattle.def_basics.specs.Counting.{hit, hit_same, hit_other, sum_same}
 use Rattle.def_minutes.specs.Minutes.{minutes_in}
 use Rattle.def_minutes.specs.Rising.{Rising, rising}
-use Rattle.def_heap.specs.Heap.{count, Enters, enters, Leaves, leaves, first_lowest, heap_same, held}
-use Rattle.def_heap.specs.Positions.{positions_enter, positions_leave}
+use Rattle.def_heap.proofs.Heap.{count, Enters, enters, Leaves, leaves, first_lowest, heap_same, held}
+use Rattle.def_heap.proofs.Positions.{positions_enter, positions_leave}
 use Rattle.def_heap.specs.Sift.{sift_up, sift_down, shift_down, shift_up, positions_down, positions_up}
 use Rattle.def_heap.specs.declared.Sifted.TheVariants.{Rests}
 use Rattle.def_terms.specs.Order.{without}

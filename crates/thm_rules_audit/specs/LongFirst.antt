@@ -8,7 +8,7 @@ use Rattle.std.proofs.Math.Option.{Option, none, some}
 use Rattle.def_terms.specs.Terms.{settles}
 use Rattle.def_terms.specs.Order.{without}
 use Rattle.def_terms.specs.OrderLaws.{none_first}
-use Rattle.def_terms.specs.AheadLaws.{first_is_lem}
+use Rattle.def_terms.proofs.AheadLaws.{first_is_lem}
 use Rattle.def_terms.specs.Runs.{Item, get, Result, Event, after, events}
 use Rattle.def_terms.specs.Seen.{Seen, Same}
 use Rattle.def_terms.specs.Seen as seen_as

@@ -16,11 +16,11 @@ use Rattle.def_basics.specs.Laws.{never}
 use Rattle.def_sheets.specs.Job.{Job, Below, encode, encode_sheet}
 use Rattle.def_sheets.specs.Write.{job_of, Fault, fault_of, entry_at, entries_from, entries_of, SheetFault, or_else}
 use Rattle.def_sheets.specs.Write.{sheet_fault, SheetWritten, sheet_written, write_sheet_judged, write_sheet}
-use Rattle.def_sheets.specs.WriteTrip.{Words, Limits, faultless, entry_words_lem, sheet_done}
+use Rattle.def_sheets.proofs.WriteTrip.{Words, Limits, faultless, entry_words_lem, sheet_done}
 use Rattle.def_sheets.specs.Choice.{picked}
-use Rattle.def_sheets.specs.CodeLaws.{length_entries_from}
+use Rattle.def_sheets.proofs.CodeLaws.{length_entries_from}
 use Rattle.def_sheets.specs.Offset.{FirstOff}
-use Rattle.def_sheets.specs.OffsetLaws.{fault_offset, offset_fault}
+use Rattle.def_sheets.proofs.OffsetLaws.{fault_offset, offset_fault}
 use Rattle.def_sheets.specs.declared.SheetWrote.{SheetWrote}
 
 -- the bytes of a sheet so far: the entries of the rows before row i

@@ -15,25 +15,25 @@ use Rattle.def_sheets.specs.Write.{job_of, entry_at, entries_of, Written, writte
 use Rattle.def_sheets.specs.Write.{sheet_written, write_sheet}
 use Rattle.thm_sheets.specs.SheetCases.{Hold, FaultsHold, case_8, whole_sheets, rules, second_entries, faults}
 use Rattle.thm_sheets.specs.SheetCases.{cases_hold}
-use Rattle.def_sheets.specs.NumberLaws.{Bytes, NumberRead, NumberSpelt, number_there, number_back}
-use Rattle.def_sheets.specs.EntryTrip.{entry_there, entry_back}
-use Rattle.def_sheets.specs.SheetTrip.{Each, sheet_there, sheet_back, one_spelling}
-use Rattle.def_sheets.specs.WriteTrip.{Words, Limits, cleared, entry_written_lem, entry_reading, sheet_written_lem}
-use Rattle.def_sheets.specs.RewriteTrip.{entry_rewritten, sheet_rewritten, sheet_rewritten_exactly}
+use Rattle.def_sheets.proofs.NumberLaws.{Bytes, NumberRead, NumberSpelt, number_there, number_back}
+use Rattle.def_sheets.proofs.EntryTrip.{entry_there, entry_back}
+use Rattle.def_sheets.proofs.SheetTrip.{Each, sheet_there, sheet_back, one_spelling}
+use Rattle.def_sheets.proofs.WriteTrip.{Words, Limits, cleared, entry_written_lem, entry_reading, sheet_written_lem}
+use Rattle.def_sheets.proofs.RewriteTrip.{entry_rewritten, sheet_rewritten, sheet_rewritten_exactly}
 use Rattle.def_sheets.specs.Offset.{Part, bytes_of, so_far, behind, offset_of, Offsets, running, put, up_to}
 use Rattle.def_sheets.specs.Offset.{KeepsOffset, FirstOff}
-use Rattle.def_sheets.specs.OffsetLaws.{keeps_offset, offsets, parts_put, entry_parts, part_there}
-use Rattle.def_sheets.specs.OffsetLaws.{refused_offset}
-use Rattle.def_sheets.specs.OffsetLaws.{offset_refused, within_written, within_no_room}
+use Rattle.def_sheets.proofs.OffsetLaws.{keeps_offset, offsets, parts_put, entry_parts, part_there}
+use Rattle.def_sheets.proofs.OffsetLaws.{refused_offset}
+use Rattle.def_sheets.proofs.OffsetLaws.{offset_refused, within_written, within_no_room}
 use Rattle.thm_sheets.specs.SheetOffset.{sheet_so_far, sheet_bytes, FirstWrong, entry_stands_there, refused_first_lem}
 use Rattle.thm_sheets.specs.SheetOffset.{first_refused, cut_refused, sheet_fits, sheet_no_room}
 use Rattle.thm_sheets.specs.Refusals.{entry_refused, sheet_refused, rows_refused}
 use Rattle.def_sheets.specs.Reading.{spelling, Fits, ReadsExactly, HandsOutExactly, SheetReadsExactly}
 use Rattle.def_sheets.specs.Reading.{ScansExactly, RowsReadExactly}
-use Rattle.def_sheets.specs.ReadingLaws.{spelt_by_numerals, fits_valid, valid_fits, reads_exactly, one_reader}
-use Rattle.def_sheets.specs.ReadingLaws.{fault_bounds, hands_out_exactly, one_hand, reads_no_further}
-use Rattle.def_sheets.specs.SheetReading.{sheet_reads_exactly, one_sheet_reader, scans_exactly, one_scanner}
-use Rattle.def_sheets.specs.SheetReading.{rows_exactly, one_row_reader}
+use Rattle.def_sheets.proofs.ReadingLaws.{spelt_by_numerals, fits_valid, valid_fits, reads_exactly, one_reader}
+use Rattle.def_sheets.proofs.ReadingLaws.{fault_bounds, hands_out_exactly, one_hand, reads_no_further}
+use Rattle.def_sheets.proofs.SheetReading.{sheet_reads_exactly, one_sheet_reader, scans_exactly, one_scanner}
+use Rattle.def_sheets.proofs.SheetReading.{rows_exactly, one_row_reader}
 use Rattle.thm_sheets.specs.Writing.{WritesExactly, WritesSheetExactly}
 use Rattle.thm_sheets.specs.WritingLaws.{writes_exactly, one_writer, writes_sheet_exactly, one_sheet_writer}
 use Rattle.def_sheets.specs.declared.Entry.{Entry}

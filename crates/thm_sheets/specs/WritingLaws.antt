@@ -10,10 +10,10 @@ use Rattle.std.proofs.lemmas.Bool.{lt-leb}
 use Rattle.def_sheets.specs.Job.{bit_of, encode, encode_sheet}
 use Rattle.def_sheets.specs.Write.{job_of, list_bytes, Fault, fault_of, Written, write_entry, entry_at, entries_from}
 use Rattle.def_sheets.specs.Write.{entries_of, SheetFault, sheet_fault, SheetWritten, write_sheet}
-use Rattle.def_sheets.specs.WriteTrip.{Limits, faultless}
-use Rattle.def_sheets.specs.OffsetLaws.{within_written, within_no_room}
+use Rattle.def_sheets.proofs.WriteTrip.{Limits, faultless}
+use Rattle.def_sheets.proofs.OffsetLaws.{within_written, within_no_room}
 use Rattle.thm_sheets.specs.SheetOffset.{sheet_bytes, at_fault, cut_refused, sheet_fits, sheet_no_room}
-use Rattle.def_sheets.specs.ReadingLaws.{spelt_within}
+use Rattle.def_sheets.proofs.ReadingLaws.{spelt_within}
 use Rattle.thm_sheets.specs.Writing.{list_takes, class_takes, WrongField, Within, bytes_for, WritesExactly}
 use Rattle.thm_sheets.specs.Writing.{entry_in, bytes_for_rows, bytes_for_all, WritesSheetExactly}
 use Rattle.def_sheets.specs.declared.Entry.{Entry}

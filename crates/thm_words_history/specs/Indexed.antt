@@ -9,7 +9,7 @@ use Rattle.def_basics.specs.Base.{occurrences}
 use Rattle.def_basics.specs.Counting.{hit, hit_same, hit_other, sum, sum_same, sum_zero, sum_plus, sum_at, sum_first}
 use Rattle.def_basics.specs.Counting.{occurrences_nil, occurrences_cons}
 use Rattle.def_heap.specs.Sift.{above}
-use Rattle.def_heap.specs.Heap.{count}
+use Rattle.def_heap.proofs.Heap.{count}
 use Rattle.def_terms.specs.Runs.{Item, after}
 use Rattle.def_terms.specs.declared.Sizes.{Sizes}
 use Rattle.def_terms.specs.declared.Answer.TheVariants.{Laid}

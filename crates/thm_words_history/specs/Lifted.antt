@@ -17,7 +17,7 @@ use Rattle.def_terms.specs.Runs.{Item, step, get, after, events}
 use Rattle.def_terms.specs.Seen.{JobSeen, Same}
 use Rattle.def_terms.specs.Seen as seen_as
 use Rattle.def_terms.specs.Order.{First}
-use Rattle.def_terms.specs.AheadLaws.{is_first}
+use Rattle.def_terms.proofs.AheadLaws.{is_first}
 use Rattle.def_terms.specs.declared.Sizes.{Sizes}
 use Rattle.def_terms.specs.declared.HandOut.{HandOut}
 use Rattle.def_terms.specs.declared.Answer.{Answer}

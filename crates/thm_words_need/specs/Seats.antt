@@ -7,9 +7,9 @@ use Rattle.std.proofs.Math.Dec.{ltb, leb}
 use borrow.Author.Tests.{ltb-true, lt-ltb, le-leb}
 use Rattle.def_numbers.specs.Numbers.{most_class}
 use Rattle.def_heap.specs.Sift.{sift_up, sift_down}
-use Rattle.def_heap.specs.Same.{RestsBelow, down_below, Matches, up_same, down_same}
-use Rattle.def_heap.specs.Way.{WayUp, WayFirst, up_weaker, first_weaker, way_up_lem, Raised, down_leads}
-use Rattle.def_heap.specs.Way.{leads_first}
+use Rattle.def_heap.proofs.Same.{RestsBelow, down_below, Matches, up_same, down_same}
+use Rattle.def_heap.proofs.Way.{WayUp, WayFirst, up_weaker, first_weaker, way_up_lem, Raised, down_leads}
+use Rattle.def_heap.proofs.Way.{leads_first}
 use Rattle.def_heap.specs.declared.Sifted.{Sifted}
 use Rattle.def_heap.specs.declared.Sifted.TheVariants.{Rests, Astray}
 use Rattle.def_terms.specs.declared.Sizes.{Sizes}

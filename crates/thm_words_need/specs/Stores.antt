@@ -11,7 +11,7 @@ use Rattle.def_numbers.specs.Numbers.{classes}
 use Rattle.def_basics.specs.Base.{pick, update}
 use Rattle.def_basics.specs.Laws.{pick_by}
 use Rattle.def_heap.specs.Sift.{above}
-use Rattle.def_heap.specs.Way.{WayUp, WayFirst, up_weaker, first_weaker}
+use Rattle.def_heap.proofs.Way.{WayUp, WayFirst, up_weaker, first_weaker}
 use Rattle.def_terms.specs.declared.Sizes.{Sizes}
 use Rattle.def_words.specs.Columns.{Shape, offset, Rows, rows, columns, header, put, put_header, inside, rows_put}
 use Rattle.def_words.specs.Columns.{columns_put}

@@ -12,7 +12,8 @@ use borrow.Author.Tests.{ltb-true, le-leb}
 use Rattle.def_numbers.specs.Numbers.{most_class}
 use Rattle.def_basics.specs.Base.{pick}
 use Rattle.def_heap.specs.Sift.{sift_down}
-use Rattle.def_heap.specs.Compared.{pairs_down, Alike, AgreeOn, same_down}
+use Rattle.def_heap.specs.Compared.{pairs_down, Alike, AgreeOn}
+use Rattle.def_heap.proofs.Compared.{same_down}
 use Rattle.def_heap.specs.declared.Sifted.{Sifted}
 use Rattle.def_terms.specs.declared.Sizes.{Sizes}
 use Rattle.def_words.specs.Columns.{offset, columns, header, put, sep}

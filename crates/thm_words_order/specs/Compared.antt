@@ -4,7 +4,7 @@ use Rattle.std.specs.Prelude.{◌≡◌, refl, ◌≢◌, ◌&&◌, List, [], ma
 use Rattle.std.proofs.Common.{arith}
 use Rattle.std.proofs.lemmas.List.{length-map}
 use Rattle.def_basics.specs.Laws.{pick_by}
-use Rattle.def_heap.specs.Compared.{few_down}
+use Rattle.def_heap.proofs.Compared.{few_down}
 use Rattle.def_terms.specs.declared.Sizes.{Sizes}
 use Rattle.def_words.specs.Layout.{QUEUED, Tables, View, view}
 use Rattle.def_words.specs.Index.{levels, rank_of, cell_in, waits, last_slot, last_cell, compared_cells}

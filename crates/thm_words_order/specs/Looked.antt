@@ -11,7 +11,7 @@ use Rattle.def_basics.specs.Base.{pick}
 use Rattle.def_heap.specs.Sift.{sift_up, sift_down}
 use Rattle.def_heap.specs.Looked.{rests, each_sound, slots_up, slots_down, exact_up, exact_down, trusted_up, trusted_down}
 use Rattle.def_heap.specs.Looked.{few_slots_up, few_slots_down}
-use Rattle.def_heap.specs.Logarithm.{log_slots_up, log_slots_down}
+use Rattle.def_heap.proofs.Logarithm.{log_slots_up, log_slots_down}
 use Rattle.def_heap.specs.declared.Sifted.{Sifted}
 use Rattle.def_heap.specs.declared.Sifted.TheVariants.{Rests, Astray}
 use Rattle.def_terms.specs.Terms.{within_limits}

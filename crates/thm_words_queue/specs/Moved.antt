@@ -8,12 +8,12 @@ use Rattle.def_numbers.specs.Numbers.{most_class}
 use Rattle.def_basics.specs.Base.{update}
 use Rattle.def_basics.specs.Laws.{never, pick_by}
 use Rattle.def_heap.specs.Sift.{above, sift_up, sift_down, shift_down, shift_up, positions_down, positions_up}
-use Rattle.def_heap.specs.Heap.{Below, Leads}
-use Rattle.def_heap.specs.Same.{RestsBelow, down_below}
-use Rattle.def_heap.specs.Way.{leads_up, leads_first, up_weaker, first_weaker, Overtaken, up_leads, up_stays}
-use Rattle.def_heap.specs.Way.{Raised, down_leads, down_stays}
-use Rattle.def_heap.specs.Shifted.{way_up, On, way_between, way_holds, way_ends, log_way, Shifts, down_rests, down_moves}
-use Rattle.def_heap.specs.Shifted.{down_shifts, up_rests, up_moves, up_shifts}
+use Rattle.def_heap.proofs.Heap.{Below, Leads}
+use Rattle.def_heap.proofs.Same.{RestsBelow, down_below}
+use Rattle.def_heap.proofs.Way.{leads_up, leads_first, up_weaker, first_weaker, Overtaken, up_leads, up_stays}
+use Rattle.def_heap.proofs.Way.{Raised, down_leads, down_stays}
+use Rattle.def_heap.proofs.Shifted.{way_up, On, way_between, way_holds, way_ends, log_way, Shifts, down_rests, down_moves}
+use Rattle.def_heap.proofs.Shifted.{down_shifts, up_rests, up_moves, up_shifts}
 use Rattle.def_heap.specs.declared.Sifted.{Sifted}
 use Rattle.def_heap.specs.declared.Sifted.TheVariants.{Rests, Astray}
 use Rattle.def_terms.specs.declared.Sizes.{Sizes}

@@ -8,7 +8,7 @@ use Rattle.std.proofs.Math.Decide.{ℕ_discrete}
 use Rattle.def_basics.specs.Base.{update}
 use Rattle.def_basics.specs.Laws.{update_at, update_other}
 use Rattle.def_heap.specs.Sift.{above, shift_down, shift_up, positions_down, positions_up}
-use Rattle.def_heap.specs.Way.{WayUp, WayFirst, up_weaker, first_weaker}
+use Rattle.def_heap.proofs.Way.{WayUp, WayFirst, up_weaker, first_weaker}
 use Rattle.def_words.specs.Columns.{Shape, offset, Rows, columns, columns_put, put, rows_put, sep}
 use Rattle.def_words.specs.Layout.{queue_shape, SLOT, POSITION}
 use Rattle.def_words.specs.Index.{slot_in, put_slot, shifted_down, shifted_up}

@@ -3,7 +3,7 @@ use mathlib.Core.Path.{◌≡◌, ◌∙◌, ap}
 use Prim.Native.Nat.{ℕ}
 use native.Mathlib.Omega.{arith}
 use borrow.Author.Rules.{rules}
-use Rattle.def_sheets.specs.NumberLaws.{Bytes}
+use Rattle.def_sheets.proofs.NumberLaws.{Bytes}
 use Rattle.def_day_lines.specs.Day.{Printing}
 use Rattle.thm_day_history.specs.Theorem.{nothing_is_refused}
 use Rattle.day_of_two.proofs.day_list_of_two.Statement.{statement}

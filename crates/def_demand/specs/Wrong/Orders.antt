@@ -10,7 +10,7 @@ use Rattle.def_basics.specs.Counting.{occurrences_cons}
 use Rattle.def_terms.specs.Runs.{Item, post_add, post_finish, step, get, load, Result, result_of, after, queue_entries}
 use Rattle.def_terms.specs.Order.{first_by, without, before, ahead}
 use Rattle.def_terms.specs.OrderLaws.{first_out}
-use Rattle.def_terms.specs.AheadLaws.{is_first}
+use Rattle.def_terms.proofs.AheadLaws.{is_first}
 use Rattle.def_terms.specs.Seen as seen_as
 use Rattle.def_terms.specs.Starred.{S, sizes, steps, job}
 use Rattle.def_terms.specs.declared.Sizes.{Sizes}

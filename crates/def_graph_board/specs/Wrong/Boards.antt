@@ -13,8 +13,8 @@ use Rattle.def_words.specs.Columns.{columns, header, cells}
 use Rattle.def_words.specs.Layout.{sizes_kept, stored_minutes, MADE}
 use Rattle.def_words.specs.Sized.{limited_means}
 use Rattle.def_totals.specs.Board.{sum_over, all_well_formed, counted, totals_of, refused}
-use Rattle.def_totals.specs.AllJobs.{together}
-use Rattle.def_totals.specs.Exactly.{over_jobs}
+use Rattle.def_totals.proofs.AllJobs.{together}
+use Rattle.def_totals.proofs.Exactly.{over_jobs}
 use Rattle.def_totals.specs.declared.Totals.{Totals}
 use Rattle.def_graph_board.specs.Board.{rows_from, graph_rows, jobs_fit, graph_totals, minutes_entered}
 use Rattle.def_graph_board.specs.Accounted.{Board, Accounted}

@@ -3,7 +3,7 @@ use Prim.Native.Nat.{◌/◌, ◌%◌}
 use mathlib.Core.Path.{sym, ap, ◌∙◌}
 use borrow.Author.Tests.{lt-ltb, le-ltb}
 use Rattle.def_numbers.specs.Numbers.{name_bytes}
-use Rattle.def_sheets.specs.NumberLaws.{length_names_at}
+use Rattle.def_sheets.proofs.NumberLaws.{length_names_at}
 use Rattle.def_sheets.specs.Decode.{map_at, decode, scan_of}
 use Rattle.entry_scan.proofs.Fields.{number_passed, listed, from_class_is}
 use Rattle.entry_scan.proofs.scan.Goals as goal

@@ -1,6 +1,6 @@
 -- `read` answers the entry that `decode` finds.
 use native.Mathlib.Omega.{arith}
-use Rattle.def_sheets.specs.NumberLaws.{length_names_at}
+use Rattle.def_sheets.proofs.NumberLaws.{length_names_at}
 use Rattle.entry_scan.proofs.Entries.{scan_job}
 use Rattle.sheet_reader.proofs.read.Goals as goal
 

@@ -1,7 +1,7 @@
 -- `store_sheet` stores the rows of a sheet. The loop's invariant is `Left`: the rows that are left make the whole.
 use native.Mathlib.Omega.{arith}
 use Rattle.sheet_reader.proofs.Rows.{left_start, left_room, left_more, left_none, left_refused, left_sound}
-use Rattle.def_sheets.specs.NumberLaws.{length_names_at}
+use Rattle.def_sheets.proofs.NumberLaws.{length_names_at}
 use Rattle.entry_scan.proofs.Entries.{scan_job, scan_end, scan_refused}
 use Rattle.sheet_reader.proofs.store_sheet.Goals as goal
 

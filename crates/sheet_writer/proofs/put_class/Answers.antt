@@ -2,7 +2,7 @@
 use native.Mathlib.Omega.{arith}
 use Rattle.def_numbers.specs.Numbers.{class_bytes}
 use Rattle.def_sheets.specs.Number.{spelt}
-use Rattle.def_sheets.specs.EntryTrip.{length_optional}
+use Rattle.def_sheets.proofs.EntryTrip.{length_optional}
 use Rattle.sheet_limits.proofs.Sizes.{bit_some, spelt_some}
 use Rattle.sheet_writer.proofs.Puts.{part_fits}
 use Rattle.sheet_writer.proofs.put_class.Goals as goal

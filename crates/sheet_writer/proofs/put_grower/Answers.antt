@@ -6,7 +6,7 @@ use native.Mathlib.Numerals.{towards_suc}
 use lib.ListN.{length, length-set}
 use Rattle.def_numbers.specs.Numbers.{grower_bytes}
 use Rattle.def_sheets.specs.Number.{spelt}
-use Rattle.def_sheets.specs.EntryTrip.{length_optional}
+use Rattle.def_sheets.proofs.EntryTrip.{length_optional}
 use Rattle.sheet_limits.proofs.Sizes.{bit_some, spelt_some}
 use Rattle.sheet_writer.proofs.Puts.{part_fits}
 use mathlib.Core.List.{List}

@@ -6,7 +6,7 @@ use native.Mathlib.Omega.{arith}
 use lib.ListN.{get_or, take, drop}
 use Rattle.def_numbers.specs.Numbers.{name_bytes}
 use Rattle.def_sheets.specs.Job.{spelt_names}
-use Rattle.def_sheets.specs.NumberLaws.{length_spelt, length_spelt_names}
+use Rattle.def_sheets.proofs.NumberLaws.{length_spelt, length_spelt_names}
 use Rattle.sheet_limits.proofs.Sizes.{taken}
 use Rattle.sheet_writer.proofs.Puts.{onward, next_name}
 use Rattle.sheet_writer.proofs.put_names.Goals as goal

@@ -1,7 +1,7 @@
 -- `put_own_name` stores the job's own name.
 use native.Mathlib.Omega.{arith}
 use Rattle.def_numbers.specs.Numbers.{name_bytes}
-use Rattle.def_sheets.specs.NumberLaws.{length_spelt}
+use Rattle.def_sheets.proofs.NumberLaws.{length_spelt}
 use Rattle.sheet_writer.proofs.Puts.{part_fits}
 use Rattle.sheet_writer.proofs.put_own_name.Goals as goal
 

@@ -10,7 +10,7 @@ use lib.ListN.{length, length-map}
 use borrow.Author.Tests.{eq-eqb, ne_eqb, le-leb, lt-leb}
 use Rattle.def_numbers.specs.Numbers.{entry_words}
 use Rattle.def_sheets.specs.Write.{SheetFault, sheet_fault, write_sheet, job_of, entries_of}
-use Rattle.def_sheets.specs.CodeLaws.{length_entries_from}
+use Rattle.def_sheets.proofs.CodeLaws.{length_entries_from}
 use Rattle.sheet_limits.proofs.Judging.{sheet_refused, sheet_takes}
 use Rattle.thm_sheets.specs.SheetOffset.{sheet_so_far}
 use Rattle.sheet_writer.proofs.write_sheet.Goals as goal

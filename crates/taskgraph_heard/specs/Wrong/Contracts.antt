@@ -10,9 +10,9 @@ use Rattle.def_whole_calls.specs.Sheet.{sheet_result}
 use Rattle.def_sheet_rows.specs.SheetRows.{turned_away}
 use Rattle.def_sheet_rows.specs.declared.SheetAdded.{SheetAdded}
 use Rattle.taskgraph_answer.specs.Answers.{graph_answer}
-use Rattle.taskgraph_answer.specs.Heard.{heard}
+use Rattle.taskgraph_answer.proofs.Heard.{heard}
 use Rattle.taskgraph_answer.specs.WholeAnswers.{whole_of}
-use Rattle.taskgraph_answer.specs.HeardWhole.{heard_whole}
+use Rattle.taskgraph_answer.proofs.HeardWhole.{heard_whole}
 use Rattle.taskgraph_answer.specs.declared.GraphAnswer.{GraphAnswer}
 use Rattle.taskgraph_heard.specs.Interface.{GivesAll, AddsAll, GivesAllWhole}
 

@@ -11,7 +11,7 @@ use Rattle.def_terms.specs.Terms.{within_limits}
 use Rattle.def_words.specs.Columns.{columns, header, cells}
 use Rattle.def_words.specs.Layout.{sizes_kept}
 use Rattle.def_totals.specs.Board.{sum_over, all_well_formed, counted, totals_of, totals_by, refused}
-use Rattle.def_totals.specs.Exactly.{no_record}
+use Rattle.def_totals.proofs.Exactly.{no_record}
 use Rattle.def_totals.specs.declared.JobRecord.{JobRecord}
 use Rattle.def_totals.specs.declared.Totals.{Totals}
 use Rattle.def_graph_board.specs.Board.{rows_from, jobs_fit, graph_minutes, graph_totals}

@@ -2,7 +2,7 @@
 use Rattle.std.specs.Prelude.{◌≡◌, refl, List, [], ◌∷◌, ℕ, zero, suc, ◌<◌, leb, length, get_or, take}
 use Rattle.std.proofs.Common.{sym, ap, ◌∙◌, arith}
 use Rattle.def_basics.specs.Base.{pick}
-use Rattle.def_sheets.specs.NumberLaws.{Bytes}
+use Rattle.def_sheets.proofs.NumberLaws.{Bytes}
 use Rattle.def_day_lines.specs.Day.{day_text}
 use Rattle.thm_day_cases.specs.Quoted.{bytes_of}
 use Rattle.thm_day_cases.specs.DayRows.{entry, three_jobs}

@@ -13,7 +13,7 @@ use Rattle.def_terms.specs.declared.Answer.{Answer}
 use Rattle.def_terms.specs.declared.Answer.TheVariants.{Ended, Refused}
 use Rattle.def_sheets.specs.Job.{Job, Below, Valid, encode_sheet}
 use Rattle.def_sheets.specs.Decode.{Decoded, job, end, refused, decode, Sheet, jobs, broken, decode_sheet}
-use Rattle.def_sheets.specs.SheetTrip.{Each, sheet_there}
+use Rattle.def_sheets.proofs.SheetTrip.{Each, sheet_there}
 use Rattle.def_room.specs.Room.{arguments_of, first_unknown, judged_entering, judged, room_from, room_of}
 use Rattle.def_room.specs.declared.Room.{Room}
 use Rattle.def_room.specs.declared.Room.TheVariants.{Fits, TurnedAway, Unreadable}

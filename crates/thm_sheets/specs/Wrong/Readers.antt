@@ -11,12 +11,12 @@ use Rattle.def_sheets.specs.Decode.{decode_from, decode_sheet, reading_of, rows_
 use Rattle.def_sheets.specs.Write.{fault_of, job_of, Written, written, write_entry, SheetWritten, sheet_written}
 use Rattle.def_sheets.specs.Write.{write_sheet, entries_from, sheet_fault, entry_at}
 use Rattle.def_sheets.specs.Choice.{both}
-use Rattle.def_sheets.specs.NumberLaws.{Bytes}
+use Rattle.def_sheets.proofs.NumberLaws.{Bytes}
 use Rattle.def_sheets.specs.Reading.{ReadsExactly, HandsOutExactly, SheetReadsExactly, RowsReadExactly}
 use Rattle.def_sheets.specs.Reading.{ScansExactly}
-use Rattle.def_sheets.specs.ReadingLaws.{reads_exactly, one_reader, hands_out_exactly, one_hand}
-use Rattle.def_sheets.specs.SheetReading.{sheet_reads_exactly, one_sheet_reader, rows_exactly, one_row_reader}
-use Rattle.def_sheets.specs.SheetReading.{scans_exactly, one_scanner}
+use Rattle.def_sheets.proofs.ReadingLaws.{reads_exactly, one_reader, hands_out_exactly, one_hand}
+use Rattle.def_sheets.proofs.SheetReading.{sheet_reads_exactly, one_sheet_reader, rows_exactly, one_row_reader}
+use Rattle.def_sheets.proofs.SheetReading.{scans_exactly, one_scanner}
 use Rattle.thm_sheets.specs.Writing.{WritesExactly, WritesSheetExactly}
 use Rattle.thm_sheets.specs.WritingLaws.{writes_exactly, one_writer, writes_sheet_exactly, one_sheet_writer}
 use Rattle.def_sheets.specs.declared.Entry.{Entry}

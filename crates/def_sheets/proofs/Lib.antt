@@ -1,0 +1,10 @@
+pub mod CodeLaws
+pub mod EntryTrip
+pub mod FieldTrip
+pub mod NumberLaws
+pub mod OffsetLaws
+pub mod ReadingLaws
+pub mod RewriteTrip
+pub mod SheetReading
+pub mod SheetTrip
+pub mod WriteTrip

@@ -1,0 +1,5 @@
+pub mod DayHeard
+pub mod ReaderHeard
+pub mod ReaderRows
+pub mod RoomHeard
+pub mod Wrong

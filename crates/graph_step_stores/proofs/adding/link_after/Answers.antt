@@ -1,0 +1,14 @@
+-- `graph_step_stores::adding::link_after` meets its contract: its stores are the plan's.
+use Rattle.def_words.specs.Words.{applied}
+use borrow.Author.Rules.{rules}
+use Rattle.graph_step_stores.proofs.adding.link_after.Goals as goal
+
+pub returns : goal.returns
+unfolding applied
+returns c =
+    λ h buckets queue.
+    rw (
+      c.count_place.ensures h,
+      c.append_arc.ensures,
+      c.put_job.ensures,
+    )

@@ -1,0 +1,14 @@
+-- `graph_step_stores::finishing::mark` meets its contract: its stores are the plan's.
+use Rattle.def_words.specs.Words.{applied}
+use borrow.Author.Rules.{rules}
+use Rattle.graph_step_stores.proofs.finishing.mark.Goals as goal
+
+pub returns : goal.returns
+unfolding applied
+returns c =
+    λ arcs buckets queue.
+    rw (
+      c.mark_worker.ensures,
+      c.put_outcome.ensures,
+      c.worker_word-outcome.ensures,
+    )

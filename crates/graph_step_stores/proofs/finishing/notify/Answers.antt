@@ -1,0 +1,14 @@
+-- `graph_step_stores::finishing::notify` meets its contract: its stores are the plan's.
+use Rattle.def_words.specs.Words.{applied}
+use borrow.Author.Rules.{rules}
+use Rattle.graph_step_stores.proofs.finishing.notify.Goals as goal
+
+pub returns : goal.returns
+unfolding applied
+returns c =
+    λ arcs buckets queue.
+    rw (
+      c.arcs_from.ensures,
+      c.put_count.ensures,
+      c.worker_word-note.ensures,
+    )
