@@ -30,6 +30,7 @@ use Rattle.def_host_calls.specs.HostCalls.{last_answer, call_made, add_made, fin
 use Rattle.def_whole_calls.specs.CallEnds.{AddAnswer, refused, FinishAnswer, AddAnswers, none, more}
 use Rattle.def_whole_calls.specs.CallEnds as ends
 use Rattle.thm_calls_history.specs.Now.{Now, on}
+use Rattle.thm_calls_audit.specs.EndsThere.{ends_there}
 use Rattle.thm_calls_history.specs.CallsRead.{looked, marked, add_read}
 
 -- what a post may answer
@@ -91,7 +92,9 @@ module _ (s : Sizes) (t : Tables) (laid : (lay_out s t).answer ≡ Laid) where
               let fuel : 2 * a.count + 2 ≡ suc (2 * a.count + 1) = omega arith in
               let L = looked s t laid N w a E in
               rw (E, fuel, L.reads.answer) L.ends
-          of wrong E = rw E (refused wrong_arguments 0 (omega arith) (omega arith))
+          of wrong E =
+              ends_there AddAnswer (2 * a.count + 2) (post_add s w a) s w x wrong_arguments 0 E
+              (refused wrong_arguments 0 (omega arith) (omega arith))
 
       pub finish_ends : (f : Finish) → FinishAnswer (last_of perform (finish_made perform s w f x) x)
       unfolding call_made events last_answer
@@ -102,8 +105,11 @@ module _ (s : Sizes) (t : Tables) (laid : (lay_out s t).answer ≡ Laid) where
           of taken E =
               let fuel : s.arcs + 1 ≡ suc s.arcs = omega arith in
               rw (E, fuel, (marked s t laid N w f E).answer) ends.FinishAnswer.accepted
-          of not_held_lem E = rw E ends.FinishAnswer.not_held_lem
-          of good_for_spoiled_lem E = rw E ends.FinishAnswer.good_for_spoiled_lem
+          of not_held_lem E =
+              ends_there FinishAnswer (s.arcs + 1) (post_finish s w f) s w x not_held 0 E ends.FinishAnswer.not_held_lem
+          of good_for_spoiled_lem E =
+              ends_there FinishAnswer (s.arcs + 1) (post_finish s w f) s w x good_for_spoiled 0 E
+              ends.FinishAnswer.good_for_spoiled_lem
 
   -- ---- the adds of a sheet
   pub adds_end : (l : List Arguments) {x : Tables} {r : Reading} → Now s t laid x r → (w : ℕ) → w < s.workers

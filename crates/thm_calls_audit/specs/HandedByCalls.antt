@@ -132,6 +132,7 @@ handed_past (more h n) b = h _ ∙ handed_past n b
 pub handed_among : {a : List Answer} (h : HandOut) → NoneHanded a → Among (Handed h) a → ⊥
 handed_among h (more n l) here = not_handed h n
 handed_among h (more n l) (later m) = handed_among h l m
+handed_among h none x3 = elim x3 [ ]
 
 each_none : (s : Sizes) (w : ℕ) (l : List Arguments) (x : Tables) → NoneHanded (adds_answer perform s w l x)
 unfolding adds_answer

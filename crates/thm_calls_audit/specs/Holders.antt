@@ -119,8 +119,8 @@ pub record Before (s : Sizes) (b : Book) (l : List Ended) (x : Ended) : Type 0 w
 pub just_before : {s : Sizes} {b c : Book} (l : List Ended) (x : Ended) (later : List Ended)
     → Follows s b (l ++ (x ∷ later)) c → Before s b l x
 just_before [] x later (feed e f) = record { book = _; follows = done; ends = e }
-just_before (y ∷ l) x later (feed e f) =
-    let o = just_before l x later f in record { book = o.book; follows = feed e o.follows; ends = o.ends }
+just_before {s = s} {b = b} {c = c} (y ∷ l) x later (feed e f) =
+    let o = just_before {b = next b y.call y.end} l x later f in record { book = o.book; follows = feed e o.follows; ends = o.ends }
 
 -- an accepted finish is of a held job
 pub record Held (b : Book) (f : Finish) (o : Option ℕ) : Type 0 where

@@ -1,3 +1,4 @@
+pub mod EndsThere
 pub mod HandedByCalls
 pub mod Failures
 pub mod Audited

@@ -6,7 +6,7 @@ use Rattle.std.proofs.Math.Path.{refl, sym, ap, subst}
 use Rattle.std.proofs.Common.{◌∙◌}
 use Rattle.std.proofs.Math.Bool.{not}
 use Rattle.std.proofs.Math.Option.{Option, none, some}
-use Prim.Native.Nat.{ℕ, suc, ◌+◌, ◌<◌, ◌≤◌}
+use Prim.Native.Nat.{ℕ, suc, ◌+◌, ◌*◌, ◌<◌, ◌≤◌}
 use native.Mathlib.Omega.{arith}
 use Rattle.std.proofs.Math.ListN.{length}
 use borrow.Author.Tests.{ltb-true, lt-ltb, lt-leb, eq-eqb, ne_eqb}
@@ -44,6 +44,7 @@ use Rattle.thm_words_history.specs.Lifted as lifted
 use Rattle.thm_words_history.specs.Theorem.{demand, same_events}
 use Rattle.thm_state_history.specs.Theorem as state
 use Rattle.thm_rules_audit.specs.Finishes.{there_occurs}
+use Rattle.thm_calls_audit.specs.EndsThere.{ends_there}
 use Rattle.def_host_calls.specs.HostCalls.{HostCall, single, whole_add, whole_finish, sheet, one}
 use Rattle.def_host_calls.specs.HostCalls.{last_answer, call_made, add_made, finish_made, last_of, reply_worth, sheet_reply}
 use Rattle.def_audit.specs.Audit as audit
@@ -114,7 +115,8 @@ module _ (s : Sizes) (t : Tables) (laid : (lay_out s t).answer ≡ Laid) {x : Ta
 
   by_number : (n : ℕ) → (perform x (post_finish s w f)).answer ≡ Refused n 0 → ending ≡ Refused n 0
   unfolding call_made events last_answer
-  by_number n E = rw E refl
+  by_number n E =
+      ends_there (λ (z : Answer). z ≡ Refused n 0) (s.arcs + 1) (post_finish s w f) s w x n 0 E refl
 
   by_steps : (perform x (post_finish s w f)).answer ≡ Posted → ending ≡ Ended
   unfolding call_made events last_answer
@@ -212,11 +214,13 @@ module _ (s : Sizes) (t : Tables) (laid : (lay_out s t).answer ≡ Laid) {x : Ta
   -- so what is run whole is turned away by its post, and a sheet as its posts would be
   pub whole_add_waits : (a : Arguments) → last_of perform (add_made perform s w a x) x ≡ Refused 3 0
   unfolding call_made events last_answer
-  whole_add_waits a = rw (add_waits a) refl
+  whole_add_waits a =
+      ends_there (λ (z : Answer). z ≡ Refused 3 0) (2 * a.count + 2) (post_add s w a) s w x 3 0 (add_waits a) refl
 
   pub whole_finish_waits : (f : Finish) → last_of perform (finish_made perform s w f x) x ≡ Refused 3 0
   unfolding call_made events last_answer
-  whole_finish_waits f = rw (finish_waits f) refl
+  whole_finish_waits f =
+      ends_there (λ (z : Answer). z ≡ Refused 3 0) (s.arcs + 1) (post_finish s w f) s w x 3 0 (finish_waits f) refl
 
   not_idle : is_idle (r.pending w) ≡ false
   not_idle = fails (is_idle (r.pending w)) (is_idle_lem (r.pending w)) busy

@@ -1,6 +1,6 @@
 -- A call that is not the graph's is turned away: one with other sizes by 1, one of a worker that is not there by 2, of
 -- every list of calls from tables that were laid out. Follows docs/RULES.md, "Turned-away calls".
-use Rattle.std.specs.Prelude.{◌≡◌, false, List, ℕ, ◌≤◌}
+use Rattle.std.specs.Prelude.{◌≡◌, false, List, ℕ, ◌≤◌, ◌+◌, ◌*◌}
 use Rattle.std.proofs.Math.Path.{refl, ap}
 use Rattle.std.proofs.Common.{◌∙◌}
 use Rattle.std.proofs.Math.Option.{some, some-injective, none-ne-some}
@@ -9,6 +9,7 @@ use Rattle.def_basics.specs.Laws.{fails}
 use Rattle.def_terms.specs.Terms.{Arguments, Finish, same_sizes}
 use Rattle.def_terms.specs.Runs.{Item, post_add, post_finish, step, get, load, sizes_of, events}
 use Rattle.def_terms.specs.declared.Sizes.{Sizes}
+use Rattle.def_terms.specs.declared.Answer.{Answer}
 use Rattle.def_terms.specs.declared.Answer.TheVariants.{Laid, Refused}
 use Rattle.def_words.specs.Layout.{Tables}
 use Rattle.def_words.specs.Words.{perform, lay_out}
@@ -24,6 +25,7 @@ use Rattle.thm_calls_history.specs.Turned.{sheet_turned}
 use Rattle.thm_calls_history.specs.Theorem.{at_calls, replies_worth}
 use Rattle.thm_calls_history.specs.Now.{Now}
 use Rattle.thm_calls_audit.specs.CallsEnd.{says}
+use Rattle.thm_calls_audit.specs.EndsThere.{ends_there}
 use Rattle.thm_calls_audit.specs.Audited.{now, read}
 
 -- what is run whole is turned away as its post is
@@ -31,12 +33,14 @@ module _ (x : Tables) (n : ℕ) where
   add_turned : (q : Sizes) (w : ℕ) (a : Arguments) → (perform x (post_add q w a)).answer ≡ Refused n 0
       → last_of perform (add_made perform q w a x) x ≡ Refused n 0
   unfolding call_made events last_answer
-  add_turned q w a e = rw e refl
+  add_turned q w a e =
+      ends_there (λ (z : Answer). z ≡ Refused n 0) (2 * a.count + 2) (post_add q w a) q w x n 0 e refl
 
   finish_turned : (q : Sizes) (w : ℕ) (f : Finish) → (perform x (post_finish q w f)).answer ≡ Refused n 0
       → last_of perform (finish_made perform q w f x) x ≡ Refused n 0
   unfolding call_made events last_answer
-  finish_turned q w f e = rw e refl
+  finish_turned q w f e =
+      ends_there (λ (z : Answer). z ≡ Refused n 0) (q.arcs + 1) (post_finish q w f) q w x n 0 e refl
 
 module _ (s : Sizes) (t : Tables) (laid : (lay_out s t).answer ≡ Laid) {x : Tables} {r : Reading} (N : Now s t laid x r)
   where

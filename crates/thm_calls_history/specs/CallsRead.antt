@@ -90,7 +90,7 @@ module _ (s : Sizes) (t : Tables) (laid : (lay_out s t).answer ≡ Laid) where
       of taken E =
           let T = add_taken s t laid N q w a E in
           let Read : Sizes → Type 0 = λ z. read_on r (events perform x (add_made perform z w a x))
-              ≡ note_whole_add r w a (last_of perform (add_made perform z w a x) x) in
+          ≡ note_whole_add r w a (last_of perform (add_made perform z w a x) x) in
           subst Read (sym T.sizes) (taken_add N w a (rw T.sizes at E) T.idle)
       of (turned n i) E =
           let told : Tables = (perform x (post_add q w a)).state in
@@ -130,7 +130,7 @@ module _ (s : Sizes) (t : Tables) (laid : (lay_out s t).answer ≡ Laid) where
       of taken E =
           let T = finish_taken_lem s t laid N q w f E in
           let Read : Sizes → Type 0 = λ z. read_on r (events perform x (finish_made perform z w f x))
-              ≡ note_whole_finish r w f (last_of perform (finish_made perform z w f x) x) in
+          ≡ note_whole_finish r w f (last_of perform (finish_made perform z w f x) x) in
           subst Read (sym T.sizes) (taken_finish N w f (rw T.sizes at E) T.idle)
       of (turned n i) E =
           let told : Tables = (perform x (post_finish q w f)).state in

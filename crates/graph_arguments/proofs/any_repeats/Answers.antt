@@ -12,12 +12,11 @@ returns-then-again c =
     ∙ c.loop-i.invariant.1
 
 pub loop-i-preserved : goal.loop-i-preserved
-loop-i-preserved c =
-    (
-      omega arith,
-      once _ _ _ c.loop-i-test.true (sym c.listed_from-again.ensures ∙ c.if-again.false)
-          ∙ c.loop-i.invariant.1,
-    )
+loop-i-preserved c = (
+  omega arith,
+  once _ _ _ c.loop-i-test.true (sym c.listed_from-again.ensures ∙ c.if-again.false)
+      ∙ c.loop-i.invariant.1,
+)
 
 pub returns : goal.returns
 returns c = not_again _ _ _ c.loop-i-test.false c.loop-i.invariant.0 ∙ c.loop-i.invariant.1

@@ -73,31 +73,30 @@ returns-in-Damaged c =
     )
 
 pub loop-levels-preserved : goal.loop-levels-preserved
-loop-levels-preserved c =
-    (
-      λ arcs buckets workers.
-          let kept = c.loop-levels.invariant.0 arcs buckets workers in (
+loop-levels-preserved c = (
+  λ arcs buckets workers.
+      let kept = c.loop-levels.invariant.0 arcs buckets workers in (
+        rw (
+          ← kept.0,
+          down_one _ _ _ _ _ _ _ c.loop-levels-test.true,
+          c.if-more.true-raw,
+          ← c.lesser-met.ensures.0 arcs buckets workers,
+          c.in-Ranked.is,
+          c.if-passes.true-raw,
+        ),
+        λ moved e.
             rw (
-              ← kept.0,
-              down_one _ _ _ _ _ _ _ c.loop-levels-test.true,
+              ← kept.1 moved e,
+              count_one _ _ _ _ _ _ _ _ c.loop-levels-test.true e,
               c.if-more.true-raw,
               ← c.lesser-met.ensures.0 arcs buckets workers,
               c.in-Ranked.is,
               c.if-passes.true-raw,
-            ),
-            λ moved e.
-                rw (
-                  ← kept.1 moved e,
-                  count_one _ _ _ _ _ _ _ _ c.loop-levels-test.true e,
-                  c.if-more.true-raw,
-                  ← c.lesser-met.ensures.0 arcs buckets workers,
-                  c.in-Ranked.is,
-                  c.if-passes.true-raw,
-                )
-                (omega arith),
-          ),
-      (omega arith, omega (arith, c.lesser-met.ensures.1)),
-    )
+            )
+            (omega arith),
+      ),
+  (omega arith, omega (arith, c.lesser-met.ensures.1)),
+)
 
 pub returns : goal.returns
 returns c =

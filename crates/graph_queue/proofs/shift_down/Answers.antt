@@ -5,12 +5,11 @@ use Rattle.graph_queue.proofs.Laws.{down_on, down_rests}
 use Rattle.graph_queue.proofs.shift_down.Goals as goal
 
 pub loop-left-preserved : goal.loop-left-preserved
-loop-left-preserved c =
-    (
-      rw (c.put_slot.ensures, c.queue_word-moved.ensures, c.above-up.ensures)
-          (down_on _ _ _ _ _ c.loop-left-test.true ∙ c.loop-left.invariant.0),
-      c.put_slot.auto.queue ∙ c.loop-left.invariant.1,
-    )
+loop-left-preserved c = (
+  rw (c.put_slot.ensures, c.queue_word-moved.ensures, c.above-up.ensures)
+      (down_on _ _ _ _ _ c.loop-left-test.true ∙ c.loop-left.invariant.0),
+  c.put_slot.auto.queue ∙ c.loop-left.invariant.1,
+)
 
 pub returns : goal.returns
 returns c =
