@@ -46,7 +46,8 @@ use Rattle.thm_pinned.specs.FreshWords.{LaysFresh, lays_fresh}
 use Rattle.thm_pinned.specs.PutBack.{Leaves, leaves}
 use Rattle.taskgraph_heard.specs.ToldApart.{ToldApart, told_apart}
 use Rattle.taskgraph_answer.specs.WholeAnswers.{whole_of, told_whole}
-use Rattle.thm_whole_answers.specs.Stopped.{TellsWhole, tells_whole}
+use Rattle.thm_whole_answers.specs.Stopped.{TellsWhole}
+use Rattle.thm_whole_answers.proofs.Stopped.{tells_whole}
 use Rattle.def_terms.specs.Terms.{arguments_wrong}
 use Rattle.thm_arguments.specs.Judged.{Judges, wrong_means}
 

@@ -22,11 +22,13 @@ use Rattle.def_whole_calls.specs.Whole.{whole_add, whole_finish}
 use Rattle.def_whole_calls.specs.Sheet.{SheetResult, sheet_words}
 use Rattle.def_sheet_rows.specs.SheetRows.{adds_of, rows_words, number_of, place_of, no_entries, sheet_added}
 use Rattle.def_sheet_rows.specs.declared.SheetAdded.{SheetAdded}
-use Rattle.thm_whole_answers.specs.Numbers.{AddAnswer, ended, refused, unknown, add_answer, sheet_numbers}
-use Rattle.thm_whole_answers.specs.Numbers.{sheet_number, FinishAnswer, finish_answer_lem}
+use Rattle.thm_whole_answers.specs.Numbers.{AddAnswer, ended, refused, unknown, sheet_numbers}
+use Rattle.thm_whole_answers.proofs.Numbers.{add_answer}
+use Rattle.thm_whole_answers.specs.Numbers.{FinishAnswer}
+use Rattle.thm_whole_answers.proofs.Numbers.{sheet_number, finish_answer_lem}
 use Rattle.thm_whole_answers.specs.Numbers as numbers
 use Rattle.thm_whole_answers.specs.SheetAdds.{after_adds}
-use Rattle.thm_whole_answers.specs.Sheets.{sheet_turned_away, sheet_fits, sheet_count, sheet_answer}
+use Rattle.thm_whole_answers.proofs.Sheets.{sheet_turned_away, sheet_fits, sheet_count, sheet_answer}
 use Rattle.thm_answers_heard.specs.InC.{stored_at, rows_cut, rows_whole}
 
 -- ---- how a call run whole can end: "Ended, or refused with 1, 2, 9, 3, 5, 6, 7 or 8", of which 6 alone has a place

@@ -21,9 +21,9 @@ use Rattle.def_sheet_rows.specs.declared.SheetAdded.{SheetAdded}
 use Rattle.def_stops.specs.StoppedSheet.{rows_stopped, rows_added}
 use Rattle.taskgraph_answer.specs.Answers.{graph_answer}
 use Rattle.taskgraph_answer.specs.WholeAnswers.{number_told}
-use Rattle.thm_whole_answers.specs.Numbers.{add_accepted}
+use Rattle.thm_whole_answers.proofs.Numbers.{add_accepted}
 use Rattle.thm_whole_answers.specs.SheetAdds.{after_adds}
-use Rattle.thm_whole_answers.specs.Sheets.{sheet_turned_away, sheet_fits, sheet_count, sheet_answer}
+use Rattle.thm_whole_answers.proofs.Sheets.{sheet_turned_away, sheet_fits, sheet_count, sheet_answer}
 
 -- ---- one answer: the sheet's number and place are those of an add's answer in C
 number_in_c : (x : Answer) → number_of x ≡ (graph_answer x).number

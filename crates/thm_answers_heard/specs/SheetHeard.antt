@@ -19,9 +19,10 @@ use Rattle.def_stops.specs.Stopped.{stopped_by}
 use Rattle.def_stops.specs.StoppedSheet.{rows_added}
 use Rattle.taskgraph_answer.specs.Answers.{graph_answer}
 use Rattle.taskgraph_answer.specs.WholeAnswers.{Whole, answered, stopped, whole_of}
-use Rattle.thm_whole_answers.specs.Numbers.{AddAnswer, ended, refused, unknown, add_placeless, add_answer}
+use Rattle.thm_whole_answers.specs.Numbers.{AddAnswer, ended, refused, unknown, add_placeless}
+use Rattle.thm_whole_answers.proofs.Numbers.{add_answer}
 use Rattle.thm_answers_heard.specs.InC.{rows_as_adds}
-use Rattle.thm_whole_answers.specs.Stopped.{add_stopped}
+use Rattle.thm_whole_answers.proofs.Stopped.{add_stopped}
 use Rattle.thm_answers_heard.specs.StoppedSheet.{before, add_at, entry_stopped}
 
 pub data SheetHeard : Type 0 where

@@ -17,7 +17,7 @@ use Rattle.def_words.specs.Words.{own_ok, admitted, refusal, judged_counters, po
 use Rattle.def_whole_calls.specs.Sheet.{judged_sheet, sheet_words}
 use Rattle.def_fused.specs.FusedWorker.{Admitted, is_idle}
 use Rattle.thm_whole_answers.specs.Worker.{order_numbers, by_admission}
-use Rattle.thm_whole_answers.specs.Numbers.{served_number}
+use Rattle.thm_whole_answers.proofs.Numbers.{served_number}
 
 module _ (s : Sizes) (t : Tables) (w n : ℕ) where
   -- by any number but 16 it is turned away as any post of an add by this worker is

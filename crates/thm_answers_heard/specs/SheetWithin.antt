@@ -16,7 +16,7 @@ use Rattle.def_whole_calls.specs.Whole.{whole_add}
 use Rattle.def_whole_calls.specs.Sheet.{SheetResult, add_each, judged_sheet, served, sheet_words}
 use Rattle.def_sheet_rows.specs.SheetRows.{number_of}
 use Rattle.def_fused.specs.FusedWorker.{is_idle}
-use Rattle.thm_whole_answers.specs.Numbers.{served_number}
+use Rattle.thm_whole_answers.proofs.Numbers.{served_number}
 use Rattle.thm_answers_heard.specs.Within.{Within, item_within, stays_within, add_within}
 
 -- what a sheet answers: its number, and the answers of its adds

@@ -22,10 +22,11 @@ use Rattle.def_stops.specs.Stopped.{stopped_by}
 use Rattle.def_stops.specs.StoppedSheet.{first_stop, rows_added}
 use Rattle.def_fused.specs.FusedWorker.{is_idle}
 use Rattle.taskgraph_answer.specs.Answers.{graph_answer}
-use Rattle.thm_whole_answers.specs.Numbers.{AddAnswer, ended, refused, unknown, add_answer}
+use Rattle.thm_whole_answers.specs.Numbers.{AddAnswer, ended, refused, unknown}
+use Rattle.thm_whole_answers.proofs.Numbers.{add_answer}
 use Rattle.thm_whole_answers.specs.SheetAdds.{after_adds}
 use Rattle.thm_answers_heard.specs.InC.{rows_as_adds}
-use Rattle.thm_whole_answers.specs.Stopped.{add_stopped, add_kept, busy_keeps, stopped_from, stopped_leaves}
+use Rattle.thm_whole_answers.proofs.Stopped.{add_stopped, add_kept, busy_keeps, stopped_from, stopped_leaves}
 
 -- ---- the add of entry i: the tables before it, and its result
 abbrev pub before : Sizes → ℕ → List Arguments → Tables → ℕ → Tables
