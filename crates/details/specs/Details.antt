@@ -134,7 +134,7 @@ use Rattle.def_sheets.specs.Decode.{jobs}
 use Rattle.def_host_calls.specs.HostCalls.{HostCall, sheet, after_calls}
 use Rattle.def_host_calls.specs.CallsDemand.{items, read_minutes, read_calls}
 use Rattle.thm_calls_history.specs.WordsCalls.{turned_words, answer_words}
-use Rattle.thm_calls_history.specs.Theorem.{calls_demand, at_calls}
+use Rattle.thm_calls_history.proofs.Theorem.{calls_demand, at_calls}
 use Rattle.thm_calls_history.specs.Now.{Now}
 
 -- ---- of every list of calls from tables that were laid out, whatever they held before

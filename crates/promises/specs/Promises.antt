@@ -21,7 +21,7 @@ use Rattle.def_host_calls.specs.HostCalls.{HostCall, replied, worth, reply_worth
 use Rattle.def_host_calls.specs.CallsDemand.{CallsDemand}
 use Rattle.thm_calls_history.specs.WordsCalls.{turned_words, answer_words}
 use Rattle.thm_calls_history.specs.Worth.{whole_is_worth}
-use Rattle.thm_calls_history.specs.Theorem.{calls_demand}
+use Rattle.thm_calls_history.proofs.Theorem.{calls_demand}
 use Rattle.def_audit.specs.Audit.{Among, answers_in, HandsOutOnce, HandsOutFairly, ForgetsNone}
 use Rattle.def_audit.specs.Served.{ServesAll}
 use Rattle.thm_calls_audit.specs.AcceptedAdds.{serves_all_lem}

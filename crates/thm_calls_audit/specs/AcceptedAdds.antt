@@ -42,7 +42,7 @@ use Rattle.def_audit.specs.Served.{Known, names_listed, Full, of_jobs, of_arcs, 
 use Rattle.def_audit.specs.Served.{by_5, by_6, all_known, AddStepped, found, not_found, entering, links, settles}
 use Rattle.def_audit.specs.Served.{AnswersEach, nothing, entry, AddsAnswered, SheetsAnswered, AddsStepped, ServesAll}
 use Rattle.thm_calls_history.specs.WordsCalls.{answer_words}
-use Rattle.thm_calls_history.specs.Theorem.{at_calls, replies_worth}
+use Rattle.thm_calls_history.proofs.Theorem.{at_calls, replies_worth}
 use Rattle.thm_calls_history.specs.Now.{Now, on}
 use Rattle.thm_calls_history.specs.CallsRead.{add_read}
 use Rattle.thm_calls_audit.specs.CallsEnd.{g, says, add_ends}

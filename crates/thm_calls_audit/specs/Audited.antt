@@ -30,7 +30,7 @@ use Rattle.def_audit.specs.Audit as audit
 use Rattle.def_audit.specs.Audit.{Among, here, later, HandedFairly, AddedOnce, FinishedOnce, NoneEarly}
 use Rattle.def_audit.specs.Audit.{WasHanded, GetsAnswered, NoneForgotten}
 use Rattle.thm_calls_history.specs.WordsCalls.{turned_words, answer_words}
-use Rattle.thm_calls_history.specs.Theorem.{calls_demand, at_calls}
+use Rattle.thm_calls_history.proofs.Theorem.{calls_demand, at_calls}
 use Rattle.thm_calls_audit.specs.Failures.{spoiled_told}
 use Rattle.thm_calls_audit.specs.HandedByCalls.{handed_by_items, handed_among, whole_replies}
 

@@ -20,7 +20,7 @@ use Rattle.def_host_calls.specs.HostCalls.{HostCall, single, whole_add, whole_fi
 use Rattle.def_host_calls.specs.HostCalls.{after_calls}
 use Rattle.def_host_calls.specs.CallsDemand.{read_calls}
 use Rattle.thm_calls_history.specs.WordsCalls.{answer_words}
-use Rattle.thm_calls_history.specs.Theorem.{at_calls}
+use Rattle.thm_calls_history.proofs.Theorem.{at_calls}
 use Rattle.thm_calls_audit.specs.NoneCutShort as whole
 
 module _ {S : Type 0} (answer : S → HostCall → Replied S) (see : S → Seen) (s : Sizes) (t : S) (calls : List HostCall)

@@ -23,7 +23,7 @@ use Rattle.def_host_calls.specs.HostCalls.{sheet_worth, sheet_reply, worth, repl
 use Rattle.def_host_calls.specs.CallsDemand.{all_worth}
 use Rattle.def_audit.specs.Audit.{answers_in, Among, here, later, handed_in, told_by}
 use Rattle.thm_calls_history.specs.WordsCalls.{turned_words, answer_words}
-use Rattle.thm_calls_history.specs.Theorem.{leaves_worth, replies_worth}
+use Rattle.thm_calls_history.proofs.Theorem.{leaves_worth, replies_worth}
 
 -- ---- an item that is no get hands none out
 abbrev is_get : Item → Bool

@@ -25,7 +25,7 @@ use Rattle.def_host_calls.specs.CallsDemand.{note_call, read_calls}
 use Rattle.def_audit.specs.Audit as audit
 use Rattle.def_audit.specs.Audit.{answers_in, Among, here, later, handed_in, hand_out_at, told_by, HandedOnce}
 use Rattle.thm_calls_history.specs.WordsCalls.{turned_words, answer_words}
-use Rattle.thm_calls_history.specs.Theorem.{leaves_worth, replies_worth}
+use Rattle.thm_calls_history.proofs.Theorem.{leaves_worth, replies_worth}
 use Rattle.thm_calls_history.specs.CallsRead.{call_read_lem}
 use Rattle.thm_calls_history.specs.Now.{Now, on, at_start_lem}
 use Rattle.thm_calls_audit.specs.HandedByCalls.{handed_among, whole_replies}

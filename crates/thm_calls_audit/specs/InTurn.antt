@@ -14,7 +14,7 @@ use Rattle.def_host_calls.specs.HostCalls.{HostCall, after_calls}
 use Rattle.def_host_calls.specs.CallsDemand.{items}
 use Rattle.def_audit.specs.InTurn.{ByCount}
 use Rattle.thm_calls_history.specs.WordsCalls.{turned_words, answer_words}
-use Rattle.thm_calls_history.specs.Theorem.{calls_demand, at_calls, made, all_leave, all_enter}
+use Rattle.thm_calls_history.proofs.Theorem.{calls_demand, at_calls, made, all_leave, all_enter}
 use Rattle.thm_calls_audit.specs.HandedByCalls.{handed_by_items}
 
 module _ (s : Sizes) (t : Tables) (laid : (lay_out s t).answer ≡ Laid) (calls : List HostCall) where

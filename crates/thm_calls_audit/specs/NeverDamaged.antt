@@ -23,7 +23,7 @@ use Rattle.def_host_calls.specs.CallsDemand.{items, turning_sheet, read}
 use Rattle.def_audit.specs.Audit.{answers_in, Among, here, later}
 use Rattle.def_host_calls.specs.Joined.{events_joined}
 use Rattle.thm_calls_history.specs.WordsCalls.{turned_words, answer_words}
-use Rattle.thm_calls_history.specs.Theorem.{calls_demand, replies_worth}
+use Rattle.thm_calls_history.proofs.Theorem.{calls_demand, replies_worth}
 
 or-true : (a b : Bool) → b ≡ true → (a || b) ≡ true
 or-true true b e = refl

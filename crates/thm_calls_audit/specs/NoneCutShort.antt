@@ -18,8 +18,8 @@ use Rattle.def_host_calls.specs.HostCalls.{sheet_reply}
 use Rattle.def_host_calls.specs.CallsDemand.{read, at_end}
 use Rattle.def_whole_calls.specs.CallEnds.{AddAnswer, FinishAnswer, AddAnswers}
 use Rattle.thm_calls_history.specs.WordsCalls.{turned_words, answer_words}
-use Rattle.thm_calls_history.specs.Theorem.{replies_worth, at_calls}
-use Rattle.thm_calls_history.specs.Turned.{sheet_turned}
+use Rattle.thm_calls_history.proofs.Theorem.{replies_worth, at_calls}
+use Rattle.thm_calls_history.proofs.Turned.{sheet_turned}
 use Rattle.thm_calls_audit.specs.CallsEnd.{add_ends, finish_ends, adds_end}
 
 module _ (s : Sizes) (t : Tables) (laid : (lay_out s t).answer ≡ Laid) (calls : List HostCall) where

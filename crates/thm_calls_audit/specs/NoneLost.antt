@@ -54,8 +54,8 @@ use Rattle.def_audit.specs.Served.{finish_answer, FinishesAnswered, FinishesPost
 use Rattle.def_audit.specs.Served.{ended}
 use Rattle.def_audit.specs.Served.{IdleNotStepped, FinishesStepped, SheetsTurned, LoadsAnswered}
 use Rattle.thm_calls_history.specs.WordsCalls.{answer_words, turned_words}
-use Rattle.thm_calls_history.specs.Turned.{sheet_turned}
-use Rattle.thm_calls_history.specs.Theorem.{at_calls, replies_worth}
+use Rattle.thm_calls_history.proofs.Turned.{sheet_turned}
+use Rattle.thm_calls_history.proofs.Theorem.{at_calls, replies_worth}
 use Rattle.thm_calls_history.specs.Now.{Now, is_idle_lem, finish_step}
 use Rattle.thm_calls_history.specs.CallsRead.{marked}
 use Rattle.thm_calls_audit.specs.CallsEnd.{g, says, rests}

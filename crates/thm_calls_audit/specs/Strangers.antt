@@ -21,8 +21,8 @@ use Rattle.def_host_calls.specs.HostCalls.{HostCall, single, whole_add, whole_fi
 use Rattle.def_host_calls.specs.HostCalls.{last_answer, call_made, add_made, finish_made, last_of, reply_worth, sheet_reply}
 use Rattle.def_audit.specs.Audit.{sizes_in, worker_in, turned_by, StrangersTurned}
 use Rattle.thm_calls_history.specs.WordsCalls.{answer_words, turned_words}
-use Rattle.thm_calls_history.specs.Turned.{sheet_turned}
-use Rattle.thm_calls_history.specs.Theorem.{at_calls, replies_worth}
+use Rattle.thm_calls_history.proofs.Turned.{sheet_turned}
+use Rattle.thm_calls_history.proofs.Theorem.{at_calls, replies_worth}
 use Rattle.thm_calls_history.specs.Now.{Now}
 use Rattle.thm_calls_audit.specs.CallsEnd.{says}
 use Rattle.thm_calls_audit.specs.EndsThere.{ends_there}

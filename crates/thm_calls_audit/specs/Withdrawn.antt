@@ -27,7 +27,7 @@ use Rattle.def_host_calls.specs.HostCalls.{HostCall, single, whole_add, whole_fi
 use Rattle.def_host_calls.specs.CallsDemand.{ended_by, note_whole_add, note_adds, note_call}
 use Rattle.def_audit.specs.Audit.{NoneWithdrawn}
 use Rattle.thm_calls_history.specs.WordsCalls.{answer_words}
-use Rattle.thm_calls_history.specs.Theorem.{at_calls}
+use Rattle.thm_calls_history.proofs.Theorem.{at_calls}
 use Rattle.thm_calls_history.specs.Now.{Now}
 use Rattle.thm_calls_audit.specs.CallsEnd.{g, says}
 

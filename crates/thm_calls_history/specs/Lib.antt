@@ -7,6 +7,3 @@ pub mod AddsRead
 pub mod FinishesRead
 pub mod CallsRead
 pub mod Entered
-pub mod Turned
-pub mod Theorem
-pub mod Example

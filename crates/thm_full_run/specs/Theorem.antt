@@ -26,7 +26,7 @@ use Rattle.thm_rules_audit.specs.Finishes.{finishes}
 use Rattle.thm_rules_audit.specs.Forgotten.{finished_by_lem}
 use Rattle.thm_words_history.specs.Theorem.{same_events}
 use Rattle.thm_calls_history.specs.WordsCalls.{turned_words, answer_words}
-use Rattle.thm_calls_history.specs.Theorem.{calls_demand}
+use Rattle.thm_calls_history.proofs.Theorem.{calls_demand}
 use Rattle.thm_calls_audit.specs.AcceptedAdds.{names_reserved}
 use Rattle.thm_calls_audit.specs.HandedByCalls.{handed_by_items}
 use Rattle.thm_full_run.specs.FullRun.{steps_taken, looked_up, entered, FullRun, TakesSteps}

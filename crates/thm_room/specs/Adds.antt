@@ -54,13 +54,13 @@ module _ (R A : ℕ) (names : List ℕ) (arcs : ℕ) (j : Job) (a : Arguments) (
         prefix_all j.list,
       )
 
-alike : (R A : ℕ) (names : List ℕ) (arcs : ℕ) {js : List Job} {l : List Arguments} → AddsOf js l
+alike : (R A : ℕ) {js : List Job} {l : List Arguments} → AddsOf js l → (names : List ℕ) (arcs : ℕ)
     → answers_by R A names arcs l ≡ answers_by R A names arcs (map arguments_of js)
 unfolding answers_by
-alike R A names arcs AddsOf.none = refl
-alike R A names arcs (AddsOf.more {j} {js} {a} {l} o rest) =
+alike R A AddsOf.none names arcs = refl
+alike R A (AddsOf.more {j} {js} {a} {l} o rest) names arcs =
     rw (judged_alike R A names arcs j a o, o.name, o.count)
-    (ap (λ xs. judged R A names arcs (arguments_of j) ∷ xs) (alike R A _ _ rest))
+    (ap (λ xs. judged R A names arcs (arguments_of j) ∷ xs) (alike R A rest _ _))
 
 -- so of a sheet's adds
 pub told_of_jobs : (s : Sizes) (t : Tables) → (lay_out s t).answer ≡ Laid → (w : ℕ) → w < s.workers

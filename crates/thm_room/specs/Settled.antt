@@ -122,6 +122,7 @@ one_turned_only (later f) (later g) = ap next (one_turned_only f g)
 
 none_turned : {xs : List Answer} {k n p : ℕ} → AllEnded xs → FirstTurned xs k n p → ⊥
 none_turned (AllEnded.more all) (later first) = none_turned all first
+none_turned {k = k} {n = n} {p = p} AllEnded.none x3 = elim x3 [ ]
 
 one_told : {js : List Job} {xs : List Answer} {r q : Room} → ComesTo js xs r → ComesTo js xs q → r ≡ q
 one_told (fits all) (fits every) = refl

@@ -1,17 +1,15 @@
 -- How a finish run whole ends and what it leaves, case by case, for ALL tables: ended, still going (more arcs than
 -- there can be), turned away with nothing changed, or half done. Follows docs/RULES.md, "Whole calls" and "Turned-away
 -- calls".
-use Rattle.std.specs.Prelude.{◌≡◌, true, false, ◌&&◌, not, List, [], ◌∷◌, eqb}
+use Rattle.std.specs.Prelude.{◌≡◌, ◌&&◌, not, [], ◌∷◌, eqb}
 use Rattle.std.proofs.Math.Path.{refl}
 use Prim.Native.Nat.{ℕ, zero, suc}
-use Rattle.def_numbers.specs.Numbers.{wrong_size, no_such_worker, half_done, not_held, damaged, good_for_spoiled}
+use Rattle.def_numbers.specs.Numbers.{half_done, not_held, good_for_spoiled}
 use Rattle.def_basics.specs.Base.{contains}
 use Rattle.def_basics.specs.Laws.{pick_by}
 use Rattle.def_terms.specs.Terms.{Finish, bit}
 use Rattle.def_terms.specs.Runs.{Result}
 use Rattle.def_terms.specs.declared.Sizes.{Sizes}
-use Rattle.def_terms.specs.declared.Answer.{Answer}
-use Rattle.def_terms.specs.declared.Answer.TheVariants.{Going, Ended, Refused}
 use Rattle.def_words.specs.Layout.{Tables, view, none, SPOILED, MARKING, bare_worker}
 use Rattle.def_words.specs.Words.{counters_ok, spoiled_ok, holds_name, plan_mark, plan_notify}
 use Rattle.def_words.specs.declared.Plan.{Plan}
@@ -22,8 +20,8 @@ use Rattle.def_fused.specs.FusedWorker.{Admitted, is_idle, hold_of, notify_worke
 use Rattle.def_fused.specs.FusedFinish.{told_tables, told_queued, or_end, notify_by, notify_in, marked_tables, mark_in}
 use Rattle.def_fused.specs.FusedFinish.{mark_if, finish_in, finish_if_idle}
 use Rattle.thm_fused_finish.specs.Finish.{whole_finish_lem}
-use Rattle.thm_whole_answers.specs.Worker.{Back, back, busy, order_numbers, by_admission, contains_left}
-use Rattle.thm_whole_answers.specs.FinishEnds.{finish_away, FinishEnds, ended, going, turned_away_lem, half_done_lem}
+use Rattle.thm_whole_answers.specs.Worker.{back, busy, order_numbers, by_admission, contains_left}
+use Rattle.thm_whole_answers.specs.FinishEnds.{FinishEnds, ended, going, turned_away_lem, half_done_lem}
 
 -- ---- the finish of an admitted worker, with the outcome o
 module _ (s : Sizes) (t : Tables) (w : ℕ) (A : Admitted s t w) (o : ℕ) where

@@ -4,8 +4,8 @@ use Rattle.std.specs.Prelude.{◌≡◌, ◌⊎◌, Bool, true, false, ◌||◌,
 use Rattle.std.proofs.Math.Path.{refl}
 use Rattle.std.proofs.Common.{subst, eqb-true}
 use Rattle.std.proofs.Math.Logic.{inl, inr}
-use Rattle.def_numbers.specs.Numbers.{wrong_size, no_such_worker, half_done, wrong_arguments, unknown_name, name_present}
-use Rattle.def_numbers.specs.Numbers.{tables_full, damaged, not_held, good_for_spoiled}
+use Rattle.def_numbers.specs.Numbers.{unknown_name}
+use Rattle.def_numbers.specs.Numbers.{damaged}
 use Rattle.def_basics.specs.Base.{contains}
 use Rattle.def_basics.specs.Laws.{never, or_left, or_right}
 use Rattle.def_terms.specs.Terms.{Arguments, Finish}

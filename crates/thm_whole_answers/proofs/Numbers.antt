@@ -1,15 +1,15 @@
 -- The numbers of calls run whole, for ALL tables and arguments: what turns an add, a finish or a sheet away, and that
 -- an add's number is 0 just if it ended. Follows docs/RULES.md, "Whole calls" and "Turned-away calls".
-use Rattle.std.specs.Prelude.{◌≡◌, refl, ◌↔◌, true, List, [], ◌∷◌, ◌++◌, ℕ, zero, suc, ◌<◌, leb, length}
+use Rattle.std.specs.Prelude.{◌≡◌, refl, ◌↔◌, true, List, [], ◌∷◌, ◌++◌, ℕ, zero, suc, leb, length}
 use Rattle.std.proofs.Common.{ap, subst}
-use Rattle.def_numbers.specs.Numbers.{most_entries, wrong_size, no_such_worker, half_done, wrong_arguments, unknown_name}
-use Rattle.def_numbers.specs.Numbers.{name_present, tables_full, damaged, not_held, too_many_entries, good_for_spoiled}
+use Rattle.def_numbers.specs.Numbers.{most_entries, half_done}
+use Rattle.def_numbers.specs.Numbers.{too_many_entries}
 use Rattle.def_basics.specs.Base.{contains}
 use Rattle.def_basics.specs.Laws.{never, pick_by}
 use Rattle.def_terms.specs.Terms.{Arguments, Finish}
 use Rattle.def_terms.specs.declared.Sizes.{Sizes}
 use Rattle.def_terms.specs.declared.Answer.{Answer}
-use Rattle.def_terms.specs.declared.Answer.TheVariants.{Going, Ended, Refused}
+use Rattle.def_terms.specs.declared.Answer.TheVariants.{Ended}
 use Rattle.def_words.specs.Layout.{Tables}
 use Rattle.def_words.specs.Words.{refusal}
 use Rattle.def_whole_calls.specs.Whole.{whole_add, whole_finish}
@@ -22,7 +22,7 @@ use Rattle.thm_whole_answers.specs.AddEnds.{AddEnds, add_ends, add_away, add_unf
 use Rattle.thm_whole_answers.specs.FinishEnds as finish
 use Rattle.thm_whole_answers.specs.FinishEnds.{FinishEnds}
 use Rattle.thm_whole_answers.proofs.FinishEnds.{finish_ends}
-use Rattle.thm_whole_answers.specs.Numbers.{add_placeless, AddAnswer, ended, refused, unknown, finish_numbers, FinishAnswer, ended, going, refused, sheet_numbers, Of}
+use Rattle.thm_whole_answers.specs.Numbers.{add_placeless, AddAnswer, ended, refused, unknown, FinishAnswer, ended, going, refused, sheet_numbers, Of}
 
 pub add_answer : (s : Sizes) (t : Tables) (w : ℕ) (a : Arguments) → AddAnswer a (whole_add s t w a).answer
 unfolding contains

@@ -1,28 +1,15 @@
 -- How a finish run whole ends and what it leaves, case by case, for ALL tables: ended, still going (more arcs than
 -- there can be), turned away with nothing changed, or half done. Follows docs/RULES.md, "Whole calls" and "Turned-away
 -- calls".
-use Rattle.std.specs.Prelude.{◌≡◌, true, false, ◌&&◌, not, List, [], ◌∷◌, eqb}
-use Rattle.std.proofs.Math.Path.{refl}
-use Prim.Native.Nat.{ℕ, zero, suc}
+use Rattle.std.specs.Prelude.{◌≡◌, true, false, List, [], ◌∷◌}
+use Prim.Native.Nat.{ℕ}
 use Rattle.def_numbers.specs.Numbers.{wrong_size, no_such_worker, half_done, not_held, damaged, good_for_spoiled}
 use Rattle.def_basics.specs.Base.{contains}
-use Rattle.def_basics.specs.Laws.{pick_by}
-use Rattle.def_terms.specs.Terms.{Finish, bit}
-use Rattle.def_terms.specs.Runs.{Result}
-use Rattle.def_terms.specs.declared.Sizes.{Sizes}
 use Rattle.def_terms.specs.declared.Answer.{Answer}
 use Rattle.def_terms.specs.declared.Answer.TheVariants.{Going, Ended, Refused}
-use Rattle.def_words.specs.Layout.{Tables, view, none, SPOILED, MARKING, bare_worker}
-use Rattle.def_words.specs.Words.{counters_ok, spoiled_ok, holds_name, plan_mark, plan_notify}
-use Rattle.def_words.specs.declared.Plan.{Plan}
-use Rattle.def_words.specs.declared.Plan.TheVariants.{Refuse, Quit, Pass, Enter, Tally, LinkFirst, LinkAfter, Settle}
-use Rattle.def_words.specs.declared.Plan.TheVariants.{SettleQueue, Mark, Notify, NotifyQueue}
-use Rattle.def_whole_calls.specs.Whole.{whole_finish}
-use Rattle.def_fused.specs.FusedWorker.{Admitted, is_idle, hold_of, notify_worker, halted}
-use Rattle.def_fused.specs.FusedFinish.{told_tables, told_queued, or_end, notify_by, notify_in, marked_tables, mark_in}
-use Rattle.def_fused.specs.FusedFinish.{mark_if, finish_in, finish_if_idle}
-use Rattle.thm_fused_finish.specs.Finish.{whole_finish_lem}
-use Rattle.thm_whole_answers.specs.Worker.{Back, back, busy, order_numbers, by_admission, contains_left}
+use Rattle.def_words.specs.Layout.{Tables, none}
+use Rattle.def_fused.specs.FusedWorker.{is_idle}
+use Rattle.thm_whole_answers.specs.Worker.{Back}
 
 -- the numbers that turn a finish away before its mark
 abbrev pub finish_away : List ℕ

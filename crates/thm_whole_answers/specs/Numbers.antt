@@ -1,27 +1,12 @@
 -- The numbers of calls run whole, for ALL tables and arguments: what turns an add, a finish or a sheet away, and that
 -- an add's number is 0 just if it ended. Follows docs/RULES.md, "Whole calls" and "Turned-away calls".
-use Rattle.std.specs.Prelude.{◌≡◌, refl, ◌↔◌, true, List, [], ◌∷◌, ◌++◌, ℕ, zero, suc, ◌<◌, leb, length}
-use Rattle.std.proofs.Common.{ap, subst}
-use Rattle.def_numbers.specs.Numbers.{most_entries, wrong_size, no_such_worker, half_done, wrong_arguments, unknown_name}
+use Rattle.std.specs.Prelude.{◌≡◌, true, List, [], ◌∷◌, ℕ, ◌<◌}
+use Rattle.def_numbers.specs.Numbers.{wrong_size, no_such_worker, half_done, wrong_arguments, unknown_name}
 use Rattle.def_numbers.specs.Numbers.{name_present, tables_full, damaged, not_held, too_many_entries, good_for_spoiled}
 use Rattle.def_basics.specs.Base.{contains}
-use Rattle.def_basics.specs.Laws.{never, pick_by}
-use Rattle.def_terms.specs.Terms.{Arguments, Finish}
-use Rattle.def_terms.specs.declared.Sizes.{Sizes}
+use Rattle.def_terms.specs.Terms.{Arguments}
 use Rattle.def_terms.specs.declared.Answer.{Answer}
 use Rattle.def_terms.specs.declared.Answer.TheVariants.{Going, Ended, Refused}
-use Rattle.def_words.specs.Layout.{Tables}
-use Rattle.def_words.specs.Words.{refusal}
-use Rattle.def_whole_calls.specs.Whole.{whole_add, whole_finish}
-use Rattle.def_whole_calls.specs.Sheet.{add_each, judged_sheet, served, sheet_words}
-use Rattle.def_sheet_rows.specs.SheetRows.{number_of}
-use Rattle.def_fused.specs.FusedWorker.{is_idle}
-use Rattle.thm_whole_answers.specs.Worker.{order_numbers, by_admission, contains_left, contains_right}
-use Rattle.thm_whole_answers.specs.AddEnds as add
-use Rattle.thm_whole_answers.specs.AddEnds.{AddEnds, add_ends, add_away, add_unfit}
-use Rattle.thm_whole_answers.specs.FinishEnds as finish
-use Rattle.thm_whole_answers.specs.FinishEnds.{FinishEnds}
-use Rattle.thm_whole_answers.proofs.FinishEnds.{finish_ends}
 
 -- ---- an add
 -- its numbers but 6, which alone has a place

@@ -1,36 +1,22 @@
 -- What C is told of an add or a finish run whole that answers 9: stopped exactly where the tables changed, its worker
 -- then being half done, and else a refusal by 9, with which nothing changed. For ALL tables and arguments. Follows
 -- docs/RULES.md, "Whole calls" and "Turned-away calls": 9 leaves "nothing changed".
-use Rattle.std.specs.Prelude.{◌≡◌, ◌↔◌, ◌≢◌, Bool, false, ◌&&◌, not, ℕ, eqb}
-use Rattle.std.proofs.Math.Path.{refl, subst}
-use Rattle.std.proofs.Common.{ap, arith, eqb-true}
+use Rattle.std.specs.Prelude.{◌≡◌, ◌≢◌, false, ℕ}
 use Rattle.std.proofs.Math.Bool.{true}
 use Rattle.def_numbers.specs.Numbers.{damaged}
-use Rattle.def_basics.specs.Base.{contains}
-use Rattle.def_basics.specs.Laws.{never}
 use Rattle.def_terms.specs.Terms.{Arguments, Finish}
-use Rattle.def_terms.specs.Runs.{Result, result_of}
+use Rattle.def_terms.specs.Runs.{Result}
 use Rattle.def_terms.specs.declared.Sizes.{Sizes}
 use Rattle.def_terms.specs.declared.Answer.{Answer}
-use Rattle.def_terms.specs.declared.Answer.TheVariants.{Laid, Loaded, Posted, Going, Ended, NoneReady, Handed, Refused}
+use Rattle.def_terms.specs.declared.Answer.TheVariants.{Refused}
 use Rattle.def_words.specs.Layout.{Tables}
 use Rattle.def_whole_calls.specs.Whole.{whole_add, whole_finish}
 use Rattle.def_sheet_rows.specs.SheetRows.{number_of}
 use Rattle.def_stops.specs.Stopped.{stopped_by}
 use Rattle.def_fused.specs.FusedWorker.{is_idle}
-use Rattle.def_fused.specs.FusedAdd.{plan_add, add_by, add_if_idle}
-use Rattle.def_fused.specs.FusedFinish.{finish_if_idle}
-use Rattle.thm_fused_add.specs.Adds.{whole_add_lem}
-use Rattle.thm_fused_finish.specs.Finish.{whole_finish_lem}
 use Rattle.taskgraph_answer.specs.Answers.{graph_answer}
 use Rattle.taskgraph_answer.specs.WholeAnswers.{whole_of, told_whole}
 use Rattle.taskgraph_answer.specs.declared.GraphAnswer.{GraphAnswer}
-use Rattle.thm_whole_answers.specs.Worker.{by_admission}
-use Rattle.thm_whole_answers.specs.AddEnds as add
-use Rattle.thm_whole_answers.specs.AddEnds.{AddEnds, add_ends, add_unfit}
-use Rattle.thm_whole_answers.specs.FinishEnds as finish
-use Rattle.thm_whole_answers.specs.FinishEnds.{FinishEnds}
-use Rattle.thm_whole_answers.proofs.FinishEnds.{finish_ends}
 
 -- ---- THE statement. What is told of a call of worker w from the tables t that has the result o
 pub record Tells (r : GraphAnswer) (t : Tables) (w : ℕ) (o : Result Tables) : Type 0 where

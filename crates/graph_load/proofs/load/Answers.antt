@@ -1,7 +1,6 @@
 -- `graph_load::load` meets its contract: the number that refuses is the definition's, and so are the stored words.
 use Rattle.def_words.specs.Words.{load_words, loading}
 use Rattle.graph_load.proofs.Loading.{loading_not}
-use borrow.Author.Rules.{rules}
 use Rattle.graph_load.proofs.load.Goals as goal
 
 pub returns-then-number-eq0 : goal.returns-then-number-eq0

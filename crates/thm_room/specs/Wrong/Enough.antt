@@ -39,6 +39,7 @@ sizes R A = record { jobs = R; arcs = A; bits = 1; workers = 1 }
 -- adds that are all accepted, and one refused by 8 among them
 not_both : {xs : List Answer} → AllEnded xs → Among (Refused 8 0) xs → ⊥
 not_both (AllEnded.more all) (Among.later m) = not_both all m
+not_both AllEnded.none x3 = elim x3 [ ]
 
 -- what is told of the two jobs, held against their adds with these sizes, whose answers are computed
 module _ (room : List ℕ → Room) (n a k R A : ℕ) (told : room two_sheet ≡ Fits n a k)

@@ -1,8 +1,5 @@
 -- `graph_step_stores::adding::apply_link` meets its contract: each arm's stores are those of its plan.
 use Rattle.thm_counters_fit.specs.Fitting.{Fitting}
-use Rattle.thm_counters_fit.specs.Kinds.{apart}
-use mathlib.Core.List.{[], ◌∷◌}
-use borrow.Author.Rules.{rules}
 use Rattle.graph_step_stores.proofs.adding.apply_link.Goals as goal
 
 pub returns-in-LinkFirst : goal.returns-in-LinkFirst

@@ -1,6 +1,5 @@
 -- `graph_step_stores::entering::enter` meets its contract: the four tables' stores are the plan's.
 use Rattle.def_words.specs.Words.{applied}
-use borrow.Author.Rules.{rules}
 use Rattle.graph_step_stores.proofs.entering.enter.Goals as goal
 
 pub returns : goal.returns

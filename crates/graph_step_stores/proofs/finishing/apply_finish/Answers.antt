@@ -1,8 +1,5 @@
 -- `graph_step_stores::finishing::apply_finish` meets its contract: each arm's stores are those of its plan.
 use Rattle.thm_counters_fit.specs.Fitting.{Fitting}
-use Rattle.thm_counters_fit.specs.Kinds.{apart}
-use mathlib.Core.List.{[], ◌∷◌}
-use borrow.Author.Rules.{rules}
 use Rattle.graph_step_stores.proofs.finishing.apply_finish.Goals as goal
 
 pub returns-in-NotifyQueue : goal.returns-in-NotifyQueue

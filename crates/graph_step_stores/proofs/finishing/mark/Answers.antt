@@ -1,6 +1,5 @@
 -- `graph_step_stores::finishing::mark` meets its contract: its stores are the plan's.
 use Rattle.def_words.specs.Words.{applied}
-use borrow.Author.Rules.{rules}
 use Rattle.graph_step_stores.proofs.finishing.mark.Goals as goal
 
 pub returns : goal.returns

@@ -20,7 +20,7 @@ use Rattle.thm_rules_history.specs.History.{start, PacedCall, Paced}
 use Rattle.thm_rules_history.specs.Onward.{onward}
 use Rattle.def_demand.specs.Demand.{is_idle}
 use Rattle.thm_rules_follow_book.specs.Paced.{paced}
-use Rattle.thm_rules_invariant.specs.Sound.{sound, soundly}
+use Rattle.thm_rules_invariant.specs.Sound.{soundly}
 use Rattle.thm_representation.specs.Rep.{Ghost, CallRep, Stands}
 use Rattle.thm_words_refine_rules.specs.Own.{same_sizes_lem, sizes_decide, own_ok_lem}
 use Rattle.thm_words_history.specs.Theorem.{after_items, same_events}

@@ -22,7 +22,7 @@ use Rattle.thm_calls_history.specs.Worth.{whole_is_worth}
 use Rattle.thm_calls_history.specs.Now.{Now, at_start_lem, on}
 use Rattle.thm_calls_history.specs.CallsRead.{call_read_lem}
 use Rattle.thm_calls_history.specs.Entered.{call_enters}
-use Rattle.thm_calls_history.specs.Turned.{sheet_turned}
+use Rattle.thm_calls_history.proofs.Turned.{sheet_turned}
 
 -- a call leaves what the items that it is worth leave, and replies what they make it reply
 pub leaves_worth : (x : Tables) (c : HostCall)

@@ -23,7 +23,7 @@ use Rattle.def_whole_calls.specs.Sheet.{add_each, served, sheet_words}
 use Rattle.def_host_calls.specs.CallsDemand.{CallsDemand}
 use Rattle.def_host_calls.specs.RightCalls.{replies_to, every_kind, its_replies}
 use Rattle.thm_calls_history.specs.WordsCalls.{turned_words, answer_words}
-use Rattle.thm_calls_history.specs.Theorem.{calls_demand}
+use Rattle.thm_calls_history.proofs.Theorem.{calls_demand}
 
 -- tables that just suffice, with words that are left from before
 abbrev pub old : Tables

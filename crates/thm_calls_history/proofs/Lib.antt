@@ -1,0 +1,3 @@
+pub mod Theorem
+pub mod Example
+pub mod Turned
