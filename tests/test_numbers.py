@@ -46,7 +46,8 @@ def upper(name):
 def constants():
     """Each constant of the definitions and of the code: crate, name, value and place. The value is a number, or the
     text that stands there."""
-    for path in sorted(TOP.glob("crates/*/specs/*.antt")) + sorted(TOP.glob("crates/*/src/*.rt")):
+    for path in [path for part in ("specs/*.antt", "proofs/*.antt", "src/*.rt")
+                 for path in sorted(TOP.glob(f"crates/*/{part}"))]:
         text, crate = path.read_text(), path.parts[-3]
         if path.suffix == ".antt":
             found = re.finditer(r"^abbrev (?:pub )?(\S+) : ℕ\n\1 = (.*)$", text, re.M)
