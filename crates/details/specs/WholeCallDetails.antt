@@ -21,18 +21,18 @@ use Rattle.taskgraph_answer.specs.WholeAnswers.{whole_of, told_whole}
 use Rattle.thm_calls_audit.specs.FewSteps.{FewSteps, few_steps}
 use Rattle.thm_calls_history.specs.WordsCalls.{answer_words}
 use Rattle.thm_whole_answers.specs.Stopped.{Learns}
-use Rattle.thm_whole_answers.specs.Stopped as stops
+use Rattle.thm_whole_answers.proofs.Stopped as stops
 use Rattle.thm_answers_heard.specs.StoppedSheet.{before, add_at, StopsAt}
 use Rattle.thm_answers_heard.specs.StoppedSheet as sheet_stops
 use Rattle.def_fused.specs.FusedWorker.{Admitted, is_idle, hold_of, idled_with}
 use Rattle.thm_whole_answers.specs.Worker.{Back}
 use Rattle.thm_whole_answers.specs.Numbers.{AddAnswer, FinishAnswer}
-use Rattle.thm_whole_answers.specs.Numbers as numbers
+use Rattle.thm_whole_answers.proofs.Numbers as numbers
 use Rattle.thm_whole_answers.specs.Left.{add_keeps, add_idles, finish_keeps}
-use Rattle.thm_whole_answers.specs.Left as left
+use Rattle.thm_whole_answers.proofs.Left as left
 use Rattle.thm_whole_answers.specs.SheetAdds.{after_adds}
 use Rattle.thm_whole_answers.specs.Sheets.{Stuck}
-use Rattle.thm_whole_answers.specs.Sheets as sheets
+use Rattle.thm_whole_answers.proofs.Sheets as sheets
 use Rattle.thm_answers_heard.specs.SheetTurned as turned
 use Rattle.thm_answers_heard.specs.InC.{EntryTold}
 use Rattle.thm_answers_heard.specs.InC as rows

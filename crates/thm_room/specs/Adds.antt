@@ -66,7 +66,7 @@ alike R A (AddsOf.more {j} {js} {a} {l} o rest) names arcs =
 pub told_of_jobs : (s : Sizes) (t : Tables) → (lay_out s t).answer ≡ Laid → (w : ℕ) → w < s.workers
     → {js : List Job} {l : List Arguments} → AddsOf js l
     → adds_on s t w l ≡ answers_by s.jobs s.arcs [] 0 (map arguments_of js)
-told_of_jobs s t laid w h {js} {l} o = told_by_names s t laid w h l ∙ alike s.jobs s.arcs [] 0 o
+told_of_jobs s t laid w h {js} {l} o = told_by_names s t laid w h l ∙ alike s.jobs s.arcs o [] 0
 
 -- ---- and each job has an add
 pub adds_of_lem : (js : List Job) → AddsOf js (map arguments_of js)

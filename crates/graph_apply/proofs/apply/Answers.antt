@@ -1,7 +1,6 @@
 -- `graph_apply::apply` meets its contract: a plan is stored by the function of its kind.
 use Rattle.def_words.specs.Words.{applied}
 use Rattle.thm_counters_fit.specs.Fitting.{Fitting}
-use borrow.Author.Rules.{rules}
 use Rattle.graph_apply.proofs.apply.Goals as goal
 
 pub returns-in-Refuse : goal.returns-in-Refuse

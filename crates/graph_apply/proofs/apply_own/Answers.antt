@@ -1,9 +1,6 @@
 -- `graph_apply::apply_own` meets its contract: each arm's stores are those of its plan.
 use Rattle.def_words.specs.Words.{applied}
 use Rattle.thm_counters_fit.specs.Fitting.{Fitting}
-use Rattle.thm_counters_fit.specs.Kinds.{apart}
-use mathlib.Core.List.{[], ◌∷◌}
-use borrow.Author.Rules.{rules}
 use Rattle.graph_apply.proofs.apply_own.Goals as goal
 
 pub returns-in-Quit : goal.returns-in-Quit

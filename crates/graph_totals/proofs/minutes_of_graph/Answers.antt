@@ -1,20 +1,14 @@
 -- `graph_totals::minutes_of_graph` meets its contract: the part that is judged are the stored minutes.
 use mathlib.Core.Path.{sym, ◌∙◌}
 use native.Mathlib.Omega.{arith}
-use borrow.Author.Rules.{rules}
 use Rattle.def_graph_board.specs.Board.{graph_minutes}
 use Rattle.graph_totals.proofs.Stored.{cells_part, fit_room}
 use Rattle.graph_totals.proofs.minutes_of_graph.Goals as goal
 
--- ?? no goal slice-bounds-judged-start
--- part-judged-start : tie.Need-slice-bounds-judged-start
--- part-judged-start c = search rules
-
--- ?? no goal slice-bounds-judged-end
--- part-judged-end : tie.Need-slice-bounds-judged-end
--- part-judged-end c =
---     let a = c.before.before.before.args in
---     omega (arith, fit_room a.sizes a.jobs.now (sym c.before.jobs-fit.ensures ∙ c.if1.true))
+pub slice_bounds-judged-end : goal.slice_bounds-judged-end
+slice_bounds-judged-end c =
+    let a = c.args in
+    omega (arith, fit_room a.sizes a.jobs.now (sym c.jobs_fit-fit.ensures ∙ c.if-fit.true))
 
 pub returns-then-fit : goal.returns-then-fit
 unfolding graph_minutes

@@ -1,6 +1,6 @@
 -- Contracts of the graph's calls that say less than Interface.antt asks, so that a call could meet them and leave its
 -- work undone or untold: each refuted by one result.
-use Rattle.std.specs.Prelude.{◌≡◌, refl, [], ◌∷◌, ℕ, length, get_or}
+use Rattle.std.specs.Prelude.{◌≡◌, refl, [], ◌∷◌, length, get_or}
 use Rattle.std.proofs.Common.{ap, arith}
 use Rattle.std.proofs.Math.Option.{some}
 use Rattle.def_terms.specs.Runs.{result_of}

@@ -2,7 +2,6 @@
 -- record.
 use Rattle.def_words.specs.Words.{add_words, posted}
 use Rattle.graph_judge.proofs.Posted.{posted_not}
-use borrow.Author.Rules.{rules}
 use Rattle.graph_post.proofs.add.post_add.Goals as goal
 
 pub returns-then-number-eq0 : goal.returns-then-number-eq0

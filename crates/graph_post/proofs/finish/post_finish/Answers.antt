@@ -3,7 +3,6 @@
 -- record.
 use Rattle.def_words.specs.Words.{finish_words, posted}
 use Rattle.graph_judge.proofs.Posted.{posted_not}
-use borrow.Author.Rules.{rules}
 use Rattle.graph_post.proofs.finish.post_finish.Goals as goal
 
 pub returns-then-number-eq0 : goal.returns-then-number-eq0

@@ -1,0 +1,13 @@
+-- `graph_get::stores::take` meets its contract: its stores are the plan's.
+use Rattle.def_words.specs.Words.{applied_get}
+use Rattle.graph_get.proofs.stores.take.Goals as goal
+
+pub returns : goal.returns
+unfolding applied_get
+returns c =
+    λ h arcs buckets.
+    rw (
+      c.put_worker.ensures,
+      c.take_seat.ensures h,
+      c.put_job.ensures,
+    )
