@@ -130,8 +130,7 @@ use Rattle.thm_state_history.specs.Agrees as state_agrees
 use Rattle.thm_state_history.specs.MinutesApart.{held_apart, drained_apart}
 use Rattle.thm_state_history.specs.Theorem as state
 use Rattle.def_whole_calls.specs.CallEnds.{AddAnswer}
-use Rattle.def_sheets.specs.Decode.{jobs}
-use Rattle.def_host_calls.specs.HostCalls.{HostCall, sheet, after_calls}
+use Rattle.def_host_calls.specs.HostCalls.{HostCall, after_calls}
 use Rattle.def_host_calls.specs.CallsDemand.{items, read_minutes, read_calls}
 use Rattle.thm_calls_history.specs.WordsCalls.{turned_words, answer_words}
 use Rattle.thm_calls_history.proofs.Theorem.{calls_demand, at_calls}

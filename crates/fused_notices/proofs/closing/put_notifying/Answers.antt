@@ -1,6 +1,5 @@
 -- `put_notifying` meets its contract: a call with no arguments lists no names, and its list is kept as
 -- 0.
-use borrow.Author.Rules.{rules}
 use Rattle.def_basics.specs.Base.{prefix}
 use Rattle.fused_notices.proofs.closing.put_notifying.Goals as goal
 

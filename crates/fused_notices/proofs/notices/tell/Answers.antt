@@ -1,8 +1,7 @@
 -- `tell` meets its contract: each plan's stores are the definition's, and a queued job's cell is below
 -- the number of jobs, so that the counter is a word.
 use native.Mathlib.Omega.{arith}
-use borrow.Author.Rules.{rules}
-use Rattle.fused_notices.proofs.Laws.{seat_below, halts}
+use Rattle.fused_notices.proofs.Laws.{seat_below}
 use Rattle.fused_notices.proofs.notices.tell.Goals as goal
 
 pub returns-in-NotifyQueue : goal.returns-in-NotifyQueue
