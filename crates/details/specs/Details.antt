@@ -77,7 +77,7 @@ use Rattle.thm_day_cases.specs.DayAnswers as day
 use Rattle.thm_starred_cases.specs.StarredCases.{Starred, every_row}
 use Rattle.taskgraph_heard.specs.Lent.{LendsAlike, lends_alike}
 use Rattle.taskgraph_heard.specs.BoardWithin.{WithinNeed, totals_within_need, minutes_within_need}
-use Rattle.taskgraph_heard.specs.ToldApart.{ToldOneWay, told_one_way, ExactIsHeard, exact_is_heard}
+use Rattle.taskgraph_heard.proofs.ToldApart.{ToldOneWay, told_one_way, ExactIsHeard, exact_is_heard}
 use Rattle.taskgraph_heard.specs.Interface.{Contracts, contracts}
 use Rattle.thm_words_loads.specs.Loads.{Stored, loaded_stores, LoadsExactly, item_loads_exactly}
 use Rattle.thm_words_loads.specs.MinutesElsewhere.{minutes_apart, minutes_stay}

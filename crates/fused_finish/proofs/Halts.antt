@@ -11,11 +11,10 @@ use Rattle.def_words.specs.declared.Plan.TheVariants.{SettleQueue, Mark, Notify,
 use Rattle.thm_counters_fit.specs.Kinds.{tag, apart}
 use Rattle.def_fused.specs.FusedFinish.{unmarked, mark_in}
 
-pub halts : (p : Plan) → OneOf (0 ∷ 1 ∷ 2 ∷ 3 ∷ 4 ∷ 5 ∷ 6 ∷ 7 ∷ 8 ∷ 10 ∷ 11 ∷ []) (tag p) → (s : Sizes) (t : Tables)
+pub halts : (p : Plan) → ((x y : ℕ) → p ≡ Mark x y → ⊥) → (s : Sizes) (t : Tables)
     (w o : ℕ) → unmarked t w o ≡ mark_in s t w o p
 unfolding mark_in
-halts (Mark p x) k s t w o =
-    absurd (apart (9 ∷ []) (0 ∷ 1 ∷ 2 ∷ 3 ∷ 4 ∷ 5 ∷ 6 ∷ 7 ∷ 8 ∷ 10 ∷ 11 ∷ []) 9 tt refl k)
+halts (Mark p x) k s t w o = absurd (k p x refl)
 halts (Refuse n) k s t w o = refl
 halts (Quit n q) k s t w o = refl
 halts Pass k s t w o = refl

@@ -1,5 +1,5 @@
 -- The plan of an add, by what the code finds.
-use mathlib.Core.Path.{◌≡◌, sym, ◌∙◌}
+use mathlib.Core.Path.{◌≡◌}
 use mathlib.Core.Bool.{Bool, true, false, ◌||◌}
 use Prim.Native.Nat.{ℕ, ◌+◌, ◌≤◌}
 use native.Mathlib.Omega.{arith}
@@ -14,7 +14,7 @@ use Rattle.def_words.specs.Layout.{View, PHASE, IDLE}
 use Rattle.def_words.specs.Words.{counters_ok, find_of}
 use Rattle.def_words.specs.declared.Found.{Found}
 use Rattle.def_words.specs.declared.Found.TheVariants.{At, Missing, Damaged}
-use Rattle.def_fused.specs.FusedAdd.{look_ups, plan_own, plan_looked, plan_add}
+use Rattle.def_fused.specs.FusedAdd.{look_ups, plan_own, plan_add}
 use Rattle.def_fused.specs.declared.LookUps.{LookUps}
 use Rattle.def_fused.specs.declared.LookUps.TheVariants.{All, Unknown, Broken}
 use Rattle.def_fused.specs.declared.AddPlan.{AddPlan}

@@ -44,7 +44,7 @@ use Rattle.thm_full_run.specs.SheetSteps.{full_runs}
 use Rattle.thm_words_need.specs.Need.{KeepsToNeed}
 use Rattle.thm_pinned.specs.FreshWords.{LaysFresh, lays_fresh}
 use Rattle.thm_pinned.specs.PutBack.{Leaves, leaves}
-use Rattle.taskgraph_heard.specs.ToldApart.{ToldApart, told_apart}
+use Rattle.taskgraph_heard.proofs.ToldApart.{ToldApart, told_apart}
 use Rattle.taskgraph_answer.specs.WholeAnswers.{whole_of, told_whole}
 use Rattle.thm_whole_answers.specs.Stopped.{TellsWhole}
 use Rattle.thm_whole_answers.proofs.Stopped.{tells_whole}

@@ -1,7 +1,5 @@
-pub mod ToldApart
 pub mod Interface
 pub mod StateHeard
 pub mod BoardHeard
 pub mod Lent
 pub mod BoardWithin
-pub mod Wrong

@@ -1,14 +1,9 @@
 -- `emit_from` prints bytes one after the other. The loop's invariant: what is left, printed from the running offset on,
 -- makes the whole.
 use Prim.Native.Nat.{◌+◌, ◌-◌, ◌≤◌}
-use mathlib.Core.Path.{◌≡◌, ◌∙◌}
-use native.Mathlib.Omega.{arith}
-use native.Mathlib.Numerals.{add-one}
-use lib.ListN.{length, drop, drop_of_length-le}
-use lib.Seq.{drop-cons}
-use borrow.Author.Rules.{rules}
-use Rattle.day_text.specs.Page.{page, print, print_nothing, print_append}
-use Rattle.day_text.proofs.Laws.{moved_on}
+use mathlib.Core.Path.{◌≡◌}
+use lib.ListN.{length, drop}
+use Rattle.day_text.specs.Page.{page, print}
 use Rattle.day_text.proofs.emit_from.Given as goal
 
 abbrev pub invariant-loop-i : goal.invariant-loop-i

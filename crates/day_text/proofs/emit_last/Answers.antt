@@ -1,6 +1,5 @@
 -- `emit_last` prints a number that ends a line.
 use native.Mathlib.Omega.{arith}
-use borrow.Author.Rules.{rules}
 use Rattle.day_text.proofs.Laws.{next, numbered}
 use Rattle.day_text.proofs.emit_last.Goals as goal
 

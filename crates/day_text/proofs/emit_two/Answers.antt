@@ -1,7 +1,6 @@
 -- `emit_two` prints two numbers that end a line.
 use mathlib.Core.List.{append_assoc}
 use native.Mathlib.Omega.{arith}
-use borrow.Author.Rules.{rules}
 use Rattle.day_text.proofs.Laws.{next, numbered, moved_on}
 use Rattle.day_text.proofs.emit_two.Goals as goal
 

@@ -1,8 +1,7 @@
 -- `handed_line` prints a middle line.
 use mathlib.Core.List.{append_assoc}
 use native.Mathlib.Omega.{arith}
-use borrow.Author.Rules.{rules}
-use Rattle.day_text.proofs.Laws.{left_out, next, numbered, moved_on, printed}
+use Rattle.day_text.proofs.Laws.{next, numbered, moved_on, printed}
 use Rattle.day_text.proofs.handed_line.Goals as goal
 
 pub emit-last-requires : goal.emit-last-requires

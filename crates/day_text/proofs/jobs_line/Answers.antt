@@ -1,8 +1,7 @@
 -- `jobs_line` prints the first line.
 use mathlib.Core.List.{append_assoc}
 use native.Mathlib.Omega.{arith}
-use borrow.Author.Rules.{rules}
-use Rattle.day_text.proofs.Laws.{left_out, next, numbered, moved_on, printed}
+use Rattle.day_text.proofs.Laws.{next, numbered, moved_on, printed}
 use Rattle.day_text.proofs.jobs_line.Goals as goal
 
 -- ?? no goal slice-aggregate-emit-from

@@ -1,7 +1,6 @@
 -- `left_line` prints the last line.
 use native.Mathlib.Omega.{arith}
-use borrow.Author.Rules.{rules}
-use Rattle.day_text.proofs.Laws.{left_out, moved_on, printed}
+use Rattle.day_text.proofs.Laws.{moved_on, printed}
 use Rattle.day_text.proofs.left_line.Goals as goal
 
 -- ?? no goal slice-aggregate-emit-from

@@ -1,7 +1,6 @@
 -- `refused_line` prints the line of a refused entry.
 use native.Mathlib.Omega.{arith}
-use borrow.Author.Rules.{rules}
-use Rattle.day_text.proofs.Laws.{left_out, moved_on, printed}
+use Rattle.day_text.proofs.Laws.{moved_on, printed}
 use Rattle.day_text.proofs.refused_line.Goals as goal
 
 -- ?? no goal slice-aggregate-emit-from

@@ -3,7 +3,6 @@
 use mathlib.Core.Path.{sym, ◌∙◌}
 use mathlib.Core.List.{[]}
 use native.Mathlib.Nat.{le_trans}
-use borrow.Author.Rules.{rules}
 use Rattle.def_fused.specs.FusedAdd.{plan_add}
 use Rattle.fused_plan.proofs.Plans.{unknown_name_lem, damaged_name, all_found, not_rejected, not_away, not_stopped}
 use Rattle.fused_plan.proofs.Plans.{short}

@@ -8,17 +8,17 @@ use Rattle.sheet_judge.proofs.judge_sheet.Goals as goal
 pub returns-then-sound : goal.returns-then-sound
 returns-then-sound c =
     admits _ _ _ _ _ c.sizes_fit-fit.ensures (c.own_ok-sound.ensures _ _)
-    c.if-fit.true c.if-known.true c.if-sound.true c.judge_admitted_sheet.ensures
+    c.if-fit.true c.if-known.true-raw c.if-sound.true c.judge_admitted_sheet.ensures
 
 pub returns-else-sound : goal.returns-else-sound
 returns-else-sound c =
     unsound _ _ _ _ _ c.sizes_fit-fit.ensures (c.own_ok-sound.ensures _ _) c.if-fit.true
-    c.if-known.true c.if-sound.false refl
+    c.if-known.true-raw c.if-sound.false refl
 
 pub returns-else-known : goal.returns-else-known
 returns-else-known c =
     no_such_worker_lem _ _ _ _ _ c.sizes_fit-fit.ensures c.if-fit.true
-    c.if-known.false refl
+    c.if-known.false-raw refl
 
 pub returns-else-fit : goal.returns-else-fit
 returns-else-fit c = wrong_sizes _ _ _ _ _ c.sizes_fit-fit.ensures c.if-fit.false refl

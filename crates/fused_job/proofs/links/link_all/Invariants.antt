@@ -1,15 +1,12 @@
 -- `link_all` meets its contract: the loop's invariant: the links that are left make the whole, and the
 -- tally is at most the place. The measure is the number of jobs left.
 use mathlib.Core.List.{List}
-use mathlib.Core.Path.{◌≡◌, refl, ◌∙◌}
-use Prim.Native.Nat.{ℕ, ◌+◌, ◌≤◌, ◌-◌}
-use native.Mathlib.Omega.{arith}
+use mathlib.Core.Path.{◌≡◌}
+use Prim.Native.Nat.{ℕ, ◌≤◌, ◌-◌}
 use lib.ListN.{length, drop}
-use borrow.Author.Rules.{rules}
 use Rattle.def_basics.specs.Base.{prefix}
 use Rattle.def_words.specs.Layout.{tables}
 use Rattle.def_fused.specs.FusedAdd.{links}
-use Rattle.fused_job.proofs.Laws.{link_next, link_none}
 use Rattle.fused_job.proofs.links.link_all.Given as goal
 
 abbrev pub invariant-loop-i : goal.invariant-loop-i

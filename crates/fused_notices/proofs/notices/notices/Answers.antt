@@ -1,11 +1,7 @@
 -- `notices` meets its contract: the loop's invariant: the notices that are left make the whole. The
 -- measure is the number of arcs that it may still pass.
-use mathlib.Core.List.{List}
-use mathlib.Core.Path.{◌≡◌, refl, ◌∙◌}
-use Prim.Native.Nat.{ℕ, ◌-◌}
-use lib.ListN.{length}
-use borrow.Author.Rules.{rules}
-use Rattle.def_words.specs.Layout.{tables}
+use mathlib.Core.Path.{◌∙◌}
+use Prim.Native.Nat.{◌-◌}
 use Rattle.def_fused.specs.FusedFinish.{notify_in}
 use Rattle.fused_notices.proofs.Laws.{notify_one, notify_none}
 use Rattle.fused_notices.proofs.notices.notices.Goals as goal
@@ -35,8 +31,8 @@ pub loop-left-preserved : goal.loop-left-preserved
 loop-left-preserved c =
     let a = c.args in
     let l = c.loop-left in (
-      c.tell-told.auto.1.0 ∙ l.invariant.0,
-      c.tell-told.auto.1.1.1.0 ∙ l.invariant.1,
+      c.tell-told.auto.jobs ∙ l.invariant.0,
+      c.tell-told.auto.queue ∙ l.invariant.1,
       λ buckets workers w.
           let f = c.tell-told.ensures buckets workers w (notify_in (l.left - 1) a.sizes w a.note) in
           rw (c.in-Next.is, c.if-ends.false-raw) at f

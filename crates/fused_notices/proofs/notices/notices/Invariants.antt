@@ -1,13 +1,11 @@
 -- `notices` meets its contract: the loop's invariant: the notices that are left make the whole. The
 -- measure is the number of arcs that it may still pass.
 use mathlib.Core.List.{List}
-use mathlib.Core.Path.{◌≡◌, refl, ◌∙◌}
-use Prim.Native.Nat.{ℕ, ◌-◌}
+use mathlib.Core.Path.{◌≡◌}
+use Prim.Native.Nat.{ℕ}
 use lib.ListN.{length}
-use borrow.Author.Rules.{rules}
 use Rattle.def_words.specs.Layout.{tables}
 use Rattle.def_fused.specs.FusedFinish.{notify_in}
-use Rattle.fused_notices.proofs.Laws.{notify_one, notify_none}
 use Rattle.fused_notices.proofs.notices.notices.Given as goal
 
 abbrev pub invariant-loop-left : goal.invariant-loop-left

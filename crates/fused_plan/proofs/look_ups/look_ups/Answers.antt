@@ -1,16 +1,12 @@
 -- `look_ups` meets its contract: the loop's invariant: the look-ups that are left end as all do, and
 -- each job found so far is kept. The measure is the number of names left.
-use mathlib.Core.List.{List}
-use mathlib.Core.Path.{◌≡◌, refl, ◌∙◌}
-use Prim.Native.Nat.{ℕ, ◌<◌, ◌≤◌, ◌-◌}
+use mathlib.Core.Path.{◌≡◌, ◌∙◌}
+use Prim.Native.Nat.{◌<◌}
 use native.Mathlib.Nat.{lt_of_lt_of_le}
 use native.Mathlib.Omega.{arith}
-use lib.ListN.{length, drop}
-use borrow.Author.Rules.{rules}
-use Rattle.def_basics.specs.Base.{prefix}
+use lib.ListN.{length}
 use Rattle.def_words.specs.Layout.{tables, view}
-use Rattle.def_fused.specs.FusedAdd.{look_ups}
-use Rattle.fused_plan.proofs.Laws.{told, on, missing, broken, done, Kept, kept_one, all_kept, not_unknown}
+use Rattle.fused_plan.proofs.Laws.{told, on, missing, broken, done, kept_one, all_kept, not_unknown}
 use Rattle.fused_plan.proofs.Laws.{not_broken}
 use Rattle.fused_plan.proofs.look_ups.look_ups.Goals as goal
 
@@ -35,7 +31,7 @@ loop-i-preserved c =
     let l = c.loop-i in
     let a = c.args in (
       omega arith,
-      c.put_word.auto.0 ∙ l.invariant.1,
+      c.put_word.auto.s ∙ l.invariant.1,
       λ arcs queue workers.
           let v = view (tables a.jobs.now arcs a.buckets.now queue workers) in
           let e = told a.sizes v c.word.ensures

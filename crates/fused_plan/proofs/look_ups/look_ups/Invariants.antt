@@ -1,17 +1,13 @@
 -- `look_ups` meets its contract: the loop's invariant: the look-ups that are left end as all do, and
 -- each job found so far is kept. The measure is the number of names left.
 use mathlib.Core.List.{List}
-use mathlib.Core.Path.{◌≡◌, refl, ◌∙◌}
-use Prim.Native.Nat.{ℕ, ◌<◌, ◌≤◌, ◌-◌}
-use native.Mathlib.Nat.{lt_of_lt_of_le}
-use native.Mathlib.Omega.{arith}
+use mathlib.Core.Path.{◌≡◌}
+use Prim.Native.Nat.{ℕ, ◌≤◌, ◌-◌}
 use lib.ListN.{length, drop}
-use borrow.Author.Rules.{rules}
 use Rattle.def_basics.specs.Base.{prefix}
 use Rattle.def_words.specs.Layout.{tables, view}
 use Rattle.def_fused.specs.FusedAdd.{look_ups}
-use Rattle.fused_plan.proofs.Laws.{told, on, missing, broken, done, Kept, kept_one, all_kept, not_unknown}
-use Rattle.fused_plan.proofs.Laws.{not_broken}
+use Rattle.fused_plan.proofs.Laws.{Kept}
 use Rattle.fused_plan.proofs.look_ups.look_ups.Given as goal
 
 abbrev pub invariant-loop-i : goal.invariant-loop-i

@@ -18,7 +18,7 @@ use Rattle.def_host_calls.specs.HostCalls.{sheet, Replied}
 use Rattle.thm_calls_history.specs.WordsCalls.{answer_words}
 use Rattle.def_sheets.specs.Write.{entries_from}
 use Rattle.def_sheet_rows.specs.SheetRows.{adds_of, rows_words}
-use Rattle.taskgraph_heard.specs.ToldApart.{RowsAdded}
+use Rattle.taskgraph_heard.proofs.ToldApart.{RowsAdded}
 
 -- ---- tables of R 2, A 1, b 1 and P 1 with a job of name 7, and a row: the add of 8, which needs 7
 abbrev seven : Tables

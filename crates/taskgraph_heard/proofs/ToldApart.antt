@@ -65,6 +65,7 @@ use Rattle.def_told.specs.declared.SheetRoom.{SheetRoom}
 use Rattle.def_worker_state.specs.Held.{held_words}
 use Rattle.def_worker_state.specs.Drained.{drained_words}
 use Rattle.taskgraph_heard.specs.StateHeard as state
+use Rattle.taskgraph_heard.proofs.StateHeard as state_laws
 use Rattle.def_worker_state.specs.declared.Holding.{Holding}
 use Rattle.def_worker_state.specs.declared.Drained.{Drained}
 use Rattle.def_totals.specs.Board.{totals_of, totals_by, totals_of_words}
@@ -287,10 +288,10 @@ told_apart = record {
   sheets_written = writer.sheets_heard;
   rooms = room.rooms_heard;
   how_a_room_is_told = room.how_told;
-  holdings = state.holdings_heard;
-  a_holding_is_told = state.holding_is_told;
-  drained = state.drained_heard;
-  drained_is_told = state.drained_is_told;
+  holdings = state_laws.holdings_heard;
+  a_holding_is_told = state_laws.holding_is_told;
+  drained = state_laws.drained_heard;
+  drained_is_told = state_laws.drained_is_told;
   totals = board.totals_heard;
   words_are_told = board.words_are_told;
   a_row_is_told = board.row_is_told;
@@ -376,8 +377,8 @@ told_one_way = record {
   entries_written = writer.entries_told_one_way;
   sheets_written = writer.sheets_told_one_way;
   rooms = room.rooms_told_one_way;
-  holdings = state.holdings_told_one_way;
-  drained = state.drained_told_one_way;
+  holdings = state_laws.holdings_told_one_way;
+  drained = state_laws.drained_told_one_way;
   totals = board.totals_told_one_way;
   minutes = graph.minutes_told_one_way;
   needs = layout.needs_told_one_way;

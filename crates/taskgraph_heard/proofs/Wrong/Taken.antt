@@ -5,7 +5,7 @@ use Rattle.def_terms.specs.Terms.{Arguments, finish_of}
 use Rattle.def_sheets.specs.Write.{entries_from, entries_of}
 use Rattle.def_sheets.specs.declared.Entry.{Entry}
 use Rattle.def_sheet_rows.specs.Arguments.{arguments_of}
-use Rattle.taskgraph_heard.specs.ToldApart.{AddTaken, SheetTaken, FinishTaken}
+use Rattle.taskgraph_heard.proofs.ToldApart.{AddTaken, SheetTaken, FinishTaken}
 
 -- the class is taken for the grower, and the grower for the class
 abbrev swapped : Entry → Arguments

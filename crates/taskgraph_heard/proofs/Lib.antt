@@ -1,0 +1,3 @@
+pub mod StateHeard
+pub mod ToldApart
+pub mod Wrong
