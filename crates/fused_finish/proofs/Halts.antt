@@ -1,14 +1,11 @@
 -- Any plan but the mark leaves a finish half done.
 use mathlib.Core.Path.{◌≡◌, refl}
-use mathlib.Core.List.{[], ◌∷◌}
 use Prim.Native.Nat.{ℕ}
-use types.Run.{OneOf}
 use Rattle.def_terms.specs.declared.Sizes.{Sizes}
 use Rattle.def_words.specs.Layout.{Tables}
 use Rattle.def_words.specs.declared.Plan.{Plan}
 use Rattle.def_words.specs.declared.Plan.TheVariants.{Refuse, Quit, Pass, Enter, Tally, LinkFirst, LinkAfter, Settle}
 use Rattle.def_words.specs.declared.Plan.TheVariants.{SettleQueue, Mark, Notify, NotifyQueue}
-use Rattle.thm_counters_fit.specs.Kinds.{tag, apart}
 use Rattle.def_fused.specs.FusedFinish.{unmarked, mark_in}
 
 pub halts : (p : Plan) → ((x y : ℕ) → p ≡ Mark x y → ⊥) → (s : Sizes) (t : Tables)

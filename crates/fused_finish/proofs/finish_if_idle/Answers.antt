@@ -1,7 +1,6 @@
 -- `finish_if_idle` meets its contract: each way through the code is a case of the definition.
 use mathlib.Core.Path.{refl}
 use mathlib.Core.List.{[]}
-use borrow.Author.Rules.{rules}
 use Rattle.def_fused.specs.FusedFinish.{finish_in, finish_if_idle}
 use Rattle.fused_finish.proofs.Laws.{goes, judged}
 use Rattle.fused_finish.proofs.finish_if_idle.Goals as goal

@@ -16,8 +16,7 @@ returns-else-idle c =
 pub returns-then-wrong : goal.returns-then-wrong
 unfolding plan_add
 returns-then-wrong c =
-    λ queue.
-    (
+    λ queue. (
       rw (← c.worker_word-idle.ensures, c.if-idle.true-raw, ← c.arguments_wrong-wrong.ensures, c.if-wrong.true),
       λ h e. absurd (not_rejected e),
     )
@@ -25,8 +24,7 @@ returns-then-wrong c =
 pub returns-else-counted : goal.returns-else-counted
 unfolding plan_add
 returns-else-counted c =
-    λ queue.
-    (
+    λ queue. (
       rw (
         ← c.worker_word-idle.ensures,
         c.if-idle.true-raw,
@@ -40,8 +38,7 @@ returns-else-counted c =
 
 pub returns-in-Unknown : goal.returns-in-Unknown
 returns-in-Unknown c =
-    λ queue.
-    (
+    λ queue. (
       unknown_name_lem _ _ _ _ c.worker_word-idle.ensures c.if-idle.true-raw c.arguments_wrong-wrong.ensures
           c.if-wrong.false (c.counters_ok-counted.ensures [] [] []) c.if-counted.true
           (c.look_ups-ends.ensures _ queue _).0 c.in-Unknown.is,
@@ -50,8 +47,7 @@ returns-in-Unknown c =
 
 pub returns-in-Broken : goal.returns-in-Broken
 returns-in-Broken c =
-    λ queue.
-    (
+    λ queue. (
       damaged_name _ _ _ _ c.worker_word-idle.ensures c.if-idle.true-raw c.arguments_wrong-wrong.ensures
           c.if-wrong.false (c.counters_ok-counted.ensures [] [] []) c.if-counted.true
           (c.look_ups-ends.ensures _ queue _).0 c.in-Broken.is,

@@ -1,6 +1,5 @@
 -- `mark_and_tell` meets its contract: the mark, and then the notices or the end; any other plan is a
 -- refusal.
-use borrow.Author.Rules.{rules}
 use Rattle.def_fused.specs.FusedFinish.{mark_in}
 use Rattle.fused_finish.proofs.Halts.{halts}
 use Rattle.fused_finish.proofs.mark.mark_and_tell.Goals as goal
