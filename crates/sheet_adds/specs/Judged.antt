@@ -1,5 +1,6 @@
 -- A sheet that is turned away, and one that is served.
-use Rattle.std.specs.Prelude.{◌≡◌, refl, Bool, true, false, List, [], ◌∷◌, map, ℕ, zero, suc, ◌<◌, ◌≤◌, ◌%◌, ◌/◌, eqb, ltb, leb, length}
+use Rattle.std.proofs.Common.{ap}
+use Rattle.std.specs.Prelude.{◌≡◌, ◌+◌, refl, Bool, true, false, List, [], ◌∷◌, map, ℕ, zero, suc, ◌<◌, ◌≤◌, ◌%◌, ◌/◌, eqb, ltb, leb, length}
 use Rattle.std.proofs.Common.{sym, ◌∙◌, arith, leb-true, ltb-true, ltb-false, ne_eqb}
 use Rattle.def_numbers.specs.Numbers.{most_entries, wrong_size, entry_words}
 use Rattle.def_basics.specs.Base.{pick}
@@ -58,7 +59,7 @@ none_turned s w (a ∷ l) t = refl
 length_entries : (rows : List ℕ) (i n : ℕ) → length (map arguments_of (entries_from rows i n)) ≡ n
 unfolding entries_from
 length_entries rows i zero = refl
-length_entries rows i (suc n) = rw (length_entries rows _ n) refl
+length_entries rows i (suc n) = ap suc (length_entries rows (i + 1) n)
 
 pub adds_count : (rows : List ℕ) → length (adds_of rows) ≡ length rows / entry_words
 adds_count rows = length_entries rows 0 (length rows / entry_words)

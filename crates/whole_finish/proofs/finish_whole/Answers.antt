@@ -1,6 +1,5 @@
 -- `finish_whole` runs a finish whole: the tests that come first, and then a finish of an idle worker in one go.
 use mathlib.Core.Path.{refl, sym, ◌∙◌}
-use borrow.Author.Rules.{rules}
 use Rattle.def_terms.specs.Terms.{finish_of}
 use Rattle.graph_own.proofs.Admitted.{wrong_sizes, no_such_worker_lem, unsound, admits}
 use Rattle.thm_fused_finish.specs.Finish.{whole_finish_lem}

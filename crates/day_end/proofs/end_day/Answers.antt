@@ -1,0 +1,10 @@
+-- `end_day` runs the rounds, and prints their lines and the last.
+use borrow.Author.Rules.{rules}
+use Rattle.day_end.proofs.Laws.{end_parts}
+use Rattle.day_end.proofs.end_day.Goals as goal
+
+pub returns : goal.returns
+returns c =
+    end_parts _ _ _ _ _ _ _ _ _
+    c.run_rounds-handed.ensures c.print_hand_outs-listed.ensures
+    c.count_unfinished-left.ensures c.left_line.ensures
