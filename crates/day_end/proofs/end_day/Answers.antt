@@ -1,5 +1,4 @@
 -- `end_day` runs the rounds, and prints their lines and the last.
-use borrow.Author.Rules.{rules}
 use Rattle.day_end.proofs.Laws.{end_parts}
 use Rattle.day_end.proofs.end_day.Goals as goal
 

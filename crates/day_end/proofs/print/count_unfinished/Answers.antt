@@ -1,12 +1,10 @@
 -- `count_unfinished` counts the jobs whose label is not finished. The loop's invariant: those counted and those left
 -- make the whole.
-use Prim.Native.Nat.{suc, ◌+◌, ◌-◌, ◌≤◌}
+use Prim.Native.Nat.{suc, ◌-◌}
 use mathlib.Core.Path.{◌≡◌, sym, ◌∙◌}
 use native.Mathlib.Omega.{arith}
-use borrow.Author.Rules.{rules}
-use Rattle.def_words.specs.Columns.{columns, header}
+use Rattle.def_words.specs.Columns.{columns}
 use Rattle.def_words.specs.Layout.{job_shape, LABEL}
-use Rattle.def_day.specs.Rounds.{unfinished}
 use Rattle.day_end.proofs.print.Counts.{unfinished_done, unfinished_more, unfinished_none}
 use Rattle.day_end.proofs.print.count_unfinished.Goals as goal
 

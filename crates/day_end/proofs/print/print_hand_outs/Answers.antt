@@ -1,15 +1,10 @@
 -- `print_hand_outs` prints the hand-outs of a row. The loop's invariant: those that are left, printed after those made,
 -- make the whole.
-use Prim.Native.Nat.{suc, ◌-◌, ◌/◌, ◌≤◌}
-use mathlib.Core.Path.{◌≡◌, refl, ◌∙◌}
+use Prim.Native.Nat.{suc, ◌-◌}
+use mathlib.Core.Path.{◌≡◌, ◌∙◌}
 use native.Mathlib.Omega.{arith}
 use native.Mathlib.Numerals.{add-one}
-use native.Mathlib.Nat.{sub-zero}
-use borrow.Author.Rules.{rules}
-use borrow.Author.Tests.{leb-true}
-use lib.ListN.{length}
-use Rattle.day_text.specs.Page.{page}
-use Rattle.day_end.proofs.print.Lines.{rest, print_first, print_none, none_held}
+use Rattle.day_end.proofs.print.Lines.{print_first, print_none, none_held}
 use Rattle.day_end.proofs.print.print_hand_outs.Goals as goal
 
 pub returns-else-held : goal.returns-else-held
@@ -25,7 +20,7 @@ loop-i-preserved c =
     let s = print_first a.limit _ _ (a.count - suc l.i) l.i a.row.now
     (rw (c.word-name.ensures, c.word-worker.ensures)
     at e.ensures) in (
-      e.auto.0 ∙ l.invariant.0,
+      e.auto.out ∙ l.invariant.0,
       l.invariant.1,
       omega (arith, c.loop-i-test.true),
       rw (add-one l.i) (s ∙ rw k at l.invariant.3),

@@ -1,15 +1,10 @@
 -- `print_hand_outs` prints the hand-outs of a row. The loop's invariant: those that are left, printed after those made,
 -- make the whole.
-use Prim.Native.Nat.{suc, ◌-◌, ◌/◌, ◌≤◌}
-use mathlib.Core.Path.{◌≡◌, refl, ◌∙◌}
-use native.Mathlib.Omega.{arith}
-use native.Mathlib.Numerals.{add-one}
-use native.Mathlib.Nat.{sub-zero}
-use borrow.Author.Rules.{rules}
-use borrow.Author.Tests.{leb-true}
+use Prim.Native.Nat.{◌-◌, ◌/◌, ◌≤◌}
+use mathlib.Core.Path.{◌≡◌}
 use lib.ListN.{length}
 use Rattle.day_text.specs.Page.{page}
-use Rattle.day_end.proofs.print.Lines.{rest, print_first, print_none, none_held}
+use Rattle.day_end.proofs.print.Lines.{rest}
 use Rattle.day_end.proofs.print.print_hand_outs.Given as goal
 
 abbrev pub invariant-loop-i : goal.invariant-loop-i
