@@ -1,0 +1,43 @@
+-- `print_list` prints what the day list prints, or that the sheet is broken.
+use mathlib.Core.Path.{sym, ◌∙◌}
+use borrow.Author.Tests.{le-leb, lt-leb}
+use lib.ListN.{length}
+use Rattle.def_numbers.specs.Numbers.{most_day_sheet}
+use Rattle.def_sheets.specs.Decode.{decode_sheet}
+use Rattle.def_day_lines.specs.Day.{day_text}
+use Rattle.day_list.proofs.Days.{whole_day, whole_scanned, broken_scanned}
+use Rattle.day_list.proofs.print_list.Goals as goal
+
+pub returns-then-sheet-gt-MOST_DAY_SHEET : goal.returns-then-sheet-gt-MOST_DAY_SHEET
+unfolding day_text
+returns-then-sheet-gt-MOST_DAY_SHEET c =
+    let a = c.args in
+    rw (lt-leb (length a.sheet.now) most_day_sheet c.if-sheet-gt-MOST_DAY_SHEET.true)
+    c.broken_line.ensures
+
+pub returns-in-Whole : goal.returns-in-Whole
+unfolding day_text
+returns-in-Whole c =
+    let a = c.args in
+    let q = c.requires in
+    let w = whole_scanned (decode_sheet a.sheet.now) _
+    (sym c.scan_sheet.ensures
+    ∙ c.in-Whole.is) in
+    let h = c.if-sheet-gt-MOST_DAY_SHEET.false in
+    rw (le-leb (length a.sheet.now) most_day_sheet h, w)
+    (whole_day a.workers q.0 q.1 a.limit a.out.now a.sheet.now _ _ w h
+    c.print_day.ensures)
+
+pub returns-in-Refused : goal.returns-in-Refused
+unfolding day_text
+returns-in-Refused c =
+    let a = c.args in
+    let w = broken_scanned (decode_sheet a.sheet.now) _ _
+    (sym c.scan_sheet.ensures
+    ∙ c.in-Refused.is) in
+    rw (
+      le-leb (length a.sheet.now) most_day_sheet
+          c.if-sheet-gt-MOST_DAY_SHEET.false,
+      w,
+    )
+    c.broken_line-in-Refused.ensures
