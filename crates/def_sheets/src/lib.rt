@@ -1,4 +1,5 @@
-// The types of the job sheet's reader and writer. What they mean, and the theorems about sheets, stand in specs/.
+// The types of the job sheet's reader and writer. What they mean stands in specs/, the theorems about sheets in
+// proofs/.
 #![tactic(auto)]
 
 // An entry of a sheet: a job as a grower writes it. Names past the count are 0 in an entry that was read and ignored on

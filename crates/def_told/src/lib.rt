@@ -1,5 +1,6 @@
 // The structs that C is handed of sheets, of the day list and of the words that tables need; include/taskgraph.h
-// declares them. specs/ has what each tells, and that it can be read back. Follows docs/RULES.md and docs/SHEETS.md.
+// declares them. specs/ has what each tells; that it can be read back stands there and in proofs/. Follows docs/RULES.md
+// and docs/SHEETS.md.
 #![tactic(auto)]
 
 use def_sheets::Entry;

@@ -132,6 +132,6 @@ pub header_other : (l : List ℕ) (k v q : ℕ) → eqb q k ≡ false → header
 unfolding put_header header
 header_other l k v q e = get_or-set_other l k q v 0 (eqb-false q k e)
 
--- what carries the header, the columns and the length through stores: with `columns_put SHAPE R`, `header-putHeader
+-- what carries the header, the columns and the length through stores: with `columns_put SHAPE R`, `header_put_header
 -- SHAPE R` and the facts at hand, `simp`'s list
 pub ruleset stores = (columns_put_header, header_put, header_other, rows_put, rows_put_header)

@@ -610,7 +610,7 @@ module _ (s : Sizes) (t : Tables) (w : ℕ) where
 
 module _ (v : View) where
   -- A lower rank means a higher class, or an equal class and an earlier cell, for classes and cells within their
-  -- limits. (Minutes rise with the class: minutes, specs/Rising.antt.)
+  -- limits. (Minutes rise with the class: def_minutes, specs/Rising.antt.)
   pub a_lower_rank_goes_first : (p q : ℕ) → class_at v p ≤ 15 → class_at v q ≤ 15 → p < 4096 → q < 4096
       → (rank_of v p < rank_of v q) ↔ GoesFirst v p q
   a_lower_rank_goes_first = rank_means v
@@ -719,7 +719,7 @@ pub the_numbers_are_these : Pinned
 the_numbers_are_these = pinned
 
 -- ---- the starred cases of docs/RULES.md, "Checked by hand": after each item the answer, the waiting jobs and the
--- worker's tally, by the rules and by the words; wrong ones in rules, specs/Wrong/Cases.antt.
+-- worker's tally, by the rules and by the words; wrong ones in thm_pinned, specs/Wrong/Cases.antt.
 pub the_starred_cases_hold : Starred
 the_starred_cases_hold = every_row
 

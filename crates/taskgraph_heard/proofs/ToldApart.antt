@@ -1,8 +1,8 @@
 -- WHAT C IS TOLD CAN BE HEARD: of every struct that the C interface hands out, the answer is read off its fields by the
 -- numerals of include/taskgraph.h, fields that say nothing are 0, and no other answers are given than those that are
 -- read so. What of a sheet is read or written is said exactly, and rows are added as the call of their sheet is, since
--- a wrong answer can be heard as well as a right one. Each `heard` stands in the specs/Heard.antt of the crate named
--- beside it, or in the file that is named, with tellings that lose something in its Wrong/. Follows docs/RULES.md,
+-- a wrong answer can be heard as well as a right one. Each `heard` stands in Heard.antt of the crate named beside
+-- it, or in the file that is named, with tellings that lose something in its Wrong/. Follows docs/RULES.md,
 -- "Steps", "Turned-away calls", "Whole calls", "Tables and their measures", "The board and the day list", and
 -- docs/SHEETS.md.
 use Rattle.std.specs.Prelude.{◌≡◌, ◌≢◌, true, false, List, [], ◌∷◌, map, length, get_or}

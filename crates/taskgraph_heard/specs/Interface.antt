@@ -38,7 +38,7 @@ GivesAll gives =
     (r : GraphAnswer) (t : Tables) (o : Result Tables) → gives r t o
     → (r ≡ graph_answer o.answer) × SameTables t o.state
 
--- the same of a sheet: what is told is all of `sheet_added` (what is heard in it: thm_whole_answers,
+-- the same of a sheet: what is told is all of `sheet_added` (what is heard in it: thm_answers_heard,
 -- specs/SheetHeard.antt)
 abbrev pub AddsAll : (SheetAdded → Tables → ℕ → SheetResult → Type 0) → Type 0
 AddsAll added =

@@ -1,2 +1,2 @@
-// What C is told can be heard: of every struct that the interface hands out, stated in specs/ToldApart.antt.
+// What C is told can be heard: of every struct that the interface hands out, stated in proofs/ToldApart.antt.
 #![tactic(auto)]

@@ -1,2 +1,2 @@
-// Theorems alone: specs/ has demand 3 of lists of calls.
+// Theorems alone: proofs/Theorem.antt has demand 3 of lists of calls.
 #![tactic(auto)]

@@ -1,6 +1,6 @@
 -- Number 5 of every add: of a post (AddPosts.antt), of an add run whole, over ALL tables, and of the plain book, so of
 -- every history from a fresh graph. Each is refused by it exactly if its arguments are wrong, by places and numerals
--- (arguments: specs/Judged.antt). Follows docs/RULES.md, "Turned-away calls", "Whole calls" and "The plain book".
+-- (thm_arguments: specs/Judged.antt). Follows docs/RULES.md, "Turned-away calls", "Whole calls" and "The plain book".
 use Rattle.std.proofs.Math.Path.{◌≡◌, refl}
 use Rattle.std.proofs.Common.{ap, ◌∙◌}
 use Rattle.std.specs.Prelude.{◌↔◌, ◌≢◌, Bool, true, false, [], ◌∷◌}

@@ -1,2 +1,2 @@
-// Theorems alone: specs/ says what calls run whole answer and leave, for all tables.
+// Theorems alone: what calls run whole answer and leave, for all tables. specs/ states it, proofs/ shows it.
 #![tactic(auto)]

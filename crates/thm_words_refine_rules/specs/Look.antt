@@ -1,5 +1,5 @@
 -- The steps of an add before its job is there: looking up a listed name, and entering. The plan that the words make is
--- the step of the rules. Follows docs/RULES.md, "Steps": look_up and enter (numbers 6, 7, 8). Assumes of the graph what
+-- the step of the rules. Follows docs/RULES.md, "Steps": look-up and enter (numbers 6, 7, 8). Assumes of the graph what
 -- the rules keep (`Sound`).
 use Rattle.std.specs.Prelude.{◌≡◌, Bool, ◌||◌, ℕ, suc, ◌+◌, ◌≤◌, ◌<◌, leb, length, get_or}
 use Rattle.std.proofs.Math.Path.{refl}

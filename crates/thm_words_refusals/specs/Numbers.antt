@@ -51,7 +51,7 @@ abbrev pub numbers : Item → List ℕ
 numbers i =
     pick (is_load i) (wrong_size ∷ damaged ∷ kind_numbers i) (wrong_size ∷ no_such_worker ∷ damaged ∷ kind_numbers i)
 
--- served, or turned away: the column "Returned" says that 6 alone, "a look_up finds no such name", comes with a "place
+-- served, or turned away: the column "Returned" says that 6 alone, "a look-up finds no such name", comes with a "place
 -- in the list from 0", and a list has at most 32 names; every other number's place is 0
 pub data Fits : Item → Answer → Type 0 where
   posted_add : {s : Sizes} {w : ℕ} {a : Arguments} → Fits (post_add s w a) Posted
@@ -124,7 +124,7 @@ module _ (s : Sizes) (v : View) (w : ℕ) where
   unfolding plan_notify with_seat contains
   notify x = search (answers, in_seat_lem)
 
-  -- a look_up's place lies below the count of its list, which is one "of at most 32 names"
+  -- a look-up's place lies below the count of its list, which is one "of at most 32 names"
   adding : own_ok s v w ≡ true → Step (plan_add s v w)
   unfolding plan_add own_ok
   adding o =
