@@ -1,7 +1,7 @@
 -- What a host hears of the day list, by the fields of the struct and the numerals of include/taskgraph.h: how many
 -- bytes the lines take, or which number refused, is read off it, so no two are told alike, and a refusal has no bytes.
--- Follows docs/RULES.md, "The board and the day list" and "Turned-away calls". (Wrong/Heard.antt has tellings that lose
--- something.)
+-- Follows docs/RULES.md, "The board and the day list" and "Turned-away calls". (Wrong/DayHeard.antt has tellings that
+-- lose something.)
 use Rattle.std.specs.Prelude.{◌≡◌, refl, ◌≢◌, ◌&&◌, List, ℕ, eqb, leb, length}
 use Rattle.std.proofs.Common.{ap, ◌∙◌, eqb-true}
 use Rattle.std.proofs.lemmas.Bool.{eqb-false}

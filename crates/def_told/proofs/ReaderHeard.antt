@@ -1,7 +1,7 @@
 -- What a host hears of a sheet that is read, by the fields of the structs and the numerals of include/taskgraph.h: what
 -- stands at an offset, and how many entries a sheet has, are read off them, so no two are told alike, and a field that
 -- says nothing is 0. Follows docs/SHEETS.md and numbers 12 to 15 of docs/RULES.md, "Turned-away calls".
--- (Wrong/Heard.antt has tellings that lose something.)
+-- (Wrong/ReaderHeard.antt has tellings that lose something.)
 use Rattle.std.specs.Prelude.{◌≡◌, refl, ◌≢◌, false, ◌&&◌, List, [], ◌∷◌, ◌++◌, ℕ, zero, suc, ◌+◌, ◌*◌, ◌-◌, ◌/◌, ◌%◌, ◌≤◌, eqb, leb, ltb, length, get_or, take, drop, replicate}
 use Rattle.std.proofs.Common.{sym, ap, ◌∙◌, arith, length-append, take-append-drop, length-take-le, eqb-true}
 use Rattle.std.proofs.Math.Option.{Option, none, some}

@@ -1,6 +1,7 @@
 -- What a host hears in the rows into which a sheet was read, by their words: row i has the job of entry i, "laid out as
 -- a tg_entry" of 36 words, with 0 for the names past its count, and the words past the last entry are as they were.
--- Follows docs/SHEETS.md; include/taskgraph.h has the fields. (Wrong/Rows.antt has readers that lose something.)
+-- Follows docs/SHEETS.md; include/taskgraph.h has the fields. (Wrong/ReaderRows.antt has readers that lose
+-- something.)
 use Rattle.std.specs.Prelude.{◌≡◌, List, [], ◌∷◌, ◌++◌, ℕ, zero, suc, ◌+◌, ◌*◌, ◌-◌, ◌≤◌, ◌<◌, length, get_or, take, drop}
 use Rattle.std.proofs.Common.{ap, ◌∙◌, append_assoc, arith, get_or-append-add, take_at, get_or-drop, le-leb}
 use Rattle.std.proofs.lemmas.List.Edits.{sets, sets-eq}

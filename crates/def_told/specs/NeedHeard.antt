@@ -1,7 +1,7 @@
 -- What a host hears of the words that the tables need: the five lengths, or the number that refused, are read off the
 -- struct, so no two are told alike, and a refusal has 0 in all else. And which they are, by the sizes. Follows
--- docs/RULES.md, "Tables and their measures"; include/taskgraph.h has the fields. (Wrong/Heard.antt has tellings that
--- lose something, and wrong needs.)
+-- docs/RULES.md, "Tables and their measures"; include/taskgraph.h has the fields. (proofs/Wrong/NeedHeard.antt has
+-- tellings that lose something, and wrong needs.)
 use Rattle.std.specs.Prelude.{◌≡◌, refl, ◌≢◌, Bool, true, false, ℕ, ◌+◌, ◌*◌, ◌^◌, eqb}
 use Rattle.std.proofs.Common.{sym, ap, ◌∙◌, arith, eqb-true}
 use Rattle.std.proofs.lemmas.Bool.{eqb-false}

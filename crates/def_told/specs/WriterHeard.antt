@@ -1,7 +1,7 @@
 -- What a host hears of a sheet that is written, by the fields of the structs and the numerals of include/taskgraph.h:
 -- where the entry ends, how many entries and bytes were written, or which field was refused, are read off them, so no
 -- two are told alike. Follows docs/SHEETS.md and numbers 1, 14 and 15 of docs/RULES.md, "Turned-away calls".
--- (Wrong/Heard.antt has tellings that lose something.)
+-- (proofs/Wrong/WriterHeard.antt has tellings that lose something.)
 use Rattle.std.specs.Prelude.{◌≡◌, refl, List, map, ℕ, ◌+◌, ◌%◌, eqb, leb, length}
 use Rattle.std.proofs.Common.{ap, ◌∙◌, eqb-true}
 use Rattle.std.proofs.lemmas.Bool.{eqb-false}

@@ -1,7 +1,7 @@
 -- What a host hears of the board, by the fields of the struct: the jobs and the minutes under each label, or the number
 -- that refused, are read off it, so no two are told alike, and a refusal has 0 in all else. Follows docs/RULES.md, "The
 -- board and the day list", and numbers 1, 9 and 17 of "Turned-away calls"; include/taskgraph.h has the fields.
--- (Wrong/Heard.antt has tellings that lose something.)
+-- (proofs/Wrong/Heard.antt has tellings that lose something.)
 use Rattle.std.specs.Prelude.{◌≡◌, refl, ◌≢◌, List, [], ◌∷◌, ℕ, ◌%◌, eqb, ltb, length, get_or}
 use Rattle.std.proofs.Common.{ap, ◌∙◌, arith, eqb-true}
 use Rattle.std.proofs.lemmas.Bool.{eqb-false}

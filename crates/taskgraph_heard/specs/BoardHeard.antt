@@ -1,7 +1,8 @@
 -- What a host hears of the graph's board and of the minutes that stand in the graph: the board as that of a lent row
 -- (def_totals, specs/Heard.antt), and the sixteen minutes, or the number that refused, are read off the structs, so no
 -- two are told alike, and a refusal has 0 in all else. Follows docs/RULES.md, "The board and the day list" and "A
--- district's minutes"; include/taskgraph.h has the fields. (Wrong/BoardHeard.antt has tellings that lose something.)
+-- district's minutes"; include/taskgraph.h has the fields. (proofs/Wrong/BoardHeard.antt has tellings that lose
+-- something.)
 use Rattle.std.specs.Prelude.{◌≡◌, refl, ◌≢◌, Bool, true, false, ◌&&◌, List, ℕ, eqb, leb, length, replicate}
 use Rattle.std.proofs.Common.{ap, ◌∙◌, eqb-true}
 use Rattle.std.proofs.lemmas.Bool.{eqb-false}

@@ -1,6 +1,6 @@
 -- The graph's board and its minutes read nothing past the need of the jobs table: tables that agree in their first 21 +
 -- 10 R words, R the size that the call brings, get one answer. Follows docs/RULES.md, "Tables and their measures":
--- words past the need are never touched. (Wrong/Lent.antt has a board that looks further.)
+-- words past the need are never touched. (proofs/Wrong/Lent.antt has a board that looks further.)
 use Rattle.std.specs.Prelude.{◌≡◌, refl, Bool, true, false, ◌&&◌, List, ℕ, zero, suc, ◌+◌, ◌*◌, ◌≤◌, ◌<◌, leb, eqb, length, get_or, take}
 use Rattle.std.proofs.Common.{sym, ap, ◌∙◌, arith, lit<, get_or-take, length-take-le, take_all, leb-true, leb-false, eq-eqb, ne_eqb}
 use Rattle.def_numbers.specs.Numbers.{damaged, wrong_size}

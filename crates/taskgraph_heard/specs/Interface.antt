@@ -1,8 +1,8 @@
 -- WHAT THE CONTRACTS OF THE GRAPH'S CALLS SAY, of any contract: a struct and the five tables that a call leaves are
 -- those of a definition's result, so that no call answers rightly and leaves its work undone; and the tables of a
 -- contract are what lies behind the five references, each in its place, as the call begins and as it ends. Follows
--- docs/RULES.md, "Steps" and "Whole calls", and include/taskgraph.h. (Wrong/Contracts.antt has contracts that say
--- less.)
+-- docs/RULES.md, "Steps" and "Whole calls", and include/taskgraph.h. (proofs/Wrong/Contracts.antt has contracts
+-- that say less.)
 use Rattle.std.specs.Prelude.{◌≡◌, refl, List, ℕ}
 use Rattle.std.proofs.Common.{ap}
 use Rattle.std.specs.Borrow.{MutBor}

@@ -1,6 +1,7 @@
 -- A host that lends the board its own row: the label and class of each job made, copied off the jobs table, by the
 -- minutes that the graph tells, have the graph's own totals, also after a load. Follows docs/RULES.md, "The board and
--- the day list" and "A district's minutes". (Wrong/Lent.antt has a board that keeps the fixed minutes.)
+-- the day list" and "A district's minutes". (proofs/Wrong/Lent.antt has a board that keeps the fixed
+-- minutes.)
 use Rattle.std.proofs.Math.Path.{◌≡◌}
 use Rattle.std.specs.Prelude.{refl, List, ℕ, zero, suc, ◌+◌, ◌*◌, ◌<◌, leb, ltb, length, get_or}
 use Rattle.std.proofs.Common.{sym, ◌∙◌, arith, lit<, ext_get_or}

@@ -1,7 +1,7 @@
 -- What a host hears of a worker and of a drained graph, by the fields of the structs and the numerals of
 -- include/taskgraph.h: what a worker is told, in the document's words, is read off them, so no two are told alike, and
 -- a field that says nothing is 0. Follows docs/RULES.md, "Tables and their measures" and "Turned-away calls".
--- (Wrong/StateHeard.antt has tellings that lose something.)
+-- (proofs/Wrong/StateHeard.antt has tellings that lose something.)
 use Rattle.std.specs.Prelude.{◌≡◌, ◌≢◌, Bool, true, false, ℕ, eqb}
 use Rattle.std.proofs.Math.Option.{Option, none, some}
 use Rattle.def_basics.specs.Base.{pick}

@@ -4,14 +4,6 @@ use native.Mathlib.Omega.{arith}
 use Rattle.day_text.proofs.Laws.{next, numbered, moved_on, printed}
 use Rattle.day_text.proofs.jobs_line.Goals as goal
 
--- ?? no goal slice-aggregate-emit-from
--- slice-aggregate-emit-from : tie.Need-slice-aggregate-emit-from
--- slice-aggregate-emit-from c = search rules
-
--- ?? no goal slice-aggregate-emit-from-2
--- slice-aggregate-emit-from-2 : tie.Need-slice-aggregate-emit-from-2
--- slice-aggregate-emit-from-2 c = search rules
-
 pub emit_number-second-requires : goal.emit_number-second-requires
 emit_number-second-requires c =
     omega (arith, moved_on _ _ _ _ c.emit_from-first.ensures)

@@ -3,10 +3,6 @@ use native.Mathlib.Omega.{arith}
 use Rattle.day_text.proofs.Laws.{moved_on, printed}
 use Rattle.day_text.proofs.refused_line.Goals as goal
 
--- ?? no goal slice-aggregate-emit-from
--- slice-aggregate-emit-from : tie.Need-slice-aggregate-emit-from
--- slice-aggregate-emit-from c = search rules
-
 pub emit_two-requires : goal.emit_two-requires
 emit_two-requires c = omega (arith, moved_on _ _ _ _ c.emit_from-next.ensures)
 

@@ -5,10 +5,6 @@ use Rattle.def_minutes.specs.Minutes.{minutes_in, fixed_minutes}
 use Rattle.def_minutes.specs.Rising.{fixed_rising}
 use Rattle.def_minutes.proofs.minutes.Goals as goal
 
--- ?? no goal array-read-result
--- array-read-result : tie.Need-array-read-result
--- array-read-result c = search rules
-
 pub returns-then-row-lt-CLASSES : goal.returns-then-row-lt-CLASSES
 unfolding minutes_in fixed_minutes
 returns-then-row-lt-CLASSES c = refl
