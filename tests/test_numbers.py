@@ -43,6 +43,15 @@ def upper(name):
     return name.upper()
 
 
+def variants(crate, text):
+    """Each variant of the enums of def_numbers that has a number, by the name that the header's has: LaidOut of Kind as
+    KIND_LAID_OUT."""
+    for enum in re.finditer(r"^pub enum (\w+) \{\n(.*?)^\}", text if crate == "def_numbers" else "", re.M | re.S):
+        pattern = re.compile(r"^    (\w+) = (\d+),$", re.M)
+        for match in pattern.finditer(text, enum.start(2), enum.end(2)):
+            yield "_".join([enum[1], *re.findall("[A-Z][a-z]*", match[1])]), match
+
+
 def constants():
     """Each constant of the definitions and of the code: crate, name, value and place. The value is a number, or the
     text that stands there."""
@@ -53,9 +62,9 @@ def constants():
             found = re.finditer(r"^abbrev (?:pub )?(\S+) : ℕ\n\1 = (.*)$", text, re.M)
         else:
             found = re.finditer(r"^(?:pub )?const ([A-Z_]+): \w+ = (.*);$", text, re.M)
-        for match in found:
+        for name, match in [*((match[1], match) for match in found), *variants(crate, text)]:
             line = text.count("\n", 0, match.start(2)) + 1
-            yield crate, upper(match[1]), (number(match[2]), f"{path.relative_to(TOP)}:{line}")
+            yield crate, upper(name), (number(match[2]), f"{path.relative_to(TOP)}:{line}")
         for match in re.finditer(r"^(\w+_shape) = record \{ head = (\d+); width = (\d+) \}", text, re.M):
             head, width = match[2] + " + " if match[2] != "0" else "", match[3] if match[3] != "1" else ""
             yield crate, upper(match[1]), ((head + width).strip(), str(path.relative_to(TOP)))

@@ -1,6 +1,6 @@
 -- Entries added one after the other: the names of an entry, the entry that a reading tells, and its lines.
-use mathlib.Core.Path.{◌≡◌, refl, sym, ap, ◌∙◌}
-use mathlib.Core.Bool.{true, false}
+use mathlib.Core.Path.{◌≡◌, refl, ap, ◌∙◌}
+use Rattle.std.specs.Prelude.{Some, None}
 use mathlib.Core.List.{List, [], ◌∷◌, ◌++◌}
 use Prim.Native.Nat.{ℕ, zero, suc, ◌≤◌, ◌<◌}
 use native.Mathlib.Omega.{arith}
@@ -22,7 +22,6 @@ use Rattle.def_day_lines.specs.Day.{refusal_lines}
 use Rattle.day_text.specs.Page.{Page, no_lines, lines_append}
 use Rattle.day_entry.specs.Entered.{entered, Printout, printout, wrote}
 use Rattle.day_adds.specs.Adding.{following, entries_at, entries_on, onward_of}
-use Rattle.day_adds.specs.declared.Onward.{Onward}
 
 -- ---- the names: zeros past a list change nothing that is read up to a count
 prefix_zeros : (n k : ℕ) → prefix n (replicate k 0) ≡ prefix n []
@@ -44,23 +43,22 @@ unfolding entered whole_add add_words arguments_wrong
 entry_added s i t j = rw (prefix_padded (length j.list) _ j.list)
 
 -- ---- what a reading tells
-never : {A : Type 0} → true ≡ false → A
-never e = absurd (let z : ◌≡◌ {A = ℕ} 0 1 = cc in omega arith)
+module _ (r : Reading) where
+  read_more : (d : Decoded) (next : ℕ) {P : Type 0} → r ≡ reading_of d → onward_of r.answer ≡ Some next
+      → ((j : Job) → d ≡ job j next → r.entry ≡ entry_of j → P) → P
+  read_more (job j m) next e h go =
+      let h' : onward_of (reading_of (job j m)).answer ≡ Some next = rw e at h in
+      let n : m ≡ next = cc in
+      go j (ap (job j) n) (ap (λ (x : Reading). x.entry) e)
+  read_more end next e h go =
+      absurd (let h' : onward_of (reading_of end).answer ≡ Some next = rw e at h in cc)
+  read_more (refused c a) next e h go =
+      absurd (let h' : onward_of (reading_of (refused c a)).answer ≡ Some next = rw e at h in cc)
 
-module _ (r : Reading) (o : Onward) (k : o ≡ onward_of r.answer) where
-  read_more : (d : Decoded) {P : Type 0} → r ≡ reading_of d → o.more ≡ true
-      → ((j : Job) → d ≡ job j o.next → r.entry ≡ entry_of j → P) → P
-  read_more (job j m) e h next =
-      let n : o.next ≡ m = ap (λ (x : Onward). x.next) (k ∙ ap (λ (x : Reading). onward_of x.answer) e) in
-      next j (ap (job j) (sym n)) (ap (λ (x : Reading). x.entry) e)
-  read_more end e h next =
-      never (sym h ∙ ap (λ (x : Onward). x.more) (k ∙ ap (λ (x : Reading). onward_of x.answer) e))
-  read_more (refused c a) e h next =
-      never (sym h ∙ ap (λ (x : Onward). x.more) (k ∙ ap (λ (x : Reading). onward_of x.answer) e))
-
-  read_over : (d : Decoded) (rest : ℕ → List Job) → r ≡ reading_of d → o.more ≡ false → following d rest ≡ []
+  read_over : (d : Decoded) (rest : ℕ → List Job) → r ≡ reading_of d → onward_of r.answer ≡ None
+      → following d rest ≡ []
   read_over (job j m) rest e h =
-      never (sym (ap (λ (x : Onward). x.more) (k ∙ ap (λ (x : Reading). onward_of x.answer) e)) ∙ h)
+      absurd (let h' : onward_of (reading_of (job j m)).answer ≡ None = rw e at h in cc)
   read_over end rest e h = refl
   read_over (refused c a) rest e h = refl
 
@@ -85,33 +83,33 @@ add_first limit s i j js t p x e =
     )
 
 -- ---- an entry that was read
-module _ (sheet : List ℕ) (at : ℕ) (r : Reading) (o : Onward) (e : r ≡ reading_of (decode sheet at))
-    (k : o ≡ onward_of r.answer) where
+module _ (sheet : List ℕ) (at : ℕ) (r : Reading) (e : r ≡ reading_of (decode sheet at)) where
   -- it ends inside the sheet
-  pub entry_inside : o.more ≡ true → (at < o.next) × (o.next ≤ length sheet)
-  entry_inside h =
-      read_more r o k (decode sheet at) e h λ j d same.
-      let b = entry_bounds sheet at j o.next d in
+  pub entry_inside : (next : ℕ) → onward_of r.answer ≡ Some next → (at < next) × (next ≤ length sheet)
+  entry_inside next h =
+      read_more r (decode sheet at) next e h λ j d same.
+      let b = entry_bounds sheet at j next d in
       (omega (arith, b.least), b.inside)
 
 -- it is added, and then those after it
-module _ (limit : ℕ) (s : Sizes) (sheet : List ℕ) (at i : ℕ) (t : Tables) (p : Page) (r : Reading) (o : Onward)
-    (e : r ≡ reading_of (decode sheet at)) (k : o ≡ onward_of r.answer) where
-  pub next_entry : (x : Printout) → o.more ≡ true → x ≡ wrote limit p (entered s i t (row.arguments_of r.entry))
-      → wrote limit x.paper (add_all s (suc i) (entries_at sheet o.next) x.state)
+module _ (limit : ℕ) (s : Sizes) (sheet : List ℕ) (at i : ℕ) (t : Tables) (p : Page) (r : Reading)
+    (e : r ≡ reading_of (decode sheet at)) where
+  pub next_entry : (x : Printout) (next : ℕ) → onward_of r.answer ≡ Some next
+      → x ≡ wrote limit p (entered s i t (row.arguments_of r.entry))
+      → wrote limit x.paper (add_all s (suc i) (entries_at sheet next) x.state)
       ≡ wrote limit p (add_all s i (entries_at sheet at) t)
-  next_entry x h f =
-      read_more r o k (decode sheet at) e h λ j d same.
+  next_entry x next h f =
+      read_more r (decode sheet at) next e h λ j d same.
       let f' = f ∙ ap (λ y. wrote limit p (entered s i t (row.arguments_of y))) same
       ∙ ap (wrote limit p) (entry_added s i t j) in
-      rw (entries_on sheet at (job j o.next) d) (add_first limit s i j (entries_at sheet o.next) t p x f')
+      rw (entries_on sheet at (job j next) d) (add_first limit s i j (entries_at sheet next) t p x f')
 
   -- the end of the entries
-  pub last_entry : o.more ≡ false → printout t p ≡ wrote limit p (add_all s i (entries_at sheet at) t)
+  pub last_entry : onward_of r.answer ≡ None → printout t p ≡ wrote limit p (add_all s i (entries_at sheet at) t)
   unfolding wrote add_all refusal_lines
   last_entry h =
       rw (
         entries_on sheet at (decode sheet at) refl,
-        read_over r o k (decode sheet at) (entries_at sheet) e h,
+        read_over r (decode sheet at) (entries_at sheet) e h,
         no_lines,
       )

@@ -1,5 +1,5 @@
 -- The entries of a sheet, one after the other.
-use Rattle.std.specs.Prelude.{◌≡◌, refl, true, false, List, [], ◌∷◌, ℕ, zero, suc, ◌+◌, ◌≤◌, length}
+use Rattle.std.specs.Prelude.{◌≡◌, refl, List, [], ◌∷◌, ℕ, zero, suc, ◌+◌, ◌≤◌, length, Option, Some, None}
 use Rattle.std.proofs.Common.{◌∙◌, arith}
 use Rattle.def_sheets.specs.Job.{Job}
 use Rattle.def_sheets.specs.Decode.{Sheet, jobs, broken, before, onward, Decoded, job, end, refused, decode}
@@ -7,7 +7,6 @@ use Rattle.def_sheets.specs.Decode.{decode_from, decode_sheet}
 use Rattle.def_sheets.proofs.CodeLaws.{entry_bounds}
 use Rattle.def_sheets.proofs.EntryTrip.{end_there}
 use Rattle.def_sheets.specs.declared.Read.{Read}
-use Rattle.day_adds.specs.declared.Onward.{Onward}
 
 -- ---- the entries before the first that cannot be read: all of a sheet that is not broken
 abbrev pub following : Decoded → (ℕ → List Job) → List Job
@@ -24,10 +23,10 @@ unfoldable pub entries_at : List ℕ → ℕ → List Job
 entries_at s at = entries_from (length s) s at
 
 -- where the next entry starts, if one was read
-abbrev pub onward_of : Read → Onward
-onward_of (Read.Job n) = record { more = true; next = n }
-onward_of Read.End = record { more = false; next = 0 }
-onward_of (Read.Refused c a) = record { more = false; next = 0 }
+abbrev pub onward_of : Read → Option ℕ
+onward_of (Read.Job n) = Some n
+onward_of Read.End = None
+onward_of (Read.Refused c a) = None
 
 -- ---- laws
 any_bound : (k l : ℕ) (s : List ℕ) (at : ℕ) → length s ≤ at + k → length s ≤ at + l

@@ -3,7 +3,7 @@
 #![tactic(auto)]
 
 ghost use Rattle.std.specs.Prelude.{◌≡◌};
-ghost use Rattle.def_words.specs.Layout.{as_lent, as_left};
+ghost use Rattle.lent_graph.specs.Lent.{words, Same};
 ghost use Rattle.def_day.specs.Rounds.{add_all};
 ghost use Rattle.day_text.specs.Page.{page};
 ghost use Rattle.day_entry.specs.Entered.{printout, wrote};
@@ -11,64 +11,38 @@ ghost use Rattle.day_adds.specs.Adding.{entries_at, onward_of};
 
 use day_entry::add_entry;
 use def_sheets::Read;
-use def_terms::Sizes;
+use lent_graph::Graph;
 use sheet_reader::read;
 
-// Whether an entry was read, and where the next one starts.
-#[derive(Clone, Copy)]
-struct Onward {
-    more: bool,
-    next: usize,
-}
-
-fn after(answer: Read) -> Onward
+// Where the next entry starts, if one was read.
+fn after(answer: Read) -> Option<usize>
     ensures { result ≡ onward_of answer }
 {
     match answer {
-        Read::Job { next } => Onward { more: true, next },
-        Read::End => Onward {
-            more: false,
-            next: 0,
-        },
-        Read::Refused { number: _, at: _ } => Onward {
-            more: false,
-            next: 0,
-        },
+        Read::Job { next } => Some(next),
+        Read::End => None,
+        Read::Refused { number: _, at: _ } => None,
     }
 }
 
 // Worker 0 adds every entry. Answers the offset printed up to.
-pub fn add_all(
-    sheet: &[u8],
-    sizes: Sizes,
-    jobs: &mut [u32],
-    arcs: &mut [u32],
-    buckets: &mut [u32],
-    queue: &mut [u32],
-    workers: &mut [u32],
-    out: &mut [u8],
-    limit: usize,
-) -> usize
-    ensures { printout (as_left jobs arcs buckets queue workers) (page result out.new)
+pub fn add_all(sheet: &[u8], graph: &mut Graph, out: &mut [u8], limit: usize) -> usize
+    ensures same { Same graph.old graph.new }
+    ensures printed { printout (words graph.new) (page result out.new)
         ≡ wrote limit (page 0 out.old)
-        (add_all sizes 0 (entries_at sheet.now 0) (as_lent jobs arcs buckets queue workers)) }
+        (add_all graph.old.sizes 0 (entries_at sheet.now 0) (words graph.old)) }
 {
     let mut at: usize = 0;
     let mut number: usize = 0;
     let mut offset: usize = 0;
     loop {
         let reading = read(sheet, at);
-        let answer = reading.answer;
-        let on = after(answer);
-        let more = on.more;
-        if more {} else {
+        let Some(next) = after(reading.answer) else {
             return offset;
-        }
+        };
         let entry = reading.entry;
-        offset = add_entry(
-            sizes, jobs, arcs, buckets, queue, workers, out, limit, offset, number, entry,
-        );
+        offset = add_entry(graph, out, limit, offset, number, entry);
         number += 1;
-        at = on.next;
+        at = next;
     }
 }

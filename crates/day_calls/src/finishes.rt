@@ -1,38 +1,19 @@
 // The finishes of a round: each holder finishes, run whole, in the order of the gets. Follows docs/RULES.md, "The board
 // and the day list".
 ghost use Rattle.std.specs.Prelude.{◌≡◌};
-ghost use Rattle.def_words.specs.Layout.{as_lent, as_left};
+ghost use Rattle.lent_graph.specs.Lent.{words, Same};
 ghost use Rattle.def_day.specs.Rounds.{finish_all};
-ghost use Rattle.def_day.specs.Rows.{holding};
 
 use def_day::Holders;
-use def_terms::Sizes;
-use graph_words::word;
+use lent_graph::Graph;
 use whole_finish::finish_whole;
 
 // Each holder finishes, and its job is good.
-pub fn finish_all(
-    sizes: Sizes,
-    jobs: &mut [u32],
-    arcs: &mut [u32],
-    buckets: &mut [u32],
-    queue: &mut [u32],
-    workers: &mut [u32],
-    holders: Holders,
-)
-    ensures { (as_left jobs arcs buckets queue workers)
-        ≡ finish_all sizes (holding holders) (as_lent jobs arcs buckets queue workers) }
+pub fn finish_all(graph: &mut Graph, holders: &Holders)
+    ensures same { Same graph.old graph.new }
+    ensures finished { words graph.new ≡ finish_all graph.old.sizes holders.now (words graph.old) }
 {
-    let by = holders.workers;
-    let names = holders.names;
-    let count = holders.count;
-    let mut left = count;
-    while 0 < left {
-        let worker = word(&by, count - left);
-        let name = word(&names, count - left);
-        finish_whole(
-            sizes, jobs, arcs, buckets, queue, workers, worker, name, false,
-        );
-        left -= 1;
+    for holder in holders.as_slice() {
+        finish_whole(graph, holder.worker, holder.name, false);
     }
 }

@@ -1,82 +1,38 @@
 // The gets of a round: every worker gets, in order. Follows docs/RULES.md, "The board and the day list".
-ghost use Rattle.std.specs.Prelude.{◌≡◌, [], ◌∷◌, ◌++◌, ◌+◌, ◌≤◌, ◌<◌};
+ghost use Rattle.std.specs.Prelude.{◌≡◌, ◌+◌, ◌≤◌, ◌<◌, length};
 ghost use Rattle.def_numbers.specs.Numbers.{most_workers};
-ghost use Rattle.def_basics.specs.Base.{pick};
-ghost use Rattle.def_words.specs.Layout.{as_lent, as_left};
-ghost use Rattle.def_day.specs.Rounds.{holder, gets, get_round};
-ghost use Rattle.def_day.specs.Rows.{holding};
+ghost use Rattle.lent_graph.specs.Lent.{words, Same};
+ghost use Rattle.def_day.specs.Rounds.{gets, get_round};
 ghost use Rattle.day_calls.specs.Gotten.{gotten};
 
-use day_told::{Told, tell};
-use def_day::{Holders, MOST_HOLDERS};
+use day_told::name_handed;
+use def_day::{Holder, Holders};
 use def_numbers::MOST_WORKERS;
-use def_terms::Sizes;
 use graph_get::get;
+use lent_graph::Graph;
 
-// One holder more, if the worker was handed a job.
-fn hold(holders: Holders, worker: u32, told: Told) -> Holders
-    requires { holders.count < most_workers }
-    ensures { (holding result ≡ holding holders ++ pick told.handed (holder worker told.value ∷ []) [])
-        × (result.count ≤ holders.count + 1) }
+// A worker gets, and is one holder more if it was handed a job.
+fn get_one(graph: &mut Graph, worker: u32, holders: &mut Holders)
+    requires { length holders.old < most_workers }
+    ensures same { Same graph.old graph.new }
+    ensures got { gets (words graph.new) holders.new
+        ≡ gotten graph.old.sizes worker (words graph.old) holders.old }
+    ensures one_more { length holders.new ≤ length holders.old + 1 }
 {
-    let handed = told.handed;
-    if handed {} else {
-        return holders;
+    let answer = get(graph, worker);
+    if let Some(name) = name_handed(answer) {
+        holders.push(Holder { worker, name });
     }
-    let mut workers = holders.workers;
-    let mut names = holders.names;
-    let count = holders.count;
-    workers[count] = worker;
-    names[count] = told.value;
-    Holders {
-        count: count + 1,
-        workers,
-        names,
-    }
-}
-
-// A worker gets.
-fn get_one(
-    sizes: Sizes,
-    jobs: &mut [u32],
-    arcs: &mut [u32],
-    buckets: &mut [u32],
-    queue: &mut [u32],
-    workers: &mut [u32],
-    worker: u32,
-    holders: Holders,
-) -> Holders
-    requires { holders.count < most_workers }
-    ensures { (gets (as_left jobs arcs buckets queue workers) (holding result)
-        ≡ gotten sizes worker (as_lent jobs arcs buckets queue workers) (holding holders))
-        × (result.count ≤ holders.count + 1) }
-{
-    let told = tell(get(sizes, jobs, arcs, buckets, queue, workers, worker));
-    hold(holders, worker, told)
 }
 
 // Every worker gets, in order. With more workers than the limit every get is refused, so nobody holds a job.
-pub fn get_all(
-    sizes: Sizes,
-    jobs: &mut [u32],
-    arcs: &mut [u32],
-    buckets: &mut [u32],
-    queue: &mut [u32],
-    workers: &mut [u32],
-) -> Holders
-    ensures { (gets (as_left jobs arcs buckets queue workers) (holding result)
-        ≡ get_round sizes (as_lent jobs arcs buckets queue workers)) × (result.count ≤ most_workers) }
+pub fn get_all(graph: &mut Graph) -> Holders
+    ensures same { Same graph.old graph.new }
+    ensures got { gets (words graph.new) result ≡ get_round graph.old.sizes (words graph.old) }
 {
-    let nobody = [0u32; MOST_HOLDERS];
-    let mut holders = Holders {
-        count: 0,
-        workers: nobody,
-        names: nobody,
-    };
-    let mut worker: u32 = 0;
-    while (worker < sizes.workers) & (worker < MOST_WORKERS) {
-        holders = get_one(sizes, jobs, arcs, buckets, queue, workers, worker, holders);
-        worker += 1;
+    let mut holders = Holders::new();
+    for worker in 0..graph.sizes.workers.min(MOST_WORKERS) {
+        get_one(graph, worker, &mut holders);
     }
     holders
 }

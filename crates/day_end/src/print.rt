@@ -10,7 +10,7 @@ ghost use Rattle.day_text.specs.Page.{page, print_lines};
 
 use day_text::handed_line;
 use graph_words::layout::{FINISHED, LABEL, MADE};
-use graph_words::{header, job_word, word};
+use graph_words::{header, job_word};
 
 // "Each middle line gives the hand-out number, name and worker": so many hand-outs of a row, or none where it does not
 // hold so many. Answers the offset printed up to.
@@ -18,17 +18,14 @@ pub fn print_hand_outs(out: &mut [u8], limit: usize, at: usize, row: &[u32], cou
     ensures { page result out.new
         ≡ print_lines limit (page at out.old) (hand_out_lines 0 (in_row count row.now)) }
 {
-    let held = count <= row.len() / 2;
-    if held {} else {
+    if row.len() / 2 < count {
         return at;
     }
-    let mut i: usize = 0;
     let mut offset = at;
-    while i < count {
-        let name = word(row, 2 * i);
-        let worker = word(row, 2 * i + 1);
+    for i in 0..count {
+        let name = row[2 * i];
+        let worker = row[2 * i + 1];
         offset = handed_line(out, limit, offset, i, name, worker);
-        i += 1;
     }
     offset
 }
@@ -37,13 +34,11 @@ pub fn print_hand_outs(out: &mut [u8], limit: usize, at: usize, row: &[u32], cou
 pub fn count_unfinished(jobs: &[u32]) -> u32
     ensures { result ≡ unfinished (columns job_shape jobs.now LABEL) (header jobs.now MADE) }
 {
-    let mut left = header(jobs, MADE);
-    let mut sum: u32 = 0;
-    while 0 < left {
-        left -= 1;
-        if job_word(jobs, left, LABEL) == FINISHED {} else {
-            sum += 1;
+    let mut left: u32 = 0;
+    for job in 0..header(jobs, MADE) {
+        if job_word(jobs, job, LABEL) != FINISHED {
+            left += 1;
         }
     }
-    sum
+    left
 }

@@ -3,7 +3,7 @@
 #![tactic(auto)]
 
 ghost use Rattle.std.specs.Prelude.{◌≡◌};
-ghost use Rattle.def_words.specs.Layout.{as_lent, as_left};
+ghost use Rattle.lent_graph.specs.Lent.{words, Same};
 ghost use Rattle.def_sheet_rows.specs.Arguments.{arguments_of};
 ghost use Rattle.def_day.specs.Rounds.{refusal};
 ghost use Rattle.def_day_lines.specs.Day.{refusal_lines};
@@ -11,9 +11,10 @@ ghost use Rattle.day_text.specs.Page.{page, print_lines};
 ghost use Rattle.day_entry.specs.Entered.{entered, printout, wrote};
 
 use day_text::refused_line;
-use day_told::tell;
+use day_told::number_refused;
 use def_sheets::Entry;
-use def_terms::{Answer, Sizes};
+use def_terms::Answer;
+use lent_graph::Graph;
 use whole_add::add_whole;
 
 // "A refused entry puts refused I N before the first line."
@@ -21,32 +22,26 @@ fn print_refusal(out: &mut [u8], limit: usize, at: usize, entry: usize, answer: 
     ensures { page result out.new
         ≡ print_lines limit (page at out.old) (refusal_lines (refusal entry answer)) }
 {
-    let told = tell(answer);
-    let refused = told.refused;
-    if refused {} else {
-        return at;
+    match number_refused(answer) {
+        Some(number) => refused_line(out, limit, at, entry, number),
+        None => at,
     }
-    refused_line(out, limit, at, entry, told.value)
 }
 
 // Worker 0 adds an entry, run whole. Answers the offset printed up to.
 pub fn add_entry(
-    sizes: Sizes,
-    jobs: &mut [u32],
-    arcs: &mut [u32],
-    buckets: &mut [u32],
-    queue: &mut [u32],
-    workers: &mut [u32],
+    graph: &mut Graph,
     out: &mut [u8],
     limit: usize,
     at: usize,
     number: usize,
     entry: Entry,
 ) -> usize
-    ensures { printout (as_left jobs arcs buckets queue workers) (page result out.new)
+    ensures same { Same graph.old graph.new }
+    ensures printed { printout (words graph.new) (page result out.new)
         ≡ wrote limit (page at out.old)
-        (entered sizes number (as_lent jobs arcs buckets queue workers) (arguments_of entry)) }
+        (entered graph.old.sizes number (words graph.old) (arguments_of entry)) }
 {
-    let answer = add_whole(sizes, jobs, arcs, buckets, queue, workers, 0, entry);
+    let answer = add_whole(graph, 0, entry);
     print_refusal(out, limit, at, number, answer)
 }

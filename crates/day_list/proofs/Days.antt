@@ -14,11 +14,14 @@ use Rattle.def_words.specs.Layout.{Tables}
 use Rattle.def_sheets.specs.Job.{Job}
 use Rattle.def_sheets.specs.Decode.{Sheet, jobs, broken, decode_sheet, scan_sheet}
 use Rattle.def_sheets.proofs.CodeLaws.{sheet_bounds}
-use Rattle.def_sheets.specs.declared.SheetRead.{SheetRead}
+use Rattle.std.specs.Prelude.{Ok, Err}
+use Rattle.def_sheets.specs.declared.Refusal as unread
+use Rattle.def_sheets.specs.Decode.{refusal as refused_by}
 use Rattle.def_whole_calls.specs.Whole.{whole_add}
 use Rattle.def_room.specs.Room.{arguments_of}
 use Rattle.def_day.specs.Rounds.{day_sizes, fresh_day, Refusal, refusal, add_all, added_day}
-use Rattle.def_day.specs.Rounds.{Holder, run_day, hand_outs}
+use Rattle.def_day.specs.Rounds.{run_day, hand_outs}
+use Rattle.def_day.specs.declared.Holder.{Holder}
 use Rattle.def_day.specs.Rows.{in_stored}
 use Rattle.def_day_lines.specs.Day.{refusal_lines, jobs_line, hand_out_lines, left_line, lines_before, day_lines, day_of}
 use Rattle.day_text.specs.Page.{Page, page, print, print_line, print_lines, lines_append, one_line, printed_lines}
@@ -120,10 +123,10 @@ abbrev pub jobs_of : Sheet → List Job
 jobs_of (jobs js) = js
 jobs_of (broken n o) = []
 
-pub whole_scanned : (d : Sheet) (n : ℕ) → scan_sheet d ≡ SheetRead.Whole n → d ≡ jobs (jobs_of d)
+pub whole_scanned : (d : Sheet) (n : ℕ) → scan_sheet d ≡ Ok n → d ≡ jobs (jobs_of d)
 whole_scanned (jobs js) n e = refl
 whole_scanned (broken c a) n e = never (cc)
 
-pub broken_scanned : (d : Sheet) (c a : ℕ) → scan_sheet d ≡ SheetRead.Refused c a → d ≡ broken c a
-broken_scanned (jobs js) c a e = never (cc)
-broken_scanned (broken c' a') c a e = cc
+pub broken_scanned : (d : Sheet) (e : unread.Refusal) → scan_sheet d ≡ Err e → d ≡ broken e.number e.at
+broken_scanned (jobs js) e h = never (cc)
+broken_scanned (broken c a) e h = let x : refused_by c a ≡ e = cc in rw (← x)

@@ -7,19 +7,15 @@ use native.Mathlib.Omega.{arith}
 use lib.Dec.{leb}
 use lib.ListN.{length}
 use lib.Seq.{sets}
-use borrow.Author.Tests.{leb-true, le-leb, lt-leb}
+use borrow.Author.Tests.{le-leb, lt-leb}
 use Rattle.def_numbers.specs.Numbers.{most_workers, no_room}
-use Rattle.def_basics.specs.Laws.{and_left, and_right}
 use Rattle.def_day_lines.specs.Day.{day_text, printing, day_list}
 use Rattle.def_day_lines.specs.declared.DayAnswer.{DayAnswer}
 use Rattle.day_text.specs.Page.{Page, page, print, emitted_none, emitted_whole}
 
 -- the test of the workers
-pub few_workers : (w : ℕ) → (leb 1 w && leb w most_workers) ≡ true → (1 ≤ w) × (w ≤ most_workers)
-few_workers w e = (
-  leb-true 1 w (and_left (leb 1 w) (leb w most_workers) e),
-  leb-true w most_workers (and_right (leb 1 w) (leb w most_workers) e),
-)
+pub few_workers : (w : ℕ) → 1 ≤ w → w ≤ most_workers → (leb 1 w && leb w most_workers) ≡ true
+few_workers w h k = rw (le-leb 1 w h, le-leb w most_workers k)
 
 -- measuring answers the length, and leaves the output
 measured : (n : ℕ) (left out text : List ℕ) → page n left ≡ print 0 (page 0 out) text → (n ≡ length text) × (left ≡ out)

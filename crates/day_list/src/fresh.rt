@@ -12,6 +12,7 @@ use day_end::end_day;
 use def_numbers::{DAY_ARCS, DAY_BITS, DAY_JOBS, MOST_WORKERS};
 use def_terms::Sizes;
 use graph_words::layout::*;
+use lent_graph::Graph;
 
 // The sizes of the day's graph, and the words that its tables need, with the most workers.
 const DAY_BUCKETS: u32 = 16;
@@ -45,28 +46,15 @@ pub fn print_day(sheet: &[u8], workers: u32, out: &mut [u8], limit: usize) -> us
     let mut bucket_words = [0u32; BUCKET_WORDS];
     let mut queue_words = [0u32; QUEUE_WORDS];
     let mut worker_words = [0u32; WORKER_WORDS];
+    let mut graph = Graph {
+        sizes,
+        jobs: &mut job_words,
+        arcs: &mut arc_words,
+        buckets: &mut bucket_words,
+        queue: &mut queue_words,
+        workers: &mut worker_words,
+    };
     let mut row = [0u32; ROW_WORDS];
-    let at = begin_day(
-        sheet,
-        sizes,
-        &mut job_words,
-        &mut arc_words,
-        &mut bucket_words,
-        &mut queue_words,
-        &mut worker_words,
-        out,
-        limit,
-    );
-    end_day(
-        sizes,
-        &mut job_words,
-        &mut arc_words,
-        &mut bucket_words,
-        &mut queue_words,
-        &mut worker_words,
-        &mut row,
-        out,
-        limit,
-        at,
-    )
+    let at = begin_day(sheet, &mut graph, out, limit);
+    end_day(&mut graph, &mut row, out, limit, at)
 }

@@ -11,7 +11,7 @@ mod fresh;
 use day_text::broken_line;
 use def_day_lines::DayAnswer;
 use def_numbers::{CUT, MOST_DAY_SHEET, MOST_WORKERS, NO_ROOM, WRONG_SIZE};
-use def_sheets::SheetRead;
+use def_sheets::Refusal;
 use fresh::print_day;
 use sheet_scan::scan_sheet;
 
@@ -26,8 +26,8 @@ fn print_list(sheet: &[u8], workers: u32, out: &mut [u8], limit: usize) -> usize
         return broken_line(out, limit, 0, MOST_DAY_SHEET, CUT);
     }
     match scan_sheet(sheet) {
-        SheetRead::Whole { entries: _ } => print_day(sheet, workers, out, limit),
-        SheetRead::Refused { number, at } => broken_line(out, limit, 0, at, number),
+        Ok(_) => print_day(sheet, workers, out, limit),
+        Err(Refusal { number, at }) => broken_line(out, limit, 0, at, number),
     }
 }
 
@@ -36,8 +36,7 @@ fn print_list(sheet: &[u8], workers: u32, out: &mut [u8], limit: usize) -> usize
 pub fn day_list(sheet: &[u8], workers: u32, out: &mut [u8]) -> DayAnswer
     ensures { printing result out.new ≡ day_list workers sheet.now out.old }
 {
-    let right = (1 <= workers) & (workers <= MOST_WORKERS);
-    if right {} else {
+    if workers < 1 || MOST_WORKERS < workers {
         return DayAnswer::Refused { number: WRONG_SIZE };
     }
     let bytes = print_list(sheet, workers, out, 0);

@@ -7,7 +7,8 @@ use native.Mathlib.Omega.{arith}
 use lib.ListN.{length, length-append}
 use Rattle.def_terms.specs.declared.Sizes.{Sizes}
 use Rattle.def_words.specs.Layout.{Tables}
-use Rattle.def_day.specs.Rounds.{Holder, Gets, get_round, finish_all, finished, round_of, any_holder, rounds, hand_outs}
+use Rattle.def_day.specs.Rounds.{Gets, get_round, finish_all, finished, round_of, any_holder, rounds, hand_outs}
+use Rattle.def_day.specs.declared.Holder.{Holder}
 use Rattle.def_day.specs.Rows.{stored, stored_none, stored_append}
 use Rattle.day_run.specs.Kept.{kept, run_kept}
 

@@ -2,63 +2,48 @@
 // docs/RULES.md, "The board and the day list". A hand-out past the row's end is not stored.
 #![tactic(auto)]
 
-ghost use Rattle.std.specs.Prelude.{◌≡◌, ◌+◌, ◌^◌, ◌≤◌};
+ghost use Rattle.std.specs.Prelude.{◌≡◌, ◌+◌, ◌^◌, ◌≤◌, length};
 ghost use Rattle.def_numbers.specs.Numbers.{most_workers};
-ghost use Rattle.def_words.specs.Layout.{as_lent, as_left};
+ghost use Rattle.lent_graph.specs.Lent.{words, Same};
 ghost use Rattle.def_day.specs.Rounds.{run_day};
-ghost use Rattle.def_day.specs.Rows.{holding, stored};
+ghost use Rattle.def_day.specs.Rows.{stored};
 ghost use Rattle.day_run.specs.Kept.{kept, run_kept};
 
 mod round;
 
-use def_day::Holders;
-use def_terms::Sizes;
-use graph_words::{put_word, word};
+use def_day::Holder;
+use graph_words::put_word;
+use lent_graph::Graph;
 use round::run_round;
 
-// Stores the hand-outs of a round.
-fn store(holders: Holders, row: &mut [u32], at: usize)
-    requires { (at ≤ 2 ^ 48) × (holders.count ≤ most_workers) }
-    ensures { row.new ≡ stored row.old at (holding holders) }
+// Stores the hand-outs of a round, the first of them being hand-out `at`.
+fn store(holders: &[Holder], row: &mut [u32], at: usize)
+    requires { (at ≤ 2 ^ 48) × (length holders.now ≤ most_workers) }
+    ensures { row.new ≡ stored row.old at holders.now }
 {
-    let by = holders.workers;
-    let names = holders.names;
-    let count = holders.count;
-    let mut i: usize = 0;
-    while i < count {
+    for (i, holder) in holders.iter().enumerate() {
         let offset = 2 * (at + i);
-        let name = word(&names, i);
-        let worker = word(&by, i);
-        put_word(row, offset, name);
-        put_word(row, offset + 1, worker);
-        i += 1;
+        put_word(row, offset, holder.name);
+        put_word(row, offset + 1, holder.worker);
     }
 }
 
 // Rounds, until one hands out nothing. Each before the last hands out a job, so there are at most one more than jobs.
 // Answers how many jobs were handed out.
-pub fn run_rounds(
-    sizes: Sizes,
-    jobs: &mut [u32],
-    arcs: &mut [u32],
-    buckets: &mut [u32],
-    queue: &mut [u32],
-    workers: &mut [u32],
-    row: &mut [u32],
-) -> usize
-    ensures { kept (as_left jobs arcs buckets queue workers) row.new result
-        ≡ run_kept 0 row.old (run_day sizes (as_lent jobs arcs buckets queue workers)) }
+pub fn run_rounds(graph: &mut Graph, row: &mut [u32]) -> usize
+    ensures same { Same graph.old graph.new }
+    ensures run { kept (words graph.new) row.new result
+        ≡ run_kept 0 row.old (run_day graph.old.sizes (words graph.old)) }
 {
-    let mut left = (sizes.jobs as usize) + 1;
     let mut handed: usize = 0;
-    while 0 < left {
-        left -= 1;
-        let holders = run_round(sizes, jobs, arcs, buckets, queue, workers);
-        if holders.count == 0 {
+    for _ in 0..=graph.sizes.jobs {
+        let holders = run_round(graph);
+        let holders = holders.as_slice();
+        if holders.is_empty() {
             return handed;
         }
         store(holders, row, handed);
-        handed += holders.count;
+        handed += holders.len();
     }
     handed
 }

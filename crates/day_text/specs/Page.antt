@@ -5,7 +5,8 @@ use Rattle.std.proofs.Common.{sym, ◌∙◌, arith, length-append, lt-ltb, le-l
 use Rattle.std.proofs.lemmas.List.Edits.{sets}
 use Rattle.def_basics.specs.Base.{pick}
 use Rattle.def_sheets.proofs.SheetTrip.{Each}
-use Rattle.def_day.specs.Rounds.{Refusal, Holder}
+use Rattle.def_day.specs.Rounds.{Refusal}
+use Rattle.def_day.specs.declared.Holder.{Holder}
 use Rattle.def_day_lines.specs.Text.{digits, decimal, jobs_word, workers_word, left_word, refused_word, ◌␣◌, line}
 use Rattle.def_day_lines.specs.Day.{refusal_line, refusal_lines, hand_out_line, hand_out_lines, text}
 

@@ -27,24 +27,20 @@ fn emit(out: &mut [u8], limit: usize, at: usize, byte: u8) -> usize
     requires { Roomy at 1 }
     ensures { page result out.new ≡ print limit (page at out.old) (byte ∷ []) }
 {
-    if limit <= at {
-        return at + 1;
+    if at < limit {
+        put(out, at, byte);
     }
-    put(out, at, byte);
     at + 1
 }
 
-// The bytes of a text from one on.
-fn emit_from(out: &mut [u8], limit: usize, at: usize, text: &[u8], from: usize) -> usize
-    requires { (from ≤ length text.now) × Roomy at (length text.now) }
-    ensures { page result out.new
-        ≡ print limit (page at out.old) (drop from text.now) }
+// The bytes of a text.
+fn emit_text(out: &mut [u8], limit: usize, at: usize, text: &[u8]) -> usize
+    requires { Roomy at (length text.now) }
+    ensures { page result out.new ≡ print limit (page at out.old) text.now }
 {
     let mut next = at;
-    let mut i = from;
-    while i < text.len() {
-        next = emit(out, limit, next, text[i]);
-        i += 1;
+    for byte in text {
+        next = emit(out, limit, next, *byte);
     }
     next
 }
@@ -57,21 +53,18 @@ fn digit(n: u64) -> u8
 }
 
 // Writes a number's digits from the last to the first, and answers where the first stands.
-fn write_digits(bytes: &mut [u8], number: u64) -> usize
-    requires { length bytes.old ≡ 20 }
+fn write_digits(bytes: &mut [u8; MOST_DIGITS], number: u64) -> usize
     ensures { (drop result bytes.new ≡ decimal number) × (result ≤ 20) }
 {
     let mut rest = number;
-    let mut from = MOST_DIGITS;
-    while 0 < from {
-        from -= 1;
+    for from in (0..MOST_DIGITS).rev() {
         bytes[from] = digit(rest);
         if rest < 10 {
             return from;
         }
-        rest = rest / 10;
+        rest /= 10;
     }
-    from
+    0
 }
 
 // A number in decimal.
@@ -81,7 +74,7 @@ fn emit_number(out: &mut [u8], limit: usize, at: usize, number: u64) -> usize
 {
     let mut bytes = [0u8; MOST_DIGITS];
     let from = write_digits(&mut bytes, number);
-    emit_from(out, limit, at, &bytes, from)
+    emit_text(out, limit, at, &bytes[from..])
 }
 
 // A number that ends a line.
@@ -113,9 +106,9 @@ pub fn jobs_line(out: &mut [u8], limit: usize, at: usize, made: u32, workers: u3
     if MOST_OFFSET < at {
         return at;
     }
-    let first = emit_from(out, limit, at, b"jobs ", 0);
+    let first = emit_text(out, limit, at, b"jobs ");
     let second = emit_number(out, limit, first, made as u64);
-    let last = emit_from(out, limit, second, b" workers ", 0);
+    let last = emit_text(out, limit, second, b" workers ");
     emit_last(out, limit, last, workers as u64)
 }
 
@@ -147,7 +140,7 @@ pub fn left_line(out: &mut [u8], limit: usize, at: usize, left: u32) -> usize
     if MOST_OFFSET < at {
         return at;
     }
-    let last = emit_from(out, limit, at, b"left ", 0);
+    let last = emit_text(out, limit, at, b"left ");
     emit_last(out, limit, last, left as u64)
 }
 
@@ -159,7 +152,7 @@ pub fn refused_line(out: &mut [u8], limit: usize, at: usize, entry: usize, numbe
     if MOST_OFFSET < at {
         return at;
     }
-    let next = emit_from(out, limit, at, b"refused ", 0);
+    let next = emit_text(out, limit, at, b"refused ");
     emit_two(out, limit, next, entry as u64, number as u64)
 }
 
@@ -171,6 +164,6 @@ pub fn broken_line(out: &mut [u8], limit: usize, at: usize, offset: usize, numbe
     if MOST_OFFSET < at {
         return at;
     }
-    let next = emit_from(out, limit, at, b"broken ", 0);
+    let next = emit_text(out, limit, at, b"broken ");
     emit_two(out, limit, next, offset as u64, number as u64)
 }

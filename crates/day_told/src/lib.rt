@@ -3,36 +3,26 @@
 #![tactic(auto)]
 
 ghost use Rattle.std.specs.Prelude.{◌≡◌};
-ghost use Rattle.day_told.specs.Told.{told_of};
+ghost use Rattle.day_told.specs.Told.{name_handed, number_refused};
 
 use def_terms::Answer;
 
-// The name where a job was handed out, the number where the call was refused, and else 0.
-#[derive(Clone, Copy)]
-pub struct Told {
-    pub handed: bool,
-    pub refused: bool,
-    pub value: u32,
-}
-
-pub fn tell(answer: Answer) -> Told
-    ensures { result ≡ told_of answer }
+// The name of the job, where one was handed out.
+pub fn name_handed(answer: Answer) -> Option<u32>
+    ensures { result ≡ name_handed answer }
 {
     match answer {
-        Answer::Handed { out } => Told {
-            handed: true,
-            refused: false,
-            value: out.name,
-        },
-        Answer::Refused { number, place: _ } => Told {
-            handed: false,
-            refused: true,
-            value: number,
-        },
-        _ => Told {
-            handed: false,
-            refused: false,
-            value: 0,
-        },
+        Answer::Handed { out } => Some(out.name),
+        _ => None,
+    }
+}
+
+// The number of the refusal, where the call was refused.
+pub fn number_refused(answer: Answer) -> Option<u32>
+    ensures { result ≡ number_refused answer }
+{
+    match answer {
+        Answer::Refused { number, .. } => Some(number),
+        _ => None,
     }
 }

@@ -11,30 +11,24 @@ use std::io::Write;
 
 // Writes all of some bytes, and says whether that was done.
 fn written<W: Write>(to: &mut W, bytes: &[u8]) -> bool {
-    match to.write_all(bytes) {
-        Ok(()) => true,
-        Err(_) => false,
-    }
+    to.write_all(bytes).is_ok()
 }
 
 // Writes the bytes that were printed.
 fn show<W: Write, E: Write>(to: &mut W, errors: &mut E, out: &[u8], bytes: usize) {
-    if bytes <= out.len() {
-        if !written(to, &out[..bytes]) {
-            written(errors, b"daylist: the list cannot be written\n");
-        }
+    if bytes <= out.len() && !written(to, &out[..bytes]) {
+        written(errors, b"daylist: the list cannot be written\n");
     }
 }
 
 fn main(rt: HostRuntime) {
     let mut errors = rt.stderr();
     let mut sheet = [0u8; SHEET_BYTES];
-    let input = read_whole(&mut rt.stdin(), &mut sheet);
-    if input.failed {
+    let Ok(read) = read_whole(&mut rt.stdin(), &mut sheet) else {
         written(&mut errors, b"daylist: the sheet cannot be read\n");
         return;
-    }
+    };
     let mut out = [0u8; OUT_BYTES];
-    let bytes = day_list_of_input(&sheet, input.bytes, &mut out);
+    let bytes = day_list_of_input(&sheet, read, &mut out);
     show(&mut rt.stdout(), &mut errors, &out, bytes);
 }

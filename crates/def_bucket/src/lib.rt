@@ -7,16 +7,14 @@ ghost use Rattle.def_bucket.specs.Bucket.{product_of, bucket_of};
 
 const WORD_BITS: u32 = 32;
 
-// How many words there are: 2 to the power 32.
-const WORD_COUNT: u64 = 4294967296;
-
 const MULTIPLIER: u32 = 2654435769;
 
-// The product of two words, kept to 32 bits. It is formed in 64 bits, where it cannot wrap.
+// The product of two words, kept to 32 bits.
+#[tactic(auto, unfolding(crate::specs::Bucket::product_of))]
 pub fn product(x: u32, y: u32) -> u32
     ensures { result ≡ product_of x y }
 {
-    ((x as u64) * (y as u64) % WORD_COUNT) as u32
+    x.wrapping_mul(y)
 }
 
 // The top bits of a name's product with the multiplier. The shift is one of 64 bits, so that no bits, a shift by 32,

@@ -13,6 +13,7 @@ use Rattle.def_words.specs.Words.{get_words, lay_out}
 use Rattle.def_sheets.specs.Job.{Job}
 use Rattle.def_room.specs.Room.{arguments_of}
 use Rattle.def_whole_calls.specs.Whole.{whole_add, whole_finish}
+use Rattle.def_day.specs.declared.Holder.{Holder}
 
 -- "(R 256, A 1,024, b 4, P 2)", with the number of workers as given
 abbrev pub day_sizes : ℕ → Sizes
@@ -54,11 +55,6 @@ add_all s i (j ∷ js) t =
     added rest.state (refusal i o.answer ++ rest.refusals)
 
 -- ---- "Then rounds: worker 0 gets, worker 1 gets, then each holder in that order finishes, run whole"
--- a worker with the name of the job that it was handed
-pub record Holder : Type 0 where
-  pub worker : ℕ
-  pub name : ℕ
-
 abbrev pub holder : ℕ → ℕ → Holder
 holder w n = record { worker = w; name = n }
 

@@ -1,19 +1,11 @@
--- Hand-outs as code keeps them: a round's holders in two arrays, and the hand-outs of all rounds in a lent row, two
--- words for each, its name and its worker. A store past a row's end is dropped.
-use Rattle.std.specs.Prelude.{◌≡◌, refl, ◌≢◌, List, [], ◌∷◌, ◌++◌, ℕ, zero, suc, ◌+◌, ◌*◌, ◌/◌, ◌≤◌, ◌<◌, leb, length, get_or, set}
-use Rattle.std.proofs.Common.{ap, ◌∙◌, arith, length-set, length-append, get_or-set_same, get_or-set_other, le-leb}
+-- Hand-outs as code keeps them: those of all rounds in a lent row, two words for each, its name and its worker. A store
+-- past a row's end is dropped.
+use Rattle.std.specs.Prelude.{◌≡◌, refl, List, [], ◌∷◌, ◌++◌, ℕ, zero, suc, ◌+◌, ◌*◌, ◌/◌, ◌≤◌, ◌<◌, leb, length, take, get_or, set}
+use Rattle.std.proofs.Common.{◌∙◌, arith, length-set, length-take-le, get_or-set_same, get_or-set_other, le-leb}
+use Rattle.std.proofs.lemmas.List.{take_more}
 use Rattle.def_basics.specs.Base.{pick}
-use Rattle.def_day.specs.Rounds.{Holder, holder}
-use Rattle.def_day.specs.declared.Holders.{Holders}
-
--- ---- a round's holders
--- the first n of them
-unfoldable pub holders_in : ℕ → List ℕ → List ℕ → List Holder
-holders_in zero ws ns = []
-holders_in (suc n) ws ns = holders_in n ws ns ++ (holder (get_or ws n 0) (get_or ns n 0) ∷ [])
-
-abbrev pub holding : Holders → List Holder
-holding h = holders_in h.count h.workers h.names
+use Rattle.def_day.specs.Rounds.{holder}
+use Rattle.def_day.specs.declared.Holder.{Holder}
 
 -- ---- the row
 -- a row after these hand-outs, the first of them being hand-out i
@@ -33,34 +25,6 @@ from_row (suc n) i row = holder (get_or row (2 * i + 1) 0) (get_or row (2 * i) 0
 abbrev pub in_row : ℕ → List ℕ → List Holder
 in_row n row = pick (leb n (length row / 2)) (from_row n 0 row) []
 
--- ---- laws: a round's holders
-pub no_holders : (ws ns : List ℕ) → holders_in 0 ws ns ≡ []
-unfolding holders_in
-no_holders ws ns = refl
-
-pub length_holders : (n : ℕ) (ws ns : List ℕ) → length (holders_in n ws ns) ≡ n
-unfolding holders_in
-length_holders zero ws ns = refl
-length_holders (suc n) ws ns =
-    omega (
-      arith,
-      length-append (holders_in n ws ns) (holder (get_or ws n 0) (get_or ns n 0) ∷ []),
-      length_holders n ws ns,
-    )
-
-holders_kept : (n i : ℕ) (ws ns : List ℕ) (w x : ℕ) → n ≤ i → holders_in n (set ws i w) (set ns i x) ≡ holders_in n ws ns
-unfolding holders_in
-holders_kept zero i ws ns w x h = refl
-holders_kept (suc n) i ws ns w x h =
-    let d : n ≢ i = λ e. omega arith in
-    rw (holders_kept n i ws ns w x (omega arith), get_or-set_other ws i n w 0 d, get_or-set_other ns i n x 0 d)
-
-pub holders_more : (i : ℕ) (ws ns : List ℕ) (w x : ℕ) → i < length ws → i < length ns
-    → holders_in (suc i) (set ws i w) (set ns i x) ≡ holders_in i ws ns ++ (holder w x ∷ [])
-unfolding holders_in
-holders_more i ws ns w x h k =
-    rw (holders_kept i i ws ns w x (omega arith), get_or-set_same ws i w 0 h, get_or-set_same ns i x 0 k)
-
 -- ---- laws: the row
 pub length_stored : (row : List ℕ) (i : ℕ) (hs : List Holder) → length (stored row i hs) ≡ length row
 unfolding stored
@@ -77,13 +41,12 @@ stored_append row i k [] b e = let z : k ≡ i = omega arith in rw z
 stored_append row i k (h ∷ a) b e = stored_append (with_holder row i h) (suc i) k a b (omega arith)
 
 -- one more of a round's holders
-pub stored_more : (row : List ℕ) (i n : ℕ) (ws ns : List ℕ)
-    → stored row i (holders_in (suc n) ws ns)
-    ≡ with_holder (stored row i (holders_in n ws ns)) (i + n) (holder (get_or ws n 0) (get_or ns n 0))
-unfolding holders_in stored
-stored_more row i n ws ns =
-    stored_append row i (i + n) (holders_in n ws ns) (holder (get_or ws n 0) (get_or ns n 0) ∷ [])
-    (ap (λ (k : ℕ). i + k) (let e = length_holders n ws ns in omega arith))
+pub stored_more : (row : List ℕ) (i n : ℕ) (hs : List Holder) (d : Holder) → n < length hs
+    → stored row i (take (n + 1) hs) ≡ with_holder (stored row i (take n hs)) (i + n) (get_or hs n d)
+unfolding stored
+stored_more row i n hs d h =
+    let e : i + n ≡ i + length (take n hs) = omega (arith, length-take-le n hs (omega arith)) in
+    rw (take_more hs n d h) (stored_append row i (i + n) (take n hs) (get_or hs n d ∷ []) e)
 
 pub stored_none : (row : List ℕ) (i : ℕ) → stored row i [] ≡ row
 unfolding stored

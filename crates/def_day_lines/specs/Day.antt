@@ -8,7 +8,8 @@ use Rattle.def_terms.specs.declared.Sizes.{Sizes}
 use Rattle.def_words.specs.Layout.{Tables, view, LABEL}
 use Rattle.def_sheets.specs.Job.{Job}
 use Rattle.def_sheets.specs.Decode.{Sheet, jobs, broken, decode_sheet}
-use Rattle.def_day.specs.Rounds.{day_sizes, Refusal, Holder, hand_outs, unfinished, added_day, run_day}
+use Rattle.def_day.specs.Rounds.{day_sizes, Refusal, hand_outs, unfinished, added_day, run_day}
+use Rattle.def_day.specs.declared.Holder.{Holder}
 use Rattle.def_day_lines.specs.Text.{decimal, jobs_word, workers_word, left_word, refused_word, broken_word, ◌␣◌, line}
 use Rattle.def_day_lines.specs.declared.DayAnswer.{DayAnswer}
 use Rattle.def_day_lines.specs.declared.DayAnswer.TheVariants.{Printed}

@@ -1,3 +1,4 @@
 pub mod Minutes
 pub mod Rising
 pub mod Judged
+pub mod Served

@@ -2,14 +2,15 @@
 // docs/RULES.md, "Tables and their measures" ("Minutes by class") and "A district's minutes".
 #![tactic(auto)]
 
-ghost use Rattle.std.specs.Prelude.{◌≡◌, length};
+ghost use Rattle.std.specs.Prelude.{◌≡◌};
 ghost use Rattle.def_minutes.specs.Minutes.{minutes_in, fixed_minutes};
 ghost use Rattle.def_minutes.specs.Rising.{is_rising};
-ghost use Rattle.def_minutes.specs.Judged.{all_minutes, no_minutes, judged_minutes};
+ghost use Rattle.def_minutes.specs.Served.{served_if, told_minutes};
 
-use def_numbers::{CLASSES, MOST_MINUTES};
+use def_numbers::{ACCEPTED, CLASSES, MOST_MINUTES, Refusal};
 
-// The minutes of all classes. The number is 0 where they are served. Else it is the refusal's, and all minutes are 0.
+// The minutes of all classes, as C has them. The number is 0 where they are served. Else it is the refusal's, and all
+// minutes are 0.
 #[repr(C)]
 #[derive(Clone, Copy)]
 pub struct GraphMinutes {
@@ -17,19 +18,37 @@ pub struct GraphMinutes {
     pub minutes: [u32; 16],
 }
 
+impl From<Result<[u32; 16], Refusal>> for GraphMinutes {
+    ghost from_gives = { λ minutes told. told ≡ told_minutes minutes };
+
+    fn from(minutes: Result<[u32; 16], Refusal>) -> GraphMinutes {
+        match minutes {
+            Ok(minutes) => GraphMinutes {
+                number: ACCEPTED,
+                minutes,
+            },
+            Err(refusal) => GraphMinutes {
+                number: refusal.into(),
+                minutes: [0; 16],
+            },
+        }
+    }
+}
+
 const MINUTES: [u32; CLASSES] = [
     1, 2, 3, 5, 8, 10, 15, 20, 30, 45, 60, 90, 120, 180, 240, 480,
 ];
 
 // The fixed minutes of a class. No class has 0 minutes, so past class 15 the answer 0 says that there is no such class.
+#[tactic(auto, unfolding(crate::specs::Minutes::minutes_in, crate::specs::Minutes::fixed_minutes))]
 pub fn minutes(class: u32) -> u32
     ensures { result ≡ minutes_in fixed_minutes class }
 {
-    let row = class as usize;
-    if row < CLASSES { MINUTES[row] } else { 0 }
+    MINUTES.get(class as usize).copied().unwrap_or(0)
 }
 
 // The fixed minutes of all classes.
+#[tactic(auto, unfolding(crate::specs::Minutes::fixed_minutes))]
 pub fn fixed() -> [u32; 16]
     ensures { result ≡ fixed_minutes }
 {
@@ -44,65 +63,22 @@ pub fn is_rising(table: &[u32]) -> bool
         return false;
     }
     let mut before = 0;
-    let mut i = 0;
-    while i < CLASSES {
-        let value = table[i];
-        let rises = (before < value) & (value <= MOST_MINUTES);
-        if rises {} else {
+    for &value in table {
+        if value <= before || MOST_MINUTES < value {
             return false;
         }
         before = value;
-        i += 1;
     }
     true
 }
 
-// The fixed minutes, served.
-pub fn fixed_minutes() -> GraphMinutes
-    ensures { result ≡ all_minutes fixed_minutes }
+// The minutes of a table, if they rise.
+pub fn rising(table: &[u32]) -> Option<[u32; 16]>
+    ensures { result ≡ served_if (is_rising table.now) table.now }
 {
-    GraphMinutes {
-        number: 0,
-        minutes: fixed(),
-    }
-}
-
-// A refusal hands out its number alone.
-pub fn none(number: u32) -> GraphMinutes
-    ensures { result ≡ no_minutes number }
-{
-    GraphMinutes {
-        number,
-        minutes: [0; 16],
-    }
-}
-
-// The words of a table that has a value for each class.
-fn copied(table: &[u32]) -> [u32; 16]
-    ensures { length table.now ≡ 16 → result ≡ table.now }
-{
-    let mut minutes = [0; 16];
-    if table.len() == CLASSES {
-        let mut i = 0;
-        while i < CLASSES {
-            minutes[i] = table[i];
-            i += 1;
-        }
-    }
-    minutes
-}
-
-// The minutes of a table, if they rise; else the refusal of this number.
-pub fn judged(refusal: u32, table: &[u32]) -> GraphMinutes
-    ensures { result ≡ judged_minutes refusal table.now }
-{
-    let rises = is_rising(table);
-    if rises {
-        GraphMinutes {
-            number: 0,
-            minutes: copied(table),
-        }
+    if is_rising(table) {
+        table.try_into().ok()
     } else {
-        none(refusal)
+        None
     }
 }

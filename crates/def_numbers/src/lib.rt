@@ -3,6 +3,10 @@
 // docs/NUMBERS.md.
 #![tactic(auto)]
 
+mod refusal;
+
+pub use refusal::Refusal;
+
 // ---- refusals; the list starts at 1, so 0 says that nothing was refused
 
 // Not refused.
@@ -123,29 +127,25 @@ pub const GROWER_BYTES: usize = 2;
 
 // ---- the kinds of answers of a call or a step of the graph
 
-pub const KIND_REFUSED: u32 = 0;
-
-pub const KIND_LAID_OUT: u32 = 1;
-
-pub const KIND_POSTED: u32 = 2;
-
-pub const KIND_GOING_ON: u32 = 3;
-
-pub const KIND_ENDED: u32 = 4;
-
-pub const KIND_NONE_READY: u32 = 5;
-
-pub const KIND_HANDED_OUT: u32 = 6;
-
-pub const KIND_LOADED: u32 = 7;
-
-// Damage stopped a whole call half done.
-pub const KIND_STOPPED: u32 = 8;
+#[derive(Clone, Copy, Debug, PartialEq, Eq)]
+pub enum Kind {
+    Refused = 0,
+    LaidOut = 1,
+    Posted = 2,
+    GoingOn = 3,
+    Ended = 4,
+    NoneReady = 5,
+    HandedOut = 6,
+    Loaded = 7,
+    // Damage stopped a whole call half done.
+    Stopped = 8,
+}
 
 // ---- the call half done: none, an add, or a finish
 
-pub const CALL_NONE: u32 = 0;
-
-pub const CALL_ADD: u32 = 1;
-
-pub const CALL_FINISH: u32 = 2;
+#[derive(Clone, Copy, Debug, PartialEq, Eq)]
+pub enum Call {
+    None = 0,
+    Add = 1,
+    Finish = 2,
+}

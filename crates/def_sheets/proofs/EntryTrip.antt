@@ -13,8 +13,8 @@ use Rattle.def_sheets.specs.Choice.{by_test}
 use Rattle.def_sheets.proofs.NumberLaws.{Bytes, first, length_spelt, length_spelt_names, length_names_at}
 use Rattle.def_sheets.proofs.FieldTrip.{map_there, name_there_lem, list_there, limited_there, Stands, join, map_back}
 use Rattle.def_sheets.proofs.FieldTrip.{name_back, list_back, limited_back}
-use Rattle.def_sheets.specs.declared.Field.{Field}
-use Rattle.def_sheets.specs.declared.Field.TheVariants.{Got, Refused}
+use Rattle.std.specs.Prelude.{Ok, Err}
+use Rattle.def_sheets.specs.Decode.{Field}
 
 -- THE MAP BYTE: its bits, and the byte of its bits
 
@@ -124,10 +124,10 @@ pub record EntryStands (s : List ℕ) (at : ℕ) (j : Job) (n : ℕ) : Type 0 wh
   pub list : j.list ≡ names_at name_bytes s (at + list_offset + count_bytes) (length j.list)
   pub valid : Bytes s → Valid j
 
-fields_back : (s : List ℕ) (at m n₀ name n₁ count n₂ class n₃ grower n₄ : ℕ) → at < length s → map_at s at ≡ Got m n₀
-    → name_at name_bytes s n₀ ≡ Got name n₁ → if_bit (m / 2 % 2) n₁ (list_at name_bytes s n₁) ≡ Got count n₂
-    → if_bit (m / 4 % 2) n₂ (limited_at class_bytes most_class s n₂) ≡ Got class n₃
-    → if_bit (m / 8 % 2) n₃ (limited_at grower_bytes most_grower s n₃) ≡ Got grower n₄
+fields_back : (s : List ℕ) (at m n₀ name n₁ count n₂ class n₃ grower n₄ : ℕ) → at < length s → map_at s at ≡ Ok (m, n₀)
+    → name_at name_bytes s n₀ ≡ Ok (name, n₁) → if_bit (m / 2 % 2) n₁ (list_at name_bytes s n₁) ≡ Ok (count, n₂)
+    → if_bit (m / 4 % 2) n₂ (limited_at class_bytes most_class s n₂) ≡ Ok (class, n₃)
+    → if_bit (m / 8 % 2) n₃ (limited_at grower_bytes most_grower s n₃) ≡ Ok (grower, n₄)
     → EntryStands s at (record {
       name = name;
       list = names_at name_bytes s (n₁ + count_bytes) count;
@@ -174,9 +174,9 @@ same_job s at j j' n n' h d =
 
 -- a field that was refused ends the reading, and one that was got is read on from
 through : {X : Type 0} (d : Decoded) (field : Field) (k : ℕ → ℕ → Decoded) → ((c a : ℕ) → refused c a ≡ d → X)
-    → then_decoded field k ≡ d → ((v n : ℕ) → field ≡ Got v n → k v n ≡ d → X) → X
-through d (Got v n) k broken h next = next v n refl h
-through d (Refused c a) k broken h next = broken c a h
+    → then_decoded field k ≡ d → ((v n : ℕ) → field ≡ Ok (v, n) → k v n ≡ d → X) → X
+through d (Ok (v, n)) k broken h next = next v n refl h
+through d (Err e) k broken h next = broken e.number e.at h
 
 -- what is decoded at an offset: the end past the last byte, a refusal, or an entry that stands there
 cases : {X : Type 0} (s : List ℕ) (at : ℕ) (d : Decoded) → decode s at ≡ d → (length s ≤ at → end ≡ d → X)

@@ -9,16 +9,17 @@ use Rattle.def_sheets.specs.Number.{number_at, spelt}
 use Rattle.def_sheets.specs.Job.{Below, none, bit_of, spelt_unless_zero, spelt_names, spelt_list}
 use Rattle.def_sheets.specs.Decode.{then, if_bit, map_at, name_at, limited_at, list_at, names_at}
 use Rattle.def_sheets.specs.Choice.{both, held}
+use Rattle.def_sheets.proofs.FieldLaws.{same_field}
 use Rattle.def_sheets.proofs.NumberLaws.{Bytes, first, opens, length_spelt, number_there, number_back}
 use Rattle.def_sheets.proofs.NumberLaws.{length_spelt_names, length_names_at, names_there, names_back}
-use Rattle.def_sheets.specs.declared.Field.{Field}
-use Rattle.def_sheets.specs.declared.Field.TheVariants.{Got, Refused}
+use Rattle.std.specs.Prelude.{Ok, Err}
+use Rattle.def_sheets.specs.Decode.{Field, refusal}
 
 -- THERE
 
 -- the value v is read from a spelling, and the rest follows it
 pub record FieldRead (field : Field) (s : List ℕ) (at v : ℕ) (spelling rest : List ℕ) : Type 0 where
-  pub got : field ≡ Got v (at + length spelling)
+  pub got : field ≡ Ok (v, at + length spelling)
   pub inside : at + length spelling ≤ length s
   pub left : drop (at + length spelling) s ≡ rest
 
@@ -119,16 +120,16 @@ number_stands w s at v n e inside q =
     record { ends = rw k q; inside = omega arith; bytes = λ all. rw (← e, q) (number_back w at s all inside).bytes }
 
 -- a field that was got passed its test
-passed : (test : Bool) (x : Field) (c a v n : ℕ) → pick test x (Refused c a) ≡ Got v n → (test ≡ true) × (x ≡ Got v n)
-passed test x c a v n h = held (λ (f : Field). f) (Got v n) test x (Refused c a) (λ other. never (cc)) h
+passed : (test : Bool) (x : Field) (c a v n : ℕ) → pick test x (Err (refusal c a)) ≡ Ok (v, n) → (test ≡ true) × (x ≡ Ok (v, n))
+passed test x c a v n h = held (λ (f : Field). f) (Ok (v, n)) test x (Err (refusal c a)) (λ other. never (cc)) h
 
-pub map_back : (s : List ℕ) (at m n : ℕ) → at < length s → map_at s at ≡ Got m n
+pub map_back : (s : List ℕ) (at m n : ℕ) → at < length s → map_at s at ≡ Ok (m, n)
     → (m < 16) × (m % 2 ≡ 1) × Stands s at n (m ∷ [])
 unfolding map_at
 map_back s at m n inside h =
     let p = passed (ltb (get_or s at 0) 16 && eqb (get_or s at 0 % 2) 1) _ _ _ _ _ h in
     let t = both (ltb (get_or s at 0) 16) _ p.0 in
-    let x = p.1 in
+    let x = same_field p.1 in
     let e : get_or s at 0 ≡ m = cc in
     let q : n ≡ at + 1 = cc in
     let c = opens s at (omega arith) in
@@ -136,12 +137,12 @@ map_back s at m n inside h =
     let odd = eqb-true (get_or s at 0 % 2) 1 t.1 in
     (omega arith, rw e at odd, record { ends = q; inside = omega arith; bytes = λ all. cc })
 
-pub name_back : (w : ℕ) (s : List ℕ) (at v n : ℕ) → name_at w s at ≡ Got v n
+pub name_back : (w : ℕ) (s : List ℕ) (at v n : ℕ) → name_at w s at ≡ Ok (v, n)
     → (Bytes s → v < 256 ^ w) × Stands s at n (spelt w v)
 unfolding name_at
 name_back w s at v n h =
     let p = passed (leb (at + w) (length s)) _ _ _ _ _ h in
-    let x = p.1 in
+    let x = same_field p.1 in
     let e : number_at w s at ≡ v = cc in
     let q : n ≡ at + w = cc in
     let inside = leb-true _ _ p.0 in
@@ -155,13 +156,13 @@ pub record LimitedGot (w most : ℕ) (s : List ℕ) (at v n : ℕ) : Type 0 wher
   pub inside : at + w ≤ length s
   pub ends : n ≡ at + w
 
-pub limited_got : (w most : ℕ) (s : List ℕ) (at v n : ℕ) → limited_at w most s at ≡ Got v n → LimitedGot w most s at v n
+pub limited_got : (w most : ℕ) (s : List ℕ) (at v n : ℕ) → limited_at w most s at ≡ Ok (v, n) → LimitedGot w most s at v n
 unfolding limited_at
 limited_got w most s at v n h =
     let p = passed (leb (at + w) (length s)) _ _ _ _ _ h in
     let r = passed (leb 1 (number_at w s at) && leb (number_at w s at) most) _ _ _ _ _ p.1 in
     let t = both (leb 1 (number_at w s at)) _ r.0 in
-    let x = r.1 in
+    let x = same_field r.1 in
     let e : number_at w s at ≡ v = cc in
     let q : n ≡ at + w = cc in
     let low = leb-true 1 (number_at w s at) t.0 in
@@ -169,9 +170,9 @@ limited_got w most s at v n h =
     record { value = e; least = omega arith; greatest = omega arith; inside = leb-true _ _ p.0; ends = q }
 
 -- a field that may be left out, by its bit: it was left out, or it was got
-optional : {X : Type 0} (field : Field) (bit at v n : ℕ) → bit ≤ 1 → if_bit bit at field ≡ Got v n
-    → (bit ≡ 0 → v ≡ 0 → n ≡ at → X) → (bit ≡ 1 → field ≡ Got v n → X) → X
-optional field zero at v n one h left_out present = left_out refl (cc) (cc)
+optional : {X : Type 0} (field : Field) (bit at v n : ℕ) → bit ≤ 1 → if_bit bit at field ≡ Ok (v, n)
+    → (bit ≡ 0 → v ≡ 0 → n ≡ at → X) → (bit ≡ 1 → field ≡ Ok (v, n) → X) → X
+optional field zero at v n one h left_out present = let x = same_field h in left_out refl (cc) (cc)
 optional field (suc zero) at v n one h left_out present = present refl h
 optional field (suc (suc bit)) at v n one h left_out present = absurd (omega arith)
 
@@ -181,7 +182,7 @@ limited_spelt w most s at zero n g = absurd (omega arith)
 limited_spelt w most s at (suc v) n g = (refl, number_stands w s at (suc v) n g.value g.inside g.ends)
 
 pub limited_back : (w most : ℕ) (s : List ℕ) (at bit v n : ℕ) → bit ≤ 1 → at ≤ length s
-    → if_bit bit at (limited_at w most s at) ≡ Got v n
+    → if_bit bit at (limited_at w most s at) ≡ Ok (v, n)
     → (bit_of v ≡ bit) × (v ≤ most) × Stands s at n (spelt_unless_zero w v)
 limited_back w most s at bit v n one inside h =
     optional (limited_at w most s at) bit at v n one h
@@ -197,18 +198,18 @@ pub record ListGot (w : ℕ) (s : List ℕ) (at count n : ℕ) : Type 0 where
   pub inside : at + count_bytes + w * count ≤ length s
   pub ends : n ≡ at + count_bytes + w * count
 
-after_count : {X : Type 0} (field : Field) (k : ℕ → ℕ → Field) (v n : ℕ) → then field k ≡ Got v n
-    → ((u m : ℕ) → field ≡ Got u m → k u m ≡ Got v n → X) → X
-after_count (Got u m) k v n h next = next u m refl h
-after_count (Refused c a) k v n h next = never (cc)
+after_count : {X : Type 0} (field : Field) (k : ℕ → ℕ → Field) (v n : ℕ) → then field k ≡ Ok (v, n)
+    → ((u m : ℕ) → field ≡ Ok (u, m) → k u m ≡ Ok (v, n) → X) → X
+after_count (Ok (u, m)) k v n h next = next u m refl h
+after_count (Err e) k v n h next = never (cc)
 
-pub list_got : (w : ℕ) (s : List ℕ) (at count n : ℕ) → list_at w s at ≡ Got count n → ListGot w s at count n
+pub list_got : (w : ℕ) (s : List ℕ) (at count n : ℕ) → list_at w s at ≡ Ok (count, n) → ListGot w s at count n
 unfolding list_at
 list_got w s at count n h =
     after_count (limited_at count_bytes most_names s at) _ count n h λ u m got h'.
     let g = limited_got count_bytes most_names s at u m got in
     let p = passed (leb (m + w * u) (length s)) _ _ _ _ _ h' in
-    let x = p.1 in
+    let x = same_field p.1 in
     let e : u ≡ count = cc in
     let q : m ≡ at + count_bytes = g.ends in
     let r : n ≡ m + w * u = cc in
@@ -233,7 +234,7 @@ list_spelt w s at (suc count) n g =
     (refl, rw k (join s (spelt count_bytes (suc count)) (spelt_names w names) at (at + count_bytes) n c d))
 
 pub list_back : (w : ℕ) (s : List ℕ) (at bit count n : ℕ) → bit ≤ 1 → at ≤ length s
-    → if_bit bit at (list_at w s at) ≡ Got count n
+    → if_bit bit at (list_at w s at) ≡ Ok (count, n)
     → (bit_of count ≡ bit) × (count ≤ most_names) × Stands s at n (spelt_list w (names_at w s (at + count_bytes) count))
     × (Bytes s → Below (256 ^ w) (names_at w s (at + count_bytes) count))
 unfolding names_at

@@ -1,5 +1,6 @@
 pub mod CodeLaws
 pub mod EntryTrip
+pub mod FieldLaws
 pub mod FieldTrip
 pub mod NumberLaws
 pub mod OffsetLaws

@@ -14,7 +14,8 @@ use Rattle.def_sheets.specs.Reading.{name_spelling, names_spelling, list_spellin
 use Rattle.def_sheets.specs.Reading.{list_bit, class_bit, grower_bit, spelling, Fits, SpeltAt, byte_at, UpToName}
 use Rattle.def_sheets.specs.Reading.{UpToList, UpToClass, UpToGrower, Faulty, ReadsExactly, HandsOutExactly}
 use Rattle.def_sheets.specs.declared.Reading.{Reading}
-use Rattle.def_sheets.specs.declared.Field.TheVariants.{Got, Refused}
+use Rattle.std.specs.Prelude.{Ok, Err}
+use Rattle.def_sheets.specs.Decode.{refusal}
 
 -- THE SPELLING by numerals is the writer's
 
@@ -104,7 +105,7 @@ abbrev from_list : List ℕ → ℕ → Decoded
 from_list s at =
     then_decoded (if_bit (byte_at s at / 2 % 2) (at + 5) (list_at 4 s (at + 5))) λ count c. from_class s at count c
 
-map_fine : (s : List ℕ) (at : ℕ) → UpToName s at → map_at s at ≡ Got (byte_at s at) (at + 1)
+map_fine : (s : List ℕ) (at : ℕ) → UpToName s at → map_at s at ≡ Ok (byte_at s at, at + 1)
 unfolding map_at
 map_fine s at f = rw (lt-ltb (byte_at s at) 16 f.known, eq-eqb (byte_at s at % 2) 1 f.named)
 
@@ -116,22 +117,22 @@ past_name s at f =
     rw (lt-ltb at (length s) f.map.starts, m, q, le-leb (at + 5) (length s) f.whole)
 
 limited_fine : (w most : ℕ) (s : List ℕ) (at : ℕ) → at + w ≤ length s → 1 ≤ number_at w s at → number_at w s at ≤ most
-    → limited_at w most s at ≡ Got (number_at w s at) (at + w)
+    → limited_at w most s at ≡ Ok (number_at w s at, at + w)
 unfolding limited_at
 limited_fine w most s at inside least greatest =
     rw (le-leb (at + w) (length s) inside, le-leb 1 (number_at w s at) least, le-leb (number_at w s at) most greatest)
 
-limited_cut : (w most : ℕ) (s : List ℕ) (at : ℕ) → length s < at + w → limited_at w most s at ≡ Refused 12 at
+limited_cut : (w most : ℕ) (s : List ℕ) (at : ℕ) → length s < at + w → limited_at w most s at ≡ Err (refusal 12 at)
 unfolding limited_at
 limited_cut w most s at outside = rw (lt-leb (at + w) (length s) outside)
 
 limited_zero : (w most : ℕ) (s : List ℕ) (at : ℕ) → at + w ≤ length s → number_at w s at ≡ 0
-    → limited_at w most s at ≡ Refused 14 at
+    → limited_at w most s at ≡ Err (refusal 14 at)
 unfolding limited_at
 limited_zero w most s at inside none = rw (le-leb (at + w) (length s) inside, none)
 
 limited_over : (w most : ℕ) (s : List ℕ) (at : ℕ) → at + w ≤ length s → most < number_at w s at
-    → limited_at w most s at ≡ Refused 14 at
+    → limited_at w most s at ≡ Err (refusal 14 at)
 unfolding limited_at
 limited_over w most s at inside over =
     rw (
@@ -157,7 +158,7 @@ record AtClass (s : List ℕ) (at c : ℕ) : Type 0 where
 
 list_fine : (s : List ℕ) (at : ℕ) → at + 1 ≤ length s → 1 ≤ byte_at s at → byte_at s at ≤ 32
     → at + 1 + 4 * byte_at s at ≤ length s
-    → list_at 4 s at ≡ Got (byte_at s at) (at + 1 + 4 * byte_at s at)
+    → list_at 4 s at ≡ Ok (byte_at s at, at + 1 + 4 * byte_at s at)
 unfolding list_at
 list_fine s at inside least greatest whole =
     let b = one_byte s at in

@@ -7,7 +7,7 @@ use Rattle.std.proofs.lemmas.List.Edits.{sets, sets-eq}
 use Rattle.std.proofs.lemmas.Bool.{lt-leb}
 use Rattle.def_basics.specs.Laws.{never}
 use Rattle.def_sheets.specs.Job.{Job}
-use Rattle.def_sheets.specs.declared.SheetRead.{SheetRead}
+use Rattle.def_sheets.specs.Decode.{SheetRead}
 use Rattle.def_sheets.specs.Decode.{SheetRows, Decoded, job, end, refused, decode, Sheet, jobs, broken, before}
 use Rattle.def_sheets.specs.Decode.{onward, decode_from, decode_sheet, rows_of, scan_sheet, read_sheet}
 use Rattle.def_sheets.proofs.NumberLaws.{Bytes}

@@ -1,5 +1,6 @@
 -- What reading answers at every offset of every input (docs/SHEETS.md and numbers 12 to 14).
 use Rattle.std.specs.Prelude.{ℕ, zero, suc, ◌+◌, ◌*◌, ◌-◌, ◌/◌, ◌%◌, List, [], ◌∷◌, ◌++◌, ◌&&◌, length, get_or, replicate, ltb, leb, eqb}
+use Rattle.std.specs.Prelude.{Option, Some, None, Result, Ok, Err}
 use Rattle.std.proofs.lemmas.List.Edits.{sets}
 use Rattle.def_numbers.specs.Numbers.{most_names, most_class, most_grower, name_bytes, count_bytes, class_bytes, grower_bytes}
 use Rattle.def_numbers.specs.Numbers.{cut}
@@ -8,44 +9,50 @@ use Rattle.def_basics.specs.Base.{pick}
 use Rattle.def_sheets.specs.Number.{number_at}
 use Rattle.def_sheets.specs.Job.{Job}
 use Rattle.def_sheets.specs.declared.Entry.{Entry}
-use Rattle.def_sheets.specs.declared.Field.{Field}
-use Rattle.def_sheets.specs.declared.Field.TheVariants.{Got, Refused}
-use Rattle.def_sheets.specs.declared.Scan.{Scan}
+use Rattle.def_sheets.specs.declared.Refusal.{Refusal}
+use Rattle.def_sheets.specs.declared.Scanned.{Scanned}
 use Rattle.def_sheets.specs.declared.Read.{Read}
 use Rattle.def_sheets.specs.declared.Reading.{Reading}
-use Rattle.def_sheets.specs.declared.SheetRead.{SheetRead}
+
+-- a refusal by its number, with the offset of the field
+abbrev pub refusal : ℕ → ℕ → Refusal
+refusal number at = record { number = number; at = at }
+
+-- a field that was read, with the offset past it, or its refusal
+abbrev pub Field : Type 0
+Field = Result (ℕ × ℕ) Refusal
 
 -- the map byte: 13 if bit 0 is clear or one of bits 4 to 7 is set
 unfoldable pub map_at : List ℕ → ℕ → Field
 map_at s at =
-    pick (ltb (get_or s at 0) 16 && eqb (get_or s at 0 % 2) 1) (Got (get_or s at 0) (at + 1)) (Refused wrong_map at)
+    pick (ltb (get_or s at 0) 16 && eqb (get_or s at 0 % 2) 1) (Ok (get_or s at 0, at + 1)) (Err (refusal wrong_map at))
 
 -- a name of w bytes
 unfoldable pub name_at : ℕ → List ℕ → ℕ → Field
-name_at w s at = pick (leb (at + w) (length s)) (Got (number_at w s at) (at + w)) (Refused cut at)
+name_at w s at = pick (leb (at + w) (length s)) (Ok (number_at w s at, at + w)) (Err (refusal cut at))
 
 -- a number of w bytes from 1 to most: "a cut (12) is noticed before a wrong value (14)", "a written 0 is refused"
 unfoldable pub limited_at : ℕ → ℕ → List ℕ → ℕ → Field
 limited_at w most s at =
     pick (leb (at + w) (length s))
-    (pick (leb 1 (number_at w s at) && leb (number_at w s at) most) (Got (number_at w s at) (at + w))
-    (Refused wrong_value at))
-    (Refused cut at)
+    (pick (leb 1 (number_at w s at) && leb (number_at w s at) most) (Ok (number_at w s at, at + w))
+    (Err (refusal wrong_value at)))
+    (Err (refusal cut at))
 
 abbrev pub then : Field → (ℕ → ℕ → Field) → Field
-then (Got v n) k = k v n
-then (Refused c a) k = Refused c a
+then (Ok (v, n)) k = k v n
+then (Err e) k = Err e
 
 -- a list: "a list's count is judged before its names are looked for"; a cut is at the field, which starts with the
 -- count
 unfoldable pub list_at : ℕ → List ℕ → ℕ → Field
 list_at w s at =
     then (limited_at count_bytes most_names s at) λ count next.
-    pick (leb (next + w * count) (length s)) (Got count (next + w * count)) (Refused cut at)
+    pick (leb (next + w * count) (length s)) (Ok (count, next + w * count)) (Err (refusal cut at))
 
 -- a field whose bit is clear is left out and means 0
 abbrev pub if_bit : ℕ → ℕ → Field → Field
-if_bit bit at field = pick (eqb bit 0) (Got 0 at) field
+if_bit bit at field = pick (eqb bit 0) (Ok (0, at)) field
 
 -- n names of w bytes from an offset on
 unfoldable pub names_at : ℕ → List ℕ → ℕ → ℕ → List ℕ
@@ -59,8 +66,8 @@ pub data Decoded : Type 0 where
   refused : ℕ → ℕ → Decoded
 
 abbrev pub then_decoded : Field → (ℕ → ℕ → Decoded) → Decoded
-then_decoded (Got v n) k = k v n
-then_decoded (Refused c a) k = refused c a
+then_decoded (Ok (v, n)) k = k v n
+then_decoded (Err e) k = refused e.number e.at
 
 unfoldable pub decode : List ℕ → ℕ → Decoded
 decode s at =
@@ -108,10 +115,15 @@ entry_of j =
 abbrev pub blank : Entry
 blank = record { name = 0; count = 0; class = 0; grower = 0; names = replicate most_names 0 }
 
-abbrev pub scan_of : Decoded → Scan
-scan_of (job j n) = Scan.Fields j.name (length j.list) j.class j.grower n
-scan_of end = Scan.End
-scan_of (refused c a) = Scan.Refused c a
+-- an entry that was scanned: its numbers without its list's names, and the offset past it
+abbrev pub scanned : (name count class grower next : ℕ) → Scanned
+scanned name count class grower next =
+    record { numbers = record { name = name; count = count; class = class; grower = grower }; next = next }
+
+abbrev pub scan_of : Decoded → Result (Option Scanned) Refusal
+scan_of (job j n) = Ok (Some (scanned j.name (length j.list) j.class j.grower n))
+scan_of end = Ok None
+scan_of (refused c a) = Err (refusal c a)
 
 -- "nothing handed out for that entry": the entry beside a refusal is blank
 abbrev pub reading_of : Decoded → Reading
@@ -127,9 +139,13 @@ unfoldable pub rows_of : List Job → List ℕ
 rows_of [] = []
 rows_of (j ∷ js) = row_of j ++ rows_of js
 
+-- how reading a whole sheet ended: with so many entries, or with the first refusal
+abbrev pub SheetRead : Type 0
+SheetRead = Result ℕ Refusal
+
 abbrev pub scan_sheet : Sheet → SheetRead
-scan_sheet (jobs js) = SheetRead.Whole (length js)
-scan_sheet (broken c a) = SheetRead.Refused c a
+scan_sheet (jobs js) = Ok (length js)
+scan_sheet (broken c a) = Err (refusal c a)
 
 -- the answer, and the lent rows afterwards
 pub record SheetRows : Type 0 where
@@ -143,6 +159,6 @@ sheet_rows a r = record { answer = a; rows = r }
 abbrev pub read_sheet : Sheet → List ℕ → SheetRows
 read_sheet (jobs js) rows =
     pick (leb (entry_words * length js) (length rows))
-    (sheet_rows (SheetRead.Whole (length js)) (sets rows 0 (rows_of js)))
-    (sheet_rows (SheetRead.Refused no_room 0) rows)
-read_sheet (broken c a) rows = sheet_rows (SheetRead.Refused c a) rows
+    (sheet_rows (Ok (length js)) (sets rows 0 (rows_of js)))
+    (sheet_rows (Err (refusal no_room 0)) rows)
+read_sheet (broken c a) rows = sheet_rows (Err (refusal c a)) rows

@@ -7,7 +7,8 @@ use Rattle.def_sheets.specs.Decode.{Decoded, job, end, refused, Sheet, jobs, bro
 use Rattle.def_sheets.specs.declared.Entry.{Entry}
 use Rattle.def_sheets.specs.declared.Read.{Read}
 use Rattle.def_sheets.specs.declared.Reading.{Reading}
-use Rattle.def_sheets.specs.declared.SheetRead.{SheetRead}
+use Rattle.std.specs.Prelude.{Ok, Err}
+use Rattle.def_sheets.specs.Decode.{SheetRead, refusal}
 
 -- A JOB'S SPELLING
 
@@ -177,8 +178,8 @@ pub record SheetReadsExactly (read : List ℕ → Sheet) (s : List ℕ) : Type 0
 
 -- how many entries it has, as the code answers it
 pub record ScansExactly (scan : List ℕ → SheetRead) (s : List ℕ) : Type 0 where
-  pub whole : (js : List Job) → ReadsFrom s 0 js → scan s ≡ SheetRead.Whole (length js)
-  pub faulty : (number offset : ℕ) → BrokenFrom s number offset 0 → scan s ≡ SheetRead.Refused number offset
+  pub whole : (js : List Job) → ReadsFrom s 0 js → scan s ≡ Ok (length js)
+  pub faulty : (number offset : ℕ) → BrokenFrom s number offset 0 → scan s ≡ Err (refusal number offset)
 
 -- the 36 words of an entry: name, count, class, grower and 32 names
 abbrev pub row_for : Job → List ℕ
@@ -192,8 +193,8 @@ rows_for (j ∷ js) = row_for j ++ rows_for js
 -- neither changes a word; else the entries fill the front, and every word behind them is as it was
 pub record RowsReadExactly (read : List ℕ → List ℕ → SheetRows) (s lent : List ℕ) : Type 0 where
   pub faulty : (number offset : ℕ) → BrokenFrom s number offset 0
-      → read s lent ≡ record { answer = SheetRead.Refused number offset; rows = lent }
+      → read s lent ≡ record { answer = Err (refusal number offset); rows = lent }
   pub no_room_lem : (js : List Job) → ReadsFrom s 0 js → length lent < 36 * length js
-      → read s lent ≡ record { answer = SheetRead.Refused 15 0; rows = lent }
+      → read s lent ≡ record { answer = Err (refusal 15 0); rows = lent }
   pub whole : (js : List Job) → ReadsFrom s 0 js → 36 * length js ≤ length lent
-      → read s lent ≡ record { answer = SheetRead.Whole (length js); rows = rows_for js ++ drop (36 * length js) lent }
+      → read s lent ≡ record { answer = Ok (length js); rows = rows_for js ++ drop (36 * length js) lent }

@@ -14,28 +14,27 @@ pub struct Entry {
     pub names: [u32; 32],
 }
 
-// A field that was read, with the offset past it, or a refusal with its offset.
+// A refusal by its number, with the offset of the field. Offsets run from the sheet's start.
 #[derive(Clone, Copy)]
-pub enum Field {
-    Got { value: u32, next: usize },
-    Refused { number: u32, at: usize },
+pub struct Refusal {
+    pub number: u32,
+    pub at: usize,
 }
 
-// The numbers of an entry without its list, with the offset past it.
+// The numbers of an entry. Of its list there is the count alone.
 #[derive(Clone, Copy)]
-pub enum Scan {
-    Fields {
-        name: u32,
-        count: u32,
-        class: u32,
-        grower: u32,
-        next: usize,
-    },
-    End,
-    Refused {
-        number: u32,
-        at: usize,
-    },
+pub struct Numbers {
+    pub name: u32,
+    pub count: u32,
+    pub class: u32,
+    pub grower: u32,
+}
+
+// The numbers of the entry that was scanned, with the offset past it.
+#[derive(Clone, Copy)]
+pub struct Scanned {
+    pub numbers: Numbers,
+    pub next: usize,
 }
 
 // How reading an entry ended. Offsets run from the sheet's start.
@@ -57,13 +56,6 @@ pub struct Reading {
 #[derive(Clone, Copy)]
 pub enum Wrote {
     Done { next: usize },
-    Refused { number: u32, at: usize },
-}
-
-// How reading a whole sheet ended.
-#[derive(Clone, Copy)]
-pub enum SheetRead {
-    Whole { entries: usize },
     Refused { number: u32, at: usize },
 }
 

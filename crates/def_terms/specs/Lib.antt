@@ -5,3 +5,4 @@ pub mod Seen
 pub mod Runs
 pub mod Starred
 pub mod Cases
+pub mod Labels

@@ -1,14 +1,42 @@
 // The vocabulary of the task graph: sizes and answers. What a call's arguments mean stands in specs/.
 #![tactic(auto)]
 
-ghost use Rattle.std.specs.Prelude.{◌≡◌};
+ghost use Rattle.std.specs.Prelude.{◌≡◌, MatchResult};
 ghost use Rattle.def_terms.specs.Terms.{bit};
+ghost use Rattle.def_terms.specs.Labels.{label_word, IsNoLabel};
 
 // The word of a truth value: an outcome, a spoiled word or a note.
 pub fn bit(test: bool) -> u32
     ensures { result ≡ bit test }
 {
-    if test { 1 } else { 0 }
+    u32::from(test)
+}
+
+// A job's label, which stands in a word.
+#[derive(Clone, Copy, Debug, PartialEq, Eq)]
+pub enum Label {
+    Unexecuted = 0,
+    Executing = 1,
+    Finished = 2,
+}
+
+// A word that is no label.
+#[derive(Clone, Copy, Debug, PartialEq, Eq)]
+pub struct NotALabel;
+
+impl TryFrom<u32> for Label {
+    type Error = NotALabel;
+
+    ghost try_from_gives = { λ word label. MatchResult label (λ l. word ≡ label_word l) (λ _. IsNoLabel word) };
+
+    fn try_from(word: u32) -> Result<Label, NotALabel> {
+        match word {
+            0 => Ok(Label::Unexecuted),
+            1 => Ok(Label::Executing),
+            2 => Ok(Label::Finished),
+            _ => Err(NotALabel),
+        }
+    }
 }
 
 // R jobs, A arcs, b bucket bits and P workers of docs/RULES.md.

@@ -17,10 +17,9 @@ use Rattle.def_sheets.specs.Decode.{onward, before, entry_of, blank, scan_sheet,
 use Rattle.def_sheets.specs.Decode.{then_decoded, map_at, name_at, limited_at, list_at, if_bit, then}
 use Rattle.def_sheets.proofs.CodeLaws.{entry_bounds}
 use Rattle.def_sheets.specs.declared.Entry.{Entry}
-use Rattle.def_sheets.specs.declared.Field.{Field}
-use Rattle.def_sheets.specs.declared.Field.TheVariants.{Got, Refused}
-use Rattle.def_sheets.specs.declared.SheetRead.{SheetRead}
-use Rattle.def_sheets.specs.declared.SheetRead.TheVariants.{Whole}
+use Rattle.def_sheets.specs.Decode.{Field}
+use Rattle.std.specs.Prelude.{Ok, Err}
+use Rattle.def_sheets.specs.Decode.{SheetRead, refusal}
 use Rattle.def_told.specs.Reader.{entry_read, sheet_read}
 use Rattle.def_told.specs.declared.EntryRead.{EntryRead}
 use Rattle.def_told.specs.declared.SheetScanned.{SheetScanned}
@@ -209,10 +208,10 @@ entries_told_one_way told h asked x t =
 
 -- ---- and nothing else than that stands at an offset: a field is got, or refused by one of these numbers
 data Judged : Field → Type 0 where
-  got : {v n : ℕ} → Judged (Got v n)
-  by_12 : {a : ℕ} → Judged (Refused 12 a)
-  by_13 : {a : ℕ} → Judged (Refused 13 a)
-  by_14 : {a : ℕ} → Judged (Refused 14 a)
+  got : {v n : ℕ} → Judged (Ok (v, n))
+  by_12 : {a : ℕ} → Judged (Err (refusal 12 a))
+  by_13 : {a : ℕ} → Judged (Err (refusal 13 a))
+  by_14 : {a : ℕ} → Judged (Err (refusal 14 a))
 
 data Ended : Decoded → Type 0 where
   a_job : {j : Job} {n : ℕ} → Ended (job j n)
@@ -243,7 +242,7 @@ list_judged w s at = go (limited_at count_bytes most_names s at) (limited_judged
   where
     go : (f : Field) → Judged f
         → Judged (then f λ count next.
-        pick (leb (next + w * count) (length s)) (Got count (next + w * count)) (Refused cut at))
+        pick (leb (next + w * count) (length s)) (Ok (count, next + w * count)) (Err (refusal cut at)))
     go f (got {v} {n}) = pick_by Judged (leb (n + w * v) (length s)) (λ e. got) (λ e. Judged.by_12)
     go f Judged.by_12 = Judged.by_12
     go f Judged.by_13 = Judged.by_13
@@ -285,7 +284,7 @@ what_stands s at = go (decode s at) (ended s at) refl
 
 -- "number 0: how many entries the sheet has"; any other refuses, with the offset of the field
 abbrev pub heard_sheet : SheetScanned → SheetRead
-heard_sheet r = pick (eqb r.number 0) (Whole r.entries) (SheetRead.Refused r.number r.at)
+heard_sheet r = pick (eqb r.number 0) (Ok r.entries) (Err (refusal r.number r.at))
 
 -- "`at` is 0" of a sheet that was read, "entries is 0" of one that was refused, and by 15 "entries and `at` are 0"
 pub record SilentSheet (r : SheetScanned) : Type 0 where
@@ -295,15 +294,15 @@ pub record SilentSheet (r : SheetScanned) : Type 0 where
 
 -- how a sheet can be judged: it has entries, or a field of it is refused by 12, 13 or 14
 pub data Scanned : SheetRead → Type 0 where
-  whole : {n : ℕ} → Scanned (Whole n)
-  by_12 : {field : ℕ} → Scanned (SheetRead.Refused 12 field)
-  by_13 : {field : ℕ} → Scanned (SheetRead.Refused 13 field)
-  by_14 : {field : ℕ} → Scanned (SheetRead.Refused 14 field)
+  whole : {n : ℕ} → Scanned (Ok n)
+  by_12 : {field : ℕ} → Scanned (Err (refusal 12 field))
+  by_13 : {field : ℕ} → Scanned (Err (refusal 13 field))
+  by_14 : {field : ℕ} → Scanned (Err (refusal 14 field))
 
 -- and how it can be read into rows: so, or the rows are too short
 pub data ReadIn : SheetRead → Type 0 where
   scanned : {x : SheetRead} → Scanned x → ReadIn x
-  by_15 : ReadIn (SheetRead.Refused 15 0)
+  by_15 : ReadIn (Err (refusal 15 0))
 
 -- any telling of how a sheet was read is to be heard so
 pub record SheetsHeard (told : SheetRead → SheetScanned) : Type 0 where
@@ -318,7 +317,7 @@ sheet_heard x (scanned Scanned.by_14) = refl
 sheet_heard x ReadIn.by_15 = refl
 
 silent_refusal : (n field : ℕ) → eqb n 0 ≡ false → eqb n 15 ≡ false
-    → SilentSheet (sheet_read (SheetRead.Refused n field))
+    → SilentSheet (sheet_read (Err (refusal n field)))
 silent_refusal n field f g = record {
   counted = λ e. absurd (eqb-false n 0 f e);
   refused = λ m. refl;

@@ -3,7 +3,8 @@
 use Rattle.std.specs.Prelude.{ℕ}
 use Rattle.def_numbers.specs.Numbers.{accepted}
 use Rattle.def_sheets.specs.Decode.{Decoded, job, end, refused, entry_of, blank}
-use Rattle.def_sheets.specs.declared.SheetRead.{SheetRead}
+use Rattle.std.specs.Prelude.{Ok, Err}
+use Rattle.def_sheets.specs.Decode.{SheetRead}
 use Rattle.def_told.specs.declared.EntryRead.{EntryRead}
 use Rattle.def_told.specs.declared.SheetScanned.{SheetScanned}
 
@@ -17,5 +18,5 @@ entry_read asked (refused number field) = record { number = number; found = 0; a
 -- how many entries the sheet has. 12 to 14: the byte offset of the field; 15, of rows that are too few, has none; a
 -- sheet that is only counted has no rows, and is never 15
 abbrev pub sheet_read : SheetRead → SheetScanned
-sheet_read (SheetRead.Whole entries) = record { number = accepted; entries = entries; at = 0 }
-sheet_read (SheetRead.Refused number field) = record { number = number; entries = 0; at = field }
+sheet_read (Ok entries) = record { number = accepted; entries = entries; at = 0 }
+sheet_read (Err e) = record { number = e.number; entries = 0; at = e.at }

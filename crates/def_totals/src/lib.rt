@@ -3,7 +3,9 @@
 #![tactic(auto)]
 
 ghost use Rattle.std.specs.Prelude.{◌≡◌};
-ghost use Rattle.def_totals.specs.Board.{refused};
+ghost use Rattle.def_totals.specs.Told.{told_totals};
+
+use def_numbers::{ACCEPTED, Refusal};
 
 #[repr(C)]
 #[derive(Clone, Copy)]
@@ -12,8 +14,14 @@ pub struct JobRecord {
     pub class: u32,
 }
 
-// The number is 0 for a row that is served. Else it is the refusal's, and all else is 0. Jobs and minutes are indexed
-// by label: unexecuted, executing, finished.
+// Jobs and minutes are indexed by label: unexecuted, executing, finished.
+#[derive(Clone, Copy, Default)]
+pub struct Board {
+    pub jobs: [u32; 3],
+    pub minutes: [u32; 3],
+}
+
+// A board as C has it. The number is 0 for a row that is served. Else it is the refusal's, and all else is 0.
 #[repr(C)]
 #[derive(Clone, Copy)]
 pub struct Totals {
@@ -22,13 +30,25 @@ pub struct Totals {
     pub minutes: [u32; 3],
 }
 
-// No totals yet, or a refusal.
-pub fn blank(number: u32) -> Totals
-    ensures { result ≡ refused number }
-{
-    Totals {
-        number,
-        jobs: [0; 3],
-        minutes: [0; 3],
+impl From<Result<Board, Refusal>> for Totals {
+    ghost from_gives = { λ board told. told ≡ told_totals board };
+
+    fn from(board: Result<Board, Refusal>) -> Totals {
+        match board {
+            Ok(board) => {
+                let jobs = board.jobs;
+                let minutes = board.minutes;
+                Totals {
+                    number: ACCEPTED,
+                    jobs,
+                    minutes,
+                }
+            }
+            Err(refusal) => Totals {
+                number: refusal.into(),
+                jobs: [0; 3],
+                minutes: [0; 3],
+            },
+        }
     }
 }

@@ -5,7 +5,7 @@
 // 0; `call` is 0 where no call is half done, 1 for an add and 2 for a finish; `adds` is the name of the add half done,
 // else 0; `spoiled` is 1 for a held job that is spoiled, else 0.
 #[repr(C)]
-#[derive(Clone, Copy)]
+#[derive(Clone, Copy, Default)]
 pub struct Holding {
     pub number: u32,
     pub holds: u32,
@@ -19,7 +19,7 @@ pub struct Holding {
 // The number is 0, or a refusal's, and then all else is 0. `drained` is 1 where the queue is empty and every worker is
 // idle and without a job, else 0.
 #[repr(C)]
-#[derive(Clone, Copy)]
+#[derive(Clone, Copy, Default)]
 pub struct Drained {
     pub number: u32,
     pub drained: u32,

@@ -105,7 +105,8 @@ use Rattle.def_sheets.specs.Job.{Job}
 use Rattle.def_sheets.proofs.NumberLaws.{Bytes}
 use Rattle.def_whole_calls.specs.Whole.{whole_add, whole_finish}
 use Rattle.def_room.specs.Room.{arguments_of}
-use Rattle.def_day.specs.Rounds.{day_sizes, Holder, get_round, finish_all, rounds, run_day, hand_outs}
+use Rattle.def_day.specs.Rounds.{day_sizes, get_round, finish_all, rounds, run_day, hand_outs}
+use Rattle.def_day.specs.declared.Holder.{Holder}
 use Rattle.def_day.specs.Rounds.{unfinished}
 use Rattle.def_day_lines.specs.Text.{decimal, left_word, line, ◌␣◌}
 use Rattle.def_day_lines.specs.Day.{lines_before, day_lines, day_text, day_list, printing}

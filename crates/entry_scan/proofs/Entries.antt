@@ -14,10 +14,11 @@ use Rattle.def_basics.specs.Laws.{never}
 use Rattle.def_sheets.specs.Job.{Job}
 use Rattle.def_sheets.proofs.NumberLaws.{length_names_at}
 use Rattle.def_sheets.specs.Decode.{map_at, name_at, limited_at, list_at, if_bit, names_at, Decoded, job, end}
-use Rattle.def_sheets.specs.Decode.{refused, then_decoded, decode, scan_of}
-use Rattle.def_sheets.specs.declared.Field.{Field}
-use Rattle.def_sheets.specs.declared.Field.TheVariants.{Got, Refused}
-use Rattle.def_sheets.specs.declared.Scan.{Scan}
+use Rattle.def_sheets.specs.Decode.{refused, then_decoded, decode, scanned, scan_of}
+use Rattle.std.specs.Prelude.{Option, Some, None, Ok, Err}
+use Rattle.def_sheets.specs.declared.Refusal.{Refusal}
+use Rattle.def_sheets.specs.declared.Scanned.{Scanned}
+use Rattle.def_sheets.specs.Decode.{Field, refusal}
 use Rattle.entry_scan.proofs.Fields.{map_next, number_passed, limited_got, number_behind, listed}
 
 -- how far an entry and its names reach: the names start six bytes in
@@ -28,9 +29,9 @@ pub record Stands (s : List ℕ) (at count n : ℕ) : Type 0 where
   pub within : n ≤ length s
 
 pub decoded : (f : Field) (k : ℕ → ℕ → Decoded) (j : Job) (n : ℕ) {P : Type 0} → then_decoded f k ≡ job j n
-    → ((v m : ℕ) → f ≡ Got v m → k v m ≡ job j n → P) → P
-decoded (Got v m) k j n h onward = onward v m refl h
-decoded (Refused c a) k j n h onward = never (cc)
+    → ((v m : ℕ) → f ≡ Ok (v, m) → k v m ≡ job j n → P) → P
+decoded (Ok (v, m)) k j n h onward = onward v m refl h
+decoded (Err e) k j n h onward = never (cc)
 
 pub inside : (b : Bool) (d : Decoded) (j : Job) (n : ℕ) → pick b d end ≡ job j n → (b ≡ true) × (d ≡ job j n)
 inside true d j n h = (refl, h)
@@ -63,47 +64,47 @@ stands s at j n h =
 -- WHAT A SCAN SAYS OF THE ENTRY
 
 -- the job that a scan's numbers make with the names of the sheet
-abbrev pub scanned : (s : List ℕ) (at name count class grower : ℕ) → Job
-scanned s at name count class grower =
-    record { name = name; list = names_at name_bytes s (at + 6) count; class = class; grower = grower }
+abbrev pub job_of_scan : (s : List ℕ) (at : ℕ) → Scanned → Job
+job_of_scan s at x = record {
+  name = x.numbers.name;
+  list = names_at name_bytes s (at + 6) x.numbers.count;
+  class = x.numbers.class;
+  grower = x.numbers.grower;
+}
 
-pub record Scanned (s : List ℕ) (at name count class grower n : ℕ) : Type 0 where
-  pub entry : decode s at ≡ job (scanned s at name count class grower) n
-  pub reach : Stands s at count n
+pub record Found (s : List ℕ) (at : ℕ) (x : Scanned) : Type 0 where
+  pub entry : decode s at ≡ job (job_of_scan s at x) x.next
+  pub reach : Stands s at x.numbers.count x.next
 
-scanned_job : (s : List ℕ) (at name count class grower n : ℕ) (d : Decoded) → decode s at ≡ d
-    → scan_of d ≡ Scan.Fields name count class grower n → d ≡ job (scanned s at name count class grower) n
-scanned_job s at name count class grower n (job j m) e h =
+found_job : (s : List ℕ) (at : ℕ) (x : Scanned) (d : Decoded) → decode s at ≡ d → scan_of d ≡ Ok (Some x)
+    → d ≡ job (job_of_scan s at x) x.next
+found_job s at x (job j m) e h =
     let l = (stands s at j m e).0 in
-    let c : length j.list ≡ count = cc in
-    let l' : j.list ≡ names_at name_bytes s (at + 6) count = rw c at l in
-    let a : j.name ≡ name = cc in
-    let b : j.class ≡ class = cc in
-    let g : j.grower ≡ grower = cc in
-    let k : m ≡ n = cc in
-    rw (← a, ← b, ← g, ← k, ← l')
-scanned_job s at name count class grower n end e h = never (cc)
-scanned_job s at name count class grower n (refused c a) e h = never (cc)
+    let y : scanned j.name (length j.list) j.class j.grower m ≡ x = cc in
+    rw (← y, ← l)
+found_job s at x end e h = never (cc)
+found_job s at x (refused c a) e h = never (cc)
 
-pub scan_job : {s : List ℕ} {at : ℕ} {r : Scan} {name count class grower n : ℕ} → r ≡ scan_of (decode s at)
-    → r ≡ Scan.Fields name count class grower n → Scanned s at name count class grower n
-scan_job {s} {at} {r} {name} {count} {class} {grower} {n} e h =
-    let j = scanned_job s at name count class grower n (decode s at) refl (sym e ∙ h) in
-    record { entry = j; reach = rw length_names_at at (stands s at _ n j).1 }
+pub scan_job : {s : List ℕ} {at : ℕ} {o : Option Scanned} {x : Scanned} → Ok o ≡ scan_of (decode s at)
+    → o ≡ Some x → Found s at x
+scan_job {s} {at} {o} {x} e h =
+    let j = found_job s at x (decode s at) refl (sym e ∙ ap Ok h) in
+    record { entry = j; reach = rw length_names_at at (stands s at _ _ j).1 }
 
-pub scan_end : (s : List ℕ) (at : ℕ) {r : Scan} → r ≡ scan_of (decode s at) → r ≡ Scan.End → decode s at ≡ end
-scan_end s at e h = go (decode s at) (sym e ∙ h)
+pub scan_end : (s : List ℕ) (at : ℕ) {o : Option Scanned} → Ok o ≡ scan_of (decode s at) → o ≡ None
+    → decode s at ≡ end
+scan_end s at e h = go (decode s at) (sym e ∙ ap Ok h)
   where
-    go : (d : Decoded) → scan_of d ≡ Scan.End → d ≡ end
+    go : (d : Decoded) → scan_of d ≡ Ok None → d ≡ end
     go (job j m) h = never (cc)
     go end h = refl
     go (refused c a) h = never (cc)
 
-pub scan_refused : (s : List ℕ) (at : ℕ) {r : Scan} {c a : ℕ} → r ≡ scan_of (decode s at) → r ≡ Scan.Refused c a
-    → decode s at ≡ refused c a
-scan_refused s at {r} {c} {a} e h = go (decode s at) (sym e ∙ h)
+pub scan_refused : (s : List ℕ) (at : ℕ) {x : Refusal} → Err x ≡ scan_of (decode s at)
+    → decode s at ≡ refused x.number x.at
+scan_refused s at {x} e = go (decode s at) (sym e)
   where
-    go : (d : Decoded) → scan_of d ≡ Scan.Refused c a → d ≡ refused c a
+    go : (d : Decoded) → scan_of d ≡ Err x → d ≡ refused x.number x.at
     go (job j m) h = never (cc)
     go end h = never (cc)
-    go (refused c' a') h = cc
+    go (refused c a) h = let y : refusal c a ≡ x = cc in rw (← y)

@@ -3,131 +3,92 @@
 // offset.
 #![tactic(auto)]
 
-ghost use Rattle.std.specs.Prelude.{◌≡◌, ◌&&◌, ◌||◌, List, ℕ, ◌+◌, ◌*◌, ◌≤◌, length, leb, eqb};
+ghost use Rattle.std.specs.Prelude.{◌≡◌, ◌&&◌, ◌||◌, ◌+◌, ◌≤◌, length, leb, eqb};
 ghost use Rattle.def_numbers.specs.Numbers.{name_bytes};
-ghost use Rattle.def_sheets.specs.Decode.{name_at, list_at, if_bit, decode, scan_of};
-ghost use Rattle.entry_scan.specs.Stages.{from_grower, from_class};
+ghost use Rattle.def_sheets.specs.Number.{number_at};
+ghost use Rattle.def_sheets.specs.Decode.{name_at, limited_at, list_at, if_bit, decode, scan_of};
 
 use def_numbers::{
-    COUNT_BYTES, CUT, MOST_CLASS, MOST_GROWER, MOST_NAMES, NAME_BYTES, WRONG_MAP, WRONG_VALUE,
+    CLASS_BYTES, COUNT_BYTES, CUT, GROWER_BYTES, MOST_CLASS, MOST_GROWER, MOST_NAMES, NAME_BYTES,
+    WRONG_MAP, WRONG_VALUE,
 };
-use def_sheets::{Field, Scan};
+use def_sheets::{Numbers, Refusal, Scanned};
 
 // where the list of an entry stands: past the map byte and the name; and where its names start: past the count byte too
 pub const LIST_OFFSET: usize = 1 + NAME_BYTES;
 
 pub const NAMES_FROM: usize = LIST_OFFSET + COUNT_BYTES;
 
-// A byte as a number.
-pub fn wide(a: u8) -> u32
-    ensures { result ≡ a }
+// The number in so many bytes, least byte first.
+pub fn number<const WIDTH: usize>(s: &[u8], at: usize) -> u32
+    requires width { WIDTH ≤ 4 }
+    requires inside { at + WIDTH ≤ length s.now }
+    ensures { result ≡ number_at WIDTH s.now at }
 {
-    a as u32
+    let mut bytes = [0; 4];
+    bytes[..WIDTH].copy_from_slice(&s[at..at + WIDTH]);
+    u32::from_le_bytes(bytes)
 }
 
-// The numbers that two bytes and four bytes spell.
-pub fn spelt2(a: u8, b: u8) -> u32
-    ensures { result ≡ a + 256 * b }
+// A field of so many bytes that may be any number, with the offset past it.
+fn whole<const WIDTH: usize>(s: &[u8], at: usize) -> Result<(u32, usize), Refusal>
+    requires width { WIDTH ≤ 4 }
+    requires inside { at ≤ length s.now }
+    ensures { result ≡ name_at WIDTH s.now at }
 {
-    (a as u32) + 256 * (b as u32)
-}
-
-pub fn spelt4(a: u8, b: u8, c: u8, d: u8) -> u32
-    ensures { result ≡ a + 256 * (b + 256 * (c + 256 * d)) }
-{
-    (a as u32) + 256 * ((b as u32) + 256 * ((c as u32) + 256 * (d as u32)))
-}
-
-// A name.
-fn name(s: &[u8], at: usize) -> Field
-    requires { at ≤ length s.now }
-    ensures { result ≡ name_at name_bytes s.now at }
-{
-    if at + NAME_BYTES <= s.len() {
-        Field::Got {
-            value: spelt4(s[at], s[at + 1], s[at + 2], s[at + 3]),
-            next: at + NAME_BYTES,
-        }
-    } else {
-        Field::Refused { number: CUT, at }
+    if s.len() < at + WIDTH {
+        return Err(Refusal { number: CUT, at });
     }
+    Ok((number::<WIDTH>(s, at), at + WIDTH))
 }
 
-// A list that is there: its count, once as many names stand behind it.
-fn list(s: &[u8], at: usize) -> Field
-    requires { at ≤ length s.now }
-    ensures { result ≡ list_at name_bytes s.now at }
+// A field of so many bytes that is a number from 1 to its limit.
+fn limited<const WIDTH: usize>(s: &[u8], at: usize, most: u32) -> Result<(u32, usize), Refusal>
+    requires width { WIDTH ≤ 4 }
+    requires inside { at ≤ length s.now }
+    ensures { result ≡ limited_at WIDTH most s.now at }
 {
-    if s.len() < at + 1 {
-        return Field::Refused { number: CUT, at };
-    }
-    let count = wide(s[at]);
-    let names = count as usize;
-    let right = (1 <= count) & (count <= MOST_NAMES);
-    if right {
-        let end = at + 1 + NAME_BYTES * names;
-        if end <= s.len() {
-            Field::Got {
-                value: count,
-                next: end,
-            }
-        } else {
-            Field::Refused { number: CUT, at }
-        }
-    } else {
-        Field::Refused {
+    let (value, next) = whole::<WIDTH>(s, at)?;
+    if value < 1 || most < value {
+        return Err(Refusal {
             number: WRONG_VALUE,
             at,
-        }
+        });
     }
+    Ok((value, next))
 }
 
-// A list, where its bit stands.
-fn list_if(s: &[u8], at: usize, bit: u32) -> Field
+// The same where its bit stands, and 0 where the field is left out.
+fn limited_if<const WIDTH: usize>(
+    s: &[u8],
+    at: usize,
+    bit: u32,
+    most: u32,
+) -> Result<(u32, usize), Refusal>
+    requires width { WIDTH ≤ 4 }
+    requires inside { at ≤ length s.now }
+    ensures { result ≡ if_bit bit at (limited_at WIDTH most s.now at) }
+{
+    if bit == 0 {
+        return Ok((0, at));
+    }
+    limited::<WIDTH>(s, at, most)
+}
+
+// A list, where its bit stands: its count, once as many names stand behind it.
+fn list_if(s: &[u8], at: usize, bit: u32) -> Result<(u32, usize), Refusal>
     requires { at ≤ length s.now }
     ensures { result ≡ if_bit bit at (list_at name_bytes s.now at) }
 {
     if bit == 0 {
-        Field::Got { value: 0, next: at }
-    } else {
-        list(s, at)
+        return Ok((0, at));
     }
-}
-
-// A number of one byte, or of two, where its bit stands. The caller judges it, so that the offset past it does not wait
-// for its value.
-fn number1_if(s: &[u8], at: usize, bit: u32) -> Field
-    requires { at ≤ length s.now }
-    ensures { result ≡ if_bit bit at (name_at 1 s.now at) }
-{
-    if bit == 0 {
-        return Field::Got { value: 0, next: at };
+    let (count, names) = limited::<COUNT_BYTES>(s, at, MOST_NAMES)?;
+    let end = names + NAME_BYTES * count as usize;
+    if s.len() < end {
+        return Err(Refusal { number: CUT, at });
     }
-    if at + 1 <= s.len() {
-        Field::Got {
-            value: wide(s[at]),
-            next: at + 1,
-        }
-    } else {
-        Field::Refused { number: CUT, at }
-    }
-}
-
-fn number2_if(s: &[u8], at: usize, bit: u32) -> Field
-    requires { at ≤ length s.now }
-    ensures { result ≡ if_bit bit at (name_at 2 s.now at) }
-{
-    if bit == 0 {
-        return Field::Got { value: 0, next: at };
-    }
-    if at + 2 <= s.len() {
-        Field::Got {
-            value: spelt2(s[at], s[at + 1]),
-            next: at + 2,
-        }
-    } else {
-        Field::Refused { number: CUT, at }
-    }
+    Ok((count, end))
 }
 
 // Whether a number is left out, or from 1 to its limit.
@@ -137,80 +98,29 @@ pub fn within_if(bit: u32, value: u32, most: u32) -> bool
     (bit == 0) | ((1 <= value) & (value <= most))
 }
 
-// The grower, the last field. The list counts by its length alone.
-fn from_grower(s: &[u8], at: usize, map: u32, name: u32, count: u32, class: u32) -> Scan
-    requires { at ≤ length s.now }
-    ensures { (list : List ℕ) → length list ≡ count
-        → result ≡ scan_of (from_grower s.now at map name list class) }
-{
-    let bit = map / 8 % 2;
-    match number2_if(s, at, bit) {
-        Field::Refused { number, at } => Scan::Refused { number, at },
-        Field::Got {
-            value: grower,
-            next,
-        } => {
-            if within_if(bit, grower, MOST_GROWER) {
-                Scan::Fields {
-                    name,
-                    count,
-                    class,
-                    grower,
-                    next,
-                }
-            } else {
-                Scan::Refused {
-                    number: WRONG_VALUE,
-                    at,
-                }
-            }
-        }
-    }
-}
-
-// The class and the grower.
-fn from_class(s: &[u8], at: usize, map: u32, name: u32, count: u32) -> Scan
-    requires { at ≤ length s.now }
-    ensures { (list : List ℕ) → length list ≡ count
-        → result ≡ scan_of (from_class s.now at map name list) }
-{
-    let bit = map / 4 % 2;
-    match number1_if(s, at, bit) {
-        Field::Refused { number, at } => Scan::Refused { number, at },
-        Field::Got { value: class, next } => {
-            if within_if(bit, class, MOST_CLASS) {
-                from_grower(s, next, map, name, count, class)
-            } else {
-                Scan::Refused {
-                    number: WRONG_VALUE,
-                    at,
-                }
-            }
-        }
-    }
-}
-
-// The numbers of the entry at an offset.
-pub fn scan(s: &[u8], at: usize) -> Scan
+// The numbers of the entry at an offset, or none at the end of the sheet.
+pub fn scan(s: &[u8], at: usize) -> Result<Option<Scanned>, Refusal>
     ensures { result ≡ scan_of (decode s.now at) }
 {
     if s.len() <= at {
-        return Scan::End;
+        return Ok(None);
     }
-    let map = wide(s[at]);
-    let right = (map < 16) & (map % 2 == 1);
-    if right {
-        match name(s, at + 1) {
-            Field::Refused { number, at } => Scan::Refused { number, at },
-            Field::Got { value: name, next } => match list_if(s, next, map / 2 % 2) {
-                Field::Refused { number, at } => Scan::Refused { number, at },
-                Field::Got { value: count, next } => from_class(s, next, map, name, count),
-            },
-        }
-    } else {
-        Scan::Refused {
+    let map = u32::from(s[at]);
+    if 16 <= map || map % 2 == 0 {
+        return Err(Refusal {
             number: WRONG_MAP,
             at,
-        }
+        });
     }
+    let (name, next) = whole::<NAME_BYTES>(s, at + 1)?;
+    let (count, next) = list_if(s, next, map / 2 % 2)?;
+    let (class, next) = limited_if::<CLASS_BYTES>(s, next, map / 4 % 2, MOST_CLASS)?;
+    let (grower, next) = limited_if::<GROWER_BYTES>(s, next, map / 8 % 2, MOST_GROWER)?;
+    let numbers = Numbers {
+        name,
+        count,
+        class,
+        grower,
+    };
+    Ok(Some(Scanned { numbers, next }))
 }

@@ -11,7 +11,7 @@ ghost use Rattle.def_sheet_rows.specs.Arguments.{arguments_of};
 use def_numbers::*;
 use def_sheets::Entry;
 use def_terms::Answer;
-use graph_posted_add::put_call;
+use graph_posted_add::{Progress, put_call};
 use graph_records::put_bare_worker;
 use graph_words::layout::*;
 
@@ -27,39 +27,14 @@ pub fn turn_away(workers: &mut [u32], worker: u32, held: u32, number: u32, place
 }
 
 // A damaged word stops the add, which stays half done: how far it has come is kept.
-pub fn stop(
-    workers: &mut [u32],
-    worker: u32,
-    phase: u32,
-    held: u32,
-    entry: Entry,
-    tally: u32,
-    place: u32,
-    job: u32,
-    arc: u32,
-    note: u32,
-) -> Answer
+pub fn stop(workers: &mut [u32], worker: u32, held: u32, entry: Entry, progress: Progress) -> Answer
     ensures { ((jobs arcs buckets queue : List ℕ)
         → result_of result (tables jobs arcs buckets queue workers.new)
         ≡ halted (tables jobs arcs buckets queue workers.old) worker
-        (add_worker phase held (arguments_of entry) tally place job arc note)) }
+        (add_worker progress.phase held (arguments_of entry) progress.tally progress.place progress.job
+        progress.arc progress.note)) }
 {
-    put_call(
-        workers,
-        worker,
-        phase,
-        held,
-        entry.name,
-        &entry.names,
-        entry.count,
-        entry.class,
-        entry.grower,
-        tally,
-        place,
-        job,
-        arc,
-        note,
-    );
+    put_call(workers, worker, held, &entry, progress);
     Answer::Refused {
         number: DAMAGED,
         place: 0,
@@ -73,7 +48,13 @@ pub fn stop_looking(workers: &mut [u32], worker: u32, held: u32, entry: Entry, p
         ≡ halted (tables jobs arcs buckets queue workers.old) worker
         (add_worker LOOKING held (arguments_of entry) 0 place none none 0)) }
 {
-    stop(
-        workers, worker, LOOKING, held, entry, 0, place, NONE, NONE, 0,
-    )
+    let progress = Progress {
+        phase: LOOKING,
+        tally: 0,
+        place,
+        job: NONE,
+        arc: NONE,
+        note: 0,
+    };
+    stop(workers, worker, held, entry, progress)
 }

@@ -33,32 +33,30 @@ pub fn finish_if_idle(
     ensures { result_of result (as_left jobs arcs buckets queue workers)
         ≡ finish_if_idle sizes (as_lent jobs arcs buckets queue workers) worker (finish_of name failed) }
 {
-    let idle = worker_word(workers, worker, PHASE) == IDLE;
-    if idle {} else {
+    if worker_word(workers, worker, PHASE) != IDLE {
         return Answer::Refused {
             number: HALF_DONE,
             place: 0,
         };
     }
     let held = worker_word(workers, worker, HELD);
-    let none = held == NONE;
-    if none {
+    if held == NONE {
         return Answer::Refused {
             number: NOT_HELD,
             place: 0,
         };
     }
-    let holds = job_word(jobs, held, NAME) == name;
-    if holds {} else {
+    if job_word(jobs, held, NAME) != name {
         return Answer::Refused {
             number: NOT_HELD,
             place: 0,
         };
     }
-    let number = judge_outcome(sizes, jobs, arcs, held, failed);
-    if number == 0 {
-        mark_and_tell(sizes, jobs, arcs, queue, workers, worker, held, bit(failed))
-    } else {
-        Answer::Refused { number, place: 0 }
+    if let Err(refusal) = judge_outcome(sizes, jobs, arcs, held, failed) {
+        return Answer::Refused {
+            number: refusal.into(),
+            place: 0,
+        };
     }
+    mark_and_tell(sizes, jobs, arcs, queue, workers, worker, held, bit(failed))
 }

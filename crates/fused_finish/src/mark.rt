@@ -36,25 +36,18 @@ pub fn mark_and_tell(
         note (plan_mark sizes (view (tables jobs.old arcs.now buckets queue.old
         workers.old)) held)) }
 {
-    let plan = plan_mark(sizes, jobs, arcs, held);
-    match plan {
-        Plan::Mark { job, first } => {
-            put_outcome(jobs, job, note);
-            let last = first == NONE;
-            if last {
-                put_bare_worker(workers, worker, IDLE, NONE, 0);
-                Answer::Ended
-            } else {
-                let ending = notices(sizes, jobs, arcs, queue, note, first);
-                close(workers, worker, note, ending)
-            }
-        }
-        _ => {
-            put_bare_worker(workers, worker, MARKING, held, note);
-            Answer::Refused {
-                number: DAMAGED,
-                place: 0,
-            }
-        }
+    let Plan::Mark { job, first } = plan_mark(sizes, jobs, arcs, held) else {
+        put_bare_worker(workers, worker, MARKING, held, note);
+        return Answer::Refused {
+            number: DAMAGED,
+            place: 0,
+        };
+    };
+    put_outcome(jobs, job, note);
+    if first == NONE {
+        put_bare_worker(workers, worker, IDLE, NONE, 0);
+        return Answer::Ended;
     }
+    let ending = notices(sizes, jobs, arcs, queue, note, first);
+    close(workers, worker, note, ending)
 }

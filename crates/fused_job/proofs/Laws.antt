@@ -3,7 +3,7 @@ use mathlib.Core.Path.{◌≡◌, refl}
 use mathlib.Core.Bool.{true, false}
 use mathlib.Core.Logic.{inl, inr}
 use mathlib.Core.List.{List, [], ◌∷◌}
-use Prim.Native.Nat.{ℕ, ◌+◌, ◌≤◌, ◌<◌}
+use Prim.Native.Nat.{ℕ, ◌+◌, ◌<◌}
 use native.Mathlib.Omega.{arith}
 use native.Mathlib.Numerals.{add-one}
 use lib.ListN.{get_or, drop}
@@ -19,9 +19,6 @@ use Rattle.def_words.specs.declared.Plan.TheVariants.{SettleQueue, Mark, Notify,
 use Rattle.graph_arguments.proofs.Listed.{next, none_left}
 use Rattle.thm_counters_fit.specs.Kinds.{tag, apart}
 use Rattle.def_fused.specs.FusedAdd.{Links, links_to, link_by, links}
-
-pub add-zero : (k : ℕ) → k + 0 ≡ k
-add-zero k = omega arith
 
 -- ---- any plan but a tally and an arc ends the links
 pub ends : (p : Plan) → OneOf (0 ∷ 1 ∷ 2 ∷ 3 ∷ 7 ∷ 8 ∷ 9 ∷ 10 ∷ 11 ∷ []) (tag p) → (t : Tables) (i k n : ℕ)
@@ -51,6 +48,6 @@ module _ (s : Sizes) (j x count : ℕ) (found : List ℕ) (i : ℕ) (t : Tables)
   unfolding links
   link_next h = rw (next count found i h, add-one)
 
-  pub link_none : count ≤ i → i ≤ count → links_to t i k n true ≡ links s j x (drop i (prefix count found)) i t k n
+  pub link_none : i ≡ count → links_to t count k n true ≡ links s j x (drop i (prefix count found)) i t k n
   unfolding links
-  link_none a b = rw (none_left count found i a b)
+  link_none h = rw (h, none_left count found count (omega arith) (omega arith))

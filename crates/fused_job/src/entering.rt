@@ -10,7 +10,7 @@ ghost use Rattle.def_sheet_rows.specs.Arguments.{arguments_of};
 use def_bucket::bucket;
 use def_sheets::Entry;
 use def_terms::Sizes;
-use graph_records::put_job_record;
+use graph_records::{JobRecord, put_job_record};
 use graph_words::layout::*;
 use graph_words::{bucket_word, header, put_bucket, put_header};
 use graph_worker_words::sum;
@@ -43,15 +43,14 @@ pub fn enter_job(
     let arc = header(arcs, RESERVED);
     let k = bucket(entry.name, sizes.bits);
     let head = bucket_word(buckets, k);
-    put_job_record(
-        jobs,
-        job,
-        entry.name,
-        entry.count,
-        entry.class,
-        entry.grower,
-        head,
-    );
+    let new = JobRecord {
+        name: entry.name,
+        count: entry.count,
+        class: entry.class,
+        grower: entry.grower,
+        next: head,
+    };
+    put_job_record(jobs, job, new);
     put_header(jobs, MADE, sum(job, 1));
     put_header(arcs, RESERVED, sum(arc, entry.count));
     put_bucket(buckets, k, job);

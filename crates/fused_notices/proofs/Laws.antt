@@ -3,9 +3,8 @@ use mathlib.Core.Path.{◌≡◌, refl}
 use mathlib.Core.Bool.{◌&&◌}
 use mathlib.Core.Logic.{inl, inr}
 use mathlib.Core.List.{[], ◌∷◌}
-use Prim.Native.Nat.{ℕ, zero, suc, ◌<◌, ◌≤◌, ◌-◌}
-use native.Mathlib.Omega.{arith}
-use native.Mathlib.Numerals.{sub-one}
+use Prim.Native.Nat.{ℕ, ◌+◌, ◌<◌}
+use native.Mathlib.Numerals.{add-one}
 use lib.Dec.{ltb, leb, eqb}
 use types.Run.{OneOf}
 use Rattle.def_numbers.specs.Numbers.{most_names}
@@ -75,13 +74,11 @@ halts (Mark p y) k o x w t next = refl
 
 -- ---- one notice of those that are left
 module _ (s : Sizes) (w o x : ℕ) (t : Tables) where
-  pub notify_one : (n : ℕ) → 0 < n
-      → notify_by (plan_notify s (view t) x) o x w t (notify_in (n - 1) s w o) ≡ notify_in n s w o x t
+  pub notify_one : (m n : ℕ) → n ≡ m + 1
+      → notify_by (plan_notify s (view t) x) o x w t (notify_in m s w o) ≡ notify_in n s w o x t
   unfolding notify_in
-  notify_one zero h = absurd (omega arith)
-  notify_one (suc n) h = rw sub-one
+  notify_one m n h = rw (h, add-one)
 
-  pub notify_none : (n : ℕ) → n ≤ 0 → result_of Going (with_worker t w (notify_worker o x)) ≡ notify_in n s w o x t
+  pub notify_none : (n : ℕ) → n ≡ 0 → result_of Going (with_worker t w (notify_worker o x)) ≡ notify_in n s w o x t
   unfolding notify_in
-  notify_none zero h = refl
-  notify_none (suc n) h = absurd (omega arith)
+  notify_none n h = rw h

@@ -10,8 +10,9 @@ ghost use Rattle.fused_notices.specs.Notices.{closed};
 
 use crate::notices::Ending;
 use def_numbers::*;
+use def_sheets::Entry;
 use def_terms::Answer;
-use graph_posted_add::put_call;
+use graph_posted_add::{Progress, put_call};
 use graph_records::put_bare_worker;
 use graph_words::layout::*;
 
@@ -19,10 +20,22 @@ use graph_words::layout::*;
 fn put_notifying(workers: &mut [u32], worker: u32, note: u32, arc: u32)
     ensures { workers.new ≡ put_worker workers.old worker (notify_worker note arc) }
 {
-    let names = [0u32; 32];
-    put_call(
-        workers, worker, NOTIFYING, NONE, 0, &names, 0, 0, 0, 0, 0, NONE, arc, note,
-    );
+    let no_entry = Entry {
+        name: 0,
+        count: 0,
+        class: 0,
+        grower: 0,
+        names: [0; 32],
+    };
+    let progress = Progress {
+        phase: NOTIFYING,
+        tally: 0,
+        place: 0,
+        job: NONE,
+        arc,
+        note,
+    };
+    put_call(workers, worker, NONE, &no_entry, progress);
 }
 
 // The notices have ended: what the finish answers, and its worker's words.

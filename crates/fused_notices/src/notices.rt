@@ -15,13 +15,6 @@ use graph_queue::put_seat;
 use graph_words::layout::*;
 use graph_words::put_count;
 
-// What came of a notice: the next arc or none, or a damaged word, for which nothing was stored.
-#[derive(Clone, Copy)]
-pub enum Told {
-    Next { arc: u32 },
-    Halt,
-}
-
 // How the notices ended: after the last arc, at a damaged word with the arc that is left, or after as many arcs as
 // there can be, which only a damaged list has.
 #[derive(Clone, Copy)]
@@ -31,7 +24,8 @@ pub enum Ending {
     Left { arc: u32 },
 }
 
-// The notice along one arc, of a finish whose note is its outcome: planned, and stored.
+// The notice along one arc, of a finish whose note is its outcome: planned, and stored. The next arc, or the place none
+// after the last one; nothing, and nothing stored, at a damaged word.
 fn tell(
     sizes: Sizes,
     jobs: &mut [u32],
@@ -39,7 +33,7 @@ fn tell(
     queue: &mut [u32],
     note: u32,
     arc: u32,
-) -> Told
+) -> Option<u32>
     ensures { (buckets workers : List ℕ) (w : ℕ) (next : ℕ → Tables → Result Tables)
         → told_to result note arc w (tables jobs.new arcs.now buckets queue.new workers)
         next
@@ -47,11 +41,10 @@ fn tell(
         workers)) arc) note arc w
         (tables jobs.old arcs.now buckets queue.old workers) next }
 {
-    let plan = plan_notify(sizes, jobs, arcs, queue, arc);
-    match plan {
+    match plan_notify(sizes, jobs, arcs, queue, arc) {
         Plan::Notify { job, count, next } => {
             put_count(jobs, job, count, note);
-            Told::Next { arc: next }
+            Some(next)
         }
         Plan::NotifyQueue {
             job,
@@ -61,9 +54,9 @@ fn tell(
         } => {
             put_count(jobs, job, count, note);
             put_seat(queue, seat, job);
-            Told::Next { arc: next }
+            Some(next)
         }
-        _ => Told::Halt,
+        _ => None,
     }
 }
 
@@ -82,22 +75,14 @@ pub fn notices(
         (tables jobs.old arcs.now buckets queue.old workers) }
 {
     let mut arc = first;
-    let mut left = sizes.arcs;
-    while left > 0 {
-        let told = tell(sizes, jobs, arcs, queue, note, arc);
-        match told {
-            Told::Next { arc: next } => {
-                let ends = next == NONE;
-                if ends {
-                    return Ending::Done;
-                }
-                arc = next;
-            }
-            Told::Halt => {
-                return Ending::Broken { arc };
-            }
+    for _ in 0..sizes.arcs {
+        let Some(next) = tell(sizes, jobs, arcs, queue, note, arc) else {
+            return Ending::Broken { arc };
+        };
+        if next == NONE {
+            return Ending::Done;
         }
-        left -= 1;
+        arc = next;
     }
     Ending::Left { arc }
 }

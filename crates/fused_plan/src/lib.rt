@@ -42,9 +42,8 @@ fn plan_own(
         (find_of sizes (view (tables jobs.now arcs.now buckets.now queue workers))
         name) }
 {
-    let at = find(sizes, jobs, buckets, name);
-    match at {
-        Found::At { job: _ } => AddPlan::TurnAway {
+    match find(sizes, jobs, buckets, name) {
+        Found::At { .. } => AddPlan::TurnAway {
             number: NAME_PRESENT,
             place: 0,
         },
@@ -84,8 +83,7 @@ pub fn plan_add(
         (view (tables jobs.now arcs.now buckets.now queue workers.now))
         (prefix entry.count entry.names)) }
 {
-    let idle = worker_word(workers, worker, PHASE) == IDLE;
-    if idle {} else {
+    if worker_word(workers, worker, PHASE) != IDLE {
         return AddPlan::Reject { number: HALF_DONE };
     }
     let wrong = arguments_wrong(
@@ -100,12 +98,10 @@ pub fn plan_add(
             number: WRONG_ARGUMENTS,
         };
     }
-    let counted = counters_ok(sizes, jobs, arcs);
-    if counted {} else {
+    if !counters_ok(sizes, jobs, arcs) {
         return AddPlan::Reject { number: DAMAGED };
     }
-    let ends = look_ups(sizes, jobs, buckets, &entry.names, entry.count, found);
-    match ends {
+    match look_ups(sizes, jobs, buckets, &entry.names, entry.count, found) {
         LookUps::Unknown { place } => AddPlan::TurnAway {
             number: UNKNOWN_NAME,
             place,

@@ -29,21 +29,12 @@ pub fn look_ups(
         ≡ jobs_found sizes (view (tables jobs.now arcs buckets.now queue workers))
         (prefix count names.now)) }
 {
-    let mut i: u32 = 0;
-    while i < count {
-        let at = find(sizes, jobs, buckets, word(names, i as usize));
-        match at {
-            Found::At { job } => {
-                put_word(found, i as usize, job);
-            }
-            Found::Missing => {
-                return LookUps::Unknown { place: i };
-            }
-            Found::Damaged => {
-                return LookUps::Broken { place: i };
-            }
+    for i in 0..count {
+        match find(sizes, jobs, buckets, word(names, i as usize)) {
+            Found::At { job } => put_word(found, i as usize, job),
+            Found::Missing => return LookUps::Unknown { place: i },
+            Found::Damaged => return LookUps::Broken { place: i },
         }
-        i += 1;
     }
     LookUps::All
 }

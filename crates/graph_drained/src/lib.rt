@@ -6,7 +6,7 @@ ghost use Rattle.std.specs.Prelude.{◌≡◌, true};
 ghost use Rattle.def_words.specs.Columns.{columns};
 ghost use Rattle.def_words.specs.Layout.{worker_shape, view, sizes_fit, tables};
 ghost use Rattle.def_words.specs.Words.{own_ok};
-ghost use Rattle.def_worker_state.specs.Drained.{every, free, judged, drained_words};
+ghost use Rattle.def_worker_state.specs.Drained.{every, free, refused, judged, drained_words};
 
 use def_numbers::*;
 use def_terms::Sizes;
@@ -29,10 +29,8 @@ fn all_sound(
     ensures { result ≡ every (own_ok sizes (view (tables jobs.now arcs.now buckets.now queue.now workers.now))) sizes.workers }
 {
     let mut sound = true;
-    let mut worker = 0;
-    while worker < sizes.workers {
-        sound = sound & own_ok(sizes, jobs, arcs, workers, worker);
-        worker += 1;
+    for worker in 0..sizes.workers {
+        sound &= own_ok(sizes, jobs, arcs, workers, worker);
     }
     sound
 }
@@ -42,29 +40,28 @@ fn all_free(workers: &[u32], count: u32) -> bool
     ensures { result ≡ every (free (columns worker_shape workers.now)) count }
 {
     let mut all = true;
-    let mut worker = 0;
-    while worker < count {
-        all = all
-            & ((worker_word(workers, worker, PHASE) == IDLE)
-                & (worker_word(workers, worker, HELD) == NONE));
-        worker += 1;
+    for worker in 0..count {
+        all &= (worker_word(workers, worker, PHASE) == IDLE)
+            & (worker_word(workers, worker, HELD) == NONE);
     }
     all
+}
+
+fn refused(number: u32) -> Drained
+    ensures { result ≡ refused number }
+{
+    Drained {
+        number,
+        ..Drained::default()
+    }
 }
 
 fn judged(done: bool) -> Drained
     ensures { result ≡ judged done }
 {
-    if done {
-        Drained {
-            number: 0,
-            drained: 1,
-        }
-    } else {
-        Drained {
-            number: 0,
-            drained: 0,
-        }
+    Drained {
+        drained: u32::from(done),
+        ..Drained::default()
     }
 }
 
@@ -79,24 +76,15 @@ pub fn drained(
 ) -> Drained
     ensures { result ≡ drained_words sizes (tables jobs.now arcs.now buckets.now queue.now workers.now) }
 {
-    let fit = sizes_fit(sizes, jobs, arcs, buckets, queue, workers);
-    if fit {
-        let taken = header(queue, TAKEN);
-        let put = header(queue, PUT);
-        let sound = all_sound(sizes, jobs, arcs, buckets, queue, workers)
-            & (counters_ok(sizes, jobs, arcs) & ((taken <= put) & (put <= sizes.jobs)));
-        if sound {
-            judged((taken == put) & all_free(workers, sizes.workers))
-        } else {
-            Drained {
-                number: DAMAGED,
-                drained: 0,
-            }
-        }
-    } else {
-        Drained {
-            number: WRONG_SIZE,
-            drained: 0,
-        }
+    if !sizes_fit(sizes, jobs, arcs, buckets, queue, workers) {
+        return refused(WRONG_SIZE);
     }
+    let taken = header(queue, TAKEN);
+    let put = header(queue, PUT);
+    let sound = all_sound(sizes, jobs, arcs, buckets, queue, workers)
+        & (counters_ok(sizes, jobs, arcs) & ((taken <= put) & (put <= sizes.jobs)));
+    if !sound {
+        return refused(DAMAGED);
+    }
+    judged((taken == put) & all_free(workers, sizes.workers))
 }

@@ -18,8 +18,7 @@ fn walk_from(jobs: &[u32], made: u32, name: u32, newest: u32) -> Found
     ensures { result ≡ walk made (columns job_shape jobs.now) made name newest }
 {
     let mut at = newest;
-    let mut left = made;
-    while left > 0 {
+    for _ in 0..made {
         if at == NONE {
             return Found::Missing;
         }
@@ -30,7 +29,6 @@ fn walk_from(jobs: &[u32], made: u32, name: u32, newest: u32) -> Found
             return Found::At { job: at };
         }
         at = job_word(jobs, at, NEXT);
-        left -= 1;
     }
     if at == NONE {
         Found::Missing

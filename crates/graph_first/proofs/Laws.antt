@@ -5,18 +5,19 @@ use mathlib.Core.List.{List, [], ◌∷◌, ◌++◌}
 use mathlib.Core.Bool.{Bool, true, false, ◌&&◌, ◌||◌}
 use Prim.Native.Nat.{ℕ, zero, suc, ◌+◌, ◌-◌, ◌≤◌, ◌<◌}
 use native.Mathlib.Omega.{arith}
-use lib.Dec.{ltb, leb, eqb}
+use lib.Dec.{ltb, leb}
 use lib.ListN.{length}
 use borrow.Author.Tests.{lt-ltb, le-ltb, leb-true, leb-false}
 use Rattle.def_basics.specs.Base.{pick}
 use Rattle.def_heap.specs.Compared.{pairs_down}
-use Rattle.def_heap.specs.Sift.{above, left, right, lesser, sound_below, sift_up, sift_down}
+use Rattle.def_heap.specs.Sift.{left, right, lesser, sound_below, sift_down}
 use Rattle.def_heap.specs.declared.Sifted.{Sifted}
 use Rattle.def_heap.specs.declared.Sifted.TheVariants.{Rests, Astray}
 use Rattle.graph_first.specs.Met.{meets, earlier, met}
 use Rattle.graph_first.specs.declared.Met.{Met}
-use Rattle.graph_index.specs.declared.Looked.{Looked}
-use Rattle.graph_index.specs.declared.Looked.TheVariants.{Ranked, Damaged}
+use Rattle.std.specs.Prelude.{Option, Some, None}
+use Rattle.graph_index.specs.Looked.{ranked}
+use Rattle.graph_index.specs.declared.Ranked.{Ranked}
 
 module _ (rank : ℕ → ℕ) (sound : ℕ → Bool) (slot : ℕ → ℕ) where
   pub down_none : (n m r i : ℕ) → n ≤ 0 → sift_down rank sound slot n m r i ≡ Rests i
@@ -25,14 +26,14 @@ module _ (rank : ℕ → ℕ) (sound : ℕ → Bool) (slot : ℕ → ℕ) where
   down_none (suc n) m r i h = absurd (omega arith)
 
   -- and down
-  abbrev pub downward : (most filled its_rank from : ℕ) → Looked → Sifted
-  downward n m r i (Ranked k by) = pick (ltb by r) (sift_down rank sound slot n m r k) (Rests i)
-  downward n m r i Damaged = Astray
+  abbrev pub downward : (most filled its_rank from : ℕ) → Option Ranked → Sifted
+  downward n m r i (Some x) = pick (ltb x.rank r) (sift_down rank sound slot n m r x.slot) (Rests i)
+  downward n m r i None = Astray
 
   -- the slots below, as one test and a choice
   met_downward : (n m r i : ℕ)
       → pick (sound_below rank sound slot m i)
-      (downward n m r i (Ranked (lesser rank sound slot m i) (rank (slot (lesser rank sound slot m i)))))
+      (downward n m r i (Some (ranked (lesser rank sound slot m i) (rank (slot (lesser rank sound slot m i))))))
       Astray
       ≡ downward n m r i (met rank sound slot m i).looked
   met_downward n m r i = go (sound (left i)) (leb m (right i)) refl (sound (right i)) (ltb R L) refl
@@ -44,13 +45,13 @@ module _ (rank : ℕ → ℕ) (sound : ℕ → Bool) (slot : ℕ → ℕ) where
       R = rank (slot (right i))
 
       on : ℕ → Sifted
-      on k = downward n m r i (Ranked k (rank (slot k)))
+      on k = downward n m r i (Some (ranked k (rank (slot k))))
 
       go : (a b : Bool) → leb m (right i) ≡ b → (d e : Bool) → ltb R L ≡ e
           → pick (a && (b || d)) (on (pick (ltb (right i) m && e) (right i) (left i))) Astray
           ≡ downward n m r i
-          (pick b (meets (pick a (Ranked (left i) L) Damaged) 0)
-          (earlier (pick a (Ranked (left i) L) Damaged) (pick d (Ranked (right i) R) Damaged))).looked
+          (pick b (meets (pick a (Some (ranked (left i) L)) None) 0)
+          (earlier (pick a (Some (ranked (left i) L)) None) (pick d (Some (ranked (right i) R)) None))).looked
       go false true h d e t = refl
       go false false h d e t = refl
       go true true h d e t = rw (le-ltb (right i) m (leb-true m (right i) h))
@@ -66,9 +67,9 @@ module _ (rank : ℕ → ℕ) (sound : ℕ → Bool) (slot : ℕ → ℕ) where
   down_one (suc n) m r i h = let z : suc n - 1 ≡ n = omega arith in rw (z, ← met_downward n m r i)
 
   -- how many pairs are compared from there on, by the rank r of the number x that moves
-  abbrev pub onward : (most filled number its_rank : ℕ) → Looked → ℕ
-  onward n m x r (Ranked k by) = 1 + pick (ltb by r) (length (pairs_down rank sound slot n m x k)) 0
-  onward n m x r Damaged = 0
+  abbrev pub onward : (most filled number its_rank : ℕ) → Option Ranked → ℕ
+  onward n m x r (Some y) = 1 + pick (ltb y.rank r) (length (pairs_down rank sound slot n m x y.slot)) 0
+  onward n m x r None = 0
 
   pub count_none : (n m x i : ℕ) → n ≤ 0 → length (pairs_down rank sound slot n m x i) ≡ 0
   unfolding pairs_down
@@ -79,7 +80,7 @@ module _ (rank : ℕ → ℕ) (sound : ℕ → Bool) (slot : ℕ → ℕ) where
     abbrev on : ℕ → List (ℕ × ℕ)
     on k = (slot k, x) ∷ pick (ltb (rank (slot k)) (rank x)) (pairs_down rank sound slot n m x k) []
 
-    count_on : (k : ℕ) → length (on k) ≡ onward n m x r (Ranked k (rank (slot k)))
+    count_on : (k : ℕ) → length (on k) ≡ onward n m x r (Some (ranked k (rank (slot k))))
     count_on k = rw moves (go (ltb (rank (slot k)) r))
       where
         l : List (ℕ × ℕ)
@@ -104,8 +105,8 @@ module _ (rank : ℕ → ℕ) (sound : ℕ → Bool) (slot : ℕ → ℕ) where
 
         of : Bool → Bool → Bool → Met
         of a b d =
-            pick b (meets (pick a (Ranked (left i) L) Damaged) 0)
-            (earlier (pick a (Ranked (left i) L) Damaged) (pick d (Ranked (right i) R) Damaged))
+            pick b (meets (pick a (Some (ranked (left i) L)) None) 0)
+            (earlier (pick a (Some (ranked (left i) L)) None) (pick d (Some (ranked (right i) R)) None))
 
         go : (a b : Bool) → leb m (right i) ≡ b → (d e : Bool) → ltb R L ≡ e
             → length

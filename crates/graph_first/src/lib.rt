@@ -13,14 +13,14 @@ ghost use Rattle.graph_first.specs.Met.{earlier, met};
 use def_heap::Sifted;
 use def_numbers::*;
 use def_words::Seating;
-use graph_index::{Looked, look, seated};
+use graph_index::{Ranked, look, seated};
 use graph_words::layout::*;
 use graph_words::{header, less, queue_word};
 
 // What is met in the slots below a slot, and how many pairs of ranks were compared there: one, or none.
 #[derive(Clone, Copy)]
 struct Met {
-    looked: Looked,
+    looked: Option<Ranked>,
     compared: u32,
 }
 
@@ -39,45 +39,16 @@ pub struct FirstSeat {
 }
 
 // Of two slots the one whose cell is handed out earlier.
-fn earlier(left: Looked, right: Looked) -> Met
+fn earlier(left: Option<Ranked>, right: Option<Ranked>) -> Met
     ensures { (result ≡ earlier left right) × (result.compared ≤ 1) }
 {
-    match left {
-        Looked::Ranked {
-            slot: left_slot,
-            rank: left_rank,
-        } => match right {
-            Looked::Ranked {
-                slot: right_slot,
-                rank: right_rank,
-            } => {
-                let lower = right_rank < left_rank;
-                let compared = 1;
-                if lower {
-                    Met {
-                        looked: Looked::Ranked {
-                            slot: right_slot,
-                            rank: right_rank,
-                        },
-                        compared,
-                    }
-                } else {
-                    Met {
-                        looked: Looked::Ranked {
-                            slot: left_slot,
-                            rank: left_rank,
-                        },
-                        compared,
-                    }
-                }
-            }
-            Looked::Damaged => Met {
-                looked: Looked::Damaged,
-                compared: 0,
-            },
+    match (left, right) {
+        (Some(left), Some(right)) => Met {
+            looked: Some(if right.rank < left.rank { right } else { left }),
+            compared: 1,
         },
-        Looked::Damaged => Met {
-            looked: Looked::Damaged,
+        _ => Met {
+            looked: None,
             compared: 0,
         },
     }
@@ -92,15 +63,13 @@ fn lesser(jobs: &[u32], queue: &[u32], filled: u32, at: u32) -> Met
         × (result.compared ≤ 1) }
 {
     let left = look(jobs, queue, 2 * at + 1);
-    let alone = filled <= 2 * at + 2;
-    if alone {
+    if filled <= 2 * at + 2 {
         return Met {
             looked: left,
             compared: 0,
         };
     }
-    let right = look(jobs, queue, 2 * at + 2);
-    earlier(left, right)
+    earlier(left, look(jobs, queue, 2 * at + 2))
 }
 
 // Down from the first slot, past each cell of a lower rank. The pairs compared are those of any cell that has the
@@ -114,45 +83,34 @@ fn sift_down(jobs: &[u32], queue: &[u32], filled: u32, rank: u64) -> Moved
 {
     let mut at = 0;
     let mut compared = 0;
-    let mut levels = LEVELS;
-    while levels > 0 {
-        let more = 2 * (at as u64) + 1 < (filled as u64);
-        if more {} else {
-            return Moved {
-                sifted: Sifted::Rests { slot: at },
-                compared,
-            };
+    for _ in 0..LEVELS {
+        if 2 * (at as u64) + 1 >= (filled as u64) {
+            break;
         }
         let met = lesser(jobs, queue, filled, at);
         compared += met.compared;
-        let below = met.looked;
-        match below {
-            Looked::Ranked { slot, rank: by } => {
-                compared += 1;
-                let passes = by < rank;
-                if passes {
-                    at = slot;
-                } else {
-                    return Moved {
-                        sifted: Sifted::Rests { slot: at },
-                        compared,
-                    };
-                }
-            }
-            Looked::Damaged => {
-                return Moved {
-                    sifted: Sifted::Astray,
-                    compared,
-                };
-            }
+        let Some(below) = met.looked else {
+            return Moved {
+                sifted: Sifted::Astray,
+                compared,
+            };
+        };
+        compared += 1;
+        if below.rank >= rank {
+            break;
         }
-        levels -= 1;
+        at = below.slot;
     }
     Moved {
         sifted: Sifted::Rests { slot: at },
         compared,
     }
 }
+
+const NO_SEAT: FirstSeat = FirstSeat {
+    seating: Seating::Unseated,
+    compared: 0,
+};
 
 // The seat of the job that is handed out next. Each comparison of two ranks is counted: "a get compares at most 64
 // pairs of jobs".
@@ -163,33 +121,17 @@ pub fn first_seat_counted(jobs: &[u32], queue: &[u32]) -> FirstSeat
 {
     let put = header(queue, PUT);
     let taken = header(queue, TAKEN);
-    let filled = less(put, taken);
-    let slot = less(filled, 1);
-    let first = look(jobs, queue, 0);
-    match first {
-        Looked::Ranked { .. } => {
-            let last = look(jobs, queue, slot);
-            match last {
-                Looked::Ranked { rank: by, .. } => {
-                    let moved = sift_down(jobs, queue, slot, by);
-                    let cell = queue_word(queue, 0, SLOT);
-                    let sifted = moved.sifted;
-                    let seating = seated(sifted, cell, slot);
-                    FirstSeat {
-                        seating,
-                        compared: moved.compared,
-                    }
-                }
-                Looked::Damaged => FirstSeat {
-                    seating: Seating::Unseated,
-                    compared: 0,
-                },
-            }
-        }
-        Looked::Damaged => FirstSeat {
-            seating: Seating::Unseated,
-            compared: 0,
-        },
+    let slot = less(less(put, taken), 1);
+    if look(jobs, queue, 0).is_none() {
+        return NO_SEAT;
+    }
+    let Some(last) = look(jobs, queue, slot) else {
+        return NO_SEAT;
+    };
+    let moved = sift_down(jobs, queue, slot, last.rank);
+    FirstSeat {
+        seating: seated(moved.sifted, queue_word(queue, 0, SLOT), slot),
+        compared: moved.compared,
     }
 }
 
@@ -198,6 +140,5 @@ pub fn first_seat(jobs: &[u32], queue: &[u32]) -> Seating
     ensures { (arcs buckets workers : List ℕ)
         → result ≡ first_seat (view (tables jobs.now arcs buckets queue.now workers)) }
 {
-    let found = first_seat_counted(jobs, queue);
-    found.seating
+    first_seat_counted(jobs, queue).seating
 }

@@ -4,14 +4,15 @@
 
 ghost use Rattle.std.specs.Prelude.{◌≡◌};
 ghost use Rattle.def_terms.specs.Runs.{result_of};
-ghost use Rattle.def_words.specs.Layout.{as_lent, as_left};
 ghost use Rattle.def_words.specs.Words.{answer_get, get_words};
+ghost use Rattle.lent_graph.specs.Lent.{words, Same};
 
 mod stores;
 
-use def_terms::{Answer, Sizes};
+use def_terms::Answer;
 use def_words::GetPlan;
 use graph_plan_get::plan_get;
+use lent_graph::Graph;
 use stores::apply_get;
 
 // What a get answers.
@@ -26,19 +27,11 @@ fn answer_get(plan: GetPlan) -> Answer
 }
 
 // Hands the worker the job that is first by the order of hand-outs.
-pub fn get(
-    sizes: Sizes,
-    jobs: &mut [u32],
-    arcs: &mut [u32],
-    buckets: &mut [u32],
-    queue: &mut [u32],
-    workers: &mut [u32],
-    worker: u32,
-) -> Answer
-    ensures { result_of result (as_left jobs arcs buckets queue workers)
-        ≡ get_words sizes (as_lent jobs arcs buckets queue workers) worker }
+pub fn get(graph: &mut Graph, worker: u32) -> Answer
+    ensures same { Same graph.old graph.new }
+    ensures answered { result_of result (words graph.new) ≡ get_words graph.old.sizes (words graph.old) worker }
 {
-    let plan = plan_get(sizes, jobs, arcs, buckets, queue, workers, worker);
-    apply_get(jobs, queue, workers, worker, plan);
+    let plan = plan_get(graph, worker);
+    apply_get(graph, worker, plan);
     answer_get(plan)
 }

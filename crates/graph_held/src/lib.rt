@@ -3,6 +3,7 @@
 #![tactic(auto)]
 
 ghost use Rattle.std.specs.Prelude.{◌≡◌, List, ℕ};
+ghost use Rattle.def_numbers.specs.Kinds.{call_number};
 ghost use Rattle.def_words.specs.Layout.{tables, view};
 ghost use Rattle.def_worker_state.specs.Held.{call_of, adds_of, refused, holding_of, counted, held_words};
 
@@ -15,23 +16,21 @@ use graph_words::layout::*;
 use graph_words::{job_word, worker_word};
 
 // The call of a phase.
-fn call_of(phase: u32) -> u32
-    ensures { result ≡ call_of phase }
+fn call_of(phase: u32) -> Call
+    ensures { call_number result ≡ call_of phase }
 {
-    let idle = phase == IDLE;
-    if idle {
-        return CALL_NONE;
+    match phase {
+        IDLE => Call::None,
+        LOOKING | LINKING => Call::Add,
+        _ => Call::Finish,
     }
-    let adding = (phase == LOOKING) | (phase == LINKING);
-    if adding { CALL_ADD } else { CALL_FINISH }
 }
 
 // The name of the add half done, of the worker's words: 0 where its call is none.
-fn adds_of(call: u32, name: u32) -> u32
-    ensures { result ≡ adds_of call name }
+fn adds_of(call: Call, name: u32) -> u32
+    ensures { result ≡ adds_of (call_number call) name }
 {
-    let adding = call == CALL_ADD;
-    if adding { name } else { 0 }
+    if call == Call::Add { name } else { 0 }
 }
 
 fn refused(number: u32) -> Holding
@@ -39,49 +38,36 @@ fn refused(number: u32) -> Holding
 {
     Holding {
         number,
-        holds: 0,
-        job: 0,
-        name: 0,
-        call: 0,
-        adds: 0,
-        spoiled: 0,
+        ..Holding::default()
     }
 }
 
 // The held job's name and spoiled word are read only where there is one.
+#[tactic(auto, unfolding(def_worker_state::specs::Held::holding_of))]
 fn holding_of(jobs: &[u32], workers: &[u32], worker: u32) -> Holding
     ensures { (arcs buckets queue : List ℕ)
         → result ≡ holding_of (view (tables jobs.now arcs buckets queue workers.now)) worker }
 {
     let call = call_of(worker_word(workers, worker, PHASE));
-    let adds = adds_of(call, worker_word(workers, worker, OWN_NAME));
+    let no_job = Holding {
+        call: call as u32,
+        adds: adds_of(call, worker_word(workers, worker, OWN_NAME)),
+        ..Holding::default()
+    };
     let held = worker_word(workers, worker, HELD);
-    let none = held == NONE;
-    if none {
-        return Holding {
-            number: 0,
-            holds: 0,
-            job: 0,
-            name: 0,
-            call,
-            adds,
-            spoiled: 0,
-        };
+    if held == NONE {
+        return no_job;
     }
     let spoiled = job_word(jobs, held, SPOILED);
-    let within = spoiled <= 1;
-    if within {
-        Holding {
-            number: 0,
-            holds: 1,
-            job: held,
-            name: job_word(jobs, held, NAME),
-            call,
-            adds,
-            spoiled,
-        }
-    } else {
-        refused(DAMAGED)
+    if 1 < spoiled {
+        return refused(DAMAGED);
+    }
+    Holding {
+        holds: 1,
+        job: held,
+        name: job_word(jobs, held, NAME),
+        spoiled,
+        ..no_job
     }
 }
 
@@ -91,8 +77,7 @@ fn counted(sizes: Sizes, jobs: &[u32], arcs: &[u32], workers: &[u32], worker: u3
         → result ≡ counted sizes (view (tables jobs.now arcs.now buckets queue workers.now))
         worker }
 {
-    let sound = counters_ok(sizes, jobs, arcs);
-    if sound {
+    if counters_ok(sizes, jobs, arcs) {
         holding_of(jobs, workers, worker)
     } else {
         refused(DAMAGED)
@@ -111,20 +96,14 @@ pub fn held(
 ) -> Holding
     ensures { result ≡ held_words sizes (tables jobs.now arcs.now buckets.now queue.now workers.now) worker }
 {
-    let fit = sizes_fit(sizes, jobs, arcs, buckets, queue, workers);
-    if fit {
-        let known = worker < sizes.workers;
-        if known {
-            let sound = own_ok(sizes, jobs, arcs, workers, worker);
-            if sound {
-                counted(sizes, jobs, arcs, workers, worker)
-            } else {
-                refused(DAMAGED)
-            }
-        } else {
-            refused(NO_SUCH_WORKER)
-        }
-    } else {
-        refused(WRONG_SIZE)
+    if !sizes_fit(sizes, jobs, arcs, buckets, queue, workers) {
+        return refused(WRONG_SIZE);
     }
+    if sizes.workers <= worker {
+        return refused(NO_SUCH_WORKER);
+    }
+    if !own_ok(sizes, jobs, arcs, workers, worker) {
+        return refused(DAMAGED);
+    }
+    counted(sizes, jobs, arcs, workers, worker)
 }

@@ -9,9 +9,9 @@ use Rattle.def_basics.specs.Base.{pick}
 use Rattle.def_heap.specs.Sift.{above, sift_up}
 use Rattle.def_heap.specs.declared.Sifted.{Sifted}
 use Rattle.def_heap.specs.declared.Sifted.TheVariants.{Rests, Astray}
-use Rattle.graph_index.specs.Looked.{looked}
-use Rattle.graph_index.specs.declared.Looked.{Looked}
-use Rattle.graph_index.specs.declared.Looked.TheVariants.{Ranked, Damaged}
+use Rattle.std.specs.Prelude.{Option, Some, None}
+use Rattle.graph_index.specs.Looked.{ranked, looked}
+use Rattle.graph_index.specs.declared.Ranked.{Ranked}
 
 module _ (rank : ℕ → ℕ) (sound : ℕ → Bool) (slot : ℕ → ℕ) where
   pub up_none : (n r i : ℕ) → n ≤ 0 → sift_up rank sound slot n r i ≡ Rests i
@@ -20,9 +20,9 @@ module _ (rank : ℕ → ℕ) (sound : ℕ → Bool) (slot : ℕ → ℕ) where
   up_none (suc n) r i h = absurd (omega arith)
 
   -- the way on from a slot that is looked at, up
-  abbrev pub upward : ℕ → ℕ → ℕ → Looked → Sifted
-  upward n r i (Ranked k by) = pick (ltb r by) (sift_up rank sound slot n r k) (Rests i)
-  upward n r i Damaged = Astray
+  abbrev pub upward : ℕ → ℕ → ℕ → Option Ranked → Sifted
+  upward n r i (Some x) = pick (ltb r x.rank) (sift_up rank sound slot n r x.slot) (Rests i)
+  upward n r i None = Astray
 
   pub up_one : (n r i : ℕ) → 0 < n
       → sift_up rank sound slot n r i
@@ -35,6 +35,6 @@ module _ (rank : ℕ → ℕ) (sound : ℕ → Bool) (slot : ℕ → ℕ) where
           → pick (eqb i 0) (Rests i)
           (pick b
           (pick (ltb r (rank (slot (above i)))) (sift_up rank sound slot n r (above i)) (Rests i)) Astray)
-          ≡ pick (eqb i 0) (Rests i) (upward n r i (pick b (Ranked (above i) (rank (slot (above i)))) Damaged))
+          ≡ pick (eqb i 0) (Rests i) (upward n r i (pick b (Some (ranked (above i) (rank (slot (above i))))) None))
       go true = refl
       go false = refl

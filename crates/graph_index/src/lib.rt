@@ -16,11 +16,11 @@ use def_words::{Seat, Seating};
 use graph_words::layout::*;
 use graph_words::{header, job_word, less, queue_word};
 
-// A slot that is looked at: the rank of its cell, or that it holds no waiting job's.
+// The slot of a waiting job's cell, and the rank of that cell.
 #[derive(Clone, Copy)]
-pub enum Looked {
-    Ranked { slot: u32, rank: u64 },
-    Damaged,
+pub struct Ranked {
+    pub slot: u32,
+    pub rank: u64,
 }
 
 // The order of hand-outs, as one number of a class and a cell: the lower first.
@@ -30,37 +30,33 @@ fn rank(class: u32, cell: u32) -> u64
     (less(MOST_CLASS, class) as u64) * (MOST_JOBS as u64) + (cell as u64)
 }
 
-// The position and the job are read only of a cell that was put, and the class only of a job: other reads could lie
-// past the tables.
-pub fn look(jobs: &[u32], queue: &[u32], slot: u32) -> Looked
+// A slot that is looked at, or none where it holds no waiting job's cell. The position and the job are read only of a
+// cell that was put, and the class only of a job: other reads could lie past the tables.
+pub fn look(jobs: &[u32], queue: &[u32], slot: u32) -> Option<Ranked>
     ensures { (arcs buckets workers : List ℕ)
         → let v = view (tables jobs.now arcs buckets queue.now workers) in
         result ≡ looked (rank_of v) (waits v) (cell_in v) slot }
 {
     let cell = queue_word(queue, slot, SLOT);
-    let put = cell < header(queue, PUT);
-    if put {} else {
-        return Looked::Damaged;
+    if cell >= header(queue, PUT) {
+        return None;
     }
-    let there = queue_word(queue, cell, POSITION) == slot;
-    if there {} else {
-        return Looked::Damaged;
+    let position = queue_word(queue, cell, POSITION);
+    if position != slot {
+        return None;
     }
     let job = queue_word(queue, cell, QUEUED);
-    let made = job < header(jobs, MADE);
-    if made {} else {
-        return Looked::Damaged;
+    if job >= header(jobs, MADE) {
+        return None;
     }
     let class = job_word(jobs, job, CLASS);
-    let limited = class <= MOST_CLASS;
-    if limited {
-        Looked::Ranked {
-            slot,
-            rank: rank(class, cell),
-        }
-    } else {
-        Looked::Damaged
+    if class > MOST_CLASS {
+        return None;
     }
+    Some(Ranked {
+        slot,
+        rank: rank(class, cell),
+    })
 }
 
 // Up from the slot, past each cell of a higher rank.
@@ -70,27 +66,17 @@ fn sift_up(jobs: &[u32], queue: &[u32], rank: u64, slot: u32) -> Sifted
         result ≡ sift_up (rank_of v) (waits v) (cell_in v) levels rank slot }
 {
     let mut at = slot;
-    let mut levels = LEVELS;
-    while levels > 0 {
-        let top = at == 0;
-        if top {
-            return Sifted::Rests { slot: at };
+    for _ in 0..LEVELS {
+        if at == 0 {
+            break;
         }
-        let above = look(jobs, queue, (at - 1) / 2);
-        match above {
-            Looked::Ranked { slot, rank: by } => {
-                let passes = rank < by;
-                if passes {
-                    at = slot;
-                } else {
-                    return Sifted::Rests { slot: at };
-                }
-            }
-            Looked::Damaged => {
-                return Sifted::Astray;
-            }
+        let Some(above) = look(jobs, queue, (at - 1) / 2) else {
+            return Sifted::Astray;
+        };
+        if above.rank <= rank {
+            break;
         }
-        levels -= 1;
+        at = above.slot;
     }
     Sifted::Rests { slot: at }
 }
@@ -114,13 +100,9 @@ pub fn seat_for(sizes: Sizes, jobs: &[u32], queue: &[u32], job: u32) -> Seating
     let taken = header(queue, TAKEN);
     let put = header(queue, PUT);
     let class = job_word(jobs, job, CLASS);
-    let free = (taken <= put) & (put < sizes.jobs) & (class <= MOST_CLASS);
-    if free {
-        let filled = less(put, taken);
-        let by = rank(class, put);
-        let sifted = sift_up(jobs, queue, by, filled);
-        seated(sifted, put, filled)
-    } else {
-        Seating::Unseated
+    if taken > put || put >= sizes.jobs || class > MOST_CLASS {
+        return Seating::Unseated;
     }
+    let filled = less(put, taken);
+    seated(sift_up(jobs, queue, rank(class, put), filled), put, filled)
 }

@@ -6,22 +6,29 @@ ghost use Rattle.def_numbers.specs.Numbers.{most_bits};
 ghost use Rattle.def_minutes.specs.Minutes.{fixed_minutes};
 ghost use Rattle.def_words.specs.Columns.{offset};
 ghost use Rattle.def_words.specs.Layout.{none, job_shape, worker_shape, IDLE, bare_worker, repeated, fresh_job, fresh_jobs};
-ghost use Rattle.def_words.specs.Layout.{put_minutes, fresh_arcs, fresh_buckets, fresh_queue, fresh_tables, as_lent, as_left};
+ghost use Rattle.def_words.specs.Layout.{put_minutes, fresh_arcs, fresh_buckets, fresh_queue, fresh_tables};
+ghost use Rattle.lent_graph.specs.Lent.{words, Same};
 
 use def_numbers::*;
 use def_terms::Sizes;
-use graph_records::{fill, put_bare_worker, put_job_record, put_words};
+use graph_records::{JobRecord, fill, put_bare_worker, put_job_record, put_words};
 use graph_words::layout::*;
 use graph_words::put_header;
+use lent_graph::Graph;
 
 // The records of the jobs table.
 fn fresh_job_records(jobs: &mut [u32], count: u32)
     ensures { jobs.new ≡ sets jobs.old (offset job_shape 0 0) (repeated count fresh_job) }
 {
-    let mut i = 0;
-    while i < count {
-        put_job_record(jobs, i, 0, 0, 0, 0, NONE);
-        i += 1;
+    let fresh = JobRecord {
+        name: 0,
+        count: 0,
+        class: 0,
+        grower: 0,
+        next: NONE,
+    };
+    for job in 0..count {
+        put_job_record(jobs, job, fresh);
     }
 }
 
@@ -30,10 +37,8 @@ fn fresh_workers(workers: &mut [u32], count: u32)
     ensures { workers.new
         ≡ sets workers.old (offset worker_shape 0 0) (repeated count (bare_worker IDLE none 0)) }
 {
-    let mut i = 0;
-    while i < count {
-        put_bare_worker(workers, i, IDLE, NONE, 0);
-        i += 1;
+    for worker in 0..count {
+        put_bare_worker(workers, worker, IDLE, NONE, 0);
     }
 }
 
@@ -98,20 +103,14 @@ fn fresh_queue(sizes: Sizes, queue: &mut [u32])
 }
 
 // The five tables of a fresh graph.
-pub fn fresh_tables(
-    sizes: Sizes,
-    jobs: &mut [u32],
-    arcs: &mut [u32],
-    buckets: &mut [u32],
-    queue: &mut [u32],
-    workers: &mut [u32],
-)
-    ensures { sizes.bits ≤ most_bits
-        → as_left jobs arcs buckets queue workers ≡ fresh_tables sizes (as_lent jobs arcs buckets queue workers) }
+pub fn fresh_tables(graph: &mut Graph)
+    ensures same { Same graph.old graph.new }
+    ensures fresh { graph.old.sizes.bits ≤ most_bits
+        → words graph.new ≡ fresh_tables graph.old.sizes (words graph.old) }
 {
-    fresh_jobs(sizes, jobs);
-    fresh_arcs(sizes, arcs);
-    fresh_buckets(sizes, buckets);
-    fresh_queue(sizes, queue);
-    fresh_workers(workers, sizes.workers);
+    fresh_jobs(graph.sizes, graph.jobs);
+    fresh_arcs(graph.sizes, graph.arcs);
+    fresh_buckets(graph.sizes, graph.buckets);
+    fresh_queue(graph.sizes, graph.queue);
+    fresh_workers(graph.workers, graph.sizes.workers);
 }

@@ -5,6 +5,7 @@
 ghost use Rattle.std.specs.Prelude.{◌≡◌, List, ℕ};
 ghost use Rattle.def_words.specs.Layout.{tables, view};
 ghost use Rattle.def_words.specs.Words.{plan_append, plan_link, with_seat, plan_settle, plan_links};
+ghost use Rattle.lent_graph.specs.Lent.{words};
 
 use def_numbers::*;
 use def_terms::Sizes;
@@ -14,6 +15,7 @@ use graph_index::seat_for;
 use graph_own::place_ok;
 use graph_words::layout::*;
 use graph_words::{header, job_word, less, name_word, worker_word};
+use lent_graph::Graph;
 
 // The arc has 64 bits: the first reserved arc may be none, and the sum with a place then passes 32 bits.
 fn plan_append(
@@ -126,35 +128,19 @@ fn plan_settle(sizes: Sizes, jobs: &[u32], queue: &[u32], job: u32, tally: u32, 
 }
 
 // An add that links its prerequisites, and then settles.
-pub fn plan_links(
-    sizes: Sizes,
-    jobs: &[u32],
-    arcs: &[u32],
-    buckets: &[u32],
-    queue: &[u32],
-    workers: &[u32],
-    worker: u32,
-) -> Plan
-    ensures { result ≡ plan_links sizes (view (tables jobs.now arcs.now buckets.now queue.now workers.now)) worker }
+pub fn plan_links(graph: &Graph, worker: u32) -> Plan
+    ensures { result ≡ plan_links graph.now.sizes (view (words graph.now)) worker }
 {
-    let place = worker_word(workers, worker, PLACE);
-    let count = worker_word(workers, worker, LIST_COUNT);
-    let job = worker_word(workers, worker, OWN_JOB);
-    let linking = place < count;
-    if linking {
-        let first = worker_word(workers, worker, OWN_ARC);
-        let name = name_word(workers, worker, place);
-        let found = find(sizes, jobs, buckets, name);
-        plan_link(
-            sizes,
-            jobs,
-            arcs,
-            (first as u64) + (place as u64),
-            job,
-            found,
-        )
-    } else {
-        let tally = worker_word(workers, worker, TALLY);
-        plan_settle(sizes, jobs, queue, job, tally, count)
+    let place = worker_word(graph.workers, worker, PLACE);
+    let count = worker_word(graph.workers, worker, LIST_COUNT);
+    let job = worker_word(graph.workers, worker, OWN_JOB);
+    if place < count {
+        let first = worker_word(graph.workers, worker, OWN_ARC);
+        let name = name_word(graph.workers, worker, place);
+        let found = find(graph.sizes, graph.jobs, graph.buckets, name);
+        let arc = (first as u64) + (place as u64);
+        return plan_link(graph.sizes, graph.jobs, graph.arcs, arc, job, found);
     }
+    let tally = worker_word(graph.workers, worker, TALLY);
+    plan_settle(graph.sizes, graph.jobs, graph.queue, job, tally, count)
 }

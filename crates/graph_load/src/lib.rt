@@ -4,66 +4,58 @@
 #![tactic(auto)]
 
 ghost use Rattle.std.specs.Prelude.{◌≡◌};
+ghost use Rattle.def_numbers.specs.Refusals.{number_told};
 ghost use Rattle.def_terms.specs.Runs.{result_of};
-ghost use Rattle.def_words.specs.Layout.{as_lent, as_left, tables};
+ghost use Rattle.lent_graph.specs.Lent.{words, Same};
 ghost use Rattle.def_words.specs.Words.{judged_load, load_words};
 
 use def_minutes::is_rising;
-use def_numbers::*;
-use def_terms::{Answer, Sizes};
+use def_numbers::Refusal;
+use def_terms::Answer;
 use graph_records::put_words;
 use graph_sizes::sizes_fit;
-use graph_words::header;
 use graph_words::layout::*;
+use lent_graph::Graph;
 
-// The number that turns a load away, or 0.
-fn judge_load(
-    sizes: Sizes,
-    jobs: &[u32],
-    arcs: &[u32],
-    buckets: &[u32],
-    queue: &[u32],
-    workers: &[u32],
-    minutes: &[u32],
-) -> u32
-    ensures { result
-        ≡ judged_load sizes (tables jobs.now arcs.now buckets.now queue.now workers.now) minutes.now }
+// What turns a load away.
+fn judge_load(graph: &Graph, minutes: &[u32]) -> Result<(), Refusal>
+    ensures { number_told result ≡ judged_load graph.now.sizes (words graph.now) minutes.now }
 {
-    let fit = sizes_fit(sizes, jobs, arcs, buckets, queue, workers);
-    if fit {} else {
-        return WRONG_SIZE;
+    if !sizes_fit(
+        graph.sizes,
+        graph.jobs,
+        graph.arcs,
+        graph.buckets,
+        graph.queue,
+        graph.workers,
+    ) {
+        return Err(Refusal::WrongSize);
     }
-    let rises = is_rising(minutes);
-    if rises {} else {
-        return WRONG_MINUTES;
+    if !is_rising(minutes) {
+        return Err(Refusal::WrongMinutes);
     }
-    let made = header(jobs, MADE);
-    let counted = made <= sizes.jobs;
-    if counted {} else {
-        return DAMAGED;
+    let made = graph.made();
+    if made > graph.sizes.jobs {
+        return Err(Refusal::Damaged);
     }
-    let empty = made == 0;
-    if empty { 0 } else { JOBS_ENTERED }
+    if made != 0 {
+        return Err(Refusal::JobsEntered);
+    }
+    Ok(())
 }
 
 // Loads the minutes of all classes, before the first job enters.
-pub fn load(
-    sizes: Sizes,
-    jobs: &mut [u32],
-    arcs: &mut [u32],
-    buckets: &mut [u32],
-    queue: &mut [u32],
-    workers: &mut [u32],
-    minutes: &[u32],
-) -> Answer
-    ensures { result_of result (as_left jobs arcs buckets queue workers)
-        ≡ load_words sizes (as_lent jobs arcs buckets queue workers) minutes.now }
+pub fn load(graph: &mut Graph, minutes: &[u32]) -> Answer
+    ensures same { Same graph.old graph.new }
+    ensures answered { result_of result (words graph.new)
+        ≡ load_words graph.old.sizes (words graph.old) minutes.now }
 {
-    let number = judge_load(sizes, jobs, arcs, buckets, queue, workers, minutes);
-    if number == 0 {
-        put_words(jobs, MINUTES, minutes);
-        Answer::Loaded
-    } else {
-        Answer::Refused { number, place: 0 }
+    if let Err(refusal) = judge_load(graph, minutes) {
+        return Answer::Refused {
+            number: refusal.into(),
+            place: 0,
+        };
     }
+    put_words(graph.jobs, MINUTES, minutes);
+    Answer::Loaded
 }

@@ -1,22 +1,23 @@
 // What the first steps of an add plan: the look-ups and the entering. Follows docs/RULES.md, "Steps" and "Turned-away
-// calls". Each definition holds of all tables, and where a table is not read the contract holds with any.
-ghost use Rattle.std.specs.Prelude.{◌≡◌, List, ℕ};
-ghost use Rattle.def_words.specs.Layout.{tables, view};
+// calls". Each definition holds of all tables.
+ghost use Rattle.std.specs.Prelude.{◌≡◌};
+ghost use Rattle.def_words.specs.Layout.{view};
 ghost use Rattle.def_words.specs.Words.{plan_look_up, plan_enter, plan_add};
+ghost use Rattle.lent_graph.specs.Lent.{words};
 
 use def_bucket::bucket;
 use def_numbers::*;
-use def_terms::Sizes;
 use def_words::{Found, Plan};
 use graph_find::find;
 use graph_words::layout::*;
 use graph_words::{bucket_word, header, name_word, worker_word};
+use lent_graph::Graph;
 
 fn plan_look_up(place: u32, found: Found) -> Plan
     ensures { result ≡ plan_look_up place found }
 {
     match found {
-        Found::At { job: _ } => Plan::Pass,
+        Found::At { .. } => Plan::Pass,
         Found::Missing => Plan::Quit {
             number: UNKNOWN_NAME,
             place,
@@ -26,42 +27,31 @@ fn plan_look_up(place: u32, found: Found) -> Plan
 }
 
 // The sum of the arcs is formed in 64 bits, where it cannot wrap.
-fn plan_enter(
-    sizes: Sizes,
-    jobs: &[u32],
-    arcs: &[u32],
-    buckets: &[u32],
-    name: u32,
-    count: u32,
-    found: Found,
-) -> Plan
-    ensures { (queue workers : List ℕ)
-        → result ≡ plan_enter sizes (view (tables jobs.now arcs.now
-        buckets.now queue workers)) name count found }
+fn plan_enter(graph: &Graph, name: u32, count: u32, found: Found) -> Plan
+    ensures { result ≡ plan_enter graph.now.sizes (view (words graph.now)) name count found }
 {
     match found {
-        Found::At { job: _ } => Plan::Quit {
+        Found::At { .. } => Plan::Quit {
             number: NAME_PRESENT,
             place: 0,
         },
         Found::Missing => {
-            let made = header(jobs, MADE);
-            let reserved = header(arcs, RESERVED);
-            let full = (sizes.jobs <= made)
-                | ((sizes.arcs as u64) < (reserved as u64) + (count as u64));
+            let made = header(graph.jobs, MADE);
+            let reserved = header(graph.arcs, RESERVED);
+            let full = (graph.sizes.jobs <= made)
+                | ((graph.sizes.arcs as u64) < (reserved as u64) + (count as u64));
             if full {
-                Plan::Quit {
+                return Plan::Quit {
                     number: TABLES_FULL,
                     place: 0,
-                }
-            } else {
-                let k = bucket(name, sizes.bits);
-                Plan::Enter {
-                    job: made,
-                    bucket: k,
-                    head: bucket_word(buckets, k),
-                    arc: reserved,
-                }
+                };
+            }
+            let bucket = bucket(name, graph.sizes.bits);
+            Plan::Enter {
+                job: made,
+                bucket,
+                head: bucket_word(graph.buckets, bucket),
+                arc: reserved,
             }
         }
         Found::Damaged => Plan::Refuse { number: DAMAGED },
@@ -69,28 +59,16 @@ fn plan_enter(
 }
 
 // An add that looks its names up, and then enters.
-pub fn plan_add(
-    sizes: Sizes,
-    jobs: &[u32],
-    arcs: &[u32],
-    buckets: &[u32],
-    workers: &[u32],
-    worker: u32,
-) -> Plan
-    ensures { (queue : List ℕ)
-        → result ≡ plan_add sizes (view (tables jobs.now arcs.now buckets.now queue
-        workers.now)) worker }
+pub fn plan_add(graph: &Graph, worker: u32) -> Plan
+    ensures { result ≡ plan_add graph.now.sizes (view (words graph.now)) worker }
 {
-    let place = worker_word(workers, worker, PLACE);
-    let count = worker_word(workers, worker, LIST_COUNT);
-    let looking = place < count;
-    if looking {
-        let name = name_word(workers, worker, place);
-        let found = find(sizes, jobs, buckets, name);
-        plan_look_up(place, found)
-    } else {
-        let name = worker_word(workers, worker, OWN_NAME);
-        let found = find(sizes, jobs, buckets, name);
-        plan_enter(sizes, jobs, arcs, buckets, name, count, found)
+    let place = worker_word(graph.workers, worker, PLACE);
+    let count = worker_word(graph.workers, worker, LIST_COUNT);
+    if place < count {
+        let name = name_word(graph.workers, worker, place);
+        return plan_look_up(place, find(graph.sizes, graph.jobs, graph.buckets, name));
     }
+    let name = worker_word(graph.workers, worker, OWN_NAME);
+    let found = find(graph.sizes, graph.jobs, graph.buckets, name);
+    plan_enter(graph, name, count, found)
 }

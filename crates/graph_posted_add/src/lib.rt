@@ -9,53 +9,50 @@ ghost use Rattle.def_basics.specs.Base.{prefix};
 ghost use Rattle.def_words.specs.Columns.{offset};
 ghost use Rattle.def_words.specs.Layout.{worker_shape, PHASE, TALLY, NAMES};
 ghost use Rattle.def_words.specs.Words.{put_worker, adding_worker};
+ghost use Rattle.def_sheet_rows.specs.Arguments.{arguments_of};
 
 use def_numbers::*;
+use def_sheets::Entry;
 use graph_records::{fill, record_at};
 use graph_words::layout::*;
 use graph_words::{put_word, put_worker, word};
 
+// How far a call has come: its phase, the finished prerequisites, the place in its list, its job, its arc and its note.
+#[derive(Clone, Copy)]
+pub struct Progress {
+    pub phase: u32,
+    pub tally: u32,
+    pub place: u32,
+    pub job: u32,
+    pub arc: u32,
+    pub note: u32,
+}
+
 // A worker's phase, its hold, and the arguments of its call.
-fn put_arguments(
-    workers: &mut [u32],
-    worker: u32,
-    phase: u32,
-    held: u32,
-    name: u32,
-    count: u32,
-    class: u32,
-    grower: u32,
-)
+fn put_arguments(workers: &mut [u32], worker: u32, phase: u32, held: u32, entry: &Entry)
     ensures { workers.new
         ≡ sets workers.old (offset worker_shape worker PHASE)
-        (phase ∷ held ∷ name ∷ count ∷ class ∷ grower ∷ []) }
+        (phase ∷ held ∷ entry.now.name ∷ entry.now.count ∷ entry.now.class ∷ entry.now.grower ∷ []) }
 {
     put_worker(workers, worker, PHASE, phase);
     put_worker(workers, worker, HELD, held);
-    put_worker(workers, worker, OWN_NAME, name);
-    put_worker(workers, worker, LIST_COUNT, count);
-    put_worker(workers, worker, OWN_CLASS, class);
-    put_worker(workers, worker, OWN_GROWER, grower);
+    put_worker(workers, worker, OWN_NAME, entry.name);
+    put_worker(workers, worker, LIST_COUNT, entry.count);
+    put_worker(workers, worker, OWN_CLASS, entry.class);
+    put_worker(workers, worker, OWN_GROWER, entry.grower);
 }
 
-// How far a call has come: the finished prerequisites, the place in the list, its job, its arc and its note.
-fn put_reached(
-    workers: &mut [u32],
-    worker: u32,
-    tally: u32,
-    position: u32,
-    job: u32,
-    arc: u32,
-    note: u32,
-)
+// How far a call has come, but for its phase.
+fn put_reached(workers: &mut [u32], worker: u32, progress: Progress)
     ensures { workers.new
-        ≡ sets workers.old (offset worker_shape worker TALLY) (tally ∷ position ∷ job ∷ arc ∷ note ∷ []) }
+        ≡ sets workers.old (offset worker_shape worker TALLY)
+        (progress.tally ∷ progress.place ∷ progress.job ∷ progress.arc ∷ progress.note ∷ []) }
 {
-    put_worker(workers, worker, TALLY, tally);
-    put_worker(workers, worker, PLACE, position);
-    put_worker(workers, worker, OWN_JOB, job);
-    put_worker(workers, worker, OWN_ARC, arc);
-    put_worker(workers, worker, NOTE, note);
+    put_worker(workers, worker, TALLY, progress.tally);
+    put_worker(workers, worker, PLACE, progress.place);
+    put_worker(workers, worker, OWN_JOB, progress.job);
+    put_worker(workers, worker, OWN_ARC, progress.arc);
+    put_worker(workers, worker, NOTE, progress.note);
 }
 
 // Where a worker's list begins.
@@ -65,76 +62,45 @@ fn names_at(worker: u32) -> usize
     record_at(worker) + (NAMES as usize)
 }
 
-// How many of the names are listed: all that are counted, of those that a record keeps.
-fn listed_of(count: u32) -> usize
-    ensures { (result ≤ count) × (result ≤ most_names) × (result < most_names → result ≡ count) }
-{
-    if count < MOST_NAMES {
-        count as usize
-    } else {
-        MOST_NAMES as usize
-    }
-}
-
-// The listed names, and 0 past them.
-fn put_names(workers: &mut [u32], worker: u32, names: &[u32], count: u32)
+// The listed names, of which a record keeps the first 32, and 0 past them.
+fn put_names(workers: &mut [u32], worker: u32, entry: &Entry)
     ensures { workers.new
         ≡ sets workers.old (offset worker_shape worker NAMES)
-        (prefix most_names (prefix count names.now)) }
+        (prefix most_names (prefix entry.now.count entry.now.names)) }
 {
     let from = names_at(worker);
-    let listed = listed_of(count);
-    let mut i = 0;
-    while i < listed {
-        put_word(workers, from + i, word(names, i));
-        i += 1;
+    let listed = entry.count.min(MOST_NAMES) as usize;
+    for (i, name) in entry.names[..listed].iter().enumerate() {
+        put_word(workers, from + i, *name);
     }
     fill(workers, from + listed, (MOST_NAMES as usize) - listed, 0);
 }
 
 // A worker's whole record, with a call that has come so far.
-pub fn put_call(
-    workers: &mut [u32],
-    worker: u32,
-    phase: u32,
-    held: u32,
-    name: u32,
-    names: &[u32],
-    count: u32,
-    class: u32,
-    grower: u32,
-    tally: u32,
-    position: u32,
-    job: u32,
-    arc: u32,
-    note: u32,
-)
+pub fn put_call(workers: &mut [u32], worker: u32, held: u32, entry: &Entry, progress: Progress)
     ensures { workers.new
         ≡ put_worker workers.old worker
-        (phase ∷ held ∷ name ∷ count ∷ class ∷ grower ∷ tally ∷ position ∷ job ∷ arc ∷ note
-        ∷ prefix most_names (prefix count names.now)) }
+        (progress.phase ∷ held ∷ entry.now.name ∷ entry.now.count ∷ entry.now.class ∷ entry.now.grower
+        ∷ progress.tally ∷ progress.place ∷ progress.job ∷ progress.arc ∷ progress.note
+        ∷ prefix most_names (prefix entry.now.count entry.now.names)) }
 {
-    put_arguments(workers, worker, phase, held, name, count, class, grower);
-    put_reached(workers, worker, tally, position, job, arc, note);
-    put_names(workers, worker, names, count);
+    put_arguments(workers, worker, progress.phase, held, entry);
+    put_reached(workers, worker, progress);
+    put_names(workers, worker, entry);
 }
 
 // The words of a posted add, at its beginning.
-pub fn put_adding_worker(
-    workers: &mut [u32],
-    worker: u32,
-    held: u32,
-    name: u32,
-    names: [u32; 32],
-    count: u32,
-    class: u32,
-    grower: u32,
-)
+pub fn put_adding_worker(workers: &mut [u32], worker: u32, held: u32, entry: &Entry)
     ensures { workers.new
-        ≡ put_worker workers.old worker
-        (adding_worker held (record { name = name; count = count; names = names; class = class; grower = grower })) }
+        ≡ put_worker workers.old worker (adding_worker held (arguments_of entry.now)) }
 {
-    put_call(
-        workers, worker, LOOKING, held, name, &names, count, class, grower, 0, 0, NONE, NONE, 0,
-    );
+    let progress = Progress {
+        phase: LOOKING,
+        tally: 0,
+        place: 0,
+        job: NONE,
+        arc: NONE,
+        note: 0,
+    };
+    put_call(workers, worker, held, entry, progress);
 }

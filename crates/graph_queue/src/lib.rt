@@ -10,14 +10,14 @@ ghost use Rattle.def_words.specs.Index.{levels, put_slot, shifted_down, shifted_
 
 use def_words::Seat;
 use graph_words::layout::*;
-use graph_words::{header, less, put_header, put_queue, queue_word};
+use graph_words::{header, put_header, put_queue, queue_word};
 use graph_worker_words::sum;
 
 // The slot above a slot; that of the first is itself.
 fn above(slot: u32) -> u32
     ensures { result ≡ above slot }
 {
-    less(slot, 1) / 2
+    slot.saturating_sub(1) / 2
 }
 
 // A cell is put in a slot, which is its position.
@@ -33,13 +33,14 @@ fn shift_down(queue: &mut [u32], cell: u32, from: u32, to: u32)
     ensures { queue.new ≡ shifted_down levels queue.old cell from to }
 {
     let mut at = from;
-    let mut left = LEVELS;
-    while (left > 0) & (at != to) {
+    for _ in 0..LEVELS {
+        if at == to {
+            break;
+        }
         let up = above(at);
         let moved = queue_word(queue, up, SLOT);
         put_slot(queue, at, moved);
         at = up;
-        left -= 1;
     }
     put_slot(queue, at, cell);
 }
@@ -50,13 +51,14 @@ fn shift_up(queue: &mut [u32], cell: u32, slot: u32)
 {
     let mut moved = cell;
     let mut at = slot;
-    let mut left = LEVELS;
-    while (left > 0) & (at != 0) {
+    for _ in 0..LEVELS {
+        if at == 0 {
+            break;
+        }
         let next = queue_word(queue, at, SLOT);
         put_slot(queue, at, moved);
         moved = next;
         at = above(at);
-        left -= 1;
     }
     put_slot(queue, at, moved);
 }

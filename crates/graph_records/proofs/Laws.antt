@@ -31,12 +31,14 @@ pub sets_out : (vs l : List ℕ) (i : ℕ) → length l ≤ i → sets l i vs �
 sets_out [] l i h = refl
 sets_out (v ∷ vs) l i h = rw (set_out l i v h) (sets_out vs l (suc i) (omega arith))
 
-pub fill_clipped : (k n : ℕ) (l : List ℕ) (i v : ℕ) → k ≤ n → length l ≤ i + k
+pub fill_clipped : (k n : ℕ) (l : List ℕ) (i v : ℕ) → k ≤ n → (k < n → length l ≤ i + k)
     → sets l i (replicate k v) ≡ sets l i (replicate n v)
-fill_clipped zero n l i v a b = sym (sets_out (replicate n v) l i (omega arith))
+fill_clipped zero zero l i v a b = refl
+fill_clipped zero (suc n) l i v a b = sym (sets_out (replicate (suc n) v) l i (omega (arith, b (omega arith))))
 fill_clipped (suc k) zero l i v a b = absurd (omega arith)
 fill_clipped (suc k) (suc n) l i v a b =
-    fill_clipped k n (set l i v) (suc i) v (omega arith) (rw (length-set l i v) (omega arith))
+    fill_clipped k n (set l i v) (suc i) v (omega arith)
+    (λ h. rw (length-set l i v) (omega (arith, b (omega arith))))
 
 -- ---- one word of a run that is left to store
 pub fill_one : (l : List ℕ) (i e v : ℕ) → i < e

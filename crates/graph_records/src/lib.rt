@@ -11,30 +11,13 @@ ghost use Rattle.def_words.specs.Words.{put_worker};
 use graph_words::layout::*;
 use graph_words::{put_job, put_word, put_worker};
 
-// The words from `from` up to `end`, which is within the table.
-fn fill_to(s: &mut [u32], from: usize, end: usize, value: u32)
-    requires { (from ≤ end) × (end ≤ length s.old) }
-    ensures { s.new ≡ sets s.old from (replicate (end - from) value) }
-{
-    let mut i = from;
-    while i < end {
-        s[i] = value;
-        i += 1;
-    }
-}
-
 // `count` words from `from` on, as far as the table reaches.
 pub fn fill(s: &mut [u32], from: usize, count: usize, value: u32)
     ensures { s.new ≡ sets s.old from (replicate count value) }
 {
-    let len = s.len();
-    if len <= from {
-        return;
-    }
-    if count <= len - from {
-        fill_to(s, from, from + count, value);
-    } else {
-        fill_to(s, from, len, value);
+    let end = s.len().min(from.saturating_add(count));
+    for i in from..end {
+        s[i] = value;
     }
 }
 
@@ -42,35 +25,35 @@ pub fn fill(s: &mut [u32], from: usize, count: usize, value: u32)
 pub fn put_words(s: &mut [u32], from: u32, words: &[u32])
     ensures { s.new ≡ sets s.old from words.now }
 {
-    let mut i = 0;
-    while i < words.len() {
-        put_word(s, (from as usize) + i, words[i]);
-        i += 1;
+    for (i, word) in words.iter().enumerate() {
+        put_word(s, (from as usize) + i, *word);
     }
 }
 
+// What differs among the words of jobs that enter: the arguments of the add, and the job after it in its bucket.
+#[derive(Clone, Copy)]
+pub struct JobRecord {
+    pub name: u32,
+    pub count: u32,
+    pub class: u32,
+    pub grower: u32,
+    pub next: u32,
+}
+
 // A job's words: it is unexecuted, has no arcs and is not spoiled.
-pub fn put_job_record(
-    jobs: &mut [u32],
-    job: u32,
-    name: u32,
-    count: u32,
-    class: u32,
-    grower: u32,
-    next: u32,
-)
+pub fn put_job_record(jobs: &mut [u32], job: u32, new: JobRecord)
     ensures { jobs.new
         ≡ sets jobs.old (offset job_shape job 0)
-        (name ∷ 0 ∷ count ∷ class ∷ grower ∷ none ∷ none ∷ next ∷ 0 ∷ 0 ∷ []) }
+        (new.name ∷ 0 ∷ new.count ∷ new.class ∷ new.grower ∷ none ∷ none ∷ new.next ∷ 0 ∷ 0 ∷ []) }
 {
-    put_job(jobs, job, NAME, name);
+    put_job(jobs, job, NAME, new.name);
     put_job(jobs, job, LABEL, UNEXECUTED);
-    put_job(jobs, job, COUNT, count);
-    put_job(jobs, job, CLASS, class);
-    put_job(jobs, job, GROWER, grower);
+    put_job(jobs, job, COUNT, new.count);
+    put_job(jobs, job, CLASS, new.class);
+    put_job(jobs, job, GROWER, new.grower);
     put_job(jobs, job, FIRST, NONE);
     put_job(jobs, job, LAST, NONE);
-    put_job(jobs, job, NEXT, next);
+    put_job(jobs, job, NEXT, new.next);
     put_job(jobs, job, OUTCOME, 0);
     put_job(jobs, job, SPOILED, 0);
 }

@@ -4,14 +4,15 @@
 
 ghost use Rattle.std.specs.Prelude.{◌≡◌};
 ghost use Rattle.def_terms.specs.Runs.{result_of};
-ghost use Rattle.def_words.specs.Layout.{as_lent, as_left};
 ghost use Rattle.def_words.specs.Words.{going_unless, answer_of, step_words};
+ghost use Rattle.lent_graph.specs.Lent.{words, Same};
 
-use def_terms::{Answer, Sizes};
+use def_terms::Answer;
 use def_words::Plan;
 use graph_apply::apply;
 use graph_plan_step::plan_step;
 use graph_words::layout::NONE;
+use lent_graph::Graph;
 
 // A step that ended its call, or one after which it goes on.
 fn going_unless(ends: bool) -> Answer
@@ -41,19 +42,11 @@ fn answer_of(plan: Plan) -> Answer
 }
 
 // Makes one step of the worker's call.
-pub fn step(
-    sizes: Sizes,
-    jobs: &mut [u32],
-    arcs: &mut [u32],
-    buckets: &mut [u32],
-    queue: &mut [u32],
-    workers: &mut [u32],
-    worker: u32,
-) -> Answer
-    ensures { result_of result (as_left jobs arcs buckets queue workers)
-        ≡ step_words sizes (as_lent jobs arcs buckets queue workers) worker }
+pub fn step(graph: &mut Graph, worker: u32) -> Answer
+    ensures same { Same graph.old graph.new }
+    ensures answered { result_of result (words graph.new) ≡ step_words graph.old.sizes (words graph.old) worker }
 {
-    let plan = plan_step(sizes, jobs, arcs, buckets, queue, workers, worker);
-    apply(jobs, arcs, buckets, queue, workers, worker, plan);
+    let plan = plan_step(graph, worker);
+    apply(graph, worker, plan);
     answer_of(plan)
 }

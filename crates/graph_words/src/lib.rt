@@ -14,7 +14,7 @@ use layout::*;
 pub fn word(s: &[u32], i: usize) -> u32
     ensures { result ≡ get_or s.now i 0 }
 {
-    if i < s.len() { s[i] } else { 0 }
+    s.get(i).copied().unwrap_or(0)
 }
 
 pub fn put_word(s: &mut [u32], i: usize, v: u32)
@@ -76,8 +76,7 @@ pub fn put_count(jobs: &mut [u32], job: u32, count: u32, note: u32)
     ensures { jobs.new ≡ put_count jobs.old job count note }
 {
     put_job(jobs, job, COUNT, count);
-    let spoils = note == 1;
-    if spoils {
+    if note == 1 {
         put_job(jobs, job, SPOILED, 1);
     }
 }
@@ -157,5 +156,5 @@ pub fn name_word(workers: &[u32], worker: u32, i: u32) -> u32
 pub fn less(x: u32, y: u32) -> u32
     ensures { result ≡ x - y }
 {
-    if y <= x { x - y } else { 0 }
+    x.saturating_sub(y)
 }

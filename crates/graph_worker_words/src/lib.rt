@@ -18,7 +18,7 @@ use graph_words::{put_worker, worker_word};
 pub fn sum(a: u32, b: u32) -> u32
     ensures { a + b ≤ none → result ≡ a + b }
 {
-    std::num::wrapping_add_u32(a, b)
+    a.wrapping_add(b)
 }
 
 // The call ends: the worker is idle, and its hold stays.
@@ -35,8 +35,7 @@ pub fn idle_worker(workers: &mut [u32], worker: u32)
 pub fn note_of(outcome: u32, note: u32) -> u32
     ensures { result ≡ noted outcome note }
 {
-    let failed = outcome == 1;
-    if failed { 1 } else { note }
+    if outcome == 1 { 1 } else { note }
 }
 
 // The call goes on to the next name of its list.
@@ -70,8 +69,7 @@ pub fn count_tally(workers: &mut [u32], worker: u32, outcome: u32)
 pub fn first_arc(count: u32, arc: u32) -> u32
     ensures { result ≡ first_arc count arc }
 {
-    let empty = count == 0;
-    if empty { NONE } else { arc }
+    if count == 0 { NONE } else { arc }
 }
 
 // The add has entered its job, and links from the first name on.
@@ -92,8 +90,7 @@ pub fn enter_worker(workers: &mut [u32], worker: u32, job: u32, arc: u32)
 pub fn mark_worker(workers: &mut [u32], worker: u32, first: u32)
     ensures { workers.new ≡ marked_worker first worker workers.old }
 {
-    let ends = first == NONE;
-    if ends {
+    if first == NONE {
         put_bare_worker(workers, worker, IDLE, NONE, 0);
     } else {
         put_worker(workers, worker, PHASE, NOTIFYING);
@@ -109,8 +106,7 @@ pub fn arcs_from(workers: &mut [u32], worker: u32, next: u32)
         (bare_worker IDLE (columns worker_shape workers.old HELD worker) 0))
         (put worker_shape workers.old worker OWN_ARC next) }
 {
-    let ends = next == NONE;
-    if ends {
+    if next == NONE {
         idle_worker(workers, worker);
     } else {
         put_worker(workers, worker, OWN_ARC, next);

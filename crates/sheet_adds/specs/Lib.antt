@@ -1,4 +1,3 @@
-pub mod Copied
 pub mod Stops
 pub mod Left
 pub mod Judged

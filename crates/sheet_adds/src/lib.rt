@@ -5,7 +5,7 @@
 ghost use Rattle.std.specs.Prelude.{◌≡◌, ◌+◌, ◌*◌, ◌≤◌, ◌<◌, length, take, drop, map};
 ghost use Rattle.def_numbers.specs.Numbers.{most_names, most_entries, entry_words};
 ghost use Rattle.def_basics.specs.Base.{pick};
-ghost use Rattle.def_words.specs.Layout.{as_lent, as_left};
+ghost use Rattle.lent_graph.specs.Lent.{words, Same};
 ghost use Rattle.def_sheets.specs.Write.{entry_at, entries_from};
 ghost use Rattle.thm_fused_add.specs.Sheets.{add_each_if_idle};
 ghost use Rattle.def_sheet_rows.specs.Arguments.{arguments_of};
@@ -16,10 +16,9 @@ ghost use Rattle.sheet_adds.specs.Stops.{stop_if_idle, or_first};
 use def_numbers::{ENTRY_WORDS, WRONG_SIZE};
 use def_sheet_rows::SheetAdded;
 use def_sheets::Entry;
-use def_terms::Sizes;
 use fused_add::add_if_idle;
 use graph_words::layout::PHASE;
-use graph_words::worker_word;
+use lent_graph::Graph;
 use sheet_judge::{judge_sheet, number_of, place_of, turned_away};
 use sheet_limits::{CLASS_WORD, COUNT_WORD, GROWER_WORD, NAMES_WORD};
 use worker_phase::stopped_as;
@@ -29,12 +28,8 @@ fn row_names(rows: &[u32], from: usize) -> [u32; 32]
     requires { from + most_names ≤ length rows.now }
     ensures { result ≡ take most_names (drop from rows.now) }
 {
-    let mut names: [u32; 32] = [0; 32];
-    let mut i: usize = 0;
-    while i < 32 {
-        names[i] = rows[from + i];
-        i += 1;
-    }
+    let mut names = [0; 32];
+    names.copy_from_slice(&rows[from..from + 32]);
     names
 }
 
@@ -59,9 +54,8 @@ fn first_stop(noted: u32, stops: bool, row: usize) -> u32
     requires { row < most_entries }
     ensures { result ≡ or_first noted (pick stops (row + 1) 0) }
 {
-    let first = noted == 0;
-    if first {
-        if stops { (row as u32) + 1 } else { 0 }
+    if (noted == 0) & stops {
+        (row as u32) + 1
     } else {
         noted
     }
@@ -69,38 +63,34 @@ fn first_stop(noted: u32, stops: bool, row: usize) -> u32
 
 // The adds of the first rows, in order, by a worker of which the tests that come first are passed; a refused one does
 // not stop the next.
-fn add_rows(
-    sizes: Sizes,
-    jobs: &mut [u32],
-    arcs: &mut [u32],
-    buckets: &mut [u32],
-    queue: &mut [u32],
-    workers: &mut [u32],
-    worker: u32,
-    rows: &[u32],
-    count: usize,
-) -> SheetAdded
+fn add_rows(graph: &mut Graph, worker: u32, rows: &[u32], count: usize) -> SheetAdded
     requires { (count ≤ most_entries) × (entry_words * count ≤ length rows.now) }
-    ensures { Added result (as_left jobs arcs buckets queue workers)
-        (stop_if_idle sizes worker 0 (map arguments_of (entries_from rows.now 0 count))
-        (as_lent jobs arcs buckets queue workers))
-        (add_each_if_idle sizes worker (map arguments_of (entries_from rows.now 0 count))
-        (as_lent jobs arcs buckets queue workers)) }
+    ensures same { Same graph.old graph.new }
+    ensures added { Added result (words graph.new)
+        (stop_if_idle graph.old.sizes worker 0 (map arguments_of (entries_from rows.now 0 count)) (words graph.old))
+        (add_each_if_idle graph.old.sizes worker (map arguments_of (entries_from rows.now 0 count)) (words graph.old)) }
 {
     let mut numbers: [u32; 64] = [0; 64];
     let mut places: [u32; 64] = [0; 64];
     let mut stopped: u32 = 0;
-    let mut row: usize = 0;
-    while row < count {
+    for row in 0..count {
         let entry = row_entry(rows, row);
-        let before = worker_word(workers, worker, PHASE);
-        let answer = add_if_idle(sizes, jobs, arcs, buckets, queue, workers, worker, entry);
-        let after = worker_word(workers, worker, PHASE);
+        let before = graph.worker_word(worker, PHASE);
+        let answer = add_if_idle(
+            graph.sizes,
+            graph.jobs,
+            graph.arcs,
+            graph.buckets,
+            graph.queue,
+            graph.workers,
+            worker,
+            entry,
+        );
+        let after = graph.worker_word(worker, PHASE);
         let number = number_of(answer);
         numbers[row] = number;
         places[row] = place_of(answer);
         stopped = first_stop(stopped, stopped_as(number, before, after), row);
-        row += 1;
     }
     SheetAdded {
         number: 0,
@@ -111,31 +101,18 @@ fn add_rows(
 }
 
 // Adds the entries of all rows, each whole, in order, or turns the sheet away.
-pub fn add_sheet(
-    sizes: Sizes,
-    jobs: &mut [u32],
-    arcs: &mut [u32],
-    buckets: &mut [u32],
-    queue: &mut [u32],
-    workers: &mut [u32],
-    worker: u32,
-    rows: &[u32],
-) -> SheetAdded
-    ensures { Added result (as_left jobs arcs buckets queue workers)
-        (rows_stopped sizes (as_lent jobs arcs buckets queue workers) worker rows.now)
-        (rows_words sizes (as_lent jobs arcs buckets queue workers) worker rows.now) }
+pub fn add_sheet(graph: &mut Graph, worker: u32, rows: &[u32]) -> SheetAdded
+    ensures same { Same graph.old graph.new }
+    ensures added { Added result (words graph.new)
+        (rows_stopped graph.old.sizes (words graph.old) worker rows.now)
+        (rows_words graph.old.sizes (words graph.old) worker rows.now) }
 {
-    let whole = rows.len() % ENTRY_WORDS == 0;
-    if whole {} else {
+    if rows.len() % ENTRY_WORDS != 0 {
         return turned_away(WRONG_SIZE);
     }
     let count = rows.len() / ENTRY_WORDS;
-    let number = judge_sheet(sizes, jobs, arcs, buckets, queue, workers, worker, count);
-    let turned = 0 < number;
-    if turned {
-        return turned_away(number);
+    if let Err(refusal) = judge_sheet(graph, worker, count) {
+        return turned_away(refusal.into());
     }
-    add_rows(
-        sizes, jobs, arcs, buckets, queue, workers, worker, rows, count,
-    )
+    add_rows(graph, worker, rows, count)
 }

@@ -29,26 +29,24 @@ pub const GROWER_WORD: usize = 3;
 
 pub const NAMES_WORD: usize = 4;
 
-// An entry judged by its limits: where its first wrong field stands, from the entry's start, or the bytes that it
-// takes.
+// An entry is off its limits: where its first wrong field stands, from the entry's start.
 #[derive(Clone, Copy)]
-pub enum Judged {
-    Refused { at: usize },
-    Takes { bytes: usize },
+pub struct WrongField {
+    pub at: usize,
 }
 
-// A sheet judged: its first entry with a wrong field, and where that field stands, or the bytes that the sheet takes.
+// A sheet is off its limits: its first entry with a wrong field, and where that field stands, from the entry's start.
 #[derive(Clone, Copy)]
-pub enum SheetJudged {
-    Refused { entry: usize, at: usize },
-    Takes { bytes: usize },
+pub struct WrongEntry {
+    pub entry: usize,
+    pub at: usize,
 }
 
 // 1 for a field that is written, 0 for one that is left out.
 pub fn bit(x: u32) -> usize
     ensures { (result ≡ bit_of x) × (result ≤ 1) }
 {
-    if x == 0 { 0 } else { 1 }
+    usize::from(x != 0)
 }
 
 // The map byte: bit 0 name, bit 1 prerequisites, bit 2 class, bit 3 grower.
@@ -69,25 +67,26 @@ fn list_bytes(n: u32) -> usize
     }
 }
 
-// Judges an entry by its count, class and grower, whatever its names are. The offset of its fields is counted on.
-pub fn judge(count: u32, class: u32, grower: u32) -> Judged
+// Judges an entry by its count, class and grower, whatever its names are, and answers the bytes that it takes. The
+// offset of its fields is counted on.
+pub fn judge(count: u32, class: u32, grower: u32) -> Result<usize, WrongField>
     ensures { (name : ℕ) (names : List ℕ) → length names ≡ most_names
         → result ≡ judged (entry_with name count class grower names) }
 {
     let mut offset = LIST_OFFSET;
     if MOST_NAMES < count {
-        return Judged::Refused { at: offset };
+        return Err(WrongField { at: offset });
     }
     offset += list_bytes(count);
     if MOST_CLASS < class {
-        return Judged::Refused { at: offset };
+        return Err(WrongField { at: offset });
     }
     offset += CLASS_BYTES * bit(class);
     if MOST_GROWER < grower {
-        return Judged::Refused { at: offset };
+        return Err(WrongField { at: offset });
     }
     offset += GROWER_BYTES * bit(grower);
-    Judged::Takes { bytes: offset }
+    Ok(offset)
 }
 
 // Whether so many bytes from an offset on lie before the end. No sum is made, so none can wrap.
@@ -101,7 +100,7 @@ pub fn has_room(end: usize, at: usize, bytes: usize) -> bool
 }
 
 // The entry in row i, judged.
-fn judge_row(rows: &[u32], i: usize) -> Judged
+fn judge_row(rows: &[u32], i: usize) -> Result<usize, WrongField>
     requires { entry_words * (i + 1) ≤ length rows.now }
     ensures { result ≡ judged (entry_at rows.now i) }
 {
@@ -113,29 +112,23 @@ fn judge_row(rows: &[u32], i: usize) -> Judged
     )
 }
 
-// The entries of the first n rows, judged.
-fn judge_rows(rows: &[u32], n: usize) -> SheetJudged
+// The entries of the first n rows, judged: the bytes that they take.
+fn judge_rows(rows: &[u32], n: usize) -> Result<usize, WrongEntry>
     requires { entry_words * n ≤ length rows.now }
     ensures { result ≡ sheet_judged (entries_from rows.now 0 n) }
 {
     let mut sum: usize = 0;
-    let mut i: usize = 0;
-    while i < n {
-        match judge_row(rows, i) {
-            Judged::Refused { at } => {
-                return SheetJudged::Refused { entry: i, at };
-            }
-            Judged::Takes { bytes } => {
-                sum += bytes;
-            }
+    for entry in 0..n {
+        match judge_row(rows, entry) {
+            Ok(bytes) => sum += bytes,
+            Err(WrongField { at }) => return Err(WrongEntry { entry, at }),
         }
-        i += 1;
     }
-    SheetJudged::Takes { bytes: sum }
+    Ok(sum)
 }
 
-// The entries of all rows, judged.
-pub fn judge_sheet(rows: &[u32]) -> SheetJudged
+// The entries of all rows, judged: the bytes that they take.
+pub fn judge_sheet(rows: &[u32]) -> Result<usize, WrongEntry>
     ensures { result ≡ sheet_judged (entries_of rows.now) }
 {
     judge_rows(rows, rows.len() / ENTRY_WORDS)

@@ -3,11 +3,14 @@ use Prim.Native.Nat.{ℕ, zero, suc, ◌+◌, ◌*◌, ◌-◌, ◌≤◌}
 use mathlib.Core.Path.{◌≡◌, ◌∙◌}
 use mathlib.Core.List.{List, [], ◌∷◌, ◌++◌}
 use native.Mathlib.Omega.{arith}
-use native.Mathlib.Numerals.{add-one}
-use lib.ListN.{length, set, drop, replicate, length-replicate, replicate-append-replicate}
-use lib.Seq.{sets, sets-eq, set-set}
+use Rattle.std.proofs.Common.{add-one, zero-add, append-nil, ap, length-take-le}
+use Rattle.std.proofs.lemmas.List.{drop_all}
+use borrow.Rule.Slice.PartMut.{mid_of, put_mid}
+use Rattle.def_numbers.specs.Numbers.{entry_words}
+use lib.ListN.{length, set, drop, replicate, length-replicate}
+use lib.Seq.{sets, sets-eq}
 use Rattle.def_numbers.specs.Numbers.{most_names}
-use Rattle.def_basics.specs.Stores.{sets_append, set_before}
+use Rattle.def_basics.specs.Stores.{sets_append}
 use Rattle.def_sheets.specs.Number.{number_at}
 use Rattle.def_sheets.specs.Decode.{names_at, padded}
 use Rattle.def_sheets.proofs.NumberLaws.{length_names_at}
@@ -25,40 +28,26 @@ drop_zeros n zero = let q : n - 0 ≡ n = omega arith in rw q
 drop_zeros zero (suc k) = let q : 0 - suc k ≡ 0 = omega arith in rw q
 drop_zeros (suc n) (suc k) = let q : suc n - suc k ≡ n - k = omega arith in rw q (drop_zeros n k)
 
-pub names_over : (w : ℕ) (s : List ℕ) (at n : ℕ) → n ≤ most_names
-    → sets (replicate most_names 0) 0 (names_at w s at n) ≡ padded (names_at w s at n)
-names_over w s at n h =
-    let xs = names_at w s at n in
+-- names in every place
+pub names_whole : (w : ℕ) (s l : List ℕ) (at n : ℕ) → length l ≤ n → n ≤ length l
+    → sets l 0 (names_at w s at n) ≡ names_at w s at (length l)
+names_whole w s l at n most least =
+    let e : n ≡ length l = omega arith in
+    let m = length_names_at w s at (length l) in
+    rw e (sets-eq (names_at w s at (length l)) l 0 (omega arith) ∙ rw (m, zero-add, drop_all (length l) l (omega arith)) (append-nil _))
+
+-- names before words that are 0
+pub names_before : (w : ℕ) (s : List ℕ) (at n k : ℕ) → k ≡ n
+    → names_at w s at k ++ drop n (replicate most_names 0) ≡ padded (names_at w s at n)
+names_before w s at n k e = rw (e, length_names_at, drop_zeros)
+
+-- a row: four numbers, and names before words that are 0
+pub row_stored : (w : ℕ) (s : List ℕ) (at a b c d k : ℕ) {l names : List ℕ} → l ≡ replicate entry_words 0 → k ≤ most_names
+    → names ≡ names_at w s at (length (mid_of 4 (4 + k - 4) (set (set (set (set l 0 a) 1 b) 2 c) 3 d)))
+    → put_mid 4 (4 + k - 4) (set (set (set (set l 0 a) 1 b) 2 c) 3 d) names ≡ a ∷ b ∷ c ∷ d ∷ padded (names_at w s at k)
+row_stored w s at a b c d k e most h =
+    let q : 4 + k - 4 ≡ k = omega arith in
     let z = length-replicate {A = ℕ} most_names 0 in
-    let m = length_names_at w s at n in
-    let q : 0 + length xs ≡ length xs = omega arith in
-    sets-eq xs (replicate most_names 0) 0 (omega arith) ∙ rw (q, drop_zeros)
-
--- one 0 more
-pub zero_more : (l : List ℕ) (from k i : ℕ) → k ≡ from + i
-    → set (sets l from (replicate i 0)) k 0 ≡ sets l from (replicate (i + 1) 0)
-zero_more l from k i q =
-    let n = length-replicate {A = ℕ} i 0 in
-    rw (← replicate-append-replicate i 1) (sets_append l (replicate i 0) (0 ∷ []) from k (omega arith))
-
-zeros_under : (n : ℕ) (l xs : List ℕ) (i : ℕ) → length xs ≤ n
-    → sets (sets l i (replicate n 0)) i xs ≡ sets l i (xs ++ replicate (n - length xs) 0)
-zeros_under n l [] i h = let q : n - 0 ≡ n = omega arith in rw q
-zeros_under zero l (x ∷ xs) i h = absurd (omega arith)
-zeros_under (suc n) l (x ∷ xs) i h =
-    let q : suc n - suc (length xs) ≡ n - length xs = omega arith in
-    rw (q, set_before (set l i 0) (replicate n 0) i (suc i) x (omega arith), set-set l i 0 x)
-    (zeros_under n (set l i x) xs (suc i) (omega arith))
-
--- a row: four numbers, and names over 0
-pub row_stored : (n : ℕ) (l : List ℕ) (from a b c d w : ℕ) (s : List ℕ) (at k : ℕ) → k ≤ n
-    → sets (sets (set (set (set (set l from a) (from + 1) b) (from + 2) c) (from + 3) d) (from + 4) (replicate n 0))
-    (from + 4) (names_at w s at k)
-    ≡ sets l from (a ∷ b ∷ c ∷ d ∷ (names_at w s at k ++ replicate (n - length (names_at w s at k)) 0))
-row_stored n l from a b c d w s at k h =
-    let m = length_names_at w s at k in
-    let q₁ : from + 1 ≡ suc from = omega arith in
-    let q₂ : from + 2 ≡ suc (suc from) = omega arith in
-    let q₃ : from + 3 ≡ suc (suc (suc from)) = omega arith in
-    let q₄ : from + 4 ≡ suc (suc (suc (suc from))) = omega arith in
-    rw (q₁, q₂, q₃, q₄) (zeros_under n _ (names_at w s at k) _ (omega arith))
+    rw (h, e, q)
+    (ap (λ (t : List ℕ). a ∷ b ∷ c ∷ d ∷ t)
+    (names_before w s at k _ (length-take-le k (replicate most_names 0) (omega arith))))

@@ -9,23 +9,23 @@ ghost use Rattle.def_sheets.specs.Decode.{names_at, padded, decode, blank, readi
 ghost use Rattle.def_sheets.specs.Decode.{decode_sheet, scan_sheet, sheet_rows, read_sheet};
 
 use def_numbers::{ENTRY_WORDS, MOST_NAMES, NAME_BYTES, NO_ROOM};
-use def_sheets::{Entry, Read, Reading, Scan, SheetRead};
-use entry_scan::{NAMES_FROM, scan, spelt4};
+use def_sheets::{Entry, Numbers, Read, Reading, Refusal, Scanned};
+use entry_scan::{NAMES_FROM, number, scan};
 use sheet_scan::{scan_again, scan_sheet};
 
 // the places of an entry's names
 const PLACES: usize = MOST_NAMES as usize;
-// Stores so many names from an offset on.
-fn store_names(s: &[u8], at: usize, count: usize, words: &mut [u32], from: usize)
-    requires { (at + name_bytes * count ≤ length s.now + (1 - count)) × (from + count ≤ length words.old) }
-    ensures { words.new
-        ≡ sets words.old from (names_at name_bytes s.now at count) }
+
+// the words of an entry's numbers, which stand before its names
+const NUMBERS: usize = 4;
+
+// Stores the names that start at an offset, one in each place.
+pub fn store_names(s: &[u8], at: usize, names: &mut [u32])
+    requires { at + name_bytes * length names.old ≤ length s.now + (1 - length names.old) }
+    ensures { names.new ≡ names_at name_bytes s.now at (length names.old) }
 {
-    let mut i = 0;
-    while i < count {
-        let offset = at + NAME_BYTES * i;
-        words[from + i] = spelt4(s[offset], s[offset + 1], s[offset + 2], s[offset + 3]);
-        i += 1;
+    for (i, name) in names.iter_mut().enumerate() {
+        *name = number::<NAME_BYTES>(s, at + NAME_BYTES * i);
     }
 }
 
@@ -34,8 +34,8 @@ fn names(s: &[u8], at: usize, count: usize) -> [u32; PLACES]
     requires { (count ≤ most_names) × (at + name_bytes * count ≤ length s.now + (1 - count)) }
     ensures { result ≡ padded (names_at name_bytes s.now at count) }
 {
-    let mut names = [0u32; PLACES];
-    store_names(s, at, count, &mut names, 0);
+    let mut names = [0; PLACES];
+    store_names(s, at, &mut names[..count]);
     names
 }
 
@@ -59,112 +59,67 @@ pub fn read(s: &[u8], at: usize) -> Reading
     ensures { result ≡ reading_of (decode s.now at) }
 {
     match scan(s, at) {
-        Scan::Fields {
-            name,
-            count,
-            class,
-            grower,
-            next,
-        } => {
-            let names = names(s, at + NAMES_FROM, count as usize);
+        Ok(Some(Scanned { numbers, next })) => {
             let entry = Entry {
-                name,
-                count,
-                class,
-                grower,
-                names,
+                name: numbers.name,
+                count: numbers.count,
+                class: numbers.class,
+                grower: numbers.grower,
+                names: names(s, at + NAMES_FROM, numbers.count as usize),
             };
             Reading {
                 answer: Read::Job { next },
                 entry,
             }
         }
-        Scan::End => without_entry(Read::End),
-        Scan::Refused { number, at } => without_entry(Read::Refused { number, at }),
-    }
-}
-
-// Stores 0 in the words of an entry's names.
-fn clear_names(words: &mut [u32], from: usize)
-    requires { from + most_names ≤ length words.old }
-    ensures { words.new ≡ sets words.old from (replicate most_names 0) }
-{
-    let mut i = 0;
-    while i < PLACES {
-        words[from + i] = 0;
-        i += 1;
+        Ok(None) => without_entry(Read::End),
+        Err(Refusal { number, at }) => without_entry(Read::Refused { number, at }),
     }
 }
 
 // Stores an entry's row: its numbers, then the names from an offset on, and 0 in the places that are left.
-fn store_row(
-    s: &[u8],
-    at: usize,
-    name: u32,
-    count: u32,
-    class: u32,
-    grower: u32,
-    rows: &mut [u32],
-    from: usize,
-)
-    requires { (count ≤ most_names) × (at + name_bytes * count ≤ length s.now + (1 - count))
-        × (from + entry_words ≤ length rows.old) }
-    ensures { rows.new
-        ≡ sets rows.old from
-        (name ∷ count ∷ class ∷ grower ∷ padded (names_at name_bytes s.now at count)) }
+fn store_row(s: &[u8], at: usize, numbers: &Numbers, row: &mut [u32])
+    requires names { (numbers.now.count ≤ most_names)
+        × (at + name_bytes * numbers.now.count ≤ length s.now + (1 - numbers.now.count)) }
+    requires words { length row.old ≡ entry_words }
+    ensures { row.new ≡ numbers.now.name ∷ numbers.now.count ∷ numbers.now.class ∷ numbers.now.grower
+        ∷ padded (names_at name_bytes s.now at numbers.now.count) }
 {
-    rows[from] = name;
-    rows[from + 1] = count;
-    rows[from + 2] = class;
-    rows[from + 3] = grower;
-    clear_names(rows, from + 4);
-    store_names(s, at, count as usize, rows, from + 4);
+    row.fill(0);
+    row[0] = numbers.name;
+    row[1] = numbers.count;
+    row[2] = numbers.class;
+    row[3] = numbers.grower;
+    store_names(s, at, &mut row[NUMBERS..NUMBERS + numbers.count as usize]);
 }
 
 // Stores the rows of a sheet that was counted whole.
 fn store_sheet(s: &[u8], entries: usize, rows: &mut [u32])
-    requires { (scan_sheet (decode_sheet s.now) ≡ SheetRead.Whole entries)
+    requires { (scan_sheet (decode_sheet s.now) ≡ Ok entries)
         × (entry_words * entries ≤ length rows.old) }
-    ensures { sheet_rows (SheetRead.Whole entries) rows.new
-        ≡ read_sheet (decode_sheet s.now) rows.old }
+    ensures { sheet_rows (Ok entries) rows.new ≡ read_sheet (decode_sheet s.now) rows.old }
 {
     let mut at = 0;
     let mut from = 0;
-    loop {
-        match scan_again(s, at) {
-            Scan::Fields {
-                name,
-                count,
-                class,
-                grower,
-                next,
-            } => {
-                store_row(s, at + NAMES_FROM, name, count, class, grower, rows, from);
-                at = next;
-                from += ENTRY_WORDS;
-            }
-            Scan::End => return,
-            Scan::Refused { number: _, at: _ } => return,
-        }
+    while let Some(scanned) = scan_again(s, at) {
+        let row = &mut rows[from..from + ENTRY_WORDS];
+        store_row(s, at + NAMES_FROM, &scanned.numbers, row);
+        at = scanned.next;
+        from += ENTRY_WORDS;
     }
 }
 
 // Reads a whole sheet into rows of words, an entry each.
-pub fn read_sheet(s: &[u8], rows: &mut [u32]) -> SheetRead
+pub fn read_sheet(s: &[u8], rows: &mut [u32]) -> Result<usize, Refusal>
     ensures { sheet_rows result rows.new ≡ read_sheet (decode_sheet s.now) rows.old }
 {
-    match scan_sheet(s) {
-        SheetRead::Refused { number, at } => SheetRead::Refused { number, at },
-        SheetRead::Whole { entries } => {
-            if entries <= rows.len() / ENTRY_WORDS {
-                store_sheet(s, entries, rows);
-                SheetRead::Whole { entries }
-            } else {
-                SheetRead::Refused {
-                    number: NO_ROOM,
-                    at: 0,
-                }
-            }
-        }
+    let entries = scan_sheet(s)?;
+    if rows.len() / ENTRY_WORDS < entries {
+        return Err(Refusal {
+            number: NO_ROOM,
+            at: 0,
+        });
     }
+    store_sheet(s, entries, rows);
+    Ok(entries)
 }

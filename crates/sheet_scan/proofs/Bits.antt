@@ -17,12 +17,14 @@ use Rattle.def_sheets.specs.Choice.{both}
 use Rattle.def_sheets.specs.Job.{Job}
 use Rattle.def_sheets.specs.Decode.{map_at, name_at, limited_at, list_at, if_bit, names_at, Decoded, job, end, refused}
 use Rattle.def_sheets.specs.Decode.{then_decoded, decode, scan_of}
-use Rattle.def_sheets.specs.declared.Field.{Field}
-use Rattle.def_sheets.specs.declared.Field.TheVariants.{Got, Refused}
-use Rattle.def_sheets.specs.declared.Scan.{Scan}
-use Rattle.entry_scan.specs.Stages.{judged_then, from_grower, from_class}
-use Rattle.sheet_scan.specs.Offsets.{class_offset, grower_offset}
-use Rattle.entry_scan.proofs.Fields.{got, through, limited_got, from_class_is}
+use Rattle.std.specs.Prelude.{Option, Some, None, Result, Ok, Err}
+use Rattle.std.specs.Result.{result_unwrap_or}
+use Rattle.def_sheets.specs.declared.Refusal.{Refusal}
+use Rattle.def_sheets.specs.declared.Scanned.{Scanned}
+use Rattle.def_sheets.specs.Decode.{Field, scanned}
+use Rattle.def_sheets.proofs.FieldLaws.{same_field}
+use Rattle.sheet_scan.specs.Offsets.{class_offset, grower_offset, fields_by_bits}
+use Rattle.entry_scan.proofs.Fields.{got, through, limited_got}
 use Rattle.def_sheets.proofs.NumberLaws.{length_names_at}
 use Rattle.entry_scan.proofs.Entries.{decoded, inside, stands}
 
@@ -55,31 +57,30 @@ module _ (s : List ℕ) (at : ℕ) where
   abbrev pub grower : ℕ
   grower = (map / 8 % 2) * number_at grower_bytes s (grower_offset at map count)
 
-  abbrev pub past : ℕ
-  past = grower_offset at map count + grower_bytes * (map / 8 % 2)
-
-  abbrev pub fields : Scan
-  fields = Scan.Fields (number_at name_bytes s (at + 1)) count class grower past
+  abbrev pub fields : Result (Option Scanned) Refusal
+  fields = Ok (Some (fields_by_bits s at map count))
 
 -- WHERE EACH TEST HOLDS
 
-number_by_bit : (w bit : ℕ) (s : List ℕ) (at : ℕ) → bit ≤ 1 → at + w ≤ length s
-    → if_bit bit at (name_at w s at) ≡ Got (bit * number_at w s at) (at + w * bit)
-unfolding name_at
-number_by_bit w zero s at b h =
+limited_by_bit : (w most bit : ℕ) (s : List ℕ) (at : ℕ) → bit ≤ 1 → at + w ≤ length s
+    → within bit (bit * number_at w s at) most ≡ true
+    → if_bit bit at (limited_at w most s at) ≡ Ok (bit * number_at w s at, at + w * bit)
+unfolding limited_at
+limited_by_bit w most zero s at b h t =
     let z : 0 * number_at w s at ≡ 0 = omega arith in
     let e : at + w * 0 ≡ at = omega arith in
     rw (z, e)
-number_by_bit w (suc zero) s at b h =
+limited_by_bit w most (suc zero) s at b h t =
     let z : 1 * number_at w s at ≡ number_at w s at = omega arith in
     let e : at + w * 1 ≡ at + w = omega arith in
-    rw (le-leb (at + w) (length s) h, z, e)
-number_by_bit w (suc (suc b)) s at b₁ h = absurd (omega arith)
+    let t₁ : (leb 1 (number_at w s at) && leb (number_at w s at) most) ≡ true = rw z at t in
+    rw (le-leb (at + w) (length s) h, z, e, t₁)
+limited_by_bit w most (suc (suc b)) s at b₁ h t = absurd (omega arith)
 
 list_by_bit : (bit : ℕ) (s : List ℕ) (at : ℕ) → bit ≤ 1 → at + 1 + name_bytes * most_names ≤ length s
     → within bit (bit * number_at count_bytes s at) most_names ≡ true
     → if_bit bit at (list_at name_bytes s at)
-    ≡ Got (bit * number_at count_bytes s at) (at + count_bytes * bit + name_bytes * (bit * number_at count_bytes s at))
+    ≡ Ok (bit * number_at count_bytes s at, at + count_bytes * bit + name_bytes * (bit * number_at count_bytes s at))
 unfolding list_at limited_at
 list_by_bit zero s at b h t =
     let z : 0 * number_at count_bytes s at ≡ 0 = omega arith in
@@ -93,27 +94,6 @@ list_by_bit (suc zero) s at b h t =
     let k : at + 1 + name_bytes * number_at count_bytes s at ≤ length s = omega arith in
     rw (z, le-leb (at + 1) (length s) l, t₁, le-leb (at + 1 + name_bytes * number_at count_bytes s at) (length s) k)
 list_by_bit (suc (suc b)) s at b₁ h t = absurd (omega arith)
-
--- the last two fields
-ends_by_bits : (s : List ℕ) (at map name : ℕ) (list : List ℕ) → at + 3 ≤ length s
-    → within (map / 4 % 2) ((map / 4 % 2) * number_at class_bytes s at) most_class ≡ true
-    → within (map / 8 % 2) ((map / 8 % 2) * number_at grower_bytes s (at + class_bytes * (map / 4 % 2))) most_grower ≡ true
-    → from_class s at map name list
-    ≡ job (record {
-      name = name;
-      list = list;
-      class = (map / 4 % 2) * number_at class_bytes s at;
-      grower = (map / 8 % 2) * number_at grower_bytes s (at + class_bytes * (map / 4 % 2));
-    })
-    (at + class_bytes * (map / 4 % 2) + grower_bytes * (map / 8 % 2))
-unfolding from_class from_grower judged_then
-ends_by_bits s at map name list h c g =
-    rw (
-      number_by_bit class_bytes (map / 4 % 2) s at (omega arith) (omega arith),
-      c,
-      number_by_bit grower_bytes (map / 8 % 2) s (at + class_bytes * (map / 4 % 2)) (omega arith) (omega arith),
-      g,
-    )
 
 -- the whole entry
 module _ (s : List ℕ) (at : ℕ) where
@@ -132,17 +112,17 @@ module _ (s : List ℕ) (at : ℕ) where
         le-leb (at + 1 + name_bytes) (length s) (omega arith),
         n,
         list_by_bit (map s at / 2 % 2) s (at + 5) (omega arith) (omega arith) l,
-        ← from_class_is s (class_offset at (map s at) (count s at)) (map s at) (number_at name_bytes s (at + 1))
-            (names_at name_bytes s (at + 5 + count_bytes) (count s at)),
-        ends_by_bits s (class_offset at (map s at) (count s at)) (map s at) (number_at name_bytes s (at + 1))
-            (names_at name_bytes s (at + 5 + count_bytes) (count s at)) (omega arith) c g,
+        limited_by_bit class_bytes most_class (map s at / 4 % 2) s (class_offset at (map s at) (count s at)) (omega arith)
+            (omega arith) c,
+        limited_by_bit grower_bytes most_grower (map s at / 8 % 2) s (grower_offset at (map s at) (count s at)) (omega arith)
+            (omega arith) g,
         length_names_at,
       )
 
 -- A NAME ALONE, AND A NAME WITH A LIST
 
 module _ (s : List ℕ) (at : ℕ) (fits : at + most_entry_bytes ≤ length s) where
-  pub name_alone : map s at ≡ 1 → Scan.Fields (number_at name_bytes s (at + 1)) 0 0 0 (at + 5) ≡ scan_of (decode s at)
+  pub name_alone : map s at ≡ 1 → Ok (Some (scanned (number_at name_bytes s (at + 1)) 0 0 0 (at + 5))) ≡ scan_of (decode s at)
   unfolding decode map_at name_at
   name_alone m =
       let n : at + 1 + name_bytes ≡ at + 5 = omega arith in
@@ -150,8 +130,8 @@ module _ (s : List ℕ) (at : ℕ) (fits : at + most_entry_bytes ≤ length s) w
 
   pub name_and_list : map s at ≡ 3
       → (leb 1 (number_at count_bytes s (at + 5)) && leb (number_at count_bytes s (at + 5)) most_names) ≡ true
-      → Scan.Fields (number_at name_bytes s (at + 1)) (number_at count_bytes s (at + 5)) 0 0
-      (at + 6 + name_bytes * number_at count_bytes s (at + 5)) ≡ scan_of (decode s at)
+      → Ok (Some (scanned (number_at name_bytes s (at + 1)) (number_at count_bytes s (at + 5)) 0 0
+      (at + 6 + name_bytes * number_at count_bytes s (at + 5)))) ≡ scan_of (decode s at)
   unfolding decode map_at name_at list_at limited_at
   name_and_list m t =
       let c = number_at count_bytes s (at + 5) in
@@ -172,42 +152,44 @@ module _ (s : List ℕ) (at : ℕ) (fits : at + most_entry_bytes ≤ length s) w
 
 -- WHERE AN ENTRY WAS READ
 
-number_got : (w : ℕ) (s : List ℕ) (at v n : ℕ) → name_at w s at ≡ Got v n → (v ≡ number_at w s at) × (n ≡ at + w)
+number_got : (w : ℕ) (s : List ℕ) (at v n : ℕ) → name_at w s at ≡ Ok (v, n) → (v ≡ number_at w s at) × (n ≡ at + w)
 unfolding name_at
-number_got w s at v n h = let g = (got (leb (at + w) (length s)) _ _ _ _ _ h).1 in (cc, cc)
+number_got w s at v n h = let g = same_field (got (leb (at + w) (length s)) _ _ _ _ _ h).1 in (cc, cc)
 
-bit_got : (w x bit at : ℕ) (f : Field) (v n : ℕ) → bit ≤ 1 → (f ≡ Got v n → (v ≡ x) × (n ≡ at + w))
-    → if_bit bit at f ≡ Got v n → (v ≡ bit * x) × (n ≡ at + w * bit)
+bit_got : (w x bit at : ℕ) (f : Field) (v n : ℕ) → bit ≤ 1 → (f ≡ Ok (v, n) → (v ≡ x) × (n ≡ at + w))
+    → if_bit bit at f ≡ Ok (v, n) → (v ≡ bit * x) × (n ≡ at + w * bit)
 bit_got w x zero at f v n b there h =
+    let p = same_field h in
     let z : 0 ≡ v = cc in
     let e : at ≡ n = cc in
     (omega arith, omega arith)
 bit_got w x (suc zero) at f v n b there h = let g = there h in (omega (arith, g.0), omega (arith, g.1))
 bit_got w x (suc (suc b)) at f v n b₁ there h = absurd (omega arith)
 
-list_got : (bit : ℕ) (s : List ℕ) (at v n : ℕ) → bit ≤ 1 → if_bit bit at (list_at name_bytes s at) ≡ Got v n
+list_got : (bit : ℕ) (s : List ℕ) (at v n : ℕ) → bit ≤ 1 → if_bit bit at (list_at name_bytes s at) ≡ Ok (v, n)
     → (v ≡ bit * number_at count_bytes s at) × (n ≡ at + count_bytes * bit + name_bytes * v)
 unfolding list_at
 list_got zero s at v n b h =
+    let p = same_field h in
     let z : 0 ≡ v = cc in
     let e : at ≡ n = cc in
     (omega arith, omega arith)
 list_got (suc zero) s at v n b h =
     through (limited_at count_bytes most_names s at) _ v n h λ u m e k.
     let p = number_got count_bytes s at u m (limited_got count_bytes most_names s at u m e).0 in
-    let x = (got (leb (m + name_bytes * u) (length s)) _ _ _ _ _ k).1 in
+    let x = same_field (got (leb (m + name_bytes * u) (length s)) _ _ _ _ _ k).1 in
     let e₀ : u ≡ v = cc in
     let e₁ : m + name_bytes * u ≡ n = cc in
     (omega (arith, p.0, p.1), omega (arith, p.0, p.1))
 list_got (suc (suc b)) s at v n b₁ h = absurd (omega arith)
 
-map_got : (s : List ℕ) (at v n : ℕ) → map_at s at ≡ Got v n → (v ≡ map s at) × (n ≡ at + 1)
+map_got : (s : List ℕ) (at v n : ℕ) → map_at s at ≡ Ok (v, n) → (v ≡ map s at) × (n ≡ at + 1)
 unfolding map_at
-map_got s at v n h = let g = (got (ltb (map s at) 16 && eqb (map s at % 2) 1) _ _ _ _ _ h).1 in (cc, cc)
+map_got s at v n h = let g = same_field (got (ltb (map s at) 16 && eqb (map s at % 2) 1) _ _ _ _ _ h).1 in (cc, cc)
 
-limited_by_bit : (w most bit : ℕ) (s : List ℕ) (at v n : ℕ) → bit ≤ 1 → if_bit bit at (limited_at w most s at) ≡ Got v n
+limited_bit_got : (w most bit : ℕ) (s : List ℕ) (at v n : ℕ) → bit ≤ 1 → if_bit bit at (limited_at w most s at) ≡ Ok (v, n)
     → (v ≡ bit * number_at w s at) × (n ≡ at + w * bit)
-limited_by_bit w most bit s at v n b h =
+limited_bit_got w most bit s at v n b h =
     bit_got w (number_at w s at) bit at (limited_at w most s at) v n b
     (λ e. number_got w s at v n (limited_got w most s at v n e).0) h
 
@@ -225,17 +207,17 @@ read_fields s at j n h =
     let q₁ : n₁ ≡ at + 5 = omega (arith, p₁.1) in
     let p₂ = list_got (map s at / 2 % 2) s (at + 5) count₀ n₂ (omega arith) (rw (p₀.0, q₁) at e₂) in
     let q₂ : n₂ ≡ class_offset at (map s at) (count s at) = rw p₂.0 at p₂.1 in
-    let p₃ = limited_by_bit class_bytes most_class (map s at / 4 % 2) s (class_offset at (map s at) (count s at)) class₀ n₃
+    let p₃ = limited_bit_got class_bytes most_class (map s at / 4 % 2) s (class_offset at (map s at) (count s at)) class₀ n₃
     (omega arith) (rw (p₀.0, q₂) at e₃) in
-    let p₄ = limited_by_bit grower_bytes most_grower (map s at / 8 % 2) s
+    let p₄ = limited_bit_got grower_bytes most_grower (map s at / 8 % 2) s
     (grower_offset at (map s at) (count s at)) grower₀ n₄ (omega arith) (rw (p₀.0, p₃.1) at e₄) in
-    let all : Scan.Fields name₀ (length (names_at name_bytes s (n₁ + count_bytes) count₀)) class₀ grower₀ n₄
+    let all : Ok (Some (scanned name₀ (length (names_at name_bytes s (n₁ + count_bytes) count₀)) class₀ grower₀ n₄))
     ≡ scan_of (job j n) = ap scan_of h₄ in
     rw (length_names_at, p₁.0, p₂.0, p₃.0, p₄.0, p₄.1) at all
 
 not_end : (f : Field) (k : ℕ → ℕ → Decoded) → ((v n : ℕ) → k v n ≡ end → ⊥) → then_decoded f k ≡ end → ⊥
-not_end (Got v n) k onward h = onward v n h
-not_end (Refused c a) k onward h = never (cc)
+not_end (Ok (v, n)) k onward h = onward v n h
+not_end (Err e) k onward h = never (cc)
 
 inside_not_end : (s : List ℕ) (at : ℕ) → at < length s → decode s at ≡ end → ⊥
 unfolding decode
@@ -256,7 +238,18 @@ unrefused s at l sound = go (decode s at) refl
     go : (d : Decoded) → decode s at ≡ d → (fields s at ≡ scan_of d) × (count s at ≤ most_names)
     go (job j n) e =
         let f = read_fields s at j n e in
-        let c : count s at ≡ length j.list = cc in
+        let x : fields_by_bits s at (map s at) (count s at) ≡ scanned j.name (length j.list) j.class j.grower n = cc in
+        let c = ap (λ (y : Scanned). y.numbers.count) x in
         (f, omega (arith, c, (stands s at j n e).1.most))
     go end e = absurd (inside_not_end s at l e)
+    go (refused c a) e = absurd (sound c a e)
+
+-- an answer that is no refusal
+pub scan_sound : (s : List ℕ) (at : ℕ) → ((number offset : ℕ) → decode s at ≡ refused number offset → ⊥)
+    → Ok (result_unwrap_or (scan_of (decode s at)) None) ≡ scan_of (decode s at)
+scan_sound s at sound = go (decode s at) refl
+  where
+    go : (d : Decoded) → decode s at ≡ d → Ok (result_unwrap_or (scan_of d) None) ≡ scan_of d
+    go (job j n) e = refl
+    go end e = refl
     go (refused c a) e = absurd (sound c a e)

@@ -8,7 +8,8 @@ use borrow.Author.Tests.{le-ltb}
 use Rattle.def_sheets.specs.Job.{Job}
 use Rattle.def_sheets.specs.Decode.{Decoded, job, end, refused, decode, Sheet, jobs, broken, before, onward}
 use Rattle.def_sheets.specs.Decode.{decode_from, decode_sheet, scan_sheet}
-use Rattle.def_sheets.specs.declared.SheetRead.{SheetRead}
+use Rattle.std.specs.Prelude.{Ok, Err}
+use Rattle.def_sheets.specs.Decode.{SheetRead}
 use Rattle.entry_scan.proofs.Entries.{stands}
 
 -- the sheet from an offset on
@@ -50,13 +51,13 @@ rest_on s at =
 
 -- entries that were counted, and those that are left
 abbrev pub counted : ℕ → SheetRead → SheetRead
-counted n (SheetRead.Whole m) = SheetRead.Whole (n + m)
-counted n (SheetRead.Refused c a) = SheetRead.Refused c a
+counted n (Ok m) = Ok (n + m)
+counted n (Err e) = Err e
 
 pub counted_none : (r : SheetRead) → counted 0 r ≡ r
-counted_none (SheetRead.Whole m) = ap SheetRead.Whole (omega arith)
-counted_none (SheetRead.Refused c a) = refl
+counted_none (Ok m) = ap Ok (omega arith)
+counted_none (Err e) = refl
 
 pub counted_more : (n : ℕ) (j : Job) (t : Sheet) → counted n (scan_sheet (before j t)) ≡ counted (n + 1) (scan_sheet t)
-counted_more n j (jobs js) = ap SheetRead.Whole (omega arith)
+counted_more n j (jobs js) = ap Ok (omega arith)
 counted_more n j (broken c a) = refl

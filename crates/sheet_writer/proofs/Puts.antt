@@ -1,10 +1,14 @@
 -- Stores at a running offset, and the parts of an entry one after the other.
-use Prim.Native.Nat.{ℕ, suc, ◌+◌, ◌-◌, ◌≤◌, ◌<◌}
-use mathlib.Core.Path.{◌≡◌, refl, ap, ◌∙◌}
-use mathlib.Core.List.{List, [], ◌∷◌, ◌++◌}
+use Prim.Native.Nat.{ℕ, zero, suc, ◌+◌, ◌/◌, ◌≤◌, ◌<◌}
+use mathlib.Core.Path.{◌≡◌, refl, sym, ap, ◌∙◌}
+use mathlib.Core.List.{List, [], ◌∷◌, ◌++◌, append_assoc, append-nil}
+use Rattle.std.specs.Int.{w32, to_le_bytes}
+use borrow.Rule.Slice.PartMut.{put_mid}
+use Rattle.std.proofs.lemmas.List.{take_more, drop-drop}
+use Rattle.def_numbers.specs.Numbers.{name_bytes}
 use native.Mathlib.Omega.{arith}
-use lib.ListN.{length, get_or, set, take, drop, length-append}
-use lib.Seq.{sets, drop-cons, length-sets}
+use lib.ListN.{length, get_or, take, length-append}
+use lib.Seq.{sets, sets-eq, length-sets}
 use Rattle.def_sheets.specs.Number.{spelt}
 use Rattle.def_sheets.specs.Job.{Job, spelt_names, encode}
 use Rattle.def_basics.specs.Stores.{sets_append}
@@ -24,18 +28,41 @@ after {a} {b} {out} {mid} {left} {offset} {p} {next} f g =
       past = omega (arith, f.past, g.past);
     }
 
-pub one : (out : List ℕ) (offset b : ℕ) → Put (b ∷ []) out offset (set out offset b) (offset + 1)
-one out offset b = record { stored = refl; past = refl }
+-- the low bytes of a number
+pub low_bytes : (w n : ℕ) → w ≤ 4 → take w (to_le_bytes w32 n) ≡ spelt w n
+unfolding spelt
+low_bytes zero n h = refl
+low_bytes (suc zero) n h = refl
+low_bytes (suc (suc zero)) n h = refl
+low_bytes (suc (suc (suc zero))) n h =
+    let e : n / 256 / 256 ≡ n / 65536 = omega arith in rw e
+low_bytes (suc (suc (suc (suc zero)))) n h =
+    let e : n / 256 / 256 ≡ n / 65536 = omega arith in
+    let f : n / 65536 / 256 ≡ n / 16777216 = omega arith in
+    rw (e, f)
+low_bytes (suc (suc (suc (suc (suc w))))) n h = absurd (omega arith)
 
--- n of the words, the first at from: the first of them, and the others
-pub next_name : (w : ℕ) (words : List ℕ) (from i n : ℕ) → i < n → from + n ≤ length words
-    → spelt_names w (take (n - i) (drop (from + i) words)) ≡ spelt w (get_or words (from + i) 0)
-    ++ spelt_names w (take (n - (i + 1)) (drop (from + (i + 1)) words))
+-- bytes copied over a part of the output
+pub copied : (out bytes left : List ℕ) (offset k m : ℕ) → left ≡ bytes → m ≡ length bytes
+    → offset + length bytes ≤ length out → k ≡ offset + m
+    → Put bytes out offset (put_mid offset m out left) k
+copied out bytes left offset k m e f h g =
+    record {
+      stored = rw (e, f, sets-eq bytes out offset h, append_assoc) (ap (λ (l : List ℕ). take offset out ++ (bytes ++ l)) (drop-drop (length bytes) offset out));
+      past = rw (g, f);
+    }
+
+-- one name more
+names_append : (w : ℕ) (a b : List ℕ) → spelt_names w (a ++ b) ≡ spelt_names w a ++ spelt_names w b
 unfolding spelt_names
-next_name w words from i n h k =
-    let q : n - i ≡ suc (n - (i + 1)) = omega arith in
-    let r : from + (i + 1) ≡ suc (from + i) = omega arith in
-    rw (q, r, drop-cons words (from + i) 0 (omega arith))
+names_append w [] b = refl
+names_append w (x ∷ a) b = rw (names_append w a b) (sym (append_assoc (spelt w x) (spelt_names w a) (spelt_names w b)))
+
+pub one_name_more : (names : List ℕ) (i : ℕ) → i < length names
+    → spelt_names name_bytes (take (i + 1) names) ≡ spelt_names name_bytes (take i names) ++ spelt name_bytes (get_or names i 0)
+unfolding spelt_names
+one_name_more names i h =
+    rw (take_more names i 0 h, names_append name_bytes (take i names) (get_or names i 0 ∷ []), append-nil)
 
 -- one field less to store: what is left after it makes the same whole
 pub onward : {a rest out mid whole : List ℕ} {offset p : ℕ} (b : List ℕ) → Put a out offset mid p → rest ≡ a ++ b

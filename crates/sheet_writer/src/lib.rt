@@ -18,33 +18,27 @@ use def_numbers::{
 };
 use def_sheets::{Entry, SheetWrote, Wrote};
 use sheet_limits::{
-    CLASS_WORD, COUNT_WORD, GROWER_WORD, Judged, MAP_BYTES, NAMES_WORD, SheetJudged, has_room,
+    CLASS_WORD, COUNT_WORD, GROWER_WORD, MAP_BYTES, NAMES_WORD, WrongEntry, WrongField, has_room,
     judge, judge_sheet, map_byte,
 };
 
-// A name, least byte first.
-fn put_name(out: &mut [u8], offset: usize, name: u32) -> usize
-    requires { offset + name_bytes ≤ length out.old }
-    ensures { Put (spelt name_bytes name) out.old offset out.new result }
+// The low N bytes of a number, least byte first.
+fn put_number<const N: usize>(out: &mut [u8], offset: usize, number: u32) -> usize
+    requires { (N ≤ 4) × (offset + N ≤ length out.old) }
+    ensures { Put (spelt N number) out.old offset out.new result }
 {
-    out[offset] = (name % 256) as u8;
-    out[offset + 1] = (name / 256 % 256) as u8;
-    out[offset + 2] = (name / 256 / 256 % 256) as u8;
-    out[offset + 3] = (name / 256 / 256 / 256 % 256) as u8;
-    offset + NAME_BYTES
+    let next = offset + N;
+    out[offset..next].copy_from_slice(&number.to_le_bytes()[..N]);
+    next
 }
 
-// n names, the first at words[from].
-fn put_names(out: &mut [u8], offset: usize, words: &[u32], from: usize, n: usize) -> usize
-    requires { (from + n ≤ length words.now) × (offset + name_bytes * n ≤ length out.old) }
-    ensures { Put (spelt_names name_bytes (take n (drop from words.now))) out.old offset
-        out.new result }
+fn put_names(out: &mut [u8], offset: usize, names: &[u32]) -> usize
+    requires { offset + name_bytes * length names.now ≤ length out.old }
+    ensures { Put (spelt_names name_bytes names.now) out.old offset out.new result }
 {
     let mut next = offset;
-    let mut i: usize = 0;
-    while i < n {
-        next = put_name(out, next, words[from + i]);
-        i += 1;
+    for name in names {
+        next = put_number::<NAME_BYTES>(out, next, *name);
     }
     next
 }
@@ -77,7 +71,7 @@ fn put_own_name(out: &mut [u8], offset: usize, words: &[u32], fields: Fields) ->
     ensures { running out.new result
         ≡ put Part.name (job_in words.now fields) (running out.old offset) }
 {
-    put_name(out, offset, fields.name)
+    put_number::<NAME_BYTES>(out, offset, fields.name)
 }
 
 // The count and the names.
@@ -89,14 +83,10 @@ fn put_list(out: &mut [u8], offset: usize, words: &[u32], fields: Fields) -> usi
     if fields.count == 0 {
         return offset;
     }
-    out[offset] = (fields.count % 256) as u8;
-    put_names(
-        out,
-        offset + COUNT_BYTES,
-        words,
-        fields.first,
-        fields.count as usize,
-    )
+    let count = fields.count as usize;
+    let names = &words[fields.first..fields.first + count];
+    let offset = put_number::<COUNT_BYTES>(out, offset, fields.count);
+    put_names(out, offset, names)
 }
 
 fn put_class(out: &mut [u8], offset: usize, words: &[u32], fields: Fields) -> usize
@@ -107,11 +97,9 @@ fn put_class(out: &mut [u8], offset: usize, words: &[u32], fields: Fields) -> us
     if fields.class == 0 {
         return offset;
     }
-    out[offset] = (fields.class % 256) as u8;
-    offset + CLASS_BYTES
+    put_number::<CLASS_BYTES>(out, offset, fields.class)
 }
 
-// Least byte first.
 fn put_grower(out: &mut [u8], offset: usize, words: &[u32], fields: Fields) -> usize
     requires { Due Part.grower words.now fields offset out.old }
     ensures { running out.new result
@@ -120,9 +108,7 @@ fn put_grower(out: &mut [u8], offset: usize, words: &[u32], fields: Fields) -> u
     if fields.grower == 0 {
         return offset;
     }
-    out[offset] = (fields.grower % 256) as u8;
-    out[offset + 1] = (fields.grower / 256 % 256) as u8;
-    offset + GROWER_BYTES
+    put_number::<GROWER_BYTES>(out, offset, fields.grower)
 }
 
 // An entry for which there is room. One offset runs through it, and comes to each part, those left out too.
@@ -160,23 +146,23 @@ fn put_whole(out: &mut [u8], start: usize, entry: Entry) -> usize
 pub fn write(out: &mut [u8], at: usize, entry: Entry) -> Wrote
     ensures { written result out.new ≡ write_entry entry out.old at }
 {
-    match judge(entry.count, entry.class, entry.grower) {
-        Judged::Refused { at: offset } => Wrote::Refused {
-            number: WRONG_VALUE,
-            at: offset,
-        },
-        Judged::Takes { bytes } => {
-            if has_room(out.len(), at, bytes) {
-                let next = put_whole(out, at, entry);
-                Wrote::Done { next }
-            } else {
-                Wrote::Refused {
-                    number: NO_ROOM,
-                    at: 0,
-                }
-            }
+    let bytes = match judge(entry.count, entry.class, entry.grower) {
+        Ok(bytes) => bytes,
+        Err(WrongField { at }) => {
+            return Wrote::Refused {
+                number: WRONG_VALUE,
+                at,
+            };
         }
+    };
+    if !has_room(out.len(), at, bytes) {
+        return Wrote::Refused {
+            number: NO_ROOM,
+            at: 0,
+        };
     }
+    let next = put_whole(out, at, entry);
+    Wrote::Done { next }
 }
 
 // The entry in row i, which is within its limits and for which there is room, behind the entries before it. Its names
@@ -207,10 +193,8 @@ fn put_rows(out: &mut [u8], rows: &[u32], n: usize) -> usize
     ensures { Put (sheet_so_far rows.now n) out.old 0 out.new result }
 {
     let mut next: usize = 0;
-    let mut i: usize = 0;
-    while i < n {
+    for i in 0..n {
         next = put_row(out, next, rows, i);
-        i += 1;
     }
     next
 }
@@ -227,26 +211,23 @@ pub fn write_sheet(rows: &[u32], out: &mut [u8]) -> SheetWrote
             at: 0,
         };
     }
-    match judge_sheet(rows) {
-        SheetJudged::Refused { entry, at } => SheetWrote::Refused {
-            number: WRONG_VALUE,
-            entry,
-            at,
-        },
-        SheetJudged::Takes { bytes } => {
-            if bytes <= out.len() {
-                let end = put_rows(out, rows, n);
-                SheetWrote::Done {
-                    entries: n,
-                    bytes: end,
-                }
-            } else {
-                SheetWrote::Refused {
-                    number: NO_ROOM,
-                    entry: 0,
-                    at: 0,
-                }
-            }
+    let bytes = match judge_sheet(rows) {
+        Ok(bytes) => bytes,
+        Err(WrongEntry { entry, at }) => {
+            return SheetWrote::Refused {
+                number: WRONG_VALUE,
+                entry,
+                at,
+            };
         }
+    };
+    if out.len() < bytes {
+        return SheetWrote::Refused {
+            number: NO_ROOM,
+            entry: 0,
+            at: 0,
+        };
     }
+    let bytes = put_rows(out, rows, n);
+    SheetWrote::Done { entries: n, bytes }
 }

@@ -4,20 +4,18 @@
 
 ghost use Rattle.std.specs.Prelude.{◌≡◌};
 ghost use Rattle.def_basics.specs.Base.{pick};
+ghost use Rattle.def_numbers.specs.Kinds.{kind_number};
 ghost use Rattle.taskgraph_answer.specs.Answers.{plain, graph_answer};
 ghost use Rattle.taskgraph_answer.specs.WholeAnswers.{stopped_answer};
 
-use def_numbers::{
-    DAMAGED, KIND_ENDED, KIND_GOING_ON, KIND_HANDED_OUT, KIND_LAID_OUT, KIND_LOADED,
-    KIND_NONE_READY, KIND_POSTED, KIND_REFUSED, KIND_STOPPED,
-};
-use def_terms::{Answer, bit};
+use def_numbers::{DAMAGED, Kind};
+use def_terms::Answer;
 
 // What a call or a step answers. A refusal has its number, 6 also the place in the list; a job handed out has its place
 // and its name, and 1 where it is spoiled. A whole call that damage stopped half done has number 9. What does not
 // belong to a kind is 0.
 #[repr(C)]
-#[derive(Clone, Copy)]
+#[derive(Clone, Copy, Default)]
 pub struct GraphAnswer {
     pub kind: u32,
     pub number: u32,
@@ -28,46 +26,38 @@ pub struct GraphAnswer {
 }
 
 // An answer that has nothing but its kind.
-fn plain(kind: u32) -> GraphAnswer
-    ensures { result ≡ plain kind }
+fn plain(kind: Kind) -> GraphAnswer
+    ensures { result ≡ plain (kind_number kind) }
 {
     GraphAnswer {
-        kind,
-        number: 0,
-        place: 0,
-        job: 0,
-        name: 0,
-        spoiled: 0,
+        kind: kind as u32,
+        ..GraphAnswer::default()
     }
 }
 
-// An answer of the graph, as C has it.
-pub fn answered(answer: Answer) -> GraphAnswer
-    ensures { result ≡ graph_answer answer }
-{
-    match answer {
-        Answer::Laid => plain(KIND_LAID_OUT),
-        Answer::Loaded => plain(KIND_LOADED),
-        Answer::Posted => plain(KIND_POSTED),
-        Answer::Going => plain(KIND_GOING_ON),
-        Answer::Ended => plain(KIND_ENDED),
-        Answer::NoneReady => plain(KIND_NONE_READY),
-        Answer::Handed { out } => GraphAnswer {
-            kind: KIND_HANDED_OUT,
-            number: 0,
-            place: 0,
-            job: out.job,
-            name: out.name,
-            spoiled: bit(out.spoiled),
-        },
-        Answer::Refused { number, place } => GraphAnswer {
-            kind: KIND_REFUSED,
-            number,
-            place,
-            job: 0,
-            name: 0,
-            spoiled: 0,
-        },
+impl From<Answer> for GraphAnswer {
+    ghost from_gives = { λ answer told. told ≡ graph_answer answer };
+
+    fn from(answer: Answer) -> GraphAnswer {
+        match answer {
+            Answer::Laid => plain(Kind::LaidOut),
+            Answer::Loaded => plain(Kind::Loaded),
+            Answer::Posted => plain(Kind::Posted),
+            Answer::Going => plain(Kind::GoingOn),
+            Answer::Ended => plain(Kind::Ended),
+            Answer::NoneReady => plain(Kind::NoneReady),
+            Answer::Handed { out } => GraphAnswer {
+                job: out.job,
+                name: out.name,
+                spoiled: u32::from(out.spoiled),
+                ..plain(Kind::HandedOut)
+            },
+            Answer::Refused { number, place } => GraphAnswer {
+                number,
+                place,
+                ..plain(Kind::Refused)
+            },
+        }
     }
 }
 
@@ -77,12 +67,8 @@ pub fn whole_answered(answer: GraphAnswer, stopped: bool) -> GraphAnswer
 {
     if stopped {
         GraphAnswer {
-            kind: KIND_STOPPED,
             number: DAMAGED,
-            place: 0,
-            job: 0,
-            name: 0,
-            spoiled: 0,
+            ..plain(Kind::Stopped)
         }
     } else {
         answer

@@ -15,7 +15,7 @@ use def_totals::Totals;
 pub extern "C" fn tg_totals_of_graph(sizes: Sizes, jobs: &[u32]) -> Totals
     ensures { result ≡ graph_totals sizes jobs.now }
 {
-    graph_totals::totals_of_graph(sizes, jobs)
+    graph_totals::totals_of_graph(sizes, jobs).into()
 }
 
 // The minutes of each class that the graph stores.
@@ -23,5 +23,5 @@ pub extern "C" fn tg_totals_of_graph(sizes: Sizes, jobs: &[u32]) -> Totals
 pub extern "C" fn tg_minutes_of_graph(sizes: Sizes, jobs: &[u32]) -> GraphMinutes
     ensures { result ≡ graph_minutes sizes jobs.now }
 {
-    graph_totals::minutes_of_graph(sizes, jobs)
+    graph_totals::minutes_of_graph(sizes, jobs).into()
 }

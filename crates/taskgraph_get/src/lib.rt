@@ -8,7 +8,8 @@ ghost use Rattle.def_words.specs.Words.{get_words};
 ghost use Rattle.taskgraph_answer.specs.Answers.{Gives};
 
 use def_terms::Sizes;
-use taskgraph_answer::{GraphAnswer, answered};
+use lent_graph::Graph;
+use taskgraph_answer::GraphAnswer;
 
 // Hands the worker the waiting job with the most minutes, equal minutes by earlier entry into the queue.
 #[unsafe(no_mangle)]
@@ -24,5 +25,13 @@ pub extern "C" fn tg_get(
     ensures { Gives result (as_left jobs arcs buckets queue workers)
         (get_words sizes (as_lent jobs arcs buckets queue workers) worker) }
 {
-    answered(graph_get::get(sizes, jobs, arcs, buckets, queue, workers, worker))
+    let mut graph = Graph {
+        sizes,
+        jobs,
+        arcs,
+        buckets,
+        queue,
+        workers,
+    };
+    graph_get::get(&mut graph, worker).into()
 }

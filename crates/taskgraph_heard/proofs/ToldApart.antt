@@ -45,7 +45,7 @@ use Rattle.def_sheets.specs.Reading.{ReadsExactly, ScansExactly, RowsReadExactly
 use Rattle.thm_sheets.specs.Writing.{WritesExactly, WritesSheetExactly}
 use Rattle.thm_sheets.specs.SheetPromises as sheets
 use Rattle.def_sheets.specs.declared.Entry.{Entry}
-use Rattle.def_sheets.specs.declared.SheetRead.{SheetRead}
+use Rattle.def_sheets.specs.Decode.{SheetRead}
 use Rattle.def_sheets.specs.declared.Wrote.{Wrote}
 use Rattle.def_sheets.specs.declared.SheetWrote.{SheetWrote}
 use Rattle.def_told.specs.Reader.{entry_read, sheet_read}

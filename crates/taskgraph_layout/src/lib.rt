@@ -12,7 +12,8 @@ ghost use Rattle.taskgraph_answer.specs.Answers.{Gives};
 
 use def_terms::Sizes;
 use def_told::Need;
-use taskgraph_answer::{GraphAnswer, answered};
+use lent_graph::Graph;
+use taskgraph_answer::GraphAnswer;
 
 // How long the tables must be for these sizes.
 #[unsafe(no_mangle)]
@@ -35,5 +36,13 @@ pub extern "C" fn tg_lay_out(
     ensures { Gives result (as_left jobs arcs buckets queue workers)
         (lay_out sizes (as_lent jobs arcs buckets queue workers)) }
 {
-    answered(graph_layout::lay_out(sizes, jobs, arcs, buckets, queue, workers))
+    let mut graph = Graph {
+        sizes,
+        jobs,
+        arcs,
+        buckets,
+        queue,
+        workers,
+    };
+    graph_layout::lay_out(&mut graph).into()
 }

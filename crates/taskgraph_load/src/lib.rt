@@ -9,7 +9,8 @@ ghost use Rattle.def_words.specs.Words.{load_words};
 ghost use Rattle.taskgraph_answer.specs.Answers.{Gives};
 
 use def_terms::Sizes;
-use taskgraph_answer::{GraphAnswer, answered};
+use lent_graph::Graph;
+use taskgraph_answer::GraphAnswer;
 
 // Loads the minutes of all classes, before the first job enters.
 #[unsafe(no_mangle)]
@@ -25,5 +26,13 @@ pub extern "C" fn tg_load_minutes(
     ensures { Gives result (as_left jobs arcs buckets queue workers)
         (load_words sizes (as_lent jobs arcs buckets queue workers) minutes.now) }
 {
-    answered(graph_load::load(sizes, jobs, arcs, buckets, queue, workers, minutes))
+    let mut graph = Graph {
+        sizes,
+        jobs,
+        arcs,
+        buckets,
+        queue,
+        workers,
+    };
+    graph_load::load(&mut graph, minutes).into()
 }

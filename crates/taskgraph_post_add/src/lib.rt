@@ -11,7 +11,8 @@ ghost use Rattle.def_sheet_rows.specs.Arguments.{arguments_of};
 
 use def_sheets::Entry;
 use def_terms::Sizes;
-use taskgraph_answer::{GraphAnswer, answered};
+use lent_graph::Graph;
+use taskgraph_answer::GraphAnswer;
 
 // Posts an add of the entry's job.
 #[unsafe(no_mangle)]
@@ -28,5 +29,13 @@ pub extern "C" fn tg_post_add(
     ensures { Gives result (as_left jobs arcs buckets queue workers)
         (add_words sizes (as_lent jobs arcs buckets queue workers) worker (arguments_of entry)) }
 {
-    answered(graph_post::add::post_add(sizes, jobs, arcs, buckets, queue, workers, worker, entry))
+    let mut graph = Graph {
+        sizes,
+        jobs,
+        arcs,
+        buckets,
+        queue,
+        workers,
+    };
+    graph_post::add::post_add(&mut graph, worker, entry).into()
 }

@@ -9,7 +9,8 @@ ghost use Rattle.def_words.specs.Words.{finish_words};
 ghost use Rattle.taskgraph_answer.specs.Answers.{Gives, finish_taken};
 
 use def_terms::Sizes;
-use taskgraph_answer::{GraphAnswer, answered};
+use lent_graph::Graph;
+use taskgraph_answer::GraphAnswer;
 
 // Posts a finish of the held job of this name with its outcome.
 #[unsafe(no_mangle)]
@@ -28,15 +29,13 @@ pub extern "C" fn tg_post_finish(
         (finish_words sizes (as_lent jobs arcs buckets queue workers) worker
         (finish_taken name outcome)) }
 {
-    answered(graph_post::finish::post_finish(
+    let mut graph = Graph {
         sizes,
         jobs,
         arcs,
         buckets,
         queue,
         workers,
-        worker,
-        name,
-        outcome != 0,
-    ))
+    };
+    graph_post::finish::post_finish(&mut graph, worker, name, outcome != 0).into()
 }

@@ -8,7 +8,7 @@ ghost use Rattle.def_sheets.specs.Decode.{decode, decode_sheet, scan_sheet, read
 ghost use Rattle.def_told.specs.Reader.{entry_read, sheet_read};
 
 use def_numbers::ACCEPTED;
-use def_sheets::{Read, SheetRead};
+use def_sheets::{Read, Refusal};
 use def_told::{EntryRead, SheetScanned};
 
 // The entry at an offset of a sheet.
@@ -42,16 +42,16 @@ pub extern "C" fn tg_read_entry(sheet: &[u8], at: usize) -> EntryRead
 }
 
 // How reading a whole sheet ended, as C has it.
-fn scanned(answer: SheetRead) -> SheetScanned
+fn scanned(answer: Result<usize, Refusal>) -> SheetScanned
     ensures { result ≡ sheet_read answer }
 {
     match answer {
-        SheetRead::Whole { entries } => SheetScanned {
+        Ok(entries) => SheetScanned {
             number: ACCEPTED,
             entries,
             at: 0,
         },
-        SheetRead::Refused { number, at } => SheetScanned {
+        Err(Refusal { number, at }) => SheetScanned {
             number,
             entries: 0,
             at,

@@ -10,6 +10,7 @@ ghost use Rattle.def_stops.specs.StoppedSheet.{rows_stopped};
 
 use def_sheet_rows::SheetAdded;
 use def_terms::Sizes;
+use lent_graph::Graph;
 use sheet_adds::add_sheet;
 
 // Adds the entries of all rows, each whole, in order.
@@ -28,5 +29,13 @@ pub extern "C" fn tg_add_sheet(
         (rows_stopped sizes (as_lent jobs arcs buckets queue workers) worker rows.now)
         (rows_words sizes (as_lent jobs arcs buckets queue workers) worker rows.now) }
 {
-    add_sheet(sizes, jobs, arcs, buckets, queue, workers, worker, rows)
+    let mut graph = Graph {
+        sizes,
+        jobs,
+        arcs,
+        buckets,
+        queue,
+        workers,
+    };
+    add_sheet(&mut graph, worker, rows)
 }

@@ -8,7 +8,8 @@ ghost use Rattle.def_words.specs.Words.{step_words};
 ghost use Rattle.taskgraph_answer.specs.Answers.{Gives};
 
 use def_terms::Sizes;
-use taskgraph_answer::{GraphAnswer, answered};
+use lent_graph::Graph;
+use taskgraph_answer::GraphAnswer;
 
 // Makes one step of the worker's call.
 #[unsafe(no_mangle)]
@@ -24,5 +25,13 @@ pub extern "C" fn tg_step(
     ensures { Gives result (as_left jobs arcs buckets queue workers)
         (step_words sizes (as_lent jobs arcs buckets queue workers) worker) }
 {
-    answered(graph_step::step(sizes, jobs, arcs, buckets, queue, workers, worker))
+    let mut graph = Graph {
+        sizes,
+        jobs,
+        arcs,
+        buckets,
+        queue,
+        workers,
+    };
+    graph_step::step(&mut graph, worker).into()
 }

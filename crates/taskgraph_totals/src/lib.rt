@@ -7,16 +7,18 @@ ghost use Rattle.std.specs.Prelude.{◌≡◌};
 ghost use Rattle.def_minutes.specs.Minutes.{fixed_minutes};
 ghost use Rattle.def_totals.specs.Board.{totals_of, totals_by, totals_of_words};
 
-use def_minutes::judged;
-use def_numbers::WRONG_MINUTES;
+use def_minutes::{fixed, rising};
+use def_numbers::Refusal;
 use def_totals::{JobRecord, Totals};
+use totals_of_records::of_records;
+use totals_of_words::of_words;
 
 // The board on words: a label and a class for each record.
 #[unsafe(no_mangle)]
 pub extern "C" fn tg_totals_of_words(words: &[u32]) -> Totals
     ensures { result ≡ totals_of_words fixed_minutes words.now }
 {
-    totals_of_words::of_words(words)
+    of_words(words).into()
 }
 
 // The board on a lent row of records.
@@ -24,7 +26,7 @@ pub extern "C" fn tg_totals_of_words(words: &[u32]) -> Totals
 pub extern "C" fn tg_totals_of_records(records: &[JobRecord]) -> Totals
     ensures { result ≡ totals_of fixed_minutes records.now }
 {
-    totals_of_records::of_records(records, def_minutes::fixed_minutes())
+    of_records(records, Ok(fixed())).into()
 }
 
 // The board on a lent row of records, by minutes that a host gives: one for each class.
@@ -32,5 +34,5 @@ pub extern "C" fn tg_totals_of_records(records: &[JobRecord]) -> Totals
 pub extern "C" fn tg_totals_by_minutes(records: &[JobRecord], minutes: &[u32]) -> Totals
     ensures { result ≡ totals_by minutes.now records.now }
 {
-    totals_of_records::of_records(records, judged(WRONG_MINUTES, minutes))
+    of_records(records, rising(minutes).ok_or(Refusal::WrongMinutes)).into()
 }

@@ -26,7 +26,8 @@ use Rattle.thm_sheets.specs.SheetPromises.{a_sheet_is_read_exactly}
 use Rattle.def_whole_calls.specs.Whole.{whole_add, whole_finish}
 use Rattle.thm_answers_heard.specs.Heard.{AddEnded, how_an_add_ends}
 use Rattle.def_room.specs.Room.{arguments_of}
-use Rattle.def_day.specs.Rounds.{Holder, holder, fresh_day, add_all, get_all}
+use Rattle.def_day.specs.Rounds.{holder, fresh_day, add_all, get_all}
+use Rattle.def_day.specs.declared.Holder.{Holder}
 use Rattle.def_day.specs.Rounds.{finish_all, hand_out, Run, rounds, hand_outs, run_day}
 use Rattle.def_day.specs.Rounds.{added_day, day_sizes, get_round}
 use Rattle.def_day_lines.specs.Text.{decimal, jobs_word, workers_word, left_word, ◌␣◌, line, digits}

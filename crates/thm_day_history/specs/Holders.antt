@@ -6,7 +6,7 @@ use Rattle.std.proofs.Math.Option.{Option, none, some, none-ne-some}
 use Rattle.std.proofs.Math.Decide.{ℕ_discrete}
 use Rattle.def_basics.specs.Base.{update}
 use Rattle.def_basics.specs.Laws.{update_same, update_at, update_other}
-use Rattle.def_day.specs.Rounds.{Holder}
+use Rattle.def_day.specs.declared.Holder.{Holder}
 
 -- changes at two places, in either order
 swapped : {A : Type 0} (f : ℕ → A) (v w : ℕ) (a b : A) → v ≢ w → update (update f v a) w b ≡ update (update f w b) v a

@@ -2,7 +2,8 @@
 use Rattle.std.specs.Prelude.{◌≡◌, List, [], ◌∷◌, ◌++◌, ℕ, suc, ◌+◌, ◌*◌, ◌^◌, ◌≤◌, ◌<◌, length}
 use Rattle.std.proofs.Common.{arith, length-append}
 use Rattle.def_sheets.proofs.SheetTrip.{Each}
-use Rattle.def_day.specs.Rounds.{Refusal, Holder}
+use Rattle.def_day.specs.Rounds.{Refusal}
+use Rattle.def_day.specs.declared.Holder.{Holder}
 use Rattle.def_day_lines.specs.Text.{decimal, jobs_word, workers_word, refused_word, broken_word, ◌␣◌, line}
 use Rattle.def_day_lines.specs.Day.{refusal_line, refusal_lines, hand_out_line, hand_out_lines, text}
 use Rattle.thm_day_history.specs.Digits.{few_digits, most_digits, digits_below, next_digits, later_digits}

@@ -20,7 +20,8 @@ use Rattle.def_words.specs.Words.{get_words}
 use Rattle.def_rules.specs.Rules.{idle}
 use Rattle.def_sheets.proofs.SheetTrip.{Each}
 use Rattle.def_whole_calls.specs.Whole.{whole_finish}
-use Rattle.def_day.specs.Rounds.{Holder, hand_out, get_all, get_round, finish_all, finished, any_holder, hand_outs}
+use Rattle.def_day.specs.Rounds.{hand_out, get_all, get_round, finish_all, finished, any_holder, hand_outs}
+use Rattle.def_day.specs.declared.Holder.{Holder}
 use Rattle.def_day.specs.Rounds.{Run, run, rounds}
 use Rattle.thm_day_history.specs.Jobs.{All}
 use Rattle.thm_day_history.specs.Calls.{During, FinishEnds, ended, GetEnds, handed_out_lem, none_ready_lem, Handing}

@@ -23,7 +23,8 @@ use Rattle.def_whole_calls.specs.Whole.{whole_add, whole_finish}
 use Rattle.def_whole_calls.specs.CallEnds.{AddAnswer}
 use Rattle.def_whole_calls.specs.CallEnds as answers
 use Rattle.def_room.specs.Room.{arguments_of}
-use Rattle.def_day.specs.Rounds.{day_sizes, fresh_day, added_day, Holder, get_round, finish_all, finished}
+use Rattle.def_day.specs.Rounds.{day_sizes, fresh_day, added_day, get_round, finish_all, finished}
+use Rattle.def_day.specs.declared.Holder.{Holder}
 use Rattle.def_day.specs.Rounds.{rounds, run_day, hand_outs, unfinished}
 use Rattle.def_day_lines.specs.Text.{digits, decimal, left_word, ◌␣◌, line}
 use Rattle.def_day_lines.specs.Day.{refusal_lines, jobs_line, hand_out_lines, lines_before, day_lines, day_of, day_sheet}

@@ -10,7 +10,8 @@ use Rattle.def_sheets.specs.Write.{SheetFault, sheet_fault, SheetWritten, write_
 use Rattle.def_sheets.specs.Choice.{picked}
 use Rattle.def_sheets.specs.declared.Entry.{Entry}
 use Rattle.def_sheets.specs.declared.Wrote.{Wrote}
-use Rattle.def_sheets.specs.declared.SheetRead.{SheetRead}
+use Rattle.std.specs.Prelude.{Ok, Err}
+use Rattle.def_sheets.specs.Decode.{SheetRead, refusal}
 use Rattle.def_sheets.specs.declared.SheetWrote.{SheetWrote}
 
 pub entry_refused : (e : Entry) (out : List ℕ) (start c a : ℕ) → (write_entry e out start).answer ≡ Wrote.Refused c a
@@ -43,11 +44,11 @@ sheet_refused rows out c i a h =
     by_fault SheetFault.none = picked Kept (leb (length (encode_sheet js)) (length out)) _ _ (λ h'. never (cc))
         (λ h'. refl)
 
-pub rows_refused : (sheet : Sheet) (rows : List ℕ) (c a : ℕ) → (read_sheet sheet rows).answer ≡ SheetRead.Refused c a
+pub rows_refused : (sheet : Sheet) (rows : List ℕ) (c a : ℕ) → (read_sheet sheet rows).answer ≡ Err (refusal c a)
     → (read_sheet sheet rows).rows ≡ rows
 rows_refused (broken n at) rows c a h = refl
 rows_refused (jobs js) rows c a h =
     picked Kept (leb (entry_words * length js) (length rows)) _ _ (λ h'. never (cc)) (λ h'. refl) h
   where
     Kept : SheetRows → Type 0
-    Kept r = r.answer ≡ SheetRead.Refused c a → r.rows ≡ rows
+    Kept r = r.answer ≡ Err (refusal c a) → r.rows ≡ rows

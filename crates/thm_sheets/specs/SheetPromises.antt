@@ -40,7 +40,8 @@ use Rattle.def_sheets.specs.declared.Entry.{Entry}
 use Rattle.def_sheets.specs.declared.Read.{Read}
 use Rattle.def_sheets.specs.declared.Reading.{Reading}
 use Rattle.def_sheets.specs.declared.Wrote.{Wrote}
-use Rattle.def_sheets.specs.declared.SheetRead.{SheetRead}
+use Rattle.std.specs.Prelude.{Ok, Err}
+use Rattle.def_sheets.specs.Decode.{SheetRead, refusal}
 use Rattle.def_sheets.specs.declared.SheetWrote.{SheetWrote}
 
 -- WHAT THE BYTES MEAN: said of any reader and writer by bytes, bits, offsets and numbers (Reading.antt, Writing.antt).
@@ -330,7 +331,7 @@ a_refused_sheet_changes_nothing = sheet_refused
 
 -- A refused reading of a sheet leaves the rows as they were.
 pub a_refused_reading_changes_nothing : (sheet : Sheet) (rows : List ℕ) (c a : ℕ)
-    → (read_sheet sheet rows).answer ≡ SheetRead.Refused c a → (read_sheet sheet rows).rows ≡ rows
+    → (read_sheet sheet rows).answer ≡ Err (refusal c a) → (read_sheet sheet rows).rows ≡ rows
 a_refused_reading_changes_nothing = rows_refused
 
 -- CASES

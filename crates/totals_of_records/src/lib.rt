@@ -3,27 +3,26 @@
 #![tactic(auto)]
 
 ghost use Rattle.std.specs.Prelude.{◌≡◌};
+ghost use Rattle.def_minutes.specs.Served.{told_minutes};
+ghost use Rattle.def_totals.specs.Told.{told_totals};
 ghost use Rattle.totals_of_records.specs.By.{Judged, totals_with};
 
-use def_minutes::GraphMinutes;
-use def_numbers::{MOST_RECORDS, WRONG_SIZE};
-use def_totals::{JobRecord, Totals, blank};
+use def_numbers::{MOST_RECORDS, Refusal};
+use def_totals::{Board, JobRecord};
 use totals_step::with_record;
 
-// The board on a lent row of records, by minutes that were judged: each record is taken apart, and the covered step
-// adds it. Where the minutes are refused, so are the totals from the start.
-pub fn of_records(records: &[JobRecord], by: GraphMinutes) -> Totals
-    ensures { Judged by → result ≡ totals_with by records.now }
+// The board on a lent row of records, by minutes that were judged. Where the minutes are refused, so is a row that is
+// not too long; a wrong record refuses the row.
+pub fn of_records(records: &[JobRecord], by: Result<[u32; 16], Refusal>) -> Result<Board, Refusal>
+    ensures { Judged (told_minutes by) → told_totals result ≡ totals_with (told_minutes by) records.now }
 {
     if MOST_RECORDS < records.len() {
-        return blank(WRONG_SIZE);
+        return Err(Refusal::WrongSize);
     }
-    let mut t = blank(by.number);
-    let mut i = 0;
-    while i < records.len() {
-        let record = records[i];
-        t = with_record(by, t, record.label, record.class);
-        i += 1;
+    let minutes = by?;
+    let mut board = Board::default();
+    for job in records {
+        with_record(&minutes, &mut board, *job)?;
     }
-    t
+    Ok(board)
 }

@@ -4,55 +4,34 @@
 ghost use Rattle.std.specs.Prelude.{◌≡◌};
 ghost use Rattle.def_terms.specs.Terms.{finish_of};
 ghost use Rattle.def_terms.specs.Runs.{result_of};
-ghost use Rattle.def_words.specs.Layout.{as_lent, as_left};
+ghost use Rattle.lent_graph.specs.Lent.{words, Same};
 ghost use Rattle.def_whole_calls.specs.Whole.{whole_finish};
 
-use def_numbers::*;
-use def_terms::{Answer, Sizes};
+use def_terms::Answer;
 use fused_finish::finish_if_idle;
-use graph_own::own_ok;
-use graph_sizes::sizes_fit;
+use lent_graph::Graph;
 
-// A finish run whole. The tests that come first stand here as in a step: docs/DECISIONS.md, 43.
-pub fn finish_whole(
-    sizes: Sizes,
-    jobs: &mut [u32],
-    arcs: &mut [u32],
-    buckets: &mut [u32],
-    queue: &mut [u32],
-    workers: &mut [u32],
-    worker: u32,
-    name: u32,
-    failed: bool,
-) -> Answer
-    ensures { result_of result (as_left jobs arcs buckets queue workers)
-        ≡ whole_finish sizes (as_lent jobs arcs buckets queue workers) worker (finish_of name failed) }
+// A finish run whole: the tests that come first, and then a finish of an idle worker.
+pub fn finish_whole(graph: &mut Graph, worker: u32, name: u32, failed: bool) -> Answer
+    ensures same { Same graph.old graph.new }
+    ensures answered { result_of result (words graph.new)
+        ≡ whole_finish graph.old.sizes (words graph.old) worker (finish_of name failed) }
 {
-    let fit = sizes_fit(sizes, jobs, arcs, buckets, queue, workers);
-    if fit {
-        let known = worker < sizes.workers;
-        if known {
-            let sound = own_ok(sizes, jobs, arcs, workers, worker);
-            if sound {
-                finish_if_idle(
-                    sizes, jobs, arcs, buckets, queue, workers, worker, name, failed,
-                )
-            } else {
-                Answer::Refused {
-                    number: DAMAGED,
-                    place: 0,
-                }
-            }
-        } else {
-            Answer::Refused {
-                number: NO_SUCH_WORKER,
-                place: 0,
-            }
-        }
-    } else {
-        Answer::Refused {
-            number: WRONG_SIZE,
+    match graph.admit(worker) {
+        Err(refusal) => Answer::Refused {
+            number: refusal.into(),
             place: 0,
-        }
+        },
+        Ok(()) => finish_if_idle(
+            graph.sizes,
+            graph.jobs,
+            graph.arcs,
+            graph.buckets,
+            graph.queue,
+            graph.workers,
+            worker,
+            name,
+            failed,
+        ),
     }
 }

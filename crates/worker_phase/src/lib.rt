@@ -10,15 +10,15 @@ ghost use Rattle.def_stops.specs.Stopped.{stopped_as};
 
 use def_numbers::DAMAGED;
 use graph_words::layout::{IDLE, PHASE};
-use graph_words::worker_word;
+use lent_graph::Graph;
 
-// The phase of a worker below a number of workers; no word is read for any other.
-pub fn phase_of(workers: &[u32], most: u32, worker: u32) -> u32
-    ensures { result ≡ pick (ltb worker most) (columns worker_shape workers.now PHASE worker) 0 }
+// The phase of a worker that the graph has; no word is read for any other.
+pub fn phase_of(graph: &Graph, worker: u32) -> u32
+    ensures { result ≡ pick (ltb worker graph.now.sizes.workers)
+        (columns worker_shape graph.now.workers.now PHASE worker) 0 }
 {
-    let known = worker < most;
-    if known {
-        worker_word(workers, worker, PHASE)
+    if worker < graph.sizes.workers {
+        graph.worker_word(worker, PHASE)
     } else {
         0
     }

@@ -5,5 +5,5 @@ use Rattle.day_end.proofs.end_day.Goals as goal
 pub returns : goal.returns
 returns c =
     end_parts _ _ _ _ _ _ _ _ _
-    c.run_rounds-handed.ensures c.print_hand_outs-listed.ensures
-    c.count_unfinished-left.ensures c.left_line.ensures
+    c.run_rounds-handed.ensures.run c.print_hand_outs-listed.ensures
+    c.count_unfinished.ensures c.left_line.ensures

@@ -1,5 +1,5 @@
 -- Jobs not finished, counted one by one.
-use mathlib.Core.Path.{◌≡◌}
+use mathlib.Core.Path.{◌≡◌, refl}
 use mathlib.Core.Logic.{◌≢◌}
 use Prim.Native.Nat.{ℕ, suc, ◌+◌}
 use native.Mathlib.Omega.{arith}
@@ -14,6 +14,6 @@ pub unfinished_more : (label : ℕ → ℕ) (n : ℕ) → label n ≢ 2 → unfi
 unfolding unfinished
 unfinished_more label n e = rw (ne_eqb (label n) 2 e)
 
-pub unfinished_none : (label : ℕ → ℕ) (n : ℕ) → n + unfinished label 0 ≡ n
+pub unfinished_none : (label : ℕ → ℕ) → 0 ≡ unfinished label 0
 unfolding unfinished
-unfinished_none label n = omega arith
+unfinished_none label = refl

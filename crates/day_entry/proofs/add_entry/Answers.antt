@@ -2,7 +2,7 @@
 use Rattle.day_entry.specs.Entered.{entered, wrote}
 use Rattle.day_entry.proofs.add_entry.Goals as goal
 
-pub returns : goal.returns
+pub returns-clause-printed : goal.returns-clause-printed
 unfolding entered wrote
-returns c =
-    rw (← c.add_whole-answer.ensures, c.print_refusal.ensures)
+returns-clause-printed c =
+    rw (← c.add_whole-answer.ensures.answered, c.print_refusal.ensures)

@@ -15,29 +15,29 @@ returns-then-sheet-gt-MOST_DAY_SHEET c =
     rw (lt-leb (length a.sheet.now) most_day_sheet c.if-sheet-gt-MOST_DAY_SHEET.true)
     c.broken_line.ensures
 
-pub returns-in-Whole : goal.returns-in-Whole
+pub returns-in-Ok : goal.returns-in-Ok
 unfolding day_text
-returns-in-Whole c =
+returns-in-Ok c =
     let a = c.args in
     let q = c.requires in
     let w = whole_scanned (decode_sheet a.sheet.now) _
     (sym c.scan_sheet.ensures
-    ∙ c.in-Whole.is) in
+    ∙ c.in-Ok.is) in
     let h = c.if-sheet-gt-MOST_DAY_SHEET.false in
     rw (le-leb (length a.sheet.now) most_day_sheet h, w)
     (whole_day a.workers q.0 q.1 a.limit a.out.now a.sheet.now _ _ w h
     c.print_day.ensures)
 
-pub returns-in-Refused : goal.returns-in-Refused
+pub returns-in-Err : goal.returns-in-Err
 unfolding day_text
-returns-in-Refused c =
+returns-in-Err c =
     let a = c.args in
-    let w = broken_scanned (decode_sheet a.sheet.now) _ _
+    let w = broken_scanned (decode_sheet a.sheet.now) _
     (sym c.scan_sheet.ensures
-    ∙ c.in-Refused.is) in
+    ∙ c.in-Err.is) in
     rw (
       le-leb (length a.sheet.now) most_day_sheet
           c.if-sheet-gt-MOST_DAY_SHEET.false,
       w,
     )
-    c.broken_line-in-Refused.ensures
+    c.broken_line-in-Err.ensures

@@ -1,45 +1,59 @@
 -- `run_rounds` runs rounds until one hands out nothing. The loop's invariant: the rounds that are left, after those
 -- made, make the whole.
-use Prim.Native.Nat.{suc, ◌-◌}
-use mathlib.Core.Path.{◌≡◌, sym, ◌∙◌}
+use Prim.Native.Nat.{suc, ◌+◌, ◌-◌}
+use mathlib.Core.Path.{◌≡◌, sym, ap, ◌∙◌}
 use native.Mathlib.Omega.{arith}
-use Rattle.def_day.specs.Rows.{length_holders}
+use lib.ListN.{length}
+use borrow.Author.Tests.{eqb-true, eqb-false}
+use Rattle.lent_graph.specs.Lent.{same_on}
 use Rattle.day_run.proofs.Laws.{round_on, round_last, no_round}
 use Rattle.day_run.proofs.run_rounds.Goals as goal
 
-pub returns-then-holders-eq0 : goal.returns-then-holders-eq0
-returns-then-holders-eq0 c =
-    let l = c.loop-left in
-    let k : l.left ≡ suc (l.left - 1) =
-    omega (
-      arith,
-      c.loop-left-test.true,
-    ) in
-    round_last (l.left - 1) _ _ _ _ _
-    c.run_round-holders.ensures.0 (length_holders _ _ _ ∙ c.if-holders-eq0.true)
-    ∙ rw k at l.invariant.7
+pub returns-then-is_empty-clause-same : goal.returns-then-is_empty-clause-same
+returns-then-is_empty-clause-same c = same_on c.loop.invariant.0 c.run_round-holders.ensures.same
 
-pub loop-left-preserved : goal.loop-left-preserved
-loop-left-preserved c =
-    let l = c.loop-left in
-    let e = c.run_round-holders in
-    let t = c.loop-left-test.true in
-    let k : l.left ≡ suc (l.left - 1) = omega (arith, t) in (
-      e.auto.jobs ∙ l.invariant.0,
-      e.auto.arcs ∙ l.invariant.1,
-      e.auto.buckets ∙ l.invariant.2,
-      e.auto.queue ∙ l.invariant.3,
-      e.auto.workers ∙ l.invariant.4,
-      c.store.auto.row ∙ l.invariant.5,
-      omega (arith, t, e.ensures.1, l.invariant.6),
-      round_on (l.left - 1) _ _ _ _ _ _ _ e.ensures.0 (sym (length_holders _ _ _))
-          (omega (arith, c.if-holders-eq0.false))
-          c.store.ensures
-          ∙ rw k at l.invariant.7,
+pub returns-then-is_empty-clause-run : goal.returns-then-is_empty-clause-run
+returns-then-is_empty-clause-run c =
+    let l = c.loop in
+    let i = l.invariant in
+    let n = c.args.graph.now.sizes.jobs in
+    let k : n + 1 - l.counter ≡ suc (n - l.counter) = omega arith in
+    let none : length c.as_slice-holders.result.now ≡ 0 = eqb-true _ _ (sym c.if-is_empty.ensures) in
+    round_last (n - l.counter) _ _ _ _ _ (rw i.0.sizes at c.run_round-holders.ensures.run)
+    (rw c.as_slice-holders.ensures.0 at none)
+    ∙ rw k at i.2
+
+pub loop-preserved : goal.loop-preserved
+loop-preserved c =
+    let l = c.loop in
+    let i = l.invariant in
+    let n = c.args.graph.now.sizes.jobs in
+    let s = c.as_slice-holders in
+    let r = c.run_round-holders.ensures in
+    let k : n + 1 - l.counter ≡ suc (n - l.counter) = omega arith in
+    let m : n + 1 - (l.counter + 1) ≡ n - l.counter = omega arith in
+    let some = eqb-false _ _ (sym c.if-is_empty.ensures) in (
+      same_on i.0 r.same,
+      omega (arith, s.ensures.1, i.1),
+      rw m (round_on (n - l.counter) _ _ _ _ _ _ _ (rw i.0.sizes at r.run) (ap length s.ensures.0)
+          (omega (arith, some))
+          (rw s.ensures.0 at c.store.ensures)
+          ∙ rw k at i.2),
     )
 
-pub returns : goal.returns
-returns c =
-    let l = c.loop-left in
-    let k : l.left ≡ 0 = omega (arith, c.loop-left-test.false) in
-    rw (k, no_round) at l.invariant.7
+pub returns-else-is_empty-clause-same : goal.returns-else-is_empty-clause-same
+returns-else-is_empty-clause-same c = same_on c.loop.invariant.0 c.run_round-holders.ensures.same
+
+pub returns-else-is_empty-clause-run : goal.returns-else-is_empty-clause-run
+returns-else-is_empty-clause-run c =
+    let l = c.loop in
+    let i = l.invariant in
+    let n = c.args.graph.now.sizes.jobs in
+    let s = c.as_slice-holders in
+    let k : n + 1 - l.counter ≡ suc 0 = omega arith in
+    let some = eqb-false _ _ (sym c.if-is_empty.ensures) in
+    sym (no_round c.args.graph.now.sizes _ _ _)
+    ∙ round_on 0 _ _ _ _ _ _ _ (rw i.0.sizes at c.run_round-holders.ensures.run) (ap length s.ensures.0)
+    (omega (arith, some))
+    (rw s.ensures.0 at c.store.ensures)
+    ∙ rw k at i.2

@@ -6,13 +6,13 @@ use Rattle.day_text.proofs.jobs_line.Goals as goal
 
 pub emit_number-second-requires : goal.emit_number-second-requires
 emit_number-second-requires c =
-    omega (arith, moved_on _ _ _ _ c.emit_from-first.ensures)
+    omega (arith, moved_on _ _ _ _ c.emit_text-first.ensures)
 
-pub emit_from-last-requires : goal.emit_from-last-requires
-emit_from-last-requires c =
+pub emit_text-last-requires : goal.emit_text-last-requires
+emit_text-last-requires c =
     omega (
       arith,
-      moved_on _ _ _ _ c.emit_from-first.ensures,
+      moved_on _ _ _ _ c.emit_text-first.ensures,
       numbered _ _ _ _ c.emit_number-second.ensures,
     )
 
@@ -21,13 +21,13 @@ emit_last-requires c =
     omega (
       arith,
       moved_on _ _ _ _
-          c.emit_from-first.ensures,
+          c.emit_text-first.ensures,
       numbered _ _ _ _ c.emit_number-second.ensures,
-      moved_on _ _ _ _ c.emit_from-last.ensures,
+      moved_on _ _ _ _ c.emit_text-last.ensures,
     )
 
 pub returns : goal.returns
 returns c =
-    simp append_assoc (printed _ _ _ _ _ _ c.if-at-gt-MOST_OFFSET.false c.emit_from-first.ensures
+    simp append_assoc (printed _ _ _ _ _ _ c.if-at-gt-MOST_OFFSET.false c.emit_text-first.ensures
     (next _ _ _ _ _ _ c.emit_number-second.ensures
-    (next _ _ _ _ _ _ c.emit_from-last.ensures c.emit_last.ensures)))
+    (next _ _ _ _ _ _ c.emit_text-last.ensures c.emit_last.ensures)))

@@ -1,6 +1,5 @@
 -- `write_digits` writes a number's digits from the last on. The loop's invariant: what is left of the number, before
--- the digits written, makes the
--- whole.
+-- the digits written, makes the whole.
 use Prim.Native.Nat.{suc, ◌+◌, ◌-◌, ◌%◌}
 use mathlib.Core.Path.{◌≡◌, sym, ◌∙◌}
 use native.Mathlib.Omega.{arith}
@@ -33,4 +32,5 @@ pub returns : goal.returns
 returns c =
     let l = c.loop-from in
     let e : l.from ≡ 0 = omega arith in
-    (rw e (sym (digits_none l.rest l.bytes) ∙ rw e at l.invariant.2), omega arith)
+    let w = rw e at l.invariant.2 in
+    (sym (digits_none l.rest l.bytes) ∙ w, omega arith)

@@ -1,6 +1,5 @@
 -- `write_digits` writes a number's digits from the last on. The loop's invariant: what is left of the number, before
--- the digits written, makes the
--- whole.
+-- the digits written, makes the whole.
 use Prim.Native.Nat.{◌≤◌}
 use mathlib.Core.Path.{◌≡◌}
 use lib.ListN.{length, drop}
@@ -10,6 +9,3 @@ use Rattle.day_text.proofs.write_digits.Given as goal
 abbrev pub invariant-loop-from : goal.invariant-loop-from
 invariant-loop-from l =
     (l.from ≤ 20) × (length l.bytes ≡ 20) × (digits l.from l.rest (drop l.from l.bytes) ≡ decimal l.number)
-
-abbrev pub decreases-loop-from : goal.decreases-loop-from
-decreases-loop-from l = l.from

@@ -7,8 +7,8 @@ use Rattle.std.proofs.lemmas.Bool.{eqb-false}
 use Rattle.def_sheets.specs.Job.{Job}
 use Rattle.def_sheets.specs.Decode.{Decoded, job, end, refused, entry_of}
 use Rattle.def_sheets.specs.declared.Entry.{Entry}
-use Rattle.def_sheets.specs.declared.SheetRead.{SheetRead}
-use Rattle.def_sheets.specs.declared.SheetRead.TheVariants.{Whole, Refused}
+use Rattle.std.specs.Prelude.{Ok, Err}
+use Rattle.def_sheets.specs.Decode.{SheetRead, refusal}
 use Rattle.def_told.specs.Reader.{entry_read, sheet_read}
 use Rattle.def_told.proofs.ReaderHeard.{JobsHeard, EntriesHeard, SheetsHeard, Stands, Scanned, ReadIn}
 use Rattle.def_told.specs.declared.EntryRead.{EntryRead}
@@ -99,28 +99,28 @@ WrongSheet told = SheetsHeard told → ⊥
 
 -- every broken sheet is told as one without entries
 abbrev empty : SheetRead → SheetScanned
-empty (Whole n) = sheet_read (Whole n)
-empty (Refused number field) = sheet_read (Whole 0)
+empty (Ok n) = sheet_read (Ok n)
+empty (Err e) = sheet_read (Ok 0)
 
 pub broken_as_empty : WrongSheet empty
 broken_as_empty h =
-    let z : ◌≡◌ {A = ℕ} 0 1 = cc (h.heard_as_told (Refused 13 0) (ReadIn.scanned Scanned.by_13)) in omega arith
+    let z : ◌≡◌ {A = ℕ} 0 1 = cc (h.heard_as_told (Err (refusal 13 0)) (ReadIn.scanned Scanned.by_13)) in omega arith
 
 -- every refusal is told by one number
 abbrev one_number : SheetRead → SheetScanned
-one_number (Whole n) = sheet_read (Whole n)
-one_number (Refused number field) = sheet_read (Refused 12 field)
+one_number (Ok n) = sheet_read (Ok n)
+one_number (Err e) = sheet_read (Err (refusal 12 e.at))
 
 pub number_not_told : WrongSheet one_number
-number_not_told h = let z : ◌≡◌ {A = ℕ} 12 15 = cc (h.heard_as_told (Refused 15 0) ReadIn.by_15) in omega arith
+number_not_told h = let z : ◌≡◌ {A = ℕ} 12 15 = cc (h.heard_as_told (Err (refusal 15 0)) ReadIn.by_15) in omega arith
 
 -- of a broken sheet the entries before the field are told too: as if they were to be used
 abbrev some_entries : ℕ → SheetRead → SheetScanned
-some_entries k (Whole n) = sheet_read (Whole n)
-some_entries k (Refused number field) = record { number = number; entries = k; at = field }
+some_entries k (Ok n) = sheet_read (Ok n)
+some_entries k (Err e) = record { number = e.number; entries = k; at = e.at }
 
 pub entries_beside_a_refusal : WrongSheet (some_entries 2)
 entries_beside_a_refusal h =
     let z : ◌≡◌ {A = ℕ} 2 0 =
-    (h.silent (Refused 12 8) (ReadIn.scanned Scanned.by_12)).refused (eqb-false 12 0 refl) in
+    (h.silent (Err (refusal 12 8)) (ReadIn.scanned Scanned.by_12)).refused (eqb-false 12 0 refl) in
     omega arith

@@ -3,14 +3,14 @@ use Rattle.def_words.specs.Words.{applied}
 use Rattle.thm_counters_fit.specs.Fitting.{Fitting}
 use Rattle.graph_apply.proofs.apply.Goals as goal
 
-pub returns-in-Refuse : goal.returns-in-Refuse
+pub returns-in-Refuse-clause-stores : goal.returns-in-Refuse-clause-stores
 unfolding applied
-returns-in-Refuse c = λ h. rw c.in-Refuse.is
+returns-in-Refuse-clause-stores c = λ h. rw c.in-Refuse.is
 
-pub returns-in-Enter : goal.returns-in-Enter
+pub returns-in-Enter-clause-stores : goal.returns-in-Enter-clause-stores
 unfolding Fitting
-returns-in-Enter c =
+returns-in-Enter-clause-stores c =
     λ h.
     let e = c.in-Enter.is in
     let k = rw e at h in
-    rw e (c.enter.ensures k.0 k.1 _)
+    rw e (c.enter.ensures.stores k.0 k.1)

@@ -1,7 +1,5 @@
 -- `graph_drained::all_free` meets its contract. The loop's invariant: the test of the workers passed so far.
--- The measure is the number of workers left.
 use mathlib.Core.Path.{refl}
-use native.Mathlib.Omega.{arith}
 use Rattle.def_words.specs.Columns.{columns}
 use Rattle.def_words.specs.Layout.{worker_shape}
 use Rattle.def_worker_state.specs.Drained.{every, free}
@@ -10,16 +8,13 @@ use Rattle.graph_drained.proofs.all_free.Goals as goal
 
 pub loop-worker-init : goal.loop-worker-init
 unfolding every
-loop-worker-init c = (omega arith, refl)
+loop-worker-init c = refl
 
 pub loop-worker-preserved : goal.loop-worker-preserved
 loop-worker-preserved c =
-    let a = c.args in (
-      omega arith,
-      rw (
-        every_suc (free (columns worker_shape a.workers.now)) c.loop-worker.worker,
-        ← c.worker_word.ensures,
-        ← c.worker_word-in-loop-worker.ensures,
-        ← c.loop-worker.invariant.1,
-      ),
+    rw (
+      every_suc (free (columns worker_shape c.args.workers.now)) c.loop-worker.worker,
+      ← c.worker_word.ensures,
+      ← c.worker_word-in-loop-worker.ensures,
+      ← c.loop-worker.invariant,
     )

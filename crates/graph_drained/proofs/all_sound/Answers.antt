@@ -1,5 +1,4 @@
 -- `graph_drained::all_sound` meets its contract. The loop's invariant: the test of the workers passed so far.
--- The measure is the number of workers left.
 use mathlib.Core.Path.{refl}
 use native.Mathlib.Omega.{arith}
 use borrow.Author.Tests.{lt-ltb}
@@ -12,7 +11,7 @@ use Rattle.graph_drained.proofs.all_sound.Goals as goal
 
 pub loop-worker-init : goal.loop-worker-init
 unfolding every
-loop-worker-init c = (omega arith, refl)
+loop-worker-init c = refl
 
 pub loop-worker-preserved : goal.loop-worker-preserved
 loop-worker-preserved c =
@@ -21,4 +20,4 @@ loop-worker-preserved c =
     let worker = c.loop-worker.worker in
     let own = own_is a.sizes t worker c.requires (lt-ltb worker a.sizes.workers (omega arith))
     (c.own_ok-sound.ensures a.buckets.now a.queue.now) in
-    (omega arith, rw (every_suc (own_ok a.sizes (view t)) worker, own, ← c.loop-worker.invariant.1))
+    rw (every_suc (own_ok a.sizes (view t)) worker, own, ← c.loop-worker.invariant)

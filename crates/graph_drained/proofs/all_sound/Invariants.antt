@@ -1,7 +1,5 @@
 -- `graph_drained::all_sound` meets its contract. The loop's invariant: the test of the workers passed so far.
--- The measure is the number of workers left.
 use mathlib.Core.Path.{◌≡◌}
-use Prim.Native.Nat.{◌≤◌, ◌-◌}
 use Rattle.def_words.specs.Layout.{tables, view}
 use Rattle.def_words.specs.Words.{own_ok}
 use Rattle.def_worker_state.specs.Drained.{every}
@@ -9,7 +7,4 @@ use Rattle.graph_drained.proofs.all_sound.Given as goal
 
 abbrev pub invariant-loop-worker : goal.invariant-loop-worker
 invariant-loop-worker l =
-    (l.worker ≤ l.sizes.workers) × (l.sound ≡ every (own_ok l.sizes (view (tables l.jobs l.arcs l.buckets l.queue l.workers))) l.worker)
-
-abbrev pub decreases-loop-worker : goal.decreases-loop-worker
-decreases-loop-worker l = l.sizes.workers - l.worker
+    l.sound ≡ every (own_ok l.sizes (view (tables l.jobs l.arcs l.buckets l.queue l.workers))) l.worker

@@ -2,34 +2,35 @@
 use Rattle.def_worker_state.specs.Drained.{drained_words}
 use Rattle.graph_drained.proofs.drained.Goals as goal
 
-pub returns-then-sound : goal.returns-then-sound
+pub returns : goal.returns
 unfolding drained_words
-returns-then-sound c =
+returns c =
     rw (
-      ← c.sizes_fit-fit.ensures,
-      c.if-fit.true,
+      ← c.sizes_fit.ensures,
+      c.if-not-sizes_fit.false,
       ← c.all_sound.ensures,
       ← c.counters_ok.ensures,
       ← c.header-taken.ensures,
       ← c.header-put.ensures,
-      c.if-sound.true,
+      c.if-not-sound.false,
       ← c.all_free.ensures,
     )
     c.judged.ensures
 
-pub returns-else-sound : goal.returns-else-sound
+pub returns-then-not-sound : goal.returns-then-not-sound
 unfolding drained_words
-returns-else-sound c =
+returns-then-not-sound c =
     rw (
-      ← c.sizes_fit-fit.ensures,
-      c.if-fit.true,
+      ← c.sizes_fit.ensures,
+      c.if-not-sizes_fit.false,
       ← c.all_sound.ensures,
       ← c.counters_ok.ensures,
       ← c.header-taken.ensures,
       ← c.header-put.ensures,
-      c.if-sound.false,
+      c.if-not-sound.true,
     )
+    c.refused-then-not-sound.ensures
 
-pub returns-else-fit : goal.returns-else-fit
+pub returns-then-not-sizes_fit : goal.returns-then-not-sizes_fit
 unfolding drained_words
-returns-else-fit c = rw (← c.sizes_fit-fit.ensures, c.if-fit.false)
+returns-then-not-sizes_fit c = rw (← c.sizes_fit.ensures, c.if-not-sizes_fit.true) c.refused.ensures

@@ -1,107 +1,124 @@
--- `graph_first::sift_down` meets its contract. The loop's invariant: what is left of the way down ends as the whole way
--- does, the pairs that were compared and those that are left are those of the whole way, the slot fits its word, and at
--- most two pairs were compared for each level passed. The measure is the number of levels that are left.
-use mathlib.Core.Path.{◌≡◌, refl}
-use mathlib.Core.List.{List}
-use Prim.Native.Nat.{ℕ, ◌+◌, ◌*◌, ◌≤◌, ◌<◌}
+-- `graph_first::sift_down` meets its contract: each way through an iteration is a case of one level of the way down.
+use mathlib.Core.Path.{◌≡◌}
+use Prim.Native.Nat.{ℕ, ◌+◌, ◌-◌, ◌≤◌, ◌<◌}
 use native.Mathlib.Omega.{arith}
-use lib.ListN.{length}
-use borrow.Author.Tests.{ltb-true}
-use borrow.Author.Rules.{rules}
-use Rattle.def_heap.specs.Compared.{pairs_down}
-use Rattle.def_heap.specs.Sift.{left, sift_down}
-use Rattle.def_heap.specs.declared.Sifted.{Sifted}
-use Rattle.def_words.specs.Layout.{tables, view, View}
-use Rattle.def_words.specs.Index.{rank_of, waits, cell_in, levels}
+use borrow.Author.Tests.{lt-ltb, le-ltb}
+use Rattle.def_heap.specs.Sift.{left}
+use Rattle.def_words.specs.Index.{levels}
 use Rattle.graph_first.proofs.Laws.{down_none, down_one, count_none, count_one}
-use Rattle.graph_first.proofs.sift_down.Invariants.{down, pairs}
 use Rattle.graph_first.proofs.sift_down.Goals as goal
 
-pub returns-else-more : goal.returns-else-more
-returns-else-more c =
-    λ arcs buckets workers.
-    let kept = c.loop-levels.invariant.0 arcs buckets workers in (
-      rw (← kept.0, down_one _ _ _ _ _ _ _ c.loop-levels-test.true, c.if-more.false-raw),
-      λ moved e.
-          rw (← kept.1 moved e, count_one _ _ _ _ _ _ _ _ c.loop-levels-test.true e, c.if-more.false-raw) (omega arith),
-    )
+more : {n k : ℕ} → k < n → 0 < n - k
+more h = omega arith
 
-pub returns-else-passes : goal.returns-else-passes
-returns-else-passes c =
+spent : {n k : ℕ} → n ≤ k → n - k ≤ 0
+spent h = omega arith
+
+pub returns-then-at-filled : goal.returns-then-at-filled
+returns-then-at-filled c =
     λ arcs buckets workers.
-    let kept = c.loop-levels.invariant.0 arcs buckets workers in (
+    let kept = c.loop.invariant.0 arcs buckets workers in (
       rw (
         ← kept.0,
-        down_one _ _ _ _ _ _ _ c.loop-levels-test.true,
-        c.if-more.true-raw,
-        ← c.lesser-met.ensures.0 arcs buckets workers,
-        c.in-Ranked.is,
-        c.if-passes.false-raw,
+        down_one _ _ _ _ _ _ _ (more c.loop-test.true),
+        le-ltb (left c.loop.at) c.args.filled c.if-at-filled.true,
       ),
       λ moved e.
           rw (
             ← kept.1 moved e,
-            count_one _ _ _ _ _ _ _ _ c.loop-levels-test.true e,
-            c.if-more.true-raw,
-            ← c.lesser-met.ensures.0 arcs buckets workers,
-            c.in-Ranked.is,
-            c.if-passes.false-raw,
+            count_one _ _ _ _ _ _ _ _ (more c.loop-test.true) e,
+            le-ltb (left c.loop.at) c.args.filled c.if-at-filled.true,
           )
           (omega arith),
     )
 
-pub returns-in-Damaged : goal.returns-in-Damaged
-returns-in-Damaged c =
+pub returns-in_default : goal.returns-in_default
+returns-in_default c =
     λ arcs buckets workers.
-    let kept = c.loop-levels.invariant.0 arcs buckets workers in (
+    let kept = c.loop.invariant.0 arcs buckets workers in (
       rw (
         ← kept.0,
-        down_one _ _ _ _ _ _ _ c.loop-levels-test.true,
-        c.if-more.true-raw,
+        down_one _ _ _ _ _ _ _ (more c.loop-test.true),
+        lt-ltb (left c.loop.at) c.args.filled c.if-at-filled.false,
         ← c.lesser-met.ensures.0 arcs buckets workers,
-        c.in-Damaged.is,
+        c.in_default.is,
       ),
       λ moved e.
           rw (
             ← kept.1 moved e,
-            count_one _ _ _ _ _ _ _ _ c.loop-levels-test.true e,
-            c.if-more.true-raw,
+            count_one _ _ _ _ _ _ _ _ (more c.loop-test.true) e,
+            lt-ltb (left c.loop.at) c.args.filled c.if-at-filled.false,
             ← c.lesser-met.ensures.0 arcs buckets workers,
-            c.in-Damaged.is,
+            c.in_default.is,
           )
           (omega arith),
     )
 
-pub loop-levels-preserved : goal.loop-levels-preserved
-loop-levels-preserved c = (
-  λ arcs buckets workers.
-      let kept = c.loop-levels.invariant.0 arcs buckets workers in (
-        rw (
-          ← kept.0,
-          down_one _ _ _ _ _ _ _ c.loop-levels-test.true,
-          c.if-more.true-raw,
-          ← c.lesser-met.ensures.0 arcs buckets workers,
-          c.in-Ranked.is,
-          c.if-passes.true-raw,
-        ),
-        λ moved e.
+pub returns-then-below-rank : goal.returns-then-below-rank
+returns-then-below-rank c =
+    λ arcs buckets workers.
+    let kept = c.loop.invariant.0 arcs buckets workers in (
+      rw (
+        ← kept.0,
+        down_one _ _ _ _ _ _ _ (more c.loop-test.true),
+        lt-ltb (left c.loop.at) c.args.filled c.if-at-filled.false,
+        ← c.lesser-met.ensures.0 arcs buckets workers,
+        c.in-Some.is,
+        le-ltb c.in-Some.below.rank c.args.rank c.if-below-rank.true,
+      ),
+      λ moved e.
+          rw (
+            ← kept.1 moved e,
+            count_one _ _ _ _ _ _ _ _ (more c.loop-test.true) e,
+            lt-ltb (left c.loop.at) c.args.filled c.if-at-filled.false,
+            ← c.lesser-met.ensures.0 arcs buckets workers,
+            c.in-Some.is,
+            le-ltb c.in-Some.below.rank c.args.rank c.if-below-rank.true,
+          )
+          (omega arith),
+    )
+
+pub loop-preserved : goal.loop-preserved
+loop-preserved c =
+    let one : levels - (c.loop.counter + 1) ≡ levels - c.loop.counter - 1 = omega arith in (
+      λ arcs buckets workers.
+          let kept = c.loop.invariant.0 arcs buckets workers in (
             rw (
-              ← kept.1 moved e,
-              count_one _ _ _ _ _ _ _ _ c.loop-levels-test.true e,
-              c.if-more.true-raw,
+              one,
+              ← kept.0,
+              down_one _ _ _ _ _ _ _ (more c.loop-test.true),
+              lt-ltb (left c.loop.at) c.args.filled c.if-at-filled.false,
               ← c.lesser-met.ensures.0 arcs buckets workers,
-              c.in-Ranked.is,
-              c.if-passes.true-raw,
-            )
-            (omega arith),
-      ),
-  (omega arith, omega (arith, c.lesser-met.ensures.1)),
-)
+              c.in-Some.is,
+              lt-ltb c.in-Some.below.rank c.args.rank c.if-below-rank.false,
+            ),
+            λ moved e.
+                rw (
+                  one,
+                  ← kept.1 moved e,
+                  count_one _ _ _ _ _ _ _ _ (more c.loop-test.true) e,
+                  lt-ltb (left c.loop.at) c.args.filled c.if-at-filled.false,
+                  ← c.lesser-met.ensures.0 arcs buckets workers,
+                  c.in-Some.is,
+                  lt-ltb c.in-Some.below.rank c.args.rank c.if-below-rank.false,
+                )
+                (omega arith),
+          ),
+      omega (arith, c.lesser-met.ensures.1, c.loop.invariant.1, c.loop-test.true),
+    )
 
-pub returns : goal.returns
-returns c =
+pub returns-after-loop : goal.returns-after-loop
+returns-after-loop c =
     λ arcs buckets workers.
-    let kept = c.loop-levels.invariant.0 arcs buckets workers in (
-      rw (← kept.0, down_none _ _ _ _ _ _ _ c.loop-levels-test.false),
-      λ moved e. rw (← kept.1 moved e, count_none _ _ _ _ _ _ _ c.loop-levels-test.false) (omega arith),
+    let kept = c.loop.invariant.0 arcs buckets workers in (
+      rw (
+        ← kept.0,
+        down_none _ _ _ _ _ _ _ (spent c.loop-test.false),
+      ),
+      λ moved e.
+          rw (
+            ← kept.1 moved e,
+            count_none _ _ _ _ _ _ _ (spent c.loop-test.false),
+          )
+          (omega arith),
     )

@@ -2,14 +2,14 @@
 use Rattle.def_worker_state.specs.Held.{counted}
 use Rattle.graph_held.proofs.counted.Goals as goal
 
-pub returns-then-sound : goal.returns-then-sound
+pub returns-then-counters_ok : goal.returns-then-counters_ok
 unfolding counted
-returns-then-sound c =
+returns-then-counters_ok c =
     λ buckets queue.
-    rw (← c.counters_ok-sound.ensures, c.if-sound.true, ← c.holding_of.ensures)
+    rw (← c.counters_ok.ensures, c.if-counters_ok.true, ← c.holding_of.ensures)
 
-pub returns-else-sound : goal.returns-else-sound
+pub returns-else-counters_ok : goal.returns-else-counters_ok
 unfolding counted
-returns-else-sound c =
+returns-else-counters_ok c =
     λ buckets queue.
-    rw (← c.counters_ok-sound.ensures, c.if-sound.false, ← c.refused.ensures)
+    rw (← c.counters_ok.ensures, c.if-counters_ok.false, ← c.refused.ensures)

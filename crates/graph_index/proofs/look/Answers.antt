@@ -1,75 +1,76 @@
 -- `graph_index::look` meets its contract: each way through the code is a case of the definition.
+use borrow.Author.Tests.{eq-eqb, ne_eqb, lt-ltb, le-ltb, le-leb, lt-leb}
 use Rattle.def_words.specs.Index.{waits}
 use Rattle.graph_index.proofs.look.Goals as goal
 
-pub returns-else-put : goal.returns-else-put
+pub returns-then-cell-header : goal.returns-then-cell-header
 unfolding waits
-returns-else-put c =
+returns-then-cell-header c =
     λ arcs buckets workers.
     rw (
       ← c.queue_word-cell.ensures,
       ← c.header.ensures,
-      c.if-put.false-raw,
+      le-ltb _ _ c.if-cell-header.true,
     )
 
-pub returns-else-there : goal.returns-else-there
+pub returns-then-position-slot : goal.returns-then-position-slot
 unfolding waits
-returns-else-there c =
+returns-then-position-slot c =
     λ arcs buckets workers.
     rw (
       ← c.queue_word-cell.ensures,
       ← c.header.ensures,
-      c.if-put.true-raw,
-      ← c.queue_word.ensures,
-      c.if-there.false-raw,
+      lt-ltb _ _ c.if-cell-header.false,
+      ← c.queue_word-position.ensures,
+      ne_eqb _ _ c.if-position-slot.true,
     )
 
-pub returns-else-made : goal.returns-else-made
+pub returns-then-job-header : goal.returns-then-job-header
 unfolding waits
-returns-else-made c =
+returns-then-job-header c =
     λ arcs buckets workers.
     rw (
       ← c.queue_word-cell.ensures,
       ← c.header.ensures,
-      c.if-put.true-raw,
-      ← c.queue_word.ensures,
-      c.if-there.true-raw,
+      lt-ltb _ _ c.if-cell-header.false,
+      ← c.queue_word-position.ensures,
+      eq-eqb _ _ c.if-position-slot.false,
       ← c.queue_word-job.ensures,
       ← c.header-2.ensures,
-      c.if-made.false-raw,
+      le-ltb _ _ c.if-job-header.true,
     )
 
-pub returns-then-limited : goal.returns-then-limited
+pub returns-then-class-gt-MOST_CLASS : goal.returns-then-class-gt-MOST_CLASS
 unfolding waits
-returns-then-limited c =
+returns-then-class-gt-MOST_CLASS c =
     λ arcs buckets workers.
     rw (
       ← c.queue_word-cell.ensures,
       ← c.header.ensures,
-      c.if-put.true-raw,
-      ← c.queue_word.ensures,
-      c.if-there.true-raw,
+      lt-ltb _ _ c.if-cell-header.false,
+      ← c.queue_word-position.ensures,
+      eq-eqb _ _ c.if-position-slot.false,
       ← c.queue_word-job.ensures,
       ← c.header-2.ensures,
-      c.if-made.true-raw,
+      lt-ltb _ _ c.if-job-header.false,
       ← c.job_word-class.ensures,
-      c.if-limited.true-raw,
+      lt-leb _ _ c.if-class-gt-MOST_CLASS.true,
+    )
+
+pub returns : goal.returns
+unfolding waits
+returns c =
+    λ arcs buckets workers.
+    rw (
+      ← c.queue_word-cell.ensures,
+      ← c.header.ensures,
+      lt-ltb _ _ c.if-cell-header.false,
+      ← c.queue_word-position.ensures,
+      eq-eqb _ _ c.if-position-slot.false,
+      ← c.queue_word-job.ensures,
+      ← c.header-2.ensures,
+      lt-ltb _ _ c.if-job-header.false,
+      ← c.job_word-class.ensures,
+      le-leb _ _ c.if-class-gt-MOST_CLASS.false,
       ← c.rank.ensures,
-    )
-
-pub returns-else-limited : goal.returns-else-limited
-unfolding waits
-returns-else-limited c =
-    λ arcs buckets workers.
-    rw (
-      ← c.queue_word-cell.ensures,
-      ← c.header.ensures,
-      c.if-put.true-raw,
-      ← c.queue_word.ensures,
-      c.if-there.true-raw,
-      ← c.queue_word-job.ensures,
-      ← c.header-2.ensures,
-      c.if-made.true-raw,
-      ← c.job_word-class.ensures,
-      c.if-limited.false-raw,
     )

@@ -3,16 +3,16 @@ use Rattle.graph_index.proofs.Seats.{seat_found, seat_none}
 use mathlib.Core.Path.{◌∙◌}
 use Rattle.graph_index.proofs.seat_for.Goals as goal
 
-pub returns-then-free : goal.returns-then-free
-returns-then-free c =
+pub returns-then-taken-put : goal.returns-then-taken-put
+returns-then-taken-put c =
+    λ arcs buckets workers.
+    seat_none _ _ _ c.header-taken.ensures c.header-put.ensures c.job_word-class.ensures
+    c.then-taken-put.either
+
+pub returns : goal.returns
+returns c =
     λ arcs buckets workers.
     c.seated.ensures
     ∙ seat_found _ _ _ c.header-taken.ensures c.header-put.ensures
-    c.job_word-class.ensures c.less-filled.ensures c.rank-by.ensures
-    (c.sift_up-sifted.ensures arcs buckets workers) c.if-free.true
-
-pub returns-else-free : goal.returns-else-free
-returns-else-free c =
-    λ arcs buckets workers.
-    seat_none _ _ _ c.header-taken.ensures c.header-put.ensures c.job_word-class.ensures
-    c.if-free.false
+    c.job_word-class.ensures c.less-filled.ensures c.rank.ensures
+    (c.sift_up.ensures arcs buckets workers) c.if-taken-put.false c.if-put-sizes.false c.if-class-gt-MOST_CLASS.false

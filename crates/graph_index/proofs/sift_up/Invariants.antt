@@ -1,8 +1,8 @@
 -- `graph_index::sift_up` meets its contract. The loop's invariant: what is left of the way up ends as the whole way
--- does. The measure is the number of levels that are left.
+-- does.
 use mathlib.Core.Path.{◌≡◌}
 use mathlib.Core.List.{List}
-use Prim.Native.Nat.{ℕ}
+use Prim.Native.Nat.{ℕ, ◌-◌}
 use Rattle.def_heap.specs.Sift.{sift_up}
 use Rattle.def_heap.specs.declared.Sifted.{Sifted}
 use Rattle.def_words.specs.Layout.{tables, view, View}
@@ -13,11 +13,8 @@ use Rattle.graph_index.proofs.sift_up.Given as goal
 abbrev pub up : View → ℕ → ℕ → ℕ → Sifted
 up v = sift_up (rank_of v) (waits v) (cell_in v)
 
-abbrev pub invariant-loop-levels : goal.invariant-loop-levels
-invariant-loop-levels l =
+abbrev pub invariant-loop : goal.invariant-loop
+invariant-loop l =
     (arcs buckets workers : List ℕ)
-    → up (view (tables l.jobs arcs buckets l.queue workers)) l.levels l.rank l.at
+    → up (view (tables l.jobs arcs buckets l.queue workers)) (levels - l.counter) l.rank l.at
     ≡ up (view (tables l.jobs arcs buckets l.queue workers)) levels l.rank l.slot
-
-abbrev pub decreases-loop-levels : goal.decreases-loop-levels
-decreases-loop-levels l = l.levels

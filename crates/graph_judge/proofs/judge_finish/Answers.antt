@@ -1,23 +1,14 @@
 -- `graph_judge::judge_finish` meets its contract: the tests that come first, and then what the worker's words ask for.
-use mathlib.Core.Path.{refl}
-use mathlib.Core.List.{[]}
-use Rattle.graph_own.proofs.Admitted.{wrong_sizes, no_such_worker_lem, unsound, admits}
+use mathlib.Core.Path.{refl, ◌∙◌}
+use Rattle.std.specs.Prelude.{Ok, Err}
+use Rattle.std.proofs.lemmas.Result.{err_from_is_err_and}
+use Rattle.lent_graph.proofs.Admits.{refused, passed}
 use Rattle.graph_judge.proofs.judge_finish.Goals as goal
 
-pub returns-then-sound : goal.returns-then-sound
-returns-then-sound c =
-    admits _ _ _ _ _ c.sizes_fit-fit.ensures (c.own_ok-sound.ensures _ _)
-    c.if-fit.true c.if-known.true-raw c.if-sound.true
-    (c.judge_admitted_finish.ensures [] [])
+pub returns-in_err-admit : goal.returns-in_err-admit
+returns-in_err-admit c =
+    let p = err_from_is_err_and c.from_residual.result c.from_residual.ensures.1 in
+    rw (p.1, p.2) (refused _ _ _ _ _ {told = Err _} c.in_err-admit.ensures refl)
 
-pub returns-else-sound : goal.returns-else-sound
-returns-else-sound c =
-    unsound _ _ _ _ _ c.sizes_fit-fit.ensures (c.own_ok-sound.ensures _ _) c.if-fit.true
-    c.if-known.true-raw c.if-sound.false refl
-
-pub returns-else-known : goal.returns-else-known
-returns-else-known c =
-    no_such_worker_lem _ _ _ _ _ c.sizes_fit-fit.ensures c.if-fit.true c.if-known.false-raw refl
-
-pub returns-else-fit : goal.returns-else-fit
-returns-else-fit c = wrong_sizes _ _ _ _ _ c.sizes_fit-fit.ensures c.if-fit.false refl
+pub returns : goal.returns
+returns c = c.judge_admitted_finish.ensures ∙ passed _ _ _ _ _ {told = Ok tt} c.in_ok-admit.ensures refl

@@ -5,17 +5,12 @@ use Rattle.def_words.specs.Words.{lay_out}
 use Rattle.graph_layout.proofs.Laws.{room_bits}
 use Rattle.graph_layout.proofs.lay_out.Goals as goal
 
-pub returns-then-room : goal.returns-then-room
+pub returns-clause-answered : goal.returns-clause-answered
 unfolding lay_out
-returns-then-room c =
-    let room =
-    sym c.room_for-room.ensures ∙ c.if-room.true in
-    rw (
-      c.fresh_tables.ensures
-          (room_bits _ _ room),
-      room,
-    )
+returns-clause-answered c =
+    let room = sym c.has_room.ensures ∙ c.if-not-has_room.false in
+    rw (c.fresh_tables.ensures.fresh (room_bits _ _ room), room)
 
-pub returns-else-room : goal.returns-else-room
+pub returns-then-not-has_room-clause-answered : goal.returns-then-not-has_room-clause-answered
 unfolding lay_out
-returns-else-room c = rw (← c.room_for-room.ensures, c.if-room.false)
+returns-then-not-has_room-clause-answered c = rw (← c.has_room.ensures, c.if-not-has_room.true)

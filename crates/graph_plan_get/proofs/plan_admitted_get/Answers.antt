@@ -1,35 +1,24 @@
 -- `graph_plan_get::plan_admitted_get` meets its contract: each way through the code is a case of the definition.
+use borrow.Author.Tests.{eq-eqb, ne_eqb}
 use Rattle.def_words.specs.Words.{plan_get}
 use Rattle.graph_plan_get.proofs.plan_admitted_get.Goals as goal
 
-pub returns-then-free : goal.returns-then-free
+pub returns-then-worker_word-ne-IDLE : goal.returns-then-worker_word-ne-IDLE
 unfolding plan_get
-returns-then-free c =
-    λ buckets.
+returns-then-worker_word-ne-IDLE c = rw (← c.worker_word.ensures, ne_eqb _ _ c.if-worker_word-ne-IDLE.true)
+
+pub returns-then-worker_word : goal.returns-then-worker_word
+unfolding plan_get
+returns-then-worker_word c =
+    rw (← c.worker_word.ensures, eq-eqb _ _ c.if-worker_word-ne-IDLE.false, ← c.worker_word-2.ensures, ne_eqb _ _ c.if-worker_word.true)
+
+pub returns : goal.returns
+unfolding plan_get
+returns c =
     rw (
-      ← c.worker_word-idle.ensures,
-      c.if-idle.true-raw,
-      ← c.worker_word-free.ensures,
-      c.if-free.true-raw,
+      ← c.worker_word.ensures,
+      eq-eqb _ _ c.if-worker_word-ne-IDLE.false,
+      ← c.worker_word-2.ensures,
+      eq-eqb _ _ c.if-worker_word.false,
       ← c.plan_queue.ensures,
-    )
-
-pub returns-else-free : goal.returns-else-free
-unfolding plan_get
-returns-else-free c =
-    λ buckets.
-    rw (
-      ← c.worker_word-idle.ensures,
-      c.if-idle.true-raw,
-      ← c.worker_word-free.ensures,
-      c.if-free.false-raw,
-    )
-
-pub returns-else-idle : goal.returns-else-idle
-unfolding plan_get
-returns-else-idle c =
-    λ buckets.
-    rw (
-      ← c.worker_word-idle.ensures,
-      c.if-idle.false-raw,
     )

@@ -1,22 +1,9 @@
 -- `graph_plan_get::plan_get` meets its contract: the tests that come first, and then what the worker's words ask for.
-use mathlib.Core.Path.{refl}
-use Rattle.graph_own.proofs.Admitted.{wrong_sizes, no_such_worker_lem, unsound, admits}
+use Rattle.lent_graph.proofs.Admits.{refused, passed}
 use Rattle.graph_plan_get.proofs.plan_get.Goals as goal
 
-pub returns-then-sound : goal.returns-then-sound
-returns-then-sound c =
-    admits _ _ _ _ _ c.sizes_fit-fit.ensures (c.own_ok-sound.ensures _ _)
-    c.if-fit.true c.if-known.true-raw c.if-sound.true
-    (rw (← c.plan_admitted_get.ensures))
+pub returns-in-Err : goal.returns-in-Err
+returns-in-Err c = rw c.into.ensures (refused _ _ _ _ _ c.admit.ensures c.in-Err.is)
 
-pub returns-else-sound : goal.returns-else-sound
-returns-else-sound c =
-    unsound _ _ _ _ _ c.sizes_fit-fit.ensures (c.own_ok-sound.ensures _ _) c.if-fit.true
-    c.if-known.true-raw c.if-sound.false refl
-
-pub returns-else-known : goal.returns-else-known
-returns-else-known c =
-    no_such_worker_lem _ _ _ _ _ c.sizes_fit-fit.ensures c.if-fit.true c.if-known.false-raw refl
-
-pub returns-else-fit : goal.returns-else-fit
-returns-else-fit c = wrong_sizes _ _ _ _ _ c.sizes_fit-fit.ensures c.if-fit.false refl
+pub returns-in-Ok : goal.returns-in-Ok
+returns-in-Ok c = rw c.plan_admitted_get.ensures (passed _ _ _ _ _ c.admit.ensures c.in-Ok.is)

@@ -2,40 +2,33 @@
 use Rattle.def_words.specs.Words.{plan_take}
 use Rattle.graph_plan_get.proofs.plan_take.Goals as goal
 
-pub returns-then-sound : goal.returns-then-sound
+pub returns-then-not-sound : goal.returns-then-not-sound
 unfolding plan_take
-returns-then-sound c =
-    λ arcs buckets workers.
+returns-then-not-sound c =
     rw (
-      ← c.first_seat-seating.ensures arcs buckets workers,
+      ← c.first_seat.ensures _ _ _,
       c.in-Seated.is,
       ← c.queue_word-cell.ensures,
       ← c.queue_word-job.ensures,
       ← c.job_word-spoiled.ensures,
       ← c.job_word.ensures,
-      c.if-sound.true,
-      ← c.job_word-then-sound.ensures,
+      c.if-not-sound.true,
     )
 
-pub returns-else-sound : goal.returns-else-sound
+pub returns-else-not-sound : goal.returns-else-not-sound
 unfolding plan_take
-returns-else-sound c =
-    λ arcs buckets workers.
+returns-else-not-sound c =
     rw (
-      ← c.first_seat-seating.ensures arcs buckets workers,
+      ← c.first_seat.ensures _ _ _,
       c.in-Seated.is,
       ← c.queue_word-cell.ensures,
       ← c.queue_word-job.ensures,
       ← c.job_word-spoiled.ensures,
       ← c.job_word.ensures,
-      c.if-sound.false,
+      c.if-not-sound.false,
+      ← c.job_word-in-Seated.ensures,
     )
 
 pub returns-in-Unseated : goal.returns-in-Unseated
 unfolding plan_take
-returns-in-Unseated c =
-    λ arcs buckets workers.
-    rw (
-      ← c.first_seat-seating.ensures arcs buckets workers,
-      c.in-Unseated.is,
-    )
+returns-in-Unseated c = rw (← c.first_seat.ensures _ _ _, c.in-Unseated.is)

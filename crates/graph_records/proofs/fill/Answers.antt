@@ -1,19 +1,24 @@
 -- `graph_records::fill` meets its contract: past the table's end a run stores nothing.
-use Prim.Native.Nat.{◌-◌}
-use mathlib.Core.Path.{sym}
+use Prim.Native.Nat.{◌-◌, ◌<◌}
+use mathlib.Core.Path.{◌∙◌}
 use native.Mathlib.Omega.{arith}
-use lib.ListN.{length, replicate}
-use Rattle.graph_records.proofs.Laws.{sets_out, fill_clipped}
+use lib.ListN.{length-set}
+use Rattle.graph_records.proofs.Laws.{fill_one, fill_none, fill_clipped}
 use Rattle.graph_records.proofs.fill.Goals as goal
 
-pub returns-then-len-from : goal.returns-then-len-from
-returns-then-len-from c =
-    let a = c.args in
-    sym (sets_out (replicate a.count a.value) a.s.now a.from c.if-len-from.true)
+pub loop-i-preserved : goal.loop-i-preserved
+loop-i-preserved c =
+    let l = c.loop-i in
+    let more : l.i < c.min-end.result = omega arith in (
+      fill_one _ _ _ _ more ∙ l.invariant.0,
+      simp length-set l.invariant.1,
+    )
 
-pub returns-else-count-len : goal.returns-else-count-len
-returns-else-count-len c =
+pub returns : goal.returns
+returns c =
     let a = c.args in
-    rw c.fill_to-else-count-len.ensures
-    (fill_clipped (length a.s.now - a.from) a.count a.s.now a.from a.value (omega arith)
-    (omega arith))
+    let l = c.loop-i in
+    let end = c.min-end.result in
+    fill_none l.s l.i end a.value (omega arith)
+    ∙ l.invariant.0
+    ∙ fill_clipped (end - a.from) a.count a.s.now a.from a.value (omega arith) (λ h. omega arith)

@@ -3,13 +3,13 @@ use Rattle.def_words.specs.Words.{step_words}
 use Rattle.thm_counters_fit.specs.Fits.{plan_step_fits}
 use Rattle.graph_step.proofs.step.Goals as goal
 
-pub returns : goal.returns
+pub returns-clause-answered : goal.returns-clause-answered
 unfolding step_words
-returns c =
+returns-clause-answered c =
     let p = c.plan_step-plan in
     rw (
       ← p.ensures,
-      ← c.apply.ensures
+      ← c.apply.ensures.stores
           (rw p.ensures (plan_step_fits _ _ _)),
       ← c.answer_of.ensures,
     )

@@ -9,6 +9,10 @@ use native.Mathlib.Omega.{arith}
 use borrow.Author.Tests.{le-leb, lt-leb}
 use lib.ListN.{length}
 use Rattle.def_terms.specs.declared.Sizes.{Sizes}
+use Rattle.std.specs.Prelude.{Ok, Err}
+use Rattle.std.proofs.lemmas.Result.{err_from_is_err_and}
+use Rattle.def_numbers.proofs.Refused as number
+use Rattle.def_minutes.specs.Served.{told_minutes}
 use Rattle.def_totals.specs.Board.{records_from, record_at, stands_in_table, totals_of_table}
 use Rattle.def_words.specs.Columns.{columns}
 use Rattle.def_words.specs.Layout.{job_shape, LABEL, CLASS}
@@ -31,13 +35,27 @@ made-stand s jobs made fit few =
     le-leb (job_shape.head + job_shape.width * made) (length jobs)
     (omega (arith, fit_room s jobs fit, mul-le-mul_left job_shape.width few))
 
-pub returns-then-made-sizes : goal.returns-then-made-sizes
+pub returns-in_err-by : goal.returns-in_err-by
+returns-in_err-by c =
+    let e = c.in_err-by.field-0.0 in
+    let p = err_from_is_err_and c.from_residual.result c.from_residual.ensures.1 in
+    not_served _ _ (told_minutes (Err e)) c.in_err-by.ensures (number.refused e) (rw (p.1, p.2))
+
+pub returns-then-sizes-made : goal.returns-then-sizes-made
+unfolding graph_totals
+returns-then-sizes-made c =
+    let a = c.args in
+    let by = told_minutes (Ok c.in_ok-by.by) in
+    let ok = served a.sizes a.jobs.now by c.in_ok-by.ensures refl in
+    rw (ok.fit, ← c.header-made.ensures, lt-leb _ a.sizes.jobs c.if-sizes-made.true)
+
+pub returns : goal.returns
 unfolding graph_totals totals_of_table
-returns-then-made-sizes c =
+returns c =
     let a = c.args in
     let made = c.header-made.result in
-    let by = c.minutes_of_graph-by in
-    let ok = served a.sizes a.jobs.now by.result by.ensures c.if-number-eq-ACCEPTED.true in
+    let by = told_minutes (Ok c.in_ok-by.by) in
+    let ok = served a.sizes a.jobs.now by c.in_ok-by.ensures refl in
     rw (
       ok.fit,
       ← c.header-made.ensures,
@@ -47,22 +65,3 @@ returns-then-made-sizes c =
     )
     (rw (made-stand a.sizes _ made ok.fit (omega arith), ok.stored) at
     (c.of_table.ensures (rw ok.stored ok.passes)))
-
-pub returns-else-made-sizes : goal.returns-else-made-sizes
-unfolding graph_totals
-returns-else-made-sizes c =
-    let a = c.args in
-    let made = c.header-made.result in
-    let by = c.minutes_of_graph-by in
-    let ok = served a.sizes a.jobs.now by.result by.ensures c.if-number-eq-ACCEPTED.true in
-    rw (
-      ok.fit,
-      ← c.header-made.ensures,
-      lt-leb made a.sizes.jobs (omega arith),
-    )
-    c.blank.ensures
-
-pub returns-else-number-eq-ACCEPTED : goal.returns-else-number-eq-ACCEPTED
-returns-else-number-eq-ACCEPTED c =
-    let by = c.minutes_of_graph-by in
-    not_served _ _ by.result by.ensures c.if-number-eq-ACCEPTED.false c.blank-else-number-eq-ACCEPTED.ensures

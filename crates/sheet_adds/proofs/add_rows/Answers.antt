@@ -2,24 +2,25 @@
 use mathlib.Core.Path.{◌≡◌, sym, ◌∙◌}
 use Prim.Native.Nat.{suc, ◌+◌, ◌-◌}
 use native.Mathlib.Omega.{arith}
-use Rattle.def_words.specs.Layout.{tables}
+use Rattle.lent_graph.specs.Lent.{words}
 use Rattle.sheet_adds.specs.Left.{row_told, none_left, added}
 use Rattle.sheet_adds.proofs.add_rows.Goals as goal
 
 pub loop-row-preserved : goal.loop-row-preserved
 loop-row-preserved c =
-    let f = c.add_if_idle-answer in
-    let row = c.row_entry-entry in
     let l = c.loop-row in
     let a = c.args in
-    let e = rw row.ensures at f.ensures in
+    let i = l.invariant in
+    let e = rw (c.row_entry-entry.ensures, i.0.sizes) at c.add_if_idle-answer.ensures in
     let more : a.count - l.row ≡ suc (a.count - (l.row + 1)) = omega arith in (
-      f.auto.jobs ∙ l.invariant.0,
-      f.auto.arcs ∙ l.invariant.1,
-      f.auto.buckets ∙ l.invariant.2,
-      f.auto.queue ∙ l.invariant.3,
-      f.auto.workers ∙ l.invariant.4,
-      omega arith,
+      record {
+        sizes = i.0.sizes;
+        jobs = i.0.jobs;
+        arcs = i.0.arcs;
+        buckets = i.0.buckets;
+        queue = i.0.queue;
+        workers = i.0.workers;
+      },
       rw (
         c.first_stop-stopped.ensures,
         c.stopped_as.ensures,
@@ -28,15 +29,16 @@ loop-row-preserved c =
         c.place_of.ensures,
         c.number_of-number.ensures,
       )
-          (row_told a.sizes a.worker a.rows.now l.row _ _ _ _ l.numbers l.places l.stopped more e)
-          ∙ l.invariant.6,
+          (row_told a.graph.now.sizes a.worker a.rows.now l.row _ _ _ _ l.numbers l.places l.stopped more e)
+          ∙ i.1,
     )
 
-pub returns : goal.returns
-returns c =
+pub returns-clause-added : goal.returns-clause-added
+returns-clause-added c =
     let l = c.loop-row in
     let a = c.args in
-    let e = sym (none_left a.sizes a.worker a.rows.now l.row (a.count - l.row)
-    (tables l.jobs l.arcs l.buckets l.queue l.workers) l.numbers l.places l.stopped (omega arith))
+    let s = a.graph.now.sizes in
+    let e = sym (none_left s a.worker a.rows.now l.row (a.count - l.row) (words l.graph) l.numbers l.places l.stopped
+    (omega arith))
     in
-    added a.sizes a.worker a.rows.now a.count _ _ (e ∙ l.invariant.6)
+    added s a.worker a.rows.now a.count _ _ (e ∙ l.invariant.1)

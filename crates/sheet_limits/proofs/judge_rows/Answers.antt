@@ -1,18 +1,16 @@
 -- `judge_rows` finds the first entry with a fault, or the bytes of the sheet. The loop's invariant: the fault of the
--- rows left is
--- the sheet's, and the sum with their bytes is the sheet's size; a row's entry takes no more bytes than the row, so the
--- sum fits.
+-- rows left is the sheet's, and the sum with their bytes is the sheet's size; a row's entry takes no more bytes than
+-- the row, so the sum fits.
 use Prim.Native.Nat.{ℕ, ◌+◌, ◌*◌, ◌≤◌, ◌<◌}
 use mathlib.Core.List.{List}
+use Rattle.std.specs.Prelude.{Ok}
 use Rattle.def_numbers.specs.Numbers.{entry_words}
-use Rattle.sheet_limits.specs.declared.Judged.{Judged}
 use Rattle.sheet_limits.specs.Judge.{judged}
 use mathlib.Core.Path.{ap, ◌≡◌, sym, ◌∙◌}
 use native.Mathlib.Omega.{arith}
 use lib.ListN.{length}
 use Rattle.def_sheets.specs.Job.{encode}
 use Rattle.def_sheets.specs.Write.{entry_at, job_of, sheet_fault}
-use Rattle.sheet_limits.specs.declared.SheetJudged.{SheetJudged}
 use Rattle.sheet_limits.specs.Judge.{sheet_judged}
 use Rattle.sheet_limits.proofs.Judging.{refused, takes}
 use Rattle.thm_sheets.specs.SheetOffset.{sheet_so_far}
@@ -22,7 +20,7 @@ use Rattle.sheet_limits.proofs.judge_rows.Goals as goal
 
 -- an entry with no fault: its bytes are few, and the sheet's fault is among the others
 turn : (rows : List ℕ) (i n bytes : ℕ) → i < n → entry_words * n ≤ length rows
-    → judged (entry_at rows i) ≡ Judged.Takes bytes
+    → judged (entry_at rows i) ≡ Ok bytes
     → (length (encode (job_of (entry_at rows i))) ≡ bytes)
     × (sheet_fault i (rest rows i n) ≡ sheet_fault (i + 1) (rest rows (i + 1) n))
     × (length (encode (job_of (entry_at rows i))) ≤ row_bytes)
@@ -35,28 +33,30 @@ turn rows i n bytes l room e =
       next_length rows i n (omega arith),
     )
 
-pub returns-in-Refused : goal.returns-in-Refused
+pub returns-in-Err : goal.returns-in-Err
 unfolding sheet_judged
-returns-in-Refused c =
+returns-in-Err c =
     let rows = c.args.rows.now in
-    let i = c.loop-i.i in
-    let f = refused (entry_at rows i) _
-    (sym c.judge_row.ensures ∙ c.in-Refused.is) in
+    let i = c.loop-entry.entry in
+    let f = refused (entry_at rows i) _ (sym c.judge_row.ensures ∙ c.in-Err.is) in
     let q = next_fault rows i c.args.n (omega arith) in
-    rw (← c.loop-i.invariant.2, q, f)
+    rw (← c.loop-entry.invariant.1, q, f)
 
 pub overflow_add-sum : goal.overflow_add-sum
-overflow_add-sum c = let t = turn c.args.rows.now c.loop-i.i c.args.n c.in-Takes.bytes (omega arith) c.requires (sym c.judge_row.ensures ∙ c.in-Takes.is) in omega arith
+overflow_add-sum c =
+    let t = turn c.args.rows.now c.loop-entry.entry c.args.n _ (omega arith) c.requires (sym c.judge_row.ensures ∙ c.in-Ok.is) in
+    omega arith
 
-pub loop-i-preserved : goal.loop-i-preserved
-loop-i-preserved c =
-    let t = turn c.args.rows.now c.loop-i.i c.args.n c.in-Takes.bytes (omega arith) c.requires (sym c.judge_row.ensures ∙ c.in-Takes.is) in
-    (omega arith, omega arith, sym t.1 ∙ c.loop-i.invariant.2, omega arith)
+pub loop-entry-preserved : goal.loop-entry-preserved
+loop-entry-preserved c =
+    let t = turn c.args.rows.now c.loop-entry.entry c.args.n _ (omega arith) c.requires (sym c.judge_row.ensures ∙ c.in-Ok.is) in
+    (omega arith, sym t.1 ∙ c.loop-entry.invariant.1, omega arith)
 
 pub returns : goal.returns
 unfolding sheet_judged
 returns c =
     let rows = c.args.rows.now in
-    let b = ap length (end_bytes rows c.loop-i.i c.args.n (omega arith)) in
-    let q : c.loop-i.sum ≡ length (sheet_so_far rows c.args.n) = omega arith in
-    rw (← c.loop-i.invariant.2, end_fault rows c.loop-i.i c.args.n (omega arith)) (ap SheetJudged.Takes q)
+    let i = c.loop-entry.entry in
+    let b = ap length (end_bytes rows i c.args.n (omega arith)) in
+    let q : c.loop-entry.sum ≡ length (sheet_so_far rows c.args.n) = omega arith in
+    rw (← c.loop-entry.invariant.1, end_fault rows i c.args.n (omega arith)) (ap Ok q)

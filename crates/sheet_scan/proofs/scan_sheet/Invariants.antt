@@ -7,9 +7,9 @@ use Rattle.def_sheets.specs.Decode.{decode_sheet, scan_sheet}
 use Rattle.sheet_scan.proofs.Sheets.{rest, counted}
 use Rattle.sheet_scan.proofs.scan_sheet.Given as goal
 
-abbrev pub invariant-loop-next : goal.invariant-loop-next
-invariant-loop-next l =
+abbrev pub invariant-loop-scanned : goal.invariant-loop-scanned
+invariant-loop-scanned l =
     (l.at ≤ length l.s) × (l.entries ≤ l.at) × (counted l.entries (scan_sheet (rest l.s l.at)) ≡ scan_sheet (decode_sheet l.s))
 
-abbrev pub decreases-loop-next : goal.decreases-loop-next
-decreases-loop-next l = length l.s - l.at
+abbrev pub decreases-loop-scanned : goal.decreases-loop-scanned
+decreases-loop-scanned l = length l.s - l.at

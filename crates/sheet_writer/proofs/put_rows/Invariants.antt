@@ -1,6 +1,5 @@
 -- `put_rows` stores the entries of the rows one after the other. The loop's invariant: what is left to store, stored
 -- from the running offset on, makes the whole.
-use Prim.Native.Nat.{◌-◌, ◌≤◌}
 use mathlib.Core.Path.{◌≡◌}
 use lib.ListN.{length}
 use lib.Seq.{sets}
@@ -11,11 +10,6 @@ use Rattle.sheet_writer.proofs.put_rows.Given as goal
 
 abbrev pub invariant-loop-i : goal.invariant-loop-i
 invariant-loop-i l =
-    (l.i ≤ l.n)
-    × (length l.out ≡ length l.initial.out)
-    × (sheet_fault l.i (rest l.rows l.i l.n) ≡ SheetFault.none)
+    (sheet_fault l.i (rest l.rows l.i l.n) ≡ SheetFault.none)
     × (l.next ≡ length (sheet_so_far l.rows l.i))
     × (sets l.out l.next (rest_bytes l.rows l.i l.n) ≡ sets l.initial.out 0 (sheet_so_far l.rows l.n))
-
-abbrev pub decreases-loop-i : goal.decreases-loop-i
-decreases-loop-i l = l.n - l.i

@@ -7,7 +7,8 @@ use Rattle.std.proofs.lemmas.Bool.{eqb-false}
 use Rattle.def_basics.specs.Base.{pick}
 use Rattle.def_words.specs.Layout.{Tables, view}
 use Rattle.def_sheets.specs.Decode.{decode_sheet, Sheet, jobs, broken}
-use Rattle.def_day.specs.Rounds.{add_all, get_all, finish_all, hand_outs, day_sizes, fresh_day, Added, Gets, gets, Holder}
+use Rattle.def_day.specs.Rounds.{add_all, get_all, finish_all, hand_outs, day_sizes, fresh_day, Added, Gets, gets}
+use Rattle.def_day.specs.declared.Holder.{Holder}
 use Rattle.def_day.specs.Rounds.{Refusal, Run, run, any_holder, get_round}
 use Rattle.def_day_lines.specs.Text.{decimal, refused_word, jobs_word, workers_word, line, ◌␣◌}
 use Rattle.def_day_lines.specs.Day.{refusal_lines, hand_out_lines, text, jobs_line, left_line, broken_line}

@@ -20,10 +20,10 @@ use Rattle.def_sheets.proofs.SheetReading.{scans_exactly, one_scanner}
 use Rattle.thm_sheets.specs.Writing.{WritesExactly, WritesSheetExactly}
 use Rattle.thm_sheets.specs.WritingLaws.{writes_exactly, one_writer, writes_sheet_exactly, one_sheet_writer}
 use Rattle.def_sheets.specs.declared.Entry.{Entry}
-use Rattle.def_sheets.specs.declared.Field.{Field}
-use Rattle.def_sheets.specs.declared.Field.TheVariants.{Got, Refused}
+use Rattle.def_sheets.specs.Decode.{Field}
 use Rattle.def_sheets.specs.declared.Reading.{Reading}
-use Rattle.def_sheets.specs.declared.SheetRead.{SheetRead}
+use Rattle.std.specs.Prelude.{Ok, Err}
+use Rattle.def_sheets.specs.Decode.{SheetRead, refusal}
 use Rattle.def_sheets.specs.declared.Wrote.{Wrote}
 use Rattle.def_sheets.specs.declared.SheetWrote.{SheetWrote}
 
@@ -57,16 +57,16 @@ grower_right = limited_at 2 65535
 
 -- a grower of 0 is refused by 99
 abbrev by99 : Field → Field
-by99 (Got v n) = Got v n
-by99 (Refused c a) = Refused (pick (eqb c 14) 99 c) a
+by99 (Ok (v, n)) = Ok (v, n)
+by99 (Err e) = Err (refusal (pick (eqb e.number 14) 99 e.number) e.at)
 
 abbrev zero_grower_by99 : List ℕ → ℕ → Decoded
 zero_grower_by99 = reader_by map_at name_right list_right class_right (λ s at. by99 (grower_right s at))
 
 -- every field past the name is refused a byte further on
 abbrev late : Field → Field
-late (Got v n) = Got v n
-late (Refused c a) = Refused c (a + 1)
+late (Ok (v, n)) = Ok (v, n)
+late (Err e) = Err (refusal e.number (e.at + 1))
 
 abbrev late_offsets : List ℕ → ℕ → Decoded
 late_offsets =
@@ -78,14 +78,14 @@ abbrev judges_a_cut_grower : List ℕ → ℕ → Decoded
 judges_a_cut_grower =
     reader_by map_at name_right list_right class_right λ s at.
     pick (leb 1 (number_at 2 s at))
-    (pick (leb (at + 2) (length s)) (Got (number_at 2 s at) (at + 2)) (Refused 12 at))
-    (Refused 14 at)
+    (pick (leb (at + 2) (length s)) (Ok (number_at 2 s at, at + 2)) (Err (refusal 12 at)))
+    (Err (refusal 14 at))
 
 -- names are looked for before the count is judged
 abbrev names_before_the_count : List ℕ → ℕ → Decoded
 names_before_the_count =
     reader_by map_at name_right
-    (λ s at. pick (leb (at + 1 + 4 * number_at 1 s at) (length s)) (list_right s at) (Refused 12 at))
+    (λ s at. pick (leb (at + 1 + 4 * number_at 1 s at) (length s)) (list_right s at) (Err (refusal 12 at)))
     class_right grower_right
 
 -- a cut list is told at the name that is cut, not at the field, which starts at the count
@@ -93,8 +93,8 @@ abbrev at_the_cut_name : List ℕ → ℕ → Decoded
 at_the_cut_name =
     reader_by map_at name_right
     (λ s at. then (limited_at 1 32 s at) λ count next.
-    pick (leb (next + 4 * count) (length s)) (Got count (next + 4 * count))
-    (Refused 12 (next + 4 * ((length s - next) / 4))))
+    pick (leb (next + 4 * count) (length s)) (Ok (count, next + 4 * count))
+    (Err (refusal 12 (next + 4 * ((length s - next) / 4)))))
     class_right grower_right
 
 -- a class of 16 is read
@@ -104,14 +104,14 @@ class16 = reader_by map_at name_right list_right (limited_at 1 16) grower_right
 -- a written count of 0 is read as an empty list
 abbrev zero_count : List ℕ → ℕ → Decoded
 zero_count =
-    reader_by map_at name_right (λ s at. pick (eqb (get_or s at 1) 0) (Got 0 (at + 1)) (list_right s at)) class_right
+    reader_by map_at name_right (λ s at. pick (eqb (get_or s at 1) 0) (Ok (0, at + 1)) (list_right s at)) class_right
     grower_right
 
 -- bit 4 of the map is passed over
 abbrev bit4 : List ℕ → ℕ → Decoded
 bit4 =
     reader_by
-    (λ s at. pick (ltb (get_or s at 0) 32 && eqb (get_or s at 0 % 2) 1) (Got (get_or s at 0) (at + 1)) (Refused 13 at))
+    (λ s at. pick (ltb (get_or s at 0) 32 && eqb (get_or s at 0 % 2) 1) (Ok (get_or s at 0, at + 1)) (Err (refusal 13 at)))
     name_right list_right class_right grower_right
 
 -- WRONG ANSWERS
@@ -320,7 +320,7 @@ sheets_are_refuted = (
 
 -- every five bytes are an entry
 abbrev counts_fives : List ℕ → SheetRead
-counts_fives s = SheetRead.Whole (length s / 5)
+counts_fives s = Ok (length s / 5)
 
 -- the entries before a fault are counted
 abbrev counts_the_earlier : List ℕ → SheetRead
@@ -328,8 +328,8 @@ counts_the_earlier s = scan_sheet (serves_the_earlier (length s) s 0)
 
 -- a whole sheet is told to have no entries
 abbrev no_entries : Sheet → SheetRead
-no_entries (jobs js) = SheetRead.Whole 0
-no_entries (broken c a) = SheetRead.Refused c a
+no_entries (jobs js) = Ok 0
+no_entries (broken c a) = Err (refusal c a)
 
 abbrev counts_none : List ℕ → SheetRead
 counts_none s = no_entries (decode_sheet s)
@@ -338,8 +338,8 @@ abbrev WrongScan : (List ℕ → SheetRead) → Type 0
 WrongScan scan = ((s : List ℕ) → Bytes s → ScansExactly scan s) → ⊥
 
 abbrev answered : SheetRead → ℕ
-answered (SheetRead.Whole n) = n
-answered (SheetRead.Refused c a) = 100 * c + a
+answered (Ok n) = n
+answered (Err e) = 100 * e.number + e.at
 
 refute_scan : (scan : List ℕ → SheetRead) (s : List ℕ) → bytes_only s ≡ true
     → (answered (scan s) ≡ answered (scan_sheet (decode_sheet s)) → ⊥)
@@ -361,12 +361,12 @@ scans_are_refuted = (
 -- 15 comes before the sheet's own refusal
 abbrev room_first : List ℕ → List ℕ → SheetRows
 room_first s lent =
-    pick (leb 36 (length lent)) (read_sheet (decode_sheet s) lent) (sheet_rows (SheetRead.Refused 15 0) lent)
+    pick (leb 36 (length lent)) (read_sheet (decode_sheet s) lent) (sheet_rows (Err (refusal 15 0)) lent)
 
 -- 15 has the offset of the first entry without room
 abbrev fifteen_at : SheetRead → SheetRead
-fifteen_at (SheetRead.Whole n) = SheetRead.Whole n
-fifteen_at (SheetRead.Refused c a) = SheetRead.Refused c (pick (eqb c 15) 5 a)
+fifteen_at (Ok n) = Ok n
+fifteen_at (Err e) = Err (refusal e.number (pick (eqb e.number 15) 5 e.at))
 
 abbrev offset_of15 : List ℕ → List ℕ → SheetRows
 offset_of15 s lent =
@@ -390,8 +390,8 @@ clears_behind s lent = sheet_rows (read_sheet (decode_sheet s) lent).answer (cle
 
 -- the rows are filled rightly, and told to be one more
 abbrev one_more : SheetRead → SheetRead
-one_more (SheetRead.Whole n) = SheetRead.Whole (n + 1)
-one_more (SheetRead.Refused c a) = SheetRead.Refused c a
+one_more (Ok n) = Ok (n + 1)
+one_more (Err e) = Err e
 
 abbrev tells_one_more : List ℕ → List ℕ → SheetRows
 tells_one_more s lent =
@@ -399,13 +399,13 @@ tells_one_more s lent =
 
 -- 15 for every whole sheet, however long the rows are
 abbrev no_room_ever : Sheet → List ℕ → SheetRows
-no_room_ever (jobs js) lent = sheet_rows (SheetRead.Refused 15 0) lent
-no_room_ever (broken c a) lent = sheet_rows (SheetRead.Refused c a) lent
+no_room_ever (jobs js) lent = sheet_rows (Err (refusal 15 0)) lent
+no_room_ever (broken c a) lent = sheet_rows (Err (refusal c a)) lent
 
 -- a broken sheet clears the rows
 abbrev clears_where_broken : Sheet → List ℕ → SheetRows
 clears_where_broken (jobs js) lent = read_sheet (jobs js) lent
-clears_where_broken (broken c a) lent = sheet_rows (SheetRead.Refused c a) (replicate (length lent) 0)
+clears_where_broken (broken c a) lent = sheet_rows (Err (refusal c a)) (replicate (length lent) 0)
 
 abbrev WrongRows : (List ℕ → List ℕ → SheetRows) → Type 0
 WrongRows read = ((s lent : List ℕ) → Bytes s → RowsReadExactly read s lent) → ⊥

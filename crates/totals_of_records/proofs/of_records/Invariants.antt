@@ -1,11 +1,12 @@
 -- `totals_of_records::of_records` meets its contract: the loop's running totals are those of the records that it has
--- passed, or the refusal of the minutes.
-use Rattle.std.proofs.Common.{length, ◌-◌}
-use Rattle.totals_of_records.proofs.Counting.{Counting}
+-- passed.
+use Rattle.std.specs.Prelude.{Ok}
+use Rattle.std.proofs.Common.{◌≡◌, true}
+use Rattle.def_minutes.specs.Rising.{is_rising}
+use Rattle.def_totals.specs.Told.{told_totals}
+use Rattle.totals_step.proofs.Running.{Running}
 use Rattle.totals_of_records.proofs.of_records.Given as goal
 
-abbrev pub invariant-loop-i : goal.invariant-loop-i
-invariant-loop-i l = Counting l.by l.records l.t l.i
-
-abbrev pub decreases-loop-i : goal.decreases-loop-i
-decreases-loop-i l = length l.records - l.i
+abbrev pub invariant-loop-job : goal.invariant-loop-job
+invariant-loop-job l =
+    is_rising l.minutes ≡ true → Running l.minutes l.records (told_totals (Ok l.board)) l.job-index

@@ -1,49 +1,53 @@
--- `totals_step::with_record` meets its contract: each answer is the case of `with_record` that the tests pick.
-use Rattle.std.proofs.Common.{◌≡◌, arith, le-ltb, eq-eqb, ne_eqb, le-leb}
+-- `totals_step::with_record` meets its contract: each answer is the case of the definition that the label and the class
+-- pick.
+use denote.Enum.Declared.{tag_of}
 use borrow.Author.Tests.{lt-leb}
+use Rattle.std.specs.Prelude.{Ok}
+use Rattle.std.proofs.Common.{◌≡◌, ℕ, ◌≤◌, ◌<◌, false, leb, refl, get_or, arith, le-leb, le-ltb}
+use Rattle.std.proofs.lemmas.Grind.{common_steps}
 use Rattle.def_numbers.specs.Numbers.{classes}
 use Rattle.def_minutes.specs.Minutes.{minutes_in}
+use Rattle.def_terms.specs.Labels.{label_word, IsNoLabel}
+use Rattle.def_terms.specs.contracts.Label.{the_type}
+use Rattle.def_terms.specs.declared.Label.{Label}
+use Rattle.def_terms.specs.declared.Label.TheVariants.{Unexecuted, Executing, Finished}
+use Rattle.def_totals.specs.Board.{finished}
 use Rattle.totals_step.specs.Step.{with_record}
+use Rattle.def_totals.specs.Told.{told_totals}
 use Rattle.totals_step.proofs.Running.{raises}
 use Rattle.totals_step.proofs.with_record.Goals as goal
 
-pub returns-then-t-ne-ACCEPTED : goal.returns-then-t-ne-ACCEPTED
+no_label : {word : ℕ} → IsNoLabel word → leb word finished ≡ false
+no_label h = lt-leb _ finished (omega (arith, h Unexecuted, h Executing, h Finished))
+
+-- the word of a label, as a cast gives it
+cast_is : (label : Label) → tag_of the_type label ≡ label_word label
+cast_is Unexecuted = refl
+cast_is Executing = refl
+cast_is Finished = refl
+
+at_most : (label : Label) → label_word label ≤ finished
+at_most Unexecuted = omega arith
+at_most Executing = omega arith
+at_most Finished = omega arith
+
+pub returns-in_default : goal.returns-in_default
 unfolding with_record
-returns-then-t-ne-ACCEPTED c = simp (ne_eqb _ _ c.if-t-ne-ACCEPTED.true)
+returns-in_default c = simp (no_label c.in_default.ensures)
 
-pub returns-then-label-gt-FINISHED : goal.returns-then-label-gt-FINISHED
+pub returns-in_default-get : goal.returns-in_default-get
 unfolding with_record
-returns-then-label-gt-FINISHED c =
-    simp (eq-eqb _ _ c.if-t-ne-ACCEPTED.false, lt-leb _ _ c.if-label-gt-FINISHED.true, c.blank.ensures)
-
-pub returns-then-class-gt-MOST_CLASS : goal.returns-then-class-gt-MOST_CLASS
-unfolding with_record
-returns-then-class-gt-MOST_CLASS c =
-    simp (
-      eq-eqb _ _ c.if-t-ne-ACCEPTED.false,
-      le-leb _ _ c.if-label-gt-FINISHED.false,
-      le-ltb c.args.class classes (omega arith),
-      c.blank-then-class-gt-MOST_CLASS.ensures,
-    )
-
-pub returns-then-label-eq-UNEXECUTED : goal.returns-then-label-eq-UNEXECUTED
-unfolding minutes_in
-returns-then-label-eq-UNEXECUTED c =
-    let a = c.args in
-    raises _ a.t a.label a.class c.if-t-ne-ACCEPTED.false (omega arith) (omega arith)
-    (rw (c.if-label-eq-UNEXECUTED.true, c.wrapping_add_u32.ensures.value, c.wrapping_add_u32-then-label-eq-UNEXECUTED.ensures.value))
-
-pub returns-then-label-eq-EXECUTING : goal.returns-then-label-eq-EXECUTING
-unfolding minutes_in
-returns-then-label-eq-EXECUTING c =
-    let a = c.args in
-    raises _ a.t a.label a.class c.if-t-ne-ACCEPTED.false (omega arith) (omega arith)
-    (rw (c.if-label-eq-EXECUTING.true, c.wrapping_add_u32-then-label-eq-EXECUTING.ensures.value, c.wrapping_add_u32-then-label-eq-EXECUTING-2.ensures.value))
+returns-in_default-get c =
+    let few : c.args.job.label ≤ finished = rw (c.in-Ok.ensures) (at_most c.in-Ok.label) in
+    let past : classes ≤ c.args.job.class = grind (arith, common_steps, c.in_default-get.ensures) in
+    simp (le-leb _ _ few, le-ltb _ _ past)
 
 pub returns : goal.returns
 unfolding minutes_in
 returns c =
-    let a = c.args in
-    let last : a.label ≡ 2 = omega (arith, c.if-label-eq-EXECUTING.false, c.if-label-eq-UNEXECUTED.false) in
-    raises _ a.t a.label a.class c.if-t-ne-ACCEPTED.false (omega arith) (omega arith)
-    (rw (last, c.wrapping_add_u32-2.ensures.value, c.wrapping_add_u32-3.ensures.value))
+    let word : c.args.job.label ≡ label_word c.in-Ok.label = c.in-Ok.ensures in
+    let few : c.args.job.label ≤ finished = rw word (at_most c.in-Ok.label) in
+    let known : c.args.job.class < classes = grind (arith, common_steps, c.in-Some.ensures) in
+    let its : c.in-Some.minutes.now ≡ get_or c.args.by.now c.args.job.class 0 = grind (arith, common_steps, c.in-Some.ensures) in
+    raises _ (told_totals (Ok c.args.board.now)) c.args.job.label c.args.job.class refl few known
+    (rw (word, cast_is c.in-Ok.label, its))

@@ -1,36 +1,24 @@
--- `count_unfinished` counts the jobs whose label is not finished. The loop's invariant: those counted and those left
--- make the whole.
-use Prim.Native.Nat.{suc, ◌-◌}
-use mathlib.Core.Path.{◌≡◌, sym, ◌∙◌}
-use native.Mathlib.Omega.{arith}
+-- `count_unfinished` counts the jobs whose label is not finished. The loop's invariant: those so far are counted.
+use Rattle.std.proofs.Common.{sym, ◌∙◌, arith}
+use native.Mathlib.Numerals.{add-one}
 use Rattle.def_words.specs.Columns.{columns}
 use Rattle.def_words.specs.Layout.{job_shape, LABEL}
 use Rattle.day_end.proofs.print.Counts.{unfinished_done, unfinished_more, unfinished_none}
 use Rattle.day_end.proofs.print.count_unfinished.Goals as goal
+use Rattle.day_end.proofs.print.count_unfinished.Goals.{then-job_word-ne-FINISHED, else-job_word-ne-FINISHED}
 
-pub loop-left-preserved-then-job_word-eq-FINISHED : goal.loop-left-preserved-then-job_word-eq-FINISHED
-loop-left-preserved-then-job_word-eq-FINISHED c =
-    let l = c.loop-left in
-    let j = c.args.jobs.now in
-    let e : l.left ≡ suc (l.left - 1) = omega (arith, c.loop-left-test.true) in
-    let k = rw e at l.invariant.2 in
-    let u = unfinished_done (columns job_shape j LABEL) (l.left - 1)
-    (sym c.job_word.ensures ∙ c.if-job_word-eq-FINISHED.true) in
-    (omega (arith, l.invariant.0), omega (arith, l.invariant.1), omega (arith, u, k))
+pub loop-job-init : goal.loop-job-init
+loop-job-init c = (omega arith, unfinished_none _)
 
-pub loop-left-preserved : goal.loop-left-preserved
-loop-left-preserved c =
-    let l = c.loop-left in
-    let j = c.args.jobs.now in
-    let e : l.left ≡ suc (l.left - 1) = omega (arith, c.loop-left-test.true) in
-    let k = rw e at l.invariant.2 in
-    let u = unfinished_more (columns job_shape j LABEL) (l.left - 1)
-    (λ z. c.if-job_word-eq-FINISHED.false (c.job_word.ensures ∙ z)) in
-    (omega (arith, l.invariant.0), omega (arith, l.invariant.1), omega (arith, u, k))
-
-pub returns : goal.returns
-returns c =
-    let l = c.loop-left in
-    let e : l.left ≡ 0 = omega (arith, c.loop-left-test.false) in
-    let k = rw e at l.invariant.2 in
-    sym (unfinished_none _ _) ∙ k
+pub loop-job-preserved : goal.loop-job-preserved
+loop-job-preserved c =
+    let l = c.loop-job in
+    let label = columns job_shape c.args.jobs.now LABEL in
+    elim c.if-job_word-ne-FINISHED.branch [
+      | then-job_word-ne-FINISHED w ↦
+          let u = unfinished_more label l.job (λ z. w.if-job_word-ne-FINISHED.true (c.job_word.ensures ∙ z)) in
+          (omega arith, rw add-one (omega (arith, u)))
+      | else-job_word-ne-FINISHED w ↦
+          let u = unfinished_done label l.job (sym c.job_word.ensures ∙ w.if-job_word-ne-FINISHED.false) in
+          (omega arith, rw add-one (omega (arith, u)))
+    ]

@@ -1,29 +1,30 @@
 -- `mark_and_tell` meets its contract: the mark, and then the notices or the end; any other plan is a
 -- refusal.
+use borrow.Author.Tests.{eq-eqb, ne_eqb}
 use Rattle.def_fused.specs.FusedFinish.{mark_in}
 use Rattle.fused_finish.proofs.Halts.{halts}
 use Rattle.fused_finish.proofs.mark.mark_and_tell.Goals as goal
 
-pub returns-then-last : goal.returns-then-last
+pub returns-then-first : goal.returns-then-first
 unfolding mark_in
-returns-then-last c =
+returns-then-first c =
     λ h buckets.
     rw (
-      ← c.plan_mark-plan.ensures,
+      ← c.plan_mark.ensures,
       c.in-Mark.is,
-      c.if-last.true-raw,
+      eq-eqb _ _ c.if-first.true,
       c.put_outcome.ensures,
-      c.put_bare_worker.ensures,
+      c.put_bare_worker-then-first.ensures,
     )
 
-pub returns-else-last : goal.returns-else-last
+pub returns : goal.returns
 unfolding mark_in
-returns-else-last c =
+returns c =
     λ h buckets.
     rw (
-      ← c.plan_mark-plan.ensures,
+      ← c.plan_mark.ensures,
       c.in-Mark.is,
-      c.if-last.false-raw,
+      ne_eqb _ _ c.if-first.false,
       c.close.ensures,
       c.notices-ending.ensures,
       c.put_outcome.ensures,
@@ -34,8 +35,8 @@ returns-in_default c =
     λ h buckets.
     let a = c.args in
     rw (
-      ← c.plan_mark-plan.ensures,
-      c.put_bare_worker-in_default.ensures,
+      ← c.plan_mark.ensures,
+      c.put_bare_worker.ensures,
       h,
     )
-    (halts c.plan_mark-plan.result c.in_default.not-Mark a.sizes _ a.worker a.note)
+    (halts c.plan_mark.result c.in_default.not-Mark a.sizes _ a.worker a.note)

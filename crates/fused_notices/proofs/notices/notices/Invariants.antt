@@ -1,19 +1,16 @@
--- `notices` meets its contract: the loop's invariant: the notices that are left make the whole. The
--- measure is the number of arcs that it may still pass.
+-- `notices` meets its contract. The loop's invariant: the notices that are left make the whole.
 use mathlib.Core.List.{List}
 use mathlib.Core.Path.{◌≡◌}
-use Prim.Native.Nat.{ℕ}
+use Prim.Native.Nat.{ℕ, ◌-◌}
 use lib.ListN.{length}
 use Rattle.def_words.specs.Layout.{tables}
 use Rattle.def_fused.specs.FusedFinish.{notify_in}
 use Rattle.fused_notices.proofs.notices.notices.Given as goal
 
-abbrev pub invariant-loop-left : goal.invariant-loop-left
-invariant-loop-left l =
+abbrev pub invariant-loop : goal.invariant-loop
+invariant-loop l =
     (length l.jobs ≡ length l.initial.jobs)
     × (length l.queue ≡ length l.initial.queue)
-    × ((buckets workers : List ℕ) (w : ℕ) → notify_in l.left l.sizes w l.note l.arc (tables l.jobs l.arcs buckets l.queue workers)
+    × ((buckets workers : List ℕ) (w : ℕ)
+    → notify_in (l.sizes.arcs - l.counter) l.sizes w l.note l.arc (tables l.jobs l.arcs buckets l.queue workers)
     ≡ notify_in l.sizes.arcs l.sizes w l.note l.first (tables l.initial.jobs l.arcs buckets l.initial.queue workers))
-
-abbrev pub decreases-loop-left : goal.decreases-loop-left
-decreases-loop-left l = l.left

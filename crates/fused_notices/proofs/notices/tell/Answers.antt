@@ -7,7 +7,7 @@ use Rattle.fused_notices.proofs.notices.tell.Goals as goal
 pub returns-in-NotifyQueue : goal.returns-in-NotifyQueue
 returns-in-NotifyQueue c =
     λ buckets workers w next.
-    let p = c.plan_notify-plan in
+    let p = c.plan_notify in
     let e = c.in-NotifyQueue.is in
     let g = c.ranges in
     let h = seat_below _ _ _ _ (p.ensures buckets workers) e in

@@ -3,17 +3,17 @@ use Rattle.def_words.specs.Words.{applied_get}
 use Rattle.thm_counters_fit.specs.Fitting.{FittingGet}
 use Rattle.graph_get.proofs.stores.apply_get.Goals as goal
 
-pub returns-in-RefuseGet : goal.returns-in-RefuseGet
+pub returns-in-RefuseGet-clause-stores : goal.returns-in-RefuseGet-clause-stores
 unfolding applied_get
-returns-in-RefuseGet c = λ arcs buckets h. rw c.in-RefuseGet.is
+returns-in-RefuseGet-clause-stores c = λ h. rw c.in-RefuseGet.is
 
-pub returns-in-Wait : goal.returns-in-Wait
+pub returns-in-Wait-clause-stores : goal.returns-in-Wait-clause-stores
 unfolding applied_get
-returns-in-Wait c = λ arcs buckets h. rw c.in-Wait.is
+returns-in-Wait-clause-stores c = λ h. rw c.in-Wait.is
 
-pub returns-in-Take : goal.returns-in-Take
+pub returns-in-Take-clause-stores : goal.returns-in-Take-clause-stores
 unfolding FittingGet
-returns-in-Take c =
-    λ arcs buckets h.
+returns-in-Take-clause-stores c =
+    λ h.
     let e = c.in-Take.is in
-    rw e (c.take.ensures (rw e at h) arcs buckets)
+    rw e (c.take.ensures.stores (rw e at h))

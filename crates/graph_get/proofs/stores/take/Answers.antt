@@ -2,12 +2,7 @@
 use Rattle.def_words.specs.Words.{applied_get}
 use Rattle.graph_get.proofs.stores.take.Goals as goal
 
-pub returns : goal.returns
+pub returns-clause-stores : goal.returns-clause-stores
 unfolding applied_get
-returns c =
-    λ h arcs buckets.
-    rw (
-      c.put_worker.ensures,
-      c.take_seat.ensures h,
-      c.put_job.ensures,
-    )
+returns-clause-stores c =
+    λ h. rw (c.put_worker.ensures, c.take_seat.ensures h, c.put_job.ensures)

@@ -2,9 +2,9 @@
 use Rattle.def_words.specs.Layout.{fresh_tables}
 use Rattle.graph_layout.proofs.fresh.fresh_tables.Goals as goal
 
-pub returns : goal.returns
+pub returns-clause-fresh : goal.returns-clause-fresh
 unfolding fresh_tables
-returns c =
+returns-clause-fresh c =
     λ h.
     rw (
       c.fresh_workers.ensures,

@@ -5,14 +5,11 @@ use Rattle.graph_plan_step.proofs.enter_steps.plan_enter.Goals as goal
 pub returns-in-At : goal.returns-in-At
 unfolding plan_enter
 returns-in-At c =
-    λ queue workers.
-    rw
-    c.in-At.is
+    rw c.in-At.is
 
 pub returns-then-full : goal.returns-then-full
 unfolding plan_enter
 returns-then-full c =
-    λ queue workers.
     rw (
       c.in-Missing.is,
       ← c.header-made.ensures,
@@ -23,19 +20,16 @@ returns-then-full c =
 pub returns-else-full : goal.returns-else-full
 unfolding plan_enter
 returns-else-full c =
-    λ queue workers.
     rw (
       c.in-Missing.is,
       ← c.header-made.ensures,
       ← c.header-reserved.ensures,
       c.if-full.false,
-      ← c.bucket-k.ensures,
+      ← c.bucket-bucket.ensures,
       ← c.bucket_word.ensures,
     )
 
 pub returns-in-Damaged : goal.returns-in-Damaged
 unfolding plan_enter
 returns-in-Damaged c =
-    λ queue workers.
-    rw
-    c.in-Damaged.is
+    rw c.in-Damaged.is

@@ -1,19 +1,22 @@
 -- `graph_post::add::post_add` meets its contract: the number that refuses is the definition's, and so is the stored
 -- record.
+use Rattle.def_numbers.proofs.Refused.{refused}
 use Rattle.def_words.specs.Words.{add_words, posted}
 use Rattle.graph_judge.proofs.Posted.{posted_not}
 use Rattle.graph_post.proofs.add.post_add.Goals as goal
 
-pub returns-then-number-eq0 : goal.returns-then-number-eq0
-unfolding add_words posted
-returns-then-number-eq0 c =
-    rw (
-      ← c.judge_add-number.ensures,
-      c.if-number-eq0.true,
-      c.put_adding_worker.ensures,
-      c.worker_word-held.ensures,
-    )
-
-pub returns-else-number-eq0 : goal.returns-else-number-eq0
+pub returns-in-Err-clause-answered : goal.returns-in-Err-clause-answered
 unfolding add_words
-returns-else-number-eq0 c = let h = c.if-number-eq0.false in rw (← c.judge_add-number.ensures, posted_not)
+returns-in-Err-clause-answered c =
+    let h = refused c.in-Err.refusal in
+    rw (← c.judge_add.ensures, c.in-Err.is, c.into.ensures, posted_not)
+
+pub returns-clause-answered : goal.returns-clause-answered
+unfolding add_words posted
+returns-clause-answered c =
+    rw (
+      ← c.judge_add.ensures,
+      c.in_default.is,
+      c.put_adding_worker.ensures,
+      ← c.worker_word-held.ensures,
+    )

@@ -2,11 +2,11 @@
 use Rattle.thm_counters_fit.specs.Fitting.{Fitting}
 use Rattle.graph_step_stores.proofs.adding.apply_settle.Goals as goal
 
-pub returns-in-SettleQueue : goal.returns-in-SettleQueue
+pub returns-in-SettleQueue-clause-stores : goal.returns-in-SettleQueue-clause-stores
 unfolding Fitting
-returns-in-SettleQueue c =
-    λ g arcs buckets h.
+returns-in-SettleQueue-clause-stores c =
+    λ g h.
     let e = c.in-SettleQueue.is
     in
     let k = rw e at h in
-    rw e (c.settle_queue.ensures k arcs buckets)
+    rw e (c.settle_queue.ensures.stores k)

@@ -2,10 +2,10 @@
 use Rattle.def_words.specs.Words.{applied}
 use Rattle.graph_step_stores.proofs.adding.link_first.Goals as goal
 
-pub returns : goal.returns
+pub returns-clause-stores : goal.returns-clause-stores
 unfolding applied
-returns c =
-    λ h buckets queue.
+returns-clause-stores c =
+    λ h.
     rw (
       c.count_place.ensures h,
       c.new_arc.ensures,

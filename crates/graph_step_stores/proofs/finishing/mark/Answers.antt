@@ -2,12 +2,6 @@
 use Rattle.def_words.specs.Words.{applied}
 use Rattle.graph_step_stores.proofs.finishing.mark.Goals as goal
 
-pub returns : goal.returns
+pub returns-clause-stores : goal.returns-clause-stores
 unfolding applied
-returns c =
-    λ arcs buckets queue.
-    rw (
-      c.mark_worker.ensures,
-      c.put_outcome.ensures,
-      c.worker_word-outcome.ensures,
-    )
+returns-clause-stores c = rw (c.mark_worker.ensures, c.put_outcome.ensures, ← c.worker_word-outcome.ensures)

@@ -2,12 +2,11 @@
 use Rattle.def_words.specs.Words.{applied}
 use Rattle.graph_step_stores.proofs.finishing.notify.Goals as goal
 
-pub returns : goal.returns
+pub returns-clause-stores : goal.returns-clause-stores
 unfolding applied
-returns c =
-    λ arcs buckets queue.
+returns-clause-stores c =
     rw (
       c.arcs_from.ensures,
       c.put_count.ensures,
-      c.worker_word-note.ensures,
+      ← c.worker_word-note.ensures,
     )
