@@ -26,7 +26,7 @@ pub extern "C" fn tg_totals_of_words(words: &[u32]) -> Totals
 pub extern "C" fn tg_totals_of_records(records: &[JobRecord]) -> Totals
     ensures { result ≡ totals_of fixed_minutes records.now }
 {
-    of_records(records, Ok(fixed())).into()
+    of_records(records, Ok(fixed()).into())
 }
 
 // The board on a lent row of records, by minutes that a host gives: one for each class.
@@ -34,5 +34,5 @@ pub extern "C" fn tg_totals_of_records(records: &[JobRecord]) -> Totals
 pub extern "C" fn tg_totals_by_minutes(records: &[JobRecord], minutes: &[u32]) -> Totals
     ensures { result ≡ totals_by minutes.now records.now }
 {
-    of_records(records, rising(minutes).ok_or(Refusal::WrongMinutes)).into()
+    of_records(records, rising(minutes).ok_or(Refusal::WrongMinutes).into())
 }

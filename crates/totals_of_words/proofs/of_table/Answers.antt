@@ -22,14 +22,14 @@ pub returns-in_err-with_record : goal.returns-in_err-with_record
 returns-in_err-with_record c =
     let l = c.loop-i in
     λ rises. wrong_table _ c.args.shape _ _ l.board l.i _ c.in_err-with_record.field-0.0 l.invariant.0 (omega arith)
-    c.in_err-with_record.ensures c.from_residual.ensures.1
+    c.in_err-with_record.ensures.counted c.from_residual.ensures.1
 
 pub loop-i-preserved : goal.loop-i-preserved
 loop-i-preserved c =
     let l = c.loop-i in (
       l.invariant.0,
       λ rises. next_table _ c.args.shape _ _ (rising _ rises) l.i (l.invariant.1 rises) (omega arith)
-          c.in_ok-with_record.ensures,
+          c.in_ok-with_record.ensures.counted,
     )
 
 pub returns : goal.returns

@@ -31,20 +31,20 @@ at_most Unexecuted = omega arith
 at_most Executing = omega arith
 at_most Finished = omega arith
 
-pub returns-in_default : goal.returns-in_default
+pub returns-in_default-clause-counted : goal.returns-in_default-clause-counted
 unfolding with_record
-returns-in_default c = simp (no_label c.in_default.ensures)
+returns-in_default-clause-counted c = simp (no_label c.in_default.ensures)
 
-pub returns-in_default-get : goal.returns-in_default-get
+pub returns-in_default-get-clause-counted : goal.returns-in_default-get-clause-counted
 unfolding with_record
-returns-in_default-get c =
+returns-in_default-get-clause-counted c =
     let few : c.args.job.label ≤ finished = rw (c.in-Ok.ensures) (at_most c.in-Ok.label) in
     let past : classes ≤ c.args.job.class = grind (arith, common_steps, c.in_default-get.ensures) in
     simp (le-leb _ _ few, le-ltb _ _ past)
 
-pub returns : goal.returns
+pub returns-clause-counted : goal.returns-clause-counted
 unfolding minutes_in
-returns c =
+returns-clause-counted c =
     let word : c.args.job.label ≡ label_word c.in-Ok.label = c.in-Ok.ensures in
     let few : c.args.job.label ≤ finished = rw word (at_most c.in-Ok.label) in
     let known : c.args.job.class < classes = grind (arith, common_steps, c.in-Some.ensures) in

@@ -1,12 +1,12 @@
--- `totals_of_records::of_records` meets its contract: the loop's running totals are those of the records that it has
+-- `totals_of_records::board_of` meets its contract: the loop's running totals are those of the records that it has
 -- passed.
 use Rattle.std.specs.Prelude.{Ok}
 use Rattle.std.proofs.Common.{◌≡◌, true}
 use Rattle.def_minutes.specs.Rising.{is_rising}
 use Rattle.def_totals.specs.Told.{told_totals}
 use Rattle.totals_step.proofs.Running.{Running}
-use Rattle.totals_of_records.proofs.of_records.Given as goal
+use Rattle.totals_of_records.proofs.board_of.Given as goal
 
 abbrev pub invariant-loop-job : goal.invariant-loop-job
 invariant-loop-job l =
-    is_rising l.minutes ≡ true → Running l.minutes l.records (told_totals (Ok l.board)) l.job-index
+    is_rising l.by ≡ true → Running l.by l.records (told_totals (Ok l.board)) l.job-index
