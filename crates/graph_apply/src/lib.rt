@@ -20,6 +20,8 @@ use lent_graph::Graph;
 // The plans that store in the worker's record alone.
 fn apply_own(graph: &mut Graph, worker: u32, plan: Plan)
     ensures same { Same graph.old graph.new }
+    ensures rest { (graph.new.jobs.now ≡ graph.old.jobs.now) × (graph.new.arcs.now ≡ graph.old.arcs.now)
+        × (graph.new.buckets.now ≡ graph.old.buckets.now) × (graph.new.queue.now ≡ graph.old.queue.now) }
     ensures stores { Own plan → Stored plan worker (words graph.old) (words graph.new) }
 {
     match plan {

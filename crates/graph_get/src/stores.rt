@@ -1,5 +1,5 @@
 // What the plan of a get stores in the tables. Follows docs/RULES.md, "Steps" and "Tables and their measures". Nothing
-// is required of a table, a worker or a plan.
+// is required of a table, a worker or a plan; tables that a function does not store in stay, whatever the plan.
 ghost use Rattle.std.specs.Prelude.{◌≡◌, ◌<◌};
 ghost use Rattle.def_words.specs.Columns.{header};
 ghost use Rattle.def_words.specs.Layout.{none, TAKEN, view};
@@ -18,6 +18,7 @@ use lent_graph::Graph;
 // The job of the index's first cell is handed to the worker.
 fn take(graph: &mut Graph, worker: u32, out: HandOut, seat: Seat)
     ensures same { Same graph.old graph.new }
+    ensures rest { (graph.new.arcs.now ≡ graph.old.arcs.now) × (graph.new.buckets.now ≡ graph.old.buckets.now) }
     ensures stores { header graph.old.queue.now TAKEN < none
         → words graph.new ≡ applied_get (Take out seat) (words graph.old) worker }
 {
@@ -29,6 +30,7 @@ fn take(graph: &mut Graph, worker: u32, out: HandOut, seat: Seat)
 // The stores of a get's plan.
 pub fn apply_get(graph: &mut Graph, worker: u32, plan: GetPlan)
     ensures same { Same graph.old graph.new }
+    ensures rest { (graph.new.arcs.now ≡ graph.old.arcs.now) × (graph.new.buckets.now ≡ graph.old.buckets.now) }
     ensures stores { FittingGet plan (view (words graph.old))
         → words graph.new ≡ applied_get plan (words graph.old) worker }
 {

@@ -1,5 +1,6 @@
 // What the links and the settling of an add store in the tables. Follows docs/RULES.md, "Steps" and "Tables and their
-// measures". Nothing is required of a table, a worker or a plan.
+// measures". Nothing is required of a table, a worker or a plan; tables that a function does not store in stay,
+// whatever the plan.
 ghost use Rattle.std.specs.Prelude.{◌≡◌, ◌<◌};
 ghost use Rattle.def_words.specs.Columns.{columns};
 ghost use Rattle.def_words.specs.Layout.{none, worker_shape, PLACE};
@@ -19,6 +20,7 @@ use lent_graph::Graph;
 // A link appends an arc to an empty list.
 fn link_first(graph: &mut Graph, worker: u32, prerequisite: u32, arc: u32, job: u32)
     ensures same { Same graph.old graph.new }
+    ensures rest { (graph.new.buckets.now ≡ graph.old.buckets.now) × (graph.new.queue.now ≡ graph.old.queue.now) }
     ensures stores { columns worker_shape graph.old.workers.now PLACE worker < none
         → words graph.new ≡ applied (LinkFirst prerequisite arc job) (words graph.old) worker }
 {
@@ -30,6 +32,7 @@ fn link_first(graph: &mut Graph, worker: u32, prerequisite: u32, arc: u32, job: 
 // A link appends an arc after the last of a list.
 fn link_after(graph: &mut Graph, worker: u32, prerequisite: u32, last: u32, arc: u32, job: u32)
     ensures same { Same graph.old graph.new }
+    ensures rest { (graph.new.buckets.now ≡ graph.old.buckets.now) × (graph.new.queue.now ≡ graph.old.queue.now) }
     ensures stores { columns worker_shape graph.old.workers.now PLACE worker < none
         → words graph.new ≡ applied (LinkAfter prerequisite last arc job) (words graph.old) worker }
 {
@@ -41,6 +44,7 @@ fn link_after(graph: &mut Graph, worker: u32, prerequisite: u32, last: u32, arc:
 // The plans that append an arc.
 pub fn apply_link(graph: &mut Graph, worker: u32, plan: Plan)
     ensures same { Same graph.old graph.new }
+    ensures rest { (graph.new.buckets.now ≡ graph.old.buckets.now) × (graph.new.queue.now ≡ graph.old.queue.now) }
     ensures stores { Linking plan → Stored plan worker (words graph.old) (words graph.new) }
 {
     match plan {
@@ -72,6 +76,7 @@ fn settle(graph: &mut Graph, worker: u32, job: u32, count: u32)
 // The add ends, and its job is queued. A note spoils it.
 fn settle_queue(graph: &mut Graph, worker: u32, job: u32, count: u32, seat: Seat)
     ensures same { Same graph.old graph.new }
+    ensures rest { (graph.new.arcs.now ≡ graph.old.arcs.now) × (graph.new.buckets.now ≡ graph.old.buckets.now) }
     ensures stores { seat.cell < none
         → words graph.new ≡ applied (SettleQueue job count seat) (words graph.old) worker }
 {
@@ -84,6 +89,7 @@ fn settle_queue(graph: &mut Graph, worker: u32, job: u32, count: u32, seat: Seat
 // The plans that end an add.
 pub fn apply_settle(graph: &mut Graph, worker: u32, plan: Plan)
     ensures same { Same graph.old graph.new }
+    ensures rest { (graph.new.arcs.now ≡ graph.old.arcs.now) × (graph.new.buckets.now ≡ graph.old.buckets.now) }
     ensures stores { Settling plan → Stored plan worker (words graph.old) (words graph.new) }
 {
     match plan {

@@ -1,5 +1,5 @@
 // What the entering of an add stores in the tables. Follows docs/RULES.md, "Steps" and "Tables and their measures".
-// Nothing is required of a table or a worker.
+// Nothing is required of a table or a worker; the queue, which the function does not store in, stays, whatever it is.
 ghost use Rattle.std.specs.Prelude.{◌≡◌, [], ◌∷◌, ◌+◌, ◌<◌, ◌≤◌};
 ghost use Rattle.std.proofs.lemmas.List.Edits.{sets};
 ghost use Rattle.def_words.specs.Columns.{offset, columns, put_header};
@@ -18,6 +18,7 @@ use lent_graph::Graph;
 // The add's job enters at the head of its bucket, and its arcs are reserved.
 pub fn enter(graph: &mut Graph, worker: u32, job: u32, bucket: u32, head: u32, arc: u32)
     ensures same { Same graph.old graph.new }
+    ensures rest { graph.new.queue.now ≡ graph.old.queue.now }
     ensures stores { job < none → arc + columns worker_shape graph.old.workers.now LIST_COUNT worker ≤ none
         → words graph.new ≡ applied (Enter job bucket head arc) (words graph.old) worker }
 {

@@ -1,5 +1,5 @@
 // What the plans of a finish store in the tables. Follows docs/RULES.md, "Steps" and "Tables and their measures".
-// Nothing is required of a table, a worker or a plan.
+// Nothing is required of a table, a worker or a plan; tables that a function does not store in stay, whatever the plan.
 ghost use Rattle.std.specs.Prelude.{◌≡◌, ◌<◌};
 ghost use Rattle.def_words.specs.Layout.{none};
 ghost use Rattle.def_words.specs.Words.{applied};
@@ -37,6 +37,7 @@ fn notify(graph: &mut Graph, worker: u32, job: u32, count: u32, next: u32)
 // The finish tells a dependent, which is queued. A failed one spoils it.
 fn notify_queue(graph: &mut Graph, worker: u32, job: u32, count: u32, next: u32, seat: Seat)
     ensures same { Same graph.old graph.new }
+    ensures rest { (graph.new.arcs.now ≡ graph.old.arcs.now) × (graph.new.buckets.now ≡ graph.old.buckets.now) }
     ensures stores { seat.cell < none
         → words graph.new ≡ applied (NotifyQueue job count next seat) (words graph.old) worker }
 {
@@ -49,6 +50,7 @@ fn notify_queue(graph: &mut Graph, worker: u32, job: u32, count: u32, next: u32,
 // The plans of a finish.
 pub fn apply_finish(graph: &mut Graph, worker: u32, plan: Plan)
     ensures same { Same graph.old graph.new }
+    ensures rest { (graph.new.arcs.now ≡ graph.old.arcs.now) × (graph.new.buckets.now ≡ graph.old.buckets.now) }
     ensures stores { Finishing plan → Stored plan worker (words graph.old) (words graph.new) }
 {
     match plan {

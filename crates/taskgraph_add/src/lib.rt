@@ -14,7 +14,7 @@ use def_terms::Sizes;
 use lent_graph::Graph;
 use taskgraph_answer::{GraphAnswer, whole_answered};
 use whole_add::add_whole;
-use worker_phase::{phase_of, stopped_as};
+use worker_phase::{phase_in, stopped_as};
 
 // An add run whole, as C has it. The phase of the worker, read before and after, tells an add that damage stopped half
 // done.
@@ -23,10 +23,10 @@ fn add(graph: &mut Graph, worker: u32, entry: Entry) -> GraphAnswer
     ensures told { GivesWhole result (words graph.new) (words graph.old) worker
         (whole_add graph.old.sizes (words graph.old) worker (arguments_of entry)) }
 {
-    let before = phase_of(graph, worker);
+    let before = phase_in(graph, worker);
     let made = add_whole(graph, worker, entry);
     let answer = GraphAnswer::from(made);
-    let after = phase_of(graph, worker);
+    let after = phase_in(graph, worker);
     whole_answered(answer, stopped_as(answer.number, before, after))
 }
 

@@ -13,7 +13,7 @@ use def_terms::Sizes;
 use lent_graph::Graph;
 use taskgraph_answer::{GraphAnswer, whole_answered};
 use whole_finish::finish_whole;
-use worker_phase::{phase_of, stopped_as};
+use worker_phase::{phase_in, stopped_as};
 
 // A finish run whole, as C has it. The phase of the worker, read before and after, tells a finish that damage stopped
 // half done.
@@ -22,10 +22,10 @@ fn finish(graph: &mut Graph, worker: u32, name: u32, outcome: u32) -> GraphAnswe
     ensures told { GivesWhole result (words graph.new) (words graph.old) worker
         (whole_finish graph.old.sizes (words graph.old) worker (finish_taken name outcome)) }
 {
-    let before = phase_of(graph, worker);
+    let before = phase_in(graph, worker);
     let made = finish_whole(graph, worker, name, outcome != 0);
     let answer = GraphAnswer::from(made);
-    let after = phase_of(graph, worker);
+    let after = phase_in(graph, worker);
     whole_answered(answer, stopped_as(answer.number, before, after))
 }
 

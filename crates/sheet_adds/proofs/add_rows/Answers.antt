@@ -11,7 +11,8 @@ loop-row-preserved c =
     let l = c.loop-row in
     let a = c.args in
     let i = l.invariant in
-    let e = rw (c.row_entry-entry.ensures, i.0.sizes) at c.add_if_idle-answer.ensures in
+    let n = c.add_if_idle-answer in
+    let e = rw (c.row_entry-entry.ensures, i.0.sizes) at n.ensures in
     let more : a.count - l.row ≡ suc (a.count - (l.row + 1)) = omega arith in (
       record {
         sizes = i.0.sizes;
@@ -20,6 +21,11 @@ loop-row-preserved c =
         buckets = i.0.buckets;
         queue = i.0.queue;
         workers = i.0.workers;
+        job_words = n.auto.jobs ∙ i.0.job_words;
+        arc_words = n.auto.arcs ∙ i.0.arc_words;
+        bucket_words = n.auto.buckets ∙ i.0.bucket_words;
+        queue_words = n.auto.queue ∙ i.0.queue_words;
+        worker_words = n.auto.workers ∙ i.0.worker_words;
       },
       rw (
         c.first_stop-stopped.ensures,

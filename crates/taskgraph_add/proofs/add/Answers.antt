@@ -13,5 +13,5 @@ returns-clause-told c =
     let g = a.graph.now in
     let t = words g in
     whole_in_c t a.worker (ltb a.worker g.sizes.workers) c.add_whole-made.ensures.answered
-    (λ e. unknown_add g.sizes t a.worker e (arguments_of a.entry)) c.from-answer.ensures c.phase_of-before.ensures
-    (rw c.add_whole-made.ensures.same.sizes at c.phase_of-after.ensures) c.stopped_as.ensures c.whole_answered.ensures
+    (λ e. unknown_add g.sizes t a.worker e (arguments_of a.entry)) c.from-answer.ensures c.phase_in-before.ensures
+    (rw c.add_whole-made.ensures.same.sizes at c.phase_in-after.ensures) c.stopped_as.ensures c.whole_answered.ensures

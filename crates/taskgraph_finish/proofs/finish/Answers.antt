@@ -14,5 +14,5 @@ returns-clause-told c =
     let t = words g in
     whole_in_c t a.worker (ltb a.worker g.sizes.workers) c.finish_whole-made.ensures.answered
     (λ e. unknown_finish g.sizes t a.worker e (finish_taken a.name a.outcome)) c.from-answer.ensures
-    c.phase_of-before.ensures
-    (rw c.finish_whole-made.ensures.same.sizes at c.phase_of-after.ensures) c.stopped_as.ensures c.whole_answered.ensures
+    c.phase_in-before.ensures
+    (rw c.finish_whole-made.ensures.same.sizes at c.phase_in-after.ensures) c.stopped_as.ensures c.whole_answered.ensures
