@@ -1,6 +1,6 @@
 // What turns the posts of an add and of a finish away: it reads and judges, and stores nothing. Follows docs/RULES.md,
-// "Turned-away calls". Each definition holds of all tables and arguments. The tests that come first stand in both as in
-// a step: docs/DECISIONS.md, 43.
+// "Turned-away calls". Each definition holds of all tables and arguments. The tests that come first are the graph's
+// `admit`, as in a step: docs/DECISIONS.md, 43.
 #![tactic(auto)]
 
 ghost use Rattle.std.specs.Prelude.{◌≡◌, List, ℕ, eqb};
