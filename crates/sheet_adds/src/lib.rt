@@ -18,6 +18,7 @@ use def_sheet_rows::SheetAdded;
 use def_sheets::Entry;
 use fused_add::add_if_idle;
 use graph_words::layout::PHASE;
+use graph_words::worker_word;
 use lent_graph::Graph;
 use sheet_judge::{judge_sheet, number_of, place_of, turned_away};
 use sheet_limits::{CLASS_WORD, COUNT_WORD, GROWER_WORD, NAMES_WORD};
@@ -28,9 +29,7 @@ fn row_names(rows: &[u32], from: usize) -> [u32; 32]
     requires { from + most_names ≤ length rows.now }
     ensures { result ≡ take most_names (drop from rows.now) }
 {
-    let mut names = [0; 32];
-    names.copy_from_slice(&rows[from..from + 32]);
-    names
+    rows[from..from + 32].try_into().unwrap_or([0; 32])
 }
 
 // The entry of a row.
@@ -73,20 +72,19 @@ fn add_rows(graph: &mut Graph, worker: u32, rows: &[u32], count: usize) -> Sheet
     let mut numbers: [u32; 64] = [0; 64];
     let mut places: [u32; 64] = [0; 64];
     let mut stopped: u32 = 0;
+    // The tables stand in variables of their own: taken from the graph in the loop, their lengths are read again after
+    // each store, and each word of a record is tested against them.
+    let sizes = graph.sizes;
+    let jobs = &mut *graph.jobs;
+    let arcs = &mut *graph.arcs;
+    let buckets = &mut *graph.buckets;
+    let queue = &mut *graph.queue;
+    let workers = &mut *graph.workers;
     for row in 0..count {
         let entry = row_entry(rows, row);
-        let before = graph.worker_word(worker, PHASE);
-        let answer = add_if_idle(
-            graph.sizes,
-            graph.jobs,
-            graph.arcs,
-            graph.buckets,
-            graph.queue,
-            graph.workers,
-            worker,
-            entry,
-        );
-        let after = graph.worker_word(worker, PHASE);
+        let before = worker_word(workers, worker, PHASE);
+        let answer = add_if_idle(sizes, jobs, arcs, buckets, queue, workers, worker, entry);
+        let after = worker_word(workers, worker, PHASE);
         let number = number_of(answer);
         numbers[row] = number;
         places[row] = place_of(answer);
