@@ -4,7 +4,7 @@
 #![tactic(auto)]
 
 ghost use Rattle.std.specs.Prelude.{◌≡◌};
-ghost use Rattle.lent_graph.specs.Lent.{words};
+ghost use Rattle.lent_graph.specs.Lent.{words, Same};
 ghost use Rattle.day_text.specs.Page.{page};
 ghost use Rattle.day_end.specs.Ended.{ended};
 
@@ -17,7 +17,8 @@ use print::{count_unfinished, print_hand_outs};
 
 // Answers the offset printed up to.
 pub fn end_day(graph: &mut Graph, row: &mut [u32], out: &mut [u8], limit: usize, at: usize) -> usize
-    ensures { page result out.new
+    ensures same { Same graph.old graph.new }
+    ensures printed { page result out.new
         ≡ ended limit (page at out.old) graph.old.sizes (words graph.old) row.old }
 {
     let handed = run_rounds(graph, row);

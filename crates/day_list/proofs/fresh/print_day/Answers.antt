@@ -5,4 +5,4 @@ use Rattle.day_list.proofs.fresh.print_day.Goals as goal
 pub returns : goal.returns
 unfolding day_page
 returns c =
-    rw (← c.begin_day-at.ensures.printed) (rw c.begin_day-at.ensures.same.sizes at c.end_day.ensures)
+    rw (← c.begin_day-at.ensures.printed) (rw c.begin_day-at.ensures.same.sizes at c.end_day.ensures.printed)
